@@ -1,0 +1,16 @@
+//! The types that all other crates share: lists, texts, files, requests, exits and outcomes.
+#![tactic(auto)]
+
+mod child;
+mod file;
+mod items;
+mod memory;
+mod outcome;
+mod text;
+
+pub use child::{Event, EventList, Exit, MaybeText, Request};
+pub use file::{Entry, EntryList, FileList, FileName, NamedText, NamedTextList};
+pub use items::{Items, Numbers, Positions};
+pub use memory::NoMemory;
+pub use outcome::{Limit, Mark, MarkList, Outcome, ProjectFault, Refusal, Which};
+pub use text::{Text, TextList};

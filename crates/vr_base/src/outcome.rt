@@ -1,0 +1,74 @@
+use crate::{FileList, Items, Text};
+
+/// What became of a file in a build.
+#[derive(Drop)]
+pub enum Mark {
+    /// Its record is current, so it wasn't compiled.
+    Fresh,
+    Compiled,
+    /// The compiler ended with this code, which isn't 0, and printed this.
+    Refused { code: u32, output: Text },
+    /// A file that it depends on was refused.
+    Skipped,
+    /// The build ended before it.
+    Left,
+}
+
+pub type MarkList = Items<Mark>;
+
+/// The first fault of a project file.
+#[derive(Debug, Drop)]
+pub enum ProjectFault {
+    /// A line that is no library and path, counted from 1.
+    BadLine { line: u32 },
+}
+
+/// What is wrong with the sources, or with the files that the compiler refused.
+#[derive(Drop)]
+pub enum Refusal {
+    /// There is no project file.
+    NoProject,
+    Project { fault: ProjectFault },
+    /// The compiler refused these files, in compile order.
+    Compiler { files: FileList },
+    /// A part of the program that isn't built yet was asked for.
+    NotBuilt,
+}
+
+/// A quantity that is bounded.
+#[derive(Clone, Copy, Debug, PartialEq, Eq)]
+pub enum Limit {
+    Slots,
+    Names,
+    Files,
+    TextBytes,
+    TotalBytes,
+    Tests,
+}
+
+/// An outside object that failed. `Start` and `Child` are of the object that starts children.
+#[derive(Clone, Copy, Debug, PartialEq, Eq)]
+pub enum Which {
+    Tree,
+    Disk,
+    Start,
+    Child,
+    Out,
+    Report,
+    Input,
+}
+
+/// How a run ended.
+#[derive(Drop)]
+pub enum Outcome {
+    Done,
+    TestsFailed,
+    Refused(Refusal),
+    /// The words aren't a command line of the program.
+    BadWords,
+    OutsideFault(Which),
+    NoMemory,
+    OverLimit(Limit),
+    /// The program was started as a child, and ends with this code.
+    Child(u32),
+}
