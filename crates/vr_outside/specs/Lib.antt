@@ -1,0 +1,4 @@
+pub mod Counts
+pub mod Trees
+pub mod Children
+pub mod Streams

@@ -1,0 +1,71 @@
+ghost use Rattle.std.specs.Prelude.{◌≡◌, ℕ, ◌<◌, List, ◌++◌, [], ◌∷◌, length, IfOk, Contains};
+ghost use Rattle.vr_base.specs.declared.child.Request.{Request};
+ghost use Rattle.vr_base.specs.declared.child.Exit.{Exit};
+ghost use Rattle.vr_base.specs.declared.child.Event.{Event};
+ghost use Rattle.vr_outside.specs.Counts.{StartCounts, ChildCounts};
+ghost use Rattle.vr_outside.specs.Children.{IsFresh, AddsTicket, AddsStart, ended_ticket, without, end_event, AnswersStarted, FitsExit};
+
+use std::alloc::Global;
+use vr_base::{Exit, Request};
+
+/// A child that has ended.
+#[derive(Drop)]
+pub struct Ended {
+    pub ticket: u64,
+    pub exit: Exit,
+}
+
+#[derive(Clone, Copy, Debug, PartialEq, Eq)]
+pub enum StartFault {
+    NoMemory,
+    Failed,
+}
+
+/// The child of this ticket was waited for, and its exit is lost.
+#[derive(Clone, Copy, Debug, PartialEq, Eq)]
+pub enum WaitFault {
+    NoMemory { ticket: u64 },
+    Lost { ticket: u64 },
+}
+
+/// Starts children and waits for them.
+pub trait Procs {
+    /// Whether the object tells its journal and its answer function.
+    ghost tells: { Type 0 };
+
+    /// The tickets of the running children, in order of start. Every object tells them.
+    ghost running: { Self → List ℕ };
+
+    /// What has happened so far, in order.
+    ghost journal: { Self → List Event };
+
+    /// The exit that a child started with a request ends with.
+    ghost answer: { Self → Request → Exit };
+
+    /// How often a start has failed.
+    ghost failed_starts: { Self → ℕ };
+
+    /// How many children were lost.
+    ghost lost_children: { Self → ℕ };
+
+    /// Starts a child, and gives a ticket that no earlier start gave. It doesn't wait for the child's end.
+    fn start(&mut self, alloc: Global, request: &Request) -> Result<u64, StartFault>
+        ensures running { AddsTicket result (running self.old) (running self.new) }
+        ensures fresh { tells → IfOk result (IsFresh (journal self.old)) }
+        ensures journal { tells → AddsStart request.now result (journal self.old) (journal self.new) }
+        ensures same { answer self.new ≡ answer self.old }
+        ensures cause { StartCounts result (failed_starts self.old) (failed_starts self.new) }
+        ensures children { lost_children self.new ≡ lost_children self.old };
+
+    /// Waits until some running child has ended. After each answer that child no longer runs.
+    fn wait_any(&mut self, alloc: Global) -> Result<Ended, WaitFault>
+        requires { 0 < length (running self.old) }
+        ensures picks { Contains (running self.old) (ended_ticket result) }
+        ensures running { running self.new ≡ without (ended_ticket result) (running self.old) }
+        ensures sizes { IfOk result (λ end. FitsExit end.exit) }
+        ensures journal { tells → (journal self.new ≡ journal self.old ++ end_event result ∷ []) }
+        ensures exit { tells → IfOk result (AnswersStarted (answer self.old) (journal self.old)) }
+        ensures same { answer self.new ≡ answer self.old }
+        ensures cause { ChildCounts result (lost_children self.old) (lost_children self.new) }
+        ensures starts { failed_starts self.new ≡ failed_starts self.old };
+}

@@ -1,0 +1,55 @@
+ghost use Rattle.std.specs.Prelude.{◌≡◌, ℕ, List, Option, IfOk};
+ghost use Rattle.vr_outside.specs.Counts.{TreeCounts};
+ghost use Rattle.vr_outside.specs.Trees.{IsListing, Names, read_end, IsWithin};
+
+use std::alloc::Global;
+use vr_base::{Text, TextList};
+
+/// A listing of a tree, or that it would have more names than were asked for.
+#[derive(Drop)]
+pub enum NamesEnd {
+    Got(TextList),
+    TooMany,
+}
+
+/// The bytes of a file, or why there are none.
+#[derive(Drop)]
+pub enum ReadEnd {
+    Got(Text),
+    Absent,
+    /// The file has more bytes than were asked for.
+    TooLong,
+}
+
+#[derive(Clone, Copy, Debug, PartialEq, Eq)]
+pub enum TreeFault {
+    NoMemory,
+    Failed,
+}
+
+/// A tree of files, which no call changes.
+pub trait Tree {
+    /// Whether the tree tells what it holds.
+    ghost tells: { Type 0 };
+
+    /// The bytes of the file of a path, if there is one.
+    ghost file: { Self → List ℕ → Option (List ℕ) };
+
+    /// How often the tree has failed.
+    ghost failed_reads: { Self → ℕ };
+
+    /// The paths that are listed, strictly rising by bytes. A path below `vunit_out`, one with a component that
+    /// begins with a dot and one of over 1,024 bytes isn't listed and doesn't count.
+    fn names(&mut self, alloc: Global, limit: u64) -> Result<NamesEnd, TreeFault>
+        ensures form { IfOk result (IsListing limit) }
+        ensures names { tells → IfOk result (Names (file self.old) limit) }
+        ensures same { file self.new ≡ file self.old }
+        ensures cause { TreeCounts result (failed_reads self.old) (failed_reads self.new) };
+
+    /// The bytes of a file of at most `limit` bytes.
+    fn read(&mut self, alloc: Global, path: &Text, limit: u64) -> Result<ReadEnd, TreeFault>
+        ensures size { IfOk result (IsWithin limit) }
+        ensures bytes { tells → IfOk result (λ end. end ≡ read_end (file self.old path.now) limit) }
+        ensures same { file self.new ≡ file self.old }
+        ensures cause { TreeCounts result (failed_reads self.old) (failed_reads self.new) };
+}
