@@ -1,0 +1,5 @@
+pub mod Bytes
+pub mod Names
+pub mod Graphs
+pub mod Projects
+pub mod Jobs
