@@ -3,6 +3,9 @@ use Rattle.std.specs.Prelude.{ℕ, List, ◌++◌, length, codes}
 use Rattle.std.specs.List.{flat_map}
 use Rattle.vr_base.specs.declared.file.FileName.{FileName}
 use Rattle.vr_base.specs.declared.graph.BuiltFile.{BuiltFile}
+use Rattle.vr_base.specs.declared.graph.Entry.{Entry}
+use Rattle.vr_base.specs.declared.child.Request.{Request}
+use Rattle.vr_base.specs.declared.child.MaybeText.TheVariants.{Nothing}
 use Rattle.vr_base.specs.Bytes.{number_bytes, text_bytes}
 
 -- a file: its library and its path
@@ -20,3 +23,7 @@ all_built_bytes files = number_bytes (length files) ++ flat_map built_bytes file
 -- the input of a compiler: a file, its text, and the files that it depends on, in compile order
 unfoldable pub compile_input : FileName → List ℕ → List BuiltFile → List ℕ
 compile_input name source built = codes "VRC1" ++ (name_bytes name ++ (text_bytes source ++ all_built_bytes built))
+
+-- what a compiler is started with for a file over the files that it depends on
+abbrev pub compile_request : Entry → List BuiltFile → Request
+compile_request entry built = record { command = entry.command; input = compile_input entry.name entry.text built; results = Nothing }
