@@ -162,3 +162,10 @@ pub record IsWhole (setting : Setting) (events : List Event) : Type 0 where
 -- what the journal has since it was old
 abbrev pub since : List Event → List Event → List Event
 since old new = drop (length old) new
+
+-- what children were started with, in order
+abbrev pub starts_of : List Event → List Request
+starts_of [] = []
+starts_of (Started ticket request ∷ events) = request ∷ starts_of events
+starts_of (Ended ticket exit ∷ events) = starts_of events
+starts_of (Gone ticket ∷ events) = starts_of events

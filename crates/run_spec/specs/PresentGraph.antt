@@ -1,5 +1,5 @@
 -- The present graph of a listed project: the files in listed order, each depending on all earlier ones.
-use Rattle.std.specs.Prelude.{ℕ, zero, suc, List, [], ◌∷◌, ◌++◌}
+use Rattle.std.specs.Prelude.{◌≡◌, ℕ, zero, suc, List, [], ◌∷◌, ◌++◌, slice_get, Some}
 use Rattle.vr_base.specs.declared.graph.Entry.{Entry}
 use Rattle.vr_base.specs.declared.project.ProjectFile.{ProjectFile}
 
@@ -20,3 +20,7 @@ listed_from place (file ∷ files) (text ∷ texts) = listed_entry place file te
 
 abbrev pub listed : List ProjectFile → List (List ℕ) → List Entry
 listed files texts = listed_from 0 files texts
+
+-- each file of the graph depends on all earlier ones
+abbrev pub IsListed : List Entry → Type 0
+IsListed graph = (place : ℕ) (entry : Entry) → slice_get graph place ≡ Some entry → entry.deps ≡ below place

@@ -1,5 +1,5 @@
 ghost use Rattle.std.specs.Prelude.{◌≡◌, ◌<◌, ◌++◌, ◌==◌, [], ◌∷◌, length, slice_get, Some, OnOk, OnErr};
-ghost use Rattle.vr_base.specs.Graphs.{IsGraph, IsBuilt};
+ghost use Rattle.vr_base.specs.Graphs.{IsGraph, IsBuilt, IsBuiltFile};
 
 use crate::{FileName, NoMemory, Positions, Text, TextList};
 use std::alloc::Global;
@@ -153,7 +153,8 @@ impl Built {
 
     /// Adds a file at the end. After `NoMemory` the list stands.
     pub fn push(&mut self, file: BuiltFile) -> Result<(), NoMemory>
-        requires { IsBuilt (self.old ++ file ∷ []) }
+        requires file { IsBuiltFile file }
+        requires room { length self.old < 4096 }
         ensures ok { OnOk result (self.new ≡ self.old ++ file ∷ []) }
         ensures err { OnErr result (self.new ≡ self.old) }
     {
