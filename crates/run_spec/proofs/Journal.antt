@@ -1,5 +1,5 @@
 -- A build's journal, part after part.
-use Rattle.std.proofs.Common.{◌≡◌, ℕ, ◌||◌, ◌&&◌, not, eqb, List, Option, Some, None, cond, inl, inr, true, false, sym, ◌∙◌, [], ◌∷◌, ◌++◌, length, refl, ap}
+use Rattle.std.proofs.Common.{◌≡◌, ℕ, ◌||◌, ◌&&◌, not, eqb, List, Option, Some, None, cond, inl, inr, sym, ◌∙◌, [], ◌∷◌, ◌++◌, length, refl, ap}
 use Rattle.std.proofs.lemmas.List.{drop_at}
 use Rattle.std.proofs.lemmas.Bool.{eq-eqb, ne_eqb, cond-true, cond-false, cases_Bool}
 use Rattle.vr_base.specs.declared.child.Request.{Request}

@@ -3,7 +3,7 @@ use Rattle.std.proofs.Common.{◌≡◌, ℕ, zero, suc, ◌+◌, ◌<◌, ◌�
 use Rattle.std.specs.Prelude.{slice_get}
 use Rattle.std.specs.List.{list_any, list_all, filter_map}
 use Rattle.std.proofs.lemmas.Bool.{cases_lt, eq-eqb, ne_eqb, cond-true, cond-false, or_left, or_right, or_from, and_from}
-use Rattle.std.proofs.lemmas.List.{map_push, length-append, take_more}
+use Rattle.std.proofs.lemmas.List.{get_or_append_left, get_or_at, map_push, length-append, take_more}
 use Rattle.std.proofs.lemmas.List.Elements.{filter_map-append}
 use Rattle.std.proofs.lemmas.List.Folds.{list_any-append, list_all-append}
 use Rattle.std.proofs.lemmas.Option.{slice_get-get_or}
@@ -95,3 +95,13 @@ map-below_is {X} f (x ∷ xs) (suc n) le h =
     let more : take (suc n) (x ∷ xs) ≡ take n (x ∷ xs) ++ get_or (x ∷ xs) n x ∷ [] = rw add-one at (take_more (x ∷ xs) n x (omega arith)) in
     map_push f (below n) n ∙ ap (λ (ys : List X). ys ++ f n ∷ []) (map-below_is f (x ∷ xs) n (omega arith) (λ k d lt. h k d (omega arith)))
     ∙ ap (λ (y : X). take n (x ∷ xs) ++ y ∷ []) (sym (h n x (omega arith))) ∙ sym more
+
+-- the number at a place
+pub get_or-below : (n k d : ℕ) → k < n → get_or (below n) k d ≡ k
+unfolding below
+get_or-below zero k d lt = absurd (omega arith)
+get_or-below (suc n) k d lt =
+    elim (cases_lt k n) [
+      | inl l ↦ get_or_append_left (below n) (n ∷ []) d k (omega (arith, length-below n)) ∙ get_or-below n k d l
+      | inr l ↦ let same : k ≡ n = omega arith in ap (λ (j : ℕ). get_or (below n ++ n ∷ []) j d) same ∙ get_or_at (below n) n [] d n (length-below n) ∙ sym same
+    ]

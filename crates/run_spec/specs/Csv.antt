@@ -1,18 +1,14 @@
 -- A project file of lines, each a library, a comma and a path.
-use Rattle.std.specs.Prelude.{ℕ, suc, ◌+◌, nat_le, Bool, true, false, not, ◌&&◌, ◌||◌, ◌==◌, if◌then◌else◌, List, [], ◌∷◌, ◌++◌, length, map, reverse, count_by, codes, Option, Some, None, Result, Ok, Err}
+use Rattle.std.specs.Prelude.{ℕ, ◌+◌, nat_le, Bool, true, false, not, ◌&&◌, ◌||◌, ◌==◌, if◌then◌else◌, List, [], ◌∷◌, ◌++◌, length, map, reverse, count_by, codes, Option, Some, None, Result, Ok, Err}
 use Rattle.std.specs.List.{list_any, list_all, slice_split, before_first, after_first}
 use Rattle.std.specs.Option.{option_and_then, option_map_or}
-use Rattle.std.specs.Str.{is_utf8}
+use Rattle.std.specs.Str.{is_utf8, bytes_eq}
 use Rattle.std.specs.Str.Lines.{lines}
 use Rattle.vr_base.specs.declared.file.FileName.{FileName}
+use Rattle.vr_base.specs.declared.project.Project.{Project}
+use Rattle.vr_base.specs.declared.project.ProjectFile.{ProjectFile}
 use Rattle.vr_base.specs.declared.project.ProjectFault.{ProjectFault}
 use Rattle.vr_base.specs.declared.project.ProjectFault.TheVariants.{BadLine}
-
-abbrev pub is_same : List ℕ → List ℕ → Bool
-is_same [] [] = true
-is_same [] (y ∷ ys) = false
-is_same (x ∷ xs) [] = false
-is_same (x ∷ xs) (y ∷ ys) = x == y && is_same xs ys
 
 abbrev pub is_upper : ℕ → Bool
 is_upper byte = nat_le 65 byte && nat_le byte 90
@@ -37,14 +33,21 @@ lower byte = if is_upper byte then byte + 32 else byte
 
 -- no component of a path is empty, `.` or `..`
 abbrev pub is_component : List ℕ → Bool
-is_component part = not (is_same part []) && not (is_same part (46 ∷ [])) && not (is_same part (46 ∷ 46 ∷ []))
+is_component part = not (bytes_eq part []) && not (bytes_eq part (46 ∷ [])) && not (bytes_eq part (46 ∷ 46 ∷ []))
 
 abbrev pub is_path_byte : ℕ → Bool
 is_path_byte byte = nat_le 32 byte && not (byte == 127)
 
--- UTF-8 of 1 to 1,024 bytes, without control bytes, of components between slashes
+-- 1 to 1,024 bytes, none of them a control byte
+abbrev pub has_path_bytes : List ℕ → Bool
+has_path_bytes path = nat_le 1 (length path) && nat_le (length path) 1024 && list_all is_path_byte path
+
+abbrev pub has_components : List ℕ → Bool
+has_components path = list_all is_component (slice_split (λ byte. byte == 47) path)
+
+-- a path: UTF-8, with components between slashes
 abbrev pub is_path : List ℕ → Bool
-is_path path = nat_le 1 (length path) && nat_le (length path) 1024 && list_all is_path_byte path && list_all is_component (slice_split (λ byte. byte == 47) path) && is_utf8 path
+is_path path = has_path_bytes path && has_components path && is_utf8 path
 
 -- a space or a tab
 abbrev pub is_blank : ℕ → Bool
@@ -58,23 +61,23 @@ without_blanks (byte ∷ bytes) = if is_blank byte then without_blanks bytes els
 abbrev pub trimmed : List ℕ → List ℕ
 trimmed bytes = reverse (without_blanks (reverse (without_blanks bytes)))
 
-abbrev pub is_comma : ℕ → Bool
-is_comma byte = byte == 44
+-- one comma, no double quote, a library and a path
+abbrev pub names_file : List ℕ → List ℕ → List ℕ → Bool
+names_file line library path = count_by (λ byte. byte == 44) line == 1 && not (list_any (λ byte. byte == 34) line) && is_library library && is_path path
 
--- the file that a line names: one comma, no double quote, a library and a path
+-- the file that a line names: what stands before its comma, and what stands after it
 unfoldable pub file_of : List ℕ → Option FileName
 file_of line =
-    let library = trimmed (before_first is_comma line) in
-    let path = trimmed (after_first is_comma line) in
-    if count_by is_comma line == 1 && not (list_any (λ byte. byte == 34) line) && is_library library && is_path path
-    then Some (record { library = map lower library; path = path }) else None
+    let library = trimmed (before_first (λ byte. byte == 44) line) in
+    let path = trimmed (after_first (λ byte. byte == 44) line) in
+    if names_file line library path then Some (record { library = map lower library; path = path }) else None
 
 abbrev pub is_same_name : FileName → FileName → Bool
-is_same_name a b = is_same a.library b.library && is_same a.path b.path
+is_same_name a b = bytes_eq a.library b.library && bytes_eq a.path b.path
 
 -- a name that can't be added: its library is `work`, or it came before
 unfoldable pub is_refused_name : List FileName → FileName → Bool
-is_refused_name before name = is_same name.library (codes "work") || list_any (is_same_name name) before
+is_refused_name before name = bytes_eq name.library (codes "work") || list_any (λ other. is_same_name other name) before
 
 -- the file that a line adds
 unfoldable pub added_by : List FileName → List ℕ → Option FileName
@@ -84,9 +87,31 @@ added_by before line = option_and_then (λ name. if is_refused_name before name 
 unfoldable pub files_after : List FileName → ℕ → List (List ℕ) → Result (List FileName) ProjectFault
 files_after before number [] = Ok before
 files_after before number (line ∷ rest) =
-    if is_same line [] then files_after before (suc number) rest
-    else option_map_or (λ name. files_after (before ++ name ∷ []) (suc number) rest) (added_by before line) (Err (BadLine number))
+    if bytes_eq line [] then files_after before (number + 1) rest
+    else option_map_or (λ name. files_after (before ++ name ∷ []) (number + 1) rest) (added_by before line) (Err (BadLine number))
 
 -- the files that the bytes list, or the first bad line
 abbrev pub csv_files : List ℕ → Result (List FileName) ProjectFault
 csv_files bytes = files_after [] 1 (lines bytes)
+
+-- the command of a listed file
+abbrev pub listed_command : List (List ℕ)
+listed_command = codes "@self" ∷ codes "child-analyse" ∷ []
+
+abbrev pub listed_simulator : List (List ℕ)
+listed_simulator = codes "@self" ∷ codes "child-bench" ∷ []
+
+abbrev pub listed_file : FileName → ProjectFile
+listed_file name = record { name = name; command = listed_command }
+
+-- the project of listed files
+abbrev pub listed_project : List FileName → Project
+listed_project names = record { files = map listed_file names; simulator = listed_simulator; external = []; bodies = false; depends = []; listed = true }
+
+abbrev pub project_of : Result (List FileName) ProjectFault → Result Project ProjectFault
+project_of (Ok names) = Ok (listed_project names)
+project_of (Err fault) = Err fault
+
+-- the project of the bytes, or the first bad line
+abbrev pub csv_project : List ℕ → Result Project ProjectFault
+csv_project bytes = project_of (csv_files bytes)

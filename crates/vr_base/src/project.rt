@@ -1,4 +1,7 @@
-use crate::{FileName, Items, TextList};
+ghost use Rattle.std.specs.Prelude.{◌≡◌};
+ghost use Rattle.vr_base.specs.declared.project.ProjectFault.TheVariants.{NoMemory as out_of_memory};
+
+use crate::{FileName, Items, NoMemory, TextList};
 
 /// A file of a project, and the words of its compiler.
 #[derive(Drop)]
@@ -40,4 +43,12 @@ pub enum ProjectFault {
     NoMemory,
     /// A line that names no library and path, counted from 1.
     BadLine { line: u32 },
+}
+
+impl From<NoMemory> for ProjectFault {
+    ghost from_gives = { λ _ e. e ≡ out_of_memory };
+
+    fn from(_: NoMemory) -> ProjectFault {
+        ProjectFault::NoMemory
+    }
 }

@@ -1,3 +1,9 @@
 pub mod Stands
 pub mod OneChild
 pub mod Builds
+pub mod Utf8Test
+pub mod Splits
+pub mod SeenNames
+pub mod ListedGraph
+pub mod CsvProject
+pub mod Texts

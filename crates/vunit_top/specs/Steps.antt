@@ -9,6 +9,10 @@ use Rattle.vr_base.specs.declared.child.Event.TheVariants.{Started, Ended, Gone}
 use Rattle.vr_base.specs.declared.outcome.Mark.{Mark}
 use Rattle.vr_base.specs.declared.outcome.Mark.TheVariants.{Fresh, Compiled, Refused, Skipped, Left}
 use Rattle.vr_base.specs.Jobs.{compile_request}
+use Rattle.vr_base.specs.declared.file.FileName.{FileName}
+use Rattle.vr_base.specs.declared.project.ProjectFault.{ProjectFault}
+use Rattle.vr_base.specs.declared.project.ProjectFault.TheVariants as problem
+use Rattle.run_spec.specs.Csv.{files_after}
 use Rattle.vr_outside.specs.Counts.{Counted}
 use Rattle.run_spec.specs.ChildJournal.{IsWhole, Lawful, Answered, empty_book}
 use Rattle.run_spec.specs.Marks.{marks_of}
@@ -125,3 +129,15 @@ pub record AddsLawful (answer : Request → Exit) (graph : List Entry) (old new 
 abbrev pub Builds : (Request → Exit) → List Entry → Result (List Mark) BuildFault → List Event → List Event → Type 0
 Builds answer graph (Ok marks) old new = AddsBuild answer graph marks old new
 Builds answer graph (Err fault) old new = AddsLawful answer graph old new
+
+-- one more line of a project file, behind the files of those before it
+abbrev pub TakesLine : List FileName → ℕ → List ℕ → Result (Unit {0}) ProjectFault → List FileName → Type 0
+TakesLine old number line (Ok done) new = (rest : List (List ℕ)) → files_after old number (line ∷ rest) ≡ files_after new (number + 1) rest
+TakesLine old number line (Err problem.NoMemory) new = Unit {0}
+TakesLine old number line (Err (problem.BadLine at)) new = (rest : List (List ℕ)) → files_after old number (line ∷ rest) ≡ Err (problem.BadLine at)
+
+-- what is read is what the bytes say, unless memory ran out
+abbrev pub Reads : {T : Type 0} → Result T ProjectFault → Result T ProjectFault → Type 0
+Reads said (Ok read) = said ≡ Ok read
+Reads said (Err problem.NoMemory) = Unit {0}
+Reads said (Err (problem.BadLine at)) = said ≡ Err (problem.BadLine at)

@@ -2,5 +2,11 @@
 #![tactic(auto)]
 
 mod build;
+mod csv;
 mod children;
+mod listed;
+mod parts;
 mod requests;
+mod seen;
+mod sources;
+mod words;

@@ -62,7 +62,7 @@ fn put_compile_input(out: &mut Vec<u8>, entry: &Entry, built: &Built) -> Result<
     Ok(())
 }
 
-fn copy_words(alloc: Global, words: &TextList) -> Result<TextList, NoMemory>
+pub fn copy_words(alloc: Global, words: &TextList) -> Result<TextList, NoMemory>
     ensures { IfOk result (λ copy. copy ≡ words.now) }
 {
     let mut copy = TextList::new(alloc);

@@ -1,0 +1,10 @@
+use Rattle.std.proofs.Common.{◌≡◌, ◌++◌}
+use Rattle.std.specs.Vec.Iter.{into_iter_items}
+use Rattle.run_spec.specs.PresentGraph.{listed}
+use Rattle.vunit_top.proofs.listed.listed_graph.Given as goal
+
+abbrev pub invariant-loop-text : goal.invariant-loop-text
+invariant-loop-text l = record {
+  rest : l.yielded ++ into_iter_items l.text-iterator ≡ l.fn.texts;
+  graph : l.graph ≡ listed l.files l.yielded;
+}
