@@ -72,11 +72,11 @@ IsAnswered answer Child events = events ≡ []
 IsAnswered answer (Stops reason) events = events ≡ []
 
 -- the build ended by itself: lawful, greedy and finished
-abbrev pub IsWhole : Reading → List Event → Type 0
-IsWhole (Go graph) events = journal.IsWhole (one_at_a_time graph) events
-IsWhole Bad events = events ≡ []
-IsWhole Child events = events ≡ []
-IsWhole (Stops reason) events = events ≡ []
+abbrev pub EndsByItself : Reading → List Event → Type 0
+EndsByItself (Go graph) events = journal.IsWhole (one_at_a_time graph) events
+EndsByItself Bad events = events ≡ []
+EndsByItself Child events = events ≡ []
+EndsByItself (Stops reason) events = events ≡ []
 
 -- no fault and no want of memory
 abbrev pub IsSaid : Outcome → Type 0

@@ -1,5 +1,5 @@
 -- The texts that are put. Each line ends with a line feed.
-use Rattle.std.specs.Prelude.{ℕ, ◌==◌, if◌then◌else◌, List, [], ◌∷◌, ◌++◌, length, take, slice_index, codes}
+use Rattle.std.specs.Prelude.{ℕ, ◌-◌, ◌==◌, ◌||◌, if◌then◌else◌, List, [], ◌∷◌, ◌++◌, length, take, slice_index, codes}
 use Rattle.std.specs.Fmt.{decimal}
 use Rattle.std.specs.List.{list_any}
 use Rattle.vr_base.specs.declared.graph.Entry.{Entry}
@@ -13,8 +13,7 @@ use Rattle.run_spec.specs.Marks.{is_refused, is_compiled}
 
 -- a line feed where the bytes aren't empty and don't end with one
 abbrev pub line_end : List ℕ → List ℕ
-line_end [] = []
-line_end (byte ∷ bytes) = if slice_index (byte ∷ bytes) (length bytes) == 10 then [] else 10 ∷ []
+line_end bytes = if length bytes == 0 || slice_index bytes (length bytes - 1) == 10 then [] else 10 ∷ []
 
 -- the first bytes of what a child printed, up to a limit, as whole lines
 abbrev pub shown : ℕ → List ℕ → List ℕ

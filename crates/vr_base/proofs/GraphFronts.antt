@@ -17,8 +17,8 @@ module _ (front back : List Entry) (graph : IsGraph (front ++ back)) where
         rising = at.rising;
         before = at.before;
         closed = λ k d l entry.
-          let low : get_or (get_or front i other).deps k d < length front = omega (arith, at.before k d l) in
-          subst (λ (e : Entry). All (Contains (get_or front i other).deps) e.deps) (get_or_append_left front back entry (get_or (get_or front i other).deps k d) low) (at.closed k d l entry);
+            let low : get_or (get_or front i other).deps k d < length front = omega (arith, at.before k d l) in
+            subst (λ (e : Entry). All (Contains (get_or front i other).deps) e.deps) (get_or_append_left front back entry (get_or (get_or front i other).deps k d) low) (at.closed k d l entry);
         name = at.name;
         command = at.command;
         text = at.text;
@@ -28,7 +28,7 @@ module _ (front back : List Entry) (graph : IsGraph (front ++ back)) where
   IsGraph-front = record {
     few = omega (arith, whole, graph.few);
     distinct = λ i j d a b. subst (λ (e : Entry). (get_or front i d).name ≢ e.name) (get_or_append_left front back d j b)
-      (subst (λ (e : Entry). e.name ≢ (get_or (front ++ back) j d).name) (get_or_append_left front back d i (omega arith)) (graph.distinct i j d a (omega (arith, whole))));
+        (subst (λ (e : Entry). e.name ≢ (get_or (front ++ back) j d).name) (get_or_append_left front back d i (omega arith)) (graph.distinct i j d a (omega (arith, whole))));
     each = entry_at;
     small = omega (arith, sum_by-append (λ (e : Entry). length e.text) front back, graph.small);
   }

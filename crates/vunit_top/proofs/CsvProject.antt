@@ -1,8 +1,8 @@
 -- The project of a file of lines is one: its names are distinct and fit, and so do its commands.
-use Rattle.std.proofs.Common.{◌≡◌, ◌≢◌, ℕ, zero, suc, eqb, ◌+◌, ◌<◌, ◌≤◌, Bool, true, false, not, cond, ◌&&◌, ◌||◌, List, [], ◌∷◌, ◌++◌, length, get_or, map, Option, Some, None, Result, Ok, Err, refl, sym, ap, subst, ◌∙◌, arith, inl, inr}
-use Rattle.std.specs.Prelude.{All, AllPairs, codes, slice_get, leb}
-use Rattle.std.specs.Str.{bytes_eq, is_utf8}
-use Rattle.std.specs.List.{list_any, list_all, before_first, after_first}
+use Rattle.std.proofs.Common.{◌≡◌, ◌≢◌, ℕ, zero, suc, eqb, ◌+◌, ◌<◌, ◌≤◌, true, false, cond, List, [], ◌∷◌, ◌++◌, length, get_or, map, Option, Some, None, Result, Ok, Err, refl, sym, ap, subst, ◌∙◌, arith, inl, inr}
+use Rattle.std.specs.Prelude.{All, AllPairs}
+use Rattle.std.specs.Str.{bytes_eq}
+use Rattle.std.specs.List.{list_any, before_first, after_first}
 use Rattle.std.specs.Option.{option_and_then, option_map_or}
 use Rattle.std.proofs.lemmas.Bool.{cases_Bool, and_parts, and_from, cond-true, cond-false, leb-true, or_parts, both_ways}
 use Rattle.std.proofs.lemmas.List.{length-map, get_or-map}
@@ -14,9 +14,9 @@ use Rattle.vr_base.specs.declared.file.FileName.{FileName}
 use Rattle.vr_base.specs.declared.project.ProjectFile.{ProjectFile}
 use Rattle.vr_base.specs.declared.project.ProjectFault.{ProjectFault}
 use Rattle.vr_base.specs.declared.project.ProjectFault.TheVariants.{BadLine}
-use Rattle.vr_base.specs.Names.{IsBetween, FitsName, FitsCommand}
-use Rattle.vr_base.specs.Projects.{IsProject, IsProjectFile, FitsSimulator}
-use Rattle.run_spec.specs.Csv.{file_of, names_file, trimmed, lower, is_library, begins_with_letter, is_library_byte, has_path_bytes, is_path_byte, has_components, is_path, is_refused_name, is_same_name, added_by, files_after, listed_file, listed_project, listed_command}
+use Rattle.vr_base.specs.Names.{IsBetween, FitsName}
+use Rattle.vr_base.specs.Projects.{IsProject, IsProjectFile}
+use Rattle.run_spec.specs.Csv.{file_of, names_file, trimmed, lower, begins_with_letter, is_refused_name, is_same_name, added_by, files_after, listed_file, listed_project, listed_command}
 
 some_is : {X : Type 0} (x y : X) → ◌≡◌ {A = Option X} (Some x) (Some y) → x ≡ y
 some_is x y e = cc
@@ -39,17 +39,17 @@ fits_of : (line library path : List ℕ) (name : FileName) → cond (names_file 
 fits_of line library path name h =
     elim (cases_Bool (names_file line library path)) [
       | inl t ↦
-        let whole = and_parts _ _ t in
-        let front = and_parts _ _ whole.0 in
-        let lib = and_parts _ _ front.1 in
-        let lib_front = and_parts _ _ lib.0 in
-        let path_front = and_parts _ _ (and_parts _ _ whole.1).0 in
-        let bytes = and_parts _ _ (and_parts _ _ path_front.0).0 in
-        let is : record { library = map lower library; path = path } ≡ name = some_is _ _ (sym (cond-true (names_file line library path) (Some (record { library = map lower library; path = path })) None t) ∙ h) in
-        subst FitsName is (record {
-          library = record { at_least = rw length-map (begins_not_empty library lib_front.0); at_most = rw length-map (leb-true _ _ lib.1) };
-          path = record { at_least = leb-true _ _ bytes.0; at_most = leb-true _ _ bytes.1 };
-        })
+          let whole = and_parts _ _ t in
+          let front = and_parts _ _ whole.0 in
+          let lib = and_parts _ _ front.1 in
+          let lib_front = and_parts _ _ lib.0 in
+          let path_front = and_parts _ _ (and_parts _ _ whole.1).0 in
+          let bytes = and_parts _ _ (and_parts _ _ path_front.0).0 in
+          let is : record { library = map lower library; path = path } ≡ name = some_is _ _ (sym (cond-true (names_file line library path) (Some (record { library = map lower library; path = path })) None t) ∙ h) in
+          subst FitsName is (record {
+            library = record { at_least = rw length-map (begins_not_empty library lib_front.0); at_most = rw length-map (leb-true _ _ lib.1) };
+            path = record { at_least = leb-true _ _ bytes.0; at_most = leb-true _ _ bytes.1 };
+          })
       | inr f ↦ absurd (none_is_some name (sym (cond-false (names_file line library path) (Some (record { library = map lower library; path = path })) None f) ∙ h))
     ]
 
@@ -73,8 +73,8 @@ added_fits before line name h =
     elim (cases_Bool (is_refused_name before a.0)) [
       | inl t ↦ absurd (none_is_some name (sym (cond-true (is_refused_name before a.0) None (Some a.0) t) ∙ a.2))
       | inr f ↦
-        let is : a.0 ≡ name = some_is a.0 name (sym (cond-false (is_refused_name before a.0) None (Some a.0) f) ∙ a.2) in
-        subst (λ (n : FileName). FitsName n × (is_refused_name before n ≡ false)) is (file_fits line a.0 a.1, f)
+          let is : a.0 ≡ name = some_is a.0 name (sym (cond-false (is_refused_name before a.0) None (Some a.0) f) ∙ a.2) in
+          subst (λ (n : FileName). FitsName n × (is_refused_name before n ≡ false)) is (file_fits line a.0 a.1, f)
     ]
 
 -- names of files that fit, each once
@@ -88,7 +88,7 @@ one_more before name are fits new_one =
     let no_other : list_any (λ other. is_same_name other name) before ≡ false = (or_parts _ _ new_one).1 in
     record {
       distinct = all_pairs_push (λ a b. a ≢ b) before name are.distinct (λ k d lt same.
-        both_ways (list_any (λ other. is_same_name other name) before) no_other (list_any_at (λ other. is_same_name other name) before k d lt (same_names (get_or before k d) name same)));
+          both_ways (list_any (λ other. is_same_name other name) before) no_other (list_any_at (λ other. is_same_name other name) before k d lt (same_names (get_or before k d) name same)));
       fit = All-push FitsName before name are.fit fits;
     }
 
@@ -108,7 +108,7 @@ files_are_names before number (line ∷ rest) names are h =
     elim (cases_Bool (bytes_eq line [])) [
       | inl t ↦ files_are_names before (number + 1) rest names are (sym (cond-true (bytes_eq line []) (files_after before (number + 1) rest) (option_map_or (λ name. files_after (before ++ name ∷ []) (number + 1) rest) (added_by before line) (Err (BadLine number))) t) ∙ h)
       | inr f ↦
-        line_then before line names (Err (BadLine number)) (λ name. files_after (before ++ name ∷ []) (number + 1) rest) are (err_is_ok (BadLine number) names) (λ name is next. files_are_names (before ++ name ∷ []) (number + 1) rest names is next) (added_by before line) refl
+          line_then before line names (Err (BadLine number)) (λ name. files_after (before ++ name ∷ []) (number + 1) rest) are (err_is_ok (BadLine number) names) (λ name is next. files_are_names (before ++ name ∷ []) (number + 1) rest names is next) (added_by before line) refl
           (sym (cond-false (bytes_eq line []) (files_after before (number + 1) rest) (option_map_or (λ name. files_after (before ++ name ∷ []) (number + 1) rest) (added_by before line) (Err (BadLine number))) f) ∙ h)
     ]
 
@@ -116,18 +116,19 @@ files_are_names before number (line ∷ rest) names are h =
 pub listed_is_project : (names : List FileName) → AreNames names → IsProject (listed_project names)
 listed_is_project names are = record {
   distinct = λ i j d a b same.
-    let high : j < length names = rw length-map at b in
-    let low : i < length names = omega arith in
-    are.distinct i j d.name a high (sym (ap (λ (f : ProjectFile). f.name) (get_or-map listed_file names i d.name d low)) ∙ same ∙ ap (λ (f : ProjectFile). f.name) (get_or-map listed_file names j d.name d high));
+      let high : j < length names = rw length-map at b in
+      let low : i < length names = omega arith in
+      are.distinct i j d.name a high (sym (ap (λ (f : ProjectFile). f.name) (get_or-map listed_file names i d.name d low)) ∙ same ∙ ap (λ (f : ProjectFile). f.name) (get_or-map listed_file names j d.name d high));
   each = λ k d l.
-    let low : k < length names = rw length-map at l in
-    subst IsProjectFile (sym (get_or-map listed_file names k d.name d low)) (record { name = are.fit k d.name low; command = record { count = record { at_least = omega arith; at_most = omega arith }; words = two_words } });
+      let low : k < length names = rw length-map at l in
+      subst IsProjectFile (sym (get_or-map listed_file names k d.name d low)) (record { name = are.fit k d.name low; command = record { count = record { at_least = omega arith; at_most = omega arith }; words = two_words } });
   simulator = record { count = record { at_least = omega arith; at_most = omega arith }; each = two_between };
 } where
   two_words : All (λ word. length word ≤ 1024) listed_command
   two_words zero d l = omega arith
   two_words (suc zero) d l = omega arith
   two_words (suc (suc k)) d l = absurd (omega arith)
+
   two_between : All (λ word. IsBetween 1 1024 (length word)) (listed_project names).simulator
   two_between zero d l = record { at_least = omega arith; at_most = omega arith }
   two_between (suc zero) d l = record { at_least = omega arith; at_most = omega arith }

@@ -7,3 +7,5 @@ pub mod SeenNames
 pub mod ListedGraph
 pub mod CsvProject
 pub mod Texts
+pub mod ReportLoops
+pub mod Tops

@@ -1,6 +1,6 @@
 -- The files of a listed project are a graph.
-use Rattle.std.proofs.Common.{◌≡◌, ◌≢◌, ℕ, zero, suc, ◌+◌, ◌<◌, ◌≤◌, List, [], ◌∷◌, ◌++◌, length, get_or, drop, refl, sym, ap, subst, ◌∙◌, arith, add-zero, add-suc}
-use Rattle.std.specs.Prelude.{All, AllPairs, Contains, sum_by, slice_get, Some}
+use Rattle.std.proofs.Common.{◌≡◌, ◌≢◌, ℕ, zero, suc, ◌+◌, ◌<◌, ◌≤◌, List, [], ◌∷◌, ◌++◌, length, get_or, drop, refl, sym, ap, subst, ◌∙◌, arith, add-zero}
+use Rattle.std.specs.Prelude.{All, Contains, sum_by}
 use Rattle.std.proofs.lemmas.List.{drop_more, append_assoc, length-append}
 use Rattle.std.proofs.lemmas.Option.{slice_get_within, slice_get-get_or}
 use Rattle.std.proofs.lemmas.List.Sums.{sum_by-cons, get_or-le-sum_by}
@@ -8,7 +8,7 @@ use Rattle.vr_base.specs.declared.graph.Entry.{Entry}
 use Rattle.vr_base.specs.declared.project.ProjectFile.{ProjectFile}
 use Rattle.vr_base.specs.declared.project.Project.{Project}
 use Rattle.vr_base.specs.Graphs.{IsEntryAt, IsGraph}
-use Rattle.vr_base.specs.Projects.{IsProject, IsProjectFile}
+use Rattle.vr_base.specs.Projects.{IsProject}
 use Rattle.vr_base.proofs.GraphFronts.{IsGraph-front}
 use Rattle.run_spec.specs.PresentGraph.{below, listed_entry, listed_from, listed, IsListed}
 use Rattle.run_spec.proofs.Places.{length-below, get_or-below}
@@ -65,7 +65,7 @@ text_sum place files [] = rw listed_no_text (omega arith)
 text_sum place [] (text ∷ texts) = omega arith
 text_sum place (file ∷ files) (text ∷ texts) =
     rw (sum_by-cons (λ (e : Entry). length e.text) (listed_entry place file text) (listed_from (suc place) files texts), sum_by-cons (λ (t : List ℕ). length t) text texts)
-      (omega (arith, text_sum (suc place) files texts))
+    (omega (arith, text_sum (suc place) files texts))
 
 module _ (project : Project) (texts : List (List ℕ)) (is : IsProject project) (few : length project.files ≤ 4096) (are : AreTexts project.files texts) where
   count : length (listed project.files texts) ≡ length project.files
@@ -87,12 +87,12 @@ module _ (project : Project) (texts : List (List ℕ)) (is : IsProject project) 
         rising = λ k l. let a : k < i = omega (arith, length-below i) in let b : k + 1 < i = omega (arith, length-below i) in rw (get_or-below i k 0 a, get_or-below i (k + 1) 0 b) (omega arith);
         before = λ k e l. let a : k < i = omega (arith, length-below i) in rw (get_or-below i k e a) a;
         closed = λ k e l other.
-          let a : k < i = omega (arith, length-below i) in
-          let at : get_or (below i) k e ≡ k = get_or-below i k e a in
-          let low : k < length project.files = omega arith in
-          subst (λ (n : ℕ). All (Contains (below i)) (get_or (listed project.files texts) n other).deps) (sym at)
+            let a : k < i = omega (arith, length-below i) in
+            let at : get_or (below i) k e ≡ k = get_or-below i k e a in
+            let low : k < length project.files = omega arith in
+            subst (λ (n : ℕ). All (Contains (below i)) (get_or (listed project.files texts) n other).deps) (sym at)
             (subst (λ (entry : Entry). All (Contains (below i)) entry.deps) (sym (get k other low))
-              (λ j c m. let b : j < k = omega (arith, length-below k) in rw (get_or-below k j c b) (in_below i j (omega arith))));
+            (λ j c m. let b : j < k = omega (arith, length-below k) in rw (get_or-below k j c b) (in_below i j (omega arith))));
         name = file.name;
         command = file.command;
         text = omega (arith, get_or-le-sum_by (λ (t : List ℕ). length t) texts i d.text (omega (arith, are.each)), are.small);
@@ -102,11 +102,11 @@ module _ (project : Project) (texts : List (List ℕ)) (is : IsProject project) 
   listed_is_graph = record {
     few = omega (arith, count);
     distinct = λ i j d a b.
-      let low : i < length project.files = omega (arith, count) in
-      let high : j < length project.files = omega (arith, count) in
-      subst (λ (e : Entry). e.name ≢ (get_or (listed project.files texts) j d).name) (sym (get i d low))
+        let low : i < length project.files = omega (arith, count) in
+        let high : j < length project.files = omega (arith, count) in
+        subst (λ (e : Entry). e.name ≢ (get_or (listed project.files texts) j d).name) (sym (get i d low))
         (subst (λ (e : Entry). (get_or project.files i (record { name = d.name; command = d.command })).name ≢ e.name) (sym (get j d high))
-          (is.distinct i j (record { name = d.name; command = d.command }) a high));
+        (is.distinct i j (record { name = d.name; command = d.command }) a high));
     each = λ i d lt. let low : i < length project.files = omega (arith, count) in subst (IsEntryAt (listed project.files texts) i) (sym (get i d low)) (entry_is i d low);
     small = omega (arith, text_sum 0 project.files texts, are.small);
   }
@@ -116,7 +116,7 @@ module _ (project : Project) (texts : List (List ℕ)) (is : IsProject project) 
   push_is_graph done more text e =
       let whole : (done ++ text ∷ []) ++ more ≡ texts = append_assoc done (text ∷ []) more ∙ e in
       IsGraph-front (listed project.files (done ++ text ∷ [])) (listed_from (0 + length (done ++ text ∷ [])) (drop (length (done ++ text ∷ [])) project.files) more)
-        (subst IsGraph (ap (listed project.files) (sym whole) ∙ listed_from-append 0 project.files (done ++ text ∷ []) more) listed_is_graph)
+      (subst IsGraph (ap (listed project.files) (sym whole) ∙ listed_from-append 0 project.files (done ++ text ∷ []) more) listed_is_graph)
 
   -- the file at the place after those that are done
   pub next_file : (files : List ProjectFile) (done more : List (List ℕ)) (text : List ℕ) (graph : List Entry) (place : ℕ) → files ≡ project.files → graph ≡ listed files done → done ++ (text ∷ more) ≡ texts → place ≡ length graph
@@ -126,12 +126,14 @@ module _ (project : Project) (texts : List (List ℕ)) (is : IsProject project) 
       let sizes : length done + suc (length more) ≡ length texts = sym (length-append done (text ∷ more)) ∙ ap length whole in
       let count_done : length graph ≡ length done = ap length so_far ∙ length-listed_from 0 files done (omega (arith, are.each)) in
       let here : place ≡ length done = at ∙ count_done in
-      let low : length done < length files = omega (arith, are.each) in
-      (omega arith, λ file entry is_file is_entry.
-        let pushed : graph ++ entry ∷ [] ≡ listed files (done ++ text ∷ []) =
-          ap (λ (g : List Entry). g ++ entry ∷ []) so_far ∙ ap (λ (e : Entry). listed files done ++ e ∷ []) (is_entry ∙ ap (λ (n : ℕ). listed_entry n file text) here ∙ ap (λ (f : ProjectFile). listed_entry (length done) f text) (is_file ∙ ap (λ (n : ℕ). get_or files n file) here))
-          ∙ sym (listed-more files done text file low) in
-        (subst IsGraph (ap (λ (fs : List ProjectFile). listed fs (done ++ text ∷ [])) (sym same) ∙ sym pushed) (push_is_graph done more text whole), pushed))
+      let low : length done < length files = omega (arith, are.each) in (
+        omega arith,
+        λ file entry is_file is_entry.
+            let pushed : graph ++ entry ∷ [] ≡ listed files (done ++ text ∷ []) =
+            ap (λ (g : List Entry). g ++ entry ∷ []) so_far ∙ ap (λ (e : Entry). listed files done ++ e ∷ []) (is_entry ∙ ap (λ (n : ℕ). listed_entry n file text) here ∙ ap (λ (f : ProjectFile). listed_entry (length done) f text) (is_file ∙ ap (λ (n : ℕ). get_or files n file) here))
+            ∙ sym (listed-more files done text file low) in
+            (subst IsGraph (ap (λ (fs : List ProjectFile). listed fs (done ++ text ∷ [])) (sym same) ∙ sym pushed) (push_is_graph done more text whole), pushed),
+      )
 
 -- each file of a listed project depends on all earlier ones
 pub listed_is_listed : (files : List ProjectFile) (texts : List (List ℕ)) → length texts ≤ length files → IsListed (listed files texts)

@@ -33,14 +33,15 @@ either false false = refl
 
 pub sees : (old new : BTreeSet Key) (key : Key) (name : FileName) (added : Bool) (before : List FileName) → name_of key ≡ name → added ≡ not (contains key_cmp old key) → Updates key_cmp old new key true → Holds old before
     → (added ≡ not (list_any (λ other. is_same_name other name) before)) × Holds new (before ++ name ∷ [])
-sees old new key name added before same new_one updates holds =
-    (new_one ∙ ap not (holds key) ∙ ap (λ (n : FileName). not (list_any (λ other. is_same_name other n) before)) same,
-     λ q.
-       updates.0 q
-       ∙ ap (λ (b : Bool). cond b true (contains key_cmp old q)) (is_eq-key_cmp key q ∙ ap (λ (n : FileName). is_same_name n (name_of q)) same)
-       ∙ ap (cond (is_same_name name (name_of q)) true) (holds q)
-       ∙ either (is_same_name name (name_of q)) (list_any (λ other. is_same_name other (name_of q)) before)
-       ∙ sym (list_any-append (λ other. is_same_name other (name_of q)) before (name ∷ [])))
+sees old new key name added before same new_one updates holds = (
+  new_one ∙ ap not (holds key) ∙ ap (λ (n : FileName). not (list_any (λ other. is_same_name other n) before)) same,
+  λ q.
+      updates.0 q
+      ∙ ap (λ (b : Bool). cond b true (contains key_cmp old q)) (is_eq-key_cmp key q ∙ ap (λ (n : FileName). is_same_name n (name_of q)) same)
+      ∙ ap (cond (is_same_name name (name_of q)) true) (holds q)
+      ∙ either (is_same_name name (name_of q)) (list_any (λ other. is_same_name other (name_of q)) before)
+      ∙ sym (list_any-append (λ other. is_same_name other (name_of q)) before (name ∷ [])),
+)
 
 -- a name whose library isn't `work`
 pub admits : (seen : BTreeSet Key) (before : List FileName) (name : FileName) (admitted : Bool) → bytes_eq name.library (codes "work") ≡ false → (admitted ≡ not (list_any (λ other. is_same_name other name) before)) × Holds seen (before ++ name ∷ []) → Admits seen before name admitted

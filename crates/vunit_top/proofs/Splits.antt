@@ -1,9 +1,8 @@
 -- The parts of a text between marks, one after the other.
-use Rattle.std.proofs.Common.{◌≡◌, ℕ, suc, ◌+◌, ◌<◌, ◌≤◌, Bool, true, false, not, cond, eqb, ltb, List, [], ◌∷◌, ◌++◌, length, take, drop, Option, Some, None, refl, sym, ap, subst, ◌∙◌, arith, inl, inr, rules, add-one}
-use Rattle.std.specs.Prelude.{MatchOption}
-use Rattle.std.specs.List.{slice_split, onto_first, position, position_or_len, list_all}
+use Rattle.std.proofs.Common.{◌≡◌, ℕ, suc, ◌+◌, ◌<◌, ◌≤◌, Bool, eqb, ltb, List, [], ◌∷◌, length, take, drop, Option, Some, None, refl, sym, ap, ◌∙◌, arith, inl, inr}
+use Rattle.std.specs.List.{slice_split, onto_first, position, position_or_len}
 use Rattle.std.specs.Str.Lines.{lines, lines_of_parts, strip_carriage_return}
-use Rattle.std.proofs.lemmas.Bool.{cases_Bool, cases_lt, cond-true, cond-false, ltb-true, ltb-false}
+use Rattle.std.proofs.lemmas.Bool.{cases_Bool, cond-true, cond-false, ltb-true, ltb-false}
 use Rattle.std.proofs.lemmas.List.Splits.{slice_split_first, slice_split-cons_no}
 
 no_some : {X : Type 0} (x : X) → ◌≡◌ {A = Option X} None (Some x) → ⊥
@@ -24,9 +23,9 @@ pub split_at_mark : {X : Type 0} (p : X → Bool) (xs : List X) (i : ℕ) (d : X
 split_at_mark p xs i d h =
     elim (cases_Bool (ltb (position_or_len p xs) (length xs))) [
       | inl t ↦
-        let same : position_or_len p xs ≡ i = some_is _ _ (sym (cond-true (ltb (position_or_len p xs) (length xs)) (Some (position_or_len p xs)) None t) ∙ h) in
-        let low : position_or_len p xs < length xs = ltb-true _ _ t in
-        (omega arith, rw same at (slice_split_first p xs d low))
+          let same : position_or_len p xs ≡ i = some_is _ _ (sym (cond-true (ltb (position_or_len p xs) (length xs)) (Some (position_or_len p xs)) None t) ∙ h) in
+          let low : position_or_len p xs < length xs = ltb-true _ _ t in
+          (omega arith, rw same at (slice_split_first p xs d low))
       | inr f ↦ absurd (no_some i (sym (cond-false (ltb (position_or_len p xs) (length xs)) (Some (position_or_len p xs)) None f) ∙ h))
     ]
 

@@ -1,5 +1,5 @@
 -- The texts of the files of a project, one after the other.
-use Rattle.std.proofs.Common.{◌≡◌, ℕ, ◌+◌, ◌-◌, ◌<◌, ◌≤◌, List, [], ◌∷◌, ◌++◌, length, get_or, drop, Option, Some, None, refl, sym, ap, ◌∙◌, arith}
+use Rattle.std.proofs.Common.{◌≡◌, ℕ, ◌+◌, ◌-◌, ◌<◌, ◌≤◌, List, [], ◌∷◌, ◌++◌, length, get_or, drop, Option, Some, None, refl, sym, ap, ◌∙◌}
 use Rattle.std.proofs.lemmas.List.{append-nil, append_assoc, drop_more, drop_all}
 use Rattle.vr_base.specs.declared.project.ProjectFile.{ProjectFile}
 use Rattle.run_spec.specs.Reading.{texts_of, fitting, before_others}
@@ -23,7 +23,7 @@ pub text_then : (tree : List ℕ → Option (List ℕ)) (left : ℕ) (files : Li
 unfolding texts_of
 text_then tree left files i file texts text whole lt is fits h =
     let here : texts_of tree left (drop i files) ≡ before_others text (texts_of tree (left - length text) (drop (i + 1) files)) =
-      ap (texts_of tree left) (drop_more files i file lt ∙ ap (λ (f : ProjectFile). f ∷ drop (i + 1) files) (sym is)) ∙ rw (← fits) refl in
+    ap (texts_of tree left) (drop_more files i file lt ∙ ap (λ (f : ProjectFile). f ∷ drop (i + 1) files) (sym is)) ∙ rw (← fits) refl in
     sym (behind_more texts text (texts_of tree (left - length text) (drop (i + 1) files))) ∙ ap (behind texts) (sym here) ∙ h
 
 -- a file isn't there, or is too long
@@ -32,7 +32,7 @@ pub no_text_then : (tree : List ℕ → Option (List ℕ)) (left : ℕ) (files :
 unfolding texts_of
 no_text_then tree left files i file texts whole lt is none h =
     let here : texts_of tree left (drop i files) ≡ None =
-      ap (texts_of tree left) (drop_more files i file lt ∙ ap (λ (f : ProjectFile). f ∷ drop (i + 1) files) (sym is)) ∙ rw (← none) refl in
+    ap (texts_of tree left) (drop_more files i file lt ∙ ap (λ (f : ProjectFile). f ∷ drop (i + 1) files) (sym is)) ∙ rw (← none) refl in
     sym h ∙ ap (behind texts) here
 
 -- all files are read

@@ -1,8 +1,7 @@
 -- The texts of the files of a project, and what is read of a tree.
-use Rattle.std.specs.Prelude.{◌≡◌, ℕ, ◌≤◌, List, length, All, sum_by, Option, Some, None, Result, Ok, Err}
+use Rattle.std.specs.Prelude.{◌≡◌, ℕ, ◌≤◌, List, length, sum_by, Option, Some, None, Result, Ok, Err}
 use Rattle.vr_base.specs.declared.graph.Entry.{Entry}
 use Rattle.vr_base.specs.declared.project.ProjectFile.{ProjectFile}
-use Rattle.vr_base.specs.declared.outcome.Refusal.{Refusal}
 use Rattle.vr_base.specs.declared.outcome.Refusal.TheVariants.{NotBuilt}
 use Rattle.vr_outside.specs.Counts.{Counted}
 use Rattle.run_spec.specs.Reading.{Reading, Stops, Go}

@@ -89,6 +89,7 @@ pub fn build<P: Procs>(alloc: Global, graph: &Graph, procs: &mut P) -> Result<Ma
     requires listed { IsListed graph.now }
     requires idle { P.running procs.old ≡ [] }
     ensures running { P.running procs.new ≡ [] }
+    ensures count { IfOk result (λ marks. length marks ≡ length graph.now) }
     ensures journal { P.tells → Builds (P.answer procs.old) graph.now result (P.journal procs.old) (P.journal procs.new) }
     ensures same { P.answer procs.new ≡ P.answer procs.old }
     ensures cause { BuildCounts result (P.failed_starts procs.old) (P.failed_starts procs.new) (P.lost_children procs.old) (P.lost_children procs.new) }

@@ -14,7 +14,8 @@ use crate::words::is_same;
 use std::alloc::Global;
 use std::collections::BTreeSet;
 use vr_base::{
-    FileList, FileName, NoMemory, PairList, Project, ProjectFault, ProjectFile, ProjectFileList, Text, TextList,
+    FileList, FileName, NoMemory, PairList, Project, ProjectFault, ProjectFile, ProjectFileList,
+    Text, TextList,
 };
 
 fn is_letter(byte: u8) -> bool

@@ -2,11 +2,16 @@
 #![tactic(auto)]
 
 mod build;
-mod csv;
 mod children;
+mod csv;
+mod ends;
 mod listed;
 mod parts;
+mod report;
 mod requests;
 mod seen;
 mod sources;
+mod top;
 mod words;
+
+pub use top::run_vunit;

@@ -36,11 +36,7 @@ fn listed_entry(
 }
 
 /// The graph of a listed project: its files in listed order, each depending on all earlier ones.
-pub fn listed_graph(
-    alloc: Global,
-    project: &Project,
-    texts: TextList,
-) -> Result<Graph, NoMemory>
+pub fn listed_graph(alloc: Global, project: &Project, texts: TextList) -> Result<Graph, NoMemory>
     requires project { IsProject project.now }
     requires few { length project.now.files ≤ 4096 }
     requires texts { AreTexts project.now.files texts }

@@ -104,11 +104,7 @@ fn read_texts<T: Tree>(
 }
 
 /// The graph of a project whose files are read.
-fn read_sources<T: Tree>(
-    alloc: Global,
-    tree: &mut T,
-    project: &Project,
-) -> Result<Graph, ReadStop>
+fn read_sources<T: Tree>(alloc: Global, tree: &mut T, project: &Project) -> Result<Graph, ReadStop>
     requires { IsProject project.now }
     ensures graph { T.tells → Leads (sources_reading (T.file tree.old) project.now.files) result }
     ensures listed { IfOk result IsListed }
@@ -123,11 +119,7 @@ fn read_sources<T: Tree>(
 }
 
 /// The graph of the project that the bytes of a project file list.
-fn read_listing<T: Tree>(
-    alloc: Global,
-    tree: &mut T,
-    bytes: &Text,
-) -> Result<Graph, ReadStop>
+fn read_listing<T: Tree>(alloc: Global, tree: &mut T, bytes: &Text) -> Result<Graph, ReadStop>
     requires { length bytes.now ≤ 2097152 }
     ensures graph { T.tells → Leads (listing_reading (T.file tree.old) (csv_project bytes.now)) result }
     ensures listed { IfOk result IsListed }

@@ -8,4 +8,4 @@ use Rattle.vunit_top.proofs.csv.admit.Goals as goal
 pub returns : goal.returns
 returns c =
     IfOk-weaker c.see.result _ _ (λ admitted h before holds.
-      admits c.see.new.seen before c.args.name.now admitted (sym (c.is_same.ensures ∙ ap (λ (bytes : List ℕ). bytes_eq bytes (codes "work")) c.bytes.ensures) ∙ c.if-is_same.false) (h before holds)) c.see.ensures
+    admits c.see.new.seen before c.args.name.now admitted (sym (c.is_same.ensures ∙ ap (λ (bytes : List ℕ). bytes_eq bytes (codes "work")) c.bytes.ensures) ∙ c.if-is_same.false) (h before holds)) c.see.ensures

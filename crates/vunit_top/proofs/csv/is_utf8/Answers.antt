@@ -1,5 +1,4 @@
-use Rattle.std.proofs.Common.{◌≡◌, true, Result, Ok, Err, List, ℕ, sym, ◌∙◌}
-use Rattle.std.proofs.lemmas.Str.{is_utf8-from_IsUtf8, IsUtf8-from_is_utf8}
+use Rattle.std.proofs.Common.{◌∙◌}
 use Rattle.vunit_top.proofs.Utf8Test.{is_utf8-from_result}
 use Rattle.vunit_top.proofs.csv.is_utf8.Goals as goal
 

@@ -18,7 +18,7 @@ pub push-requires : goal.push-requires
 push-requires c =
     let whole : c.loop-text.yielded ++ (c.in-Some.text ∷ into_iter_items c.next.new.self) ≡ c.args.texts = ap (λ (rest : List (List ℕ)). c.loop-text.yielded ++ rest) (sym c.in-Some.ensures.steps.0) ∙ c.loop-text.invariant.rest in
     ((next_file c.args.project.now c.args.texts c.requires.project c.requires.few c.requires.texts c.as_slice-files.result.now c.loop-text.yielded (into_iter_items c.next.new.self) c.in-Some.text c.loop-text.graph c.len-place.result c.as_slice-files.ensures c.loop-text.invariant.graph whole c.len-place.ensures.count).1
-      c.index-files-place.result c.in_ok-entry.entry c.index-files-place.is c.in_ok-entry.ensures).0
+    c.index-files-place.result c.in_ok-entry.entry c.index-files-place.is c.in_ok-entry.ensures).0
 
 pub loop-text-preserved : goal.loop-text-preserved
 loop-text-preserved c =
@@ -26,5 +26,5 @@ loop-text-preserved c =
     record {
       rest = append_assoc c.loop-text.yielded (c.in-Some.text ∷ []) (into_iter_items c.next.new.self) ∙ whole;
       graph = c.in_ok-push.ensures.ok ∙ ((next_file c.args.project.now c.args.texts c.requires.project c.requires.few c.requires.texts c.as_slice-files.result.now c.loop-text.yielded (into_iter_items c.next.new.self) c.in-Some.text c.loop-text.graph c.len-place.result c.as_slice-files.ensures c.loop-text.invariant.graph whole c.len-place.ensures.count).1
-        c.index-files-place.result c.in_ok-entry.entry c.index-files-place.is c.in_ok-entry.ensures).1;
+          c.index-files-place.result c.in_ok-entry.entry c.index-files-place.is c.in_ok-entry.ensures).1;
     }

@@ -1,4 +1,4 @@
-use Rattle.std.proofs.Common.{◌≡◌, ℕ, eqb, sym, ◌∙◌, arith}
+use Rattle.std.proofs.Common.{ℕ, eqb, sym}
 use Rattle.std.proofs.lemmas.List.{take_rest}
 use Rattle.vunit_top.proofs.Splits.{split_at_mark, split_no_mark}
 use Rattle.vunit_top.proofs.parts.cut_at.Goals as goal

@@ -10,9 +10,9 @@ pub returns-in-None-clause-texts : goal.returns-in-None-clause-texts
 returns-in-None-clause-texts g c =
     let i = c.loop-file.invariant in
     λ tells.
-      let none : ◌≡◌ {A = Option (List ℕ)} None (fitting (g.T.Tree.file c.args.tree.now c.file-item.result.name.path) c.loop-file.left) =
-        sym c.in-None.is ∙ c.in_ok-text.ensures.text tells ∙ ap (λ (tree : List ℕ → Option (List ℕ)). fitting (tree c.file-item.result.name.path) c.loop-file.left) i.same in
-      (no_text_then (g.T.Tree.file c.args.tree.now) c.loop-file.left c.args.files.now c.loop-file.file-index c.file-item.result c.loop-file.texts _ c.loop-file-test.true c.file-item.is none (i.told tells), refl)
+    let none : ◌≡◌ {A = Option (List ℕ)} None (fitting (g.T.Tree.file c.args.tree.now c.file-item.result.name.path) c.loop-file.left) =
+    sym c.in-None.is ∙ c.in_ok-text.ensures.text tells ∙ ap (λ (tree : List ℕ → Option (List ℕ)). fitting (tree c.file-item.result.name.path) c.loop-file.left) i.same in
+    (no_text_then (g.T.Tree.file c.args.tree.now) c.loop-file.left c.args.files.now c.loop-file.file-index c.file-item.result c.loop-file.texts _ c.loop-file-test.true c.file-item.is none (i.told tells), refl)
 
 pub loop-file-preserved : goal.loop-file-preserved
 loop-file-preserved g c =
@@ -25,9 +25,9 @@ loop-file-preserved g c =
       same = c.in_ok-text.ensures.same ∙ i.same;
       counts = c.in_ok-text.ensures.cause ∙ i.counts;
       told = λ tells.
-        let some : ◌≡◌ {A = Option (List ℕ)} (Some c.in-Some.text) (fitting (g.T.Tree.file c.args.tree.now c.file-item.result.name.path) c.loop-file.left) =
+          let some : ◌≡◌ {A = Option (List ℕ)} (Some c.in-Some.text) (fitting (g.T.Tree.file c.args.tree.now c.file-item.result.name.path) c.loop-file.left) =
           sym c.in-Some.is ∙ c.in_ok-text.ensures.text tells ∙ ap (λ (tree : List ℕ → Option (List ℕ)). fitting (tree c.file-item.result.name.path) c.loop-file.left) i.same in
-        rw (pushed, bytes) (text_then (g.T.Tree.file c.args.tree.now) c.loop-file.left c.args.files.now c.loop-file.file-index c.file-item.result c.loop-file.texts c.in-Some.text _ c.loop-file-test.true c.file-item.is some (i.told tells));
+          rw (pushed, bytes) (text_then (g.T.Tree.file c.args.tree.now) c.loop-file.left c.args.files.now c.loop-file.file-index c.file-item.result c.loop-file.texts c.in-Some.text _ c.loop-file-test.true c.file-item.is some (i.told tells));
     }
 
 pub returns-clause-texts : goal.returns-clause-texts

@@ -1,0 +1,14 @@
+use Rattle.vunit_top.proofs.Tops.{lawful_at_rest, answered_at_rest}
+use Rattle.vunit_top.proofs.top.run_compile.Goals as goal
+
+pub returns-in-Err-Failed-clause-lawful : goal.returns-in-Err-Failed-clause-lawful
+returns-in-Err-Failed-clause-lawful g c = λ t p. lawful_at_rest _ (g.P.Procs.journal c.args.procs.now)
+
+pub returns-in-Err-Failed-clause-answered : goal.returns-in-Err-Failed-clause-answered
+returns-in-Err-Failed-clause-answered g c = λ t p. answered_at_rest _ _ (g.P.Procs.journal c.args.procs.now)
+
+pub returns-in-Err-NoMemory-clause-lawful : goal.returns-in-Err-NoMemory-clause-lawful
+returns-in-Err-NoMemory-clause-lawful g c = λ t p. lawful_at_rest _ (g.P.Procs.journal c.args.procs.now)
+
+pub returns-in-Err-NoMemory-clause-answered : goal.returns-in-Err-NoMemory-clause-answered
+returns-in-Err-NoMemory-clause-answered g c = λ t p. answered_at_rest _ _ (g.P.Procs.journal c.args.procs.now)

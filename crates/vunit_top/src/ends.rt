@@ -1,0 +1,61 @@
+ghost use Rattle.std.specs.Prelude.{◌≡◌, length};
+ghost use Rattle.run_spec.specs.Said.{Says, IsSaid, said, build_said};
+ghost use Rattle.run_spec.specs.Texts.{refusal_text, usage_text};
+ghost use Rattle.run_spec.specs.Reading.{Bad};
+ghost use Rattle.vunit_top.specs.Ends.{OutCauses};
+
+use crate::report::{build_outcome, build_text, refusal_text};
+use std::alloc::Global;
+use vr_base::{Graph, MarkList, Outcome, Refusal, Which};
+use vr_outside::{Sink, SinkFault};
+
+/// What is put where the words aren't a command line of the program.
+static USAGE: [u8; 140] =
+    *b"usage: vunit_run [-lfkvq] [--compile] [--fail-fast] [--clean] [--exit-0] [-x FILE] [-p N] [--export-json FILE] [--generate N] [PATTERN ...]\n";
+
+/// Puts a text, and answers.
+pub fn say<O: Sink>(text: &[u8], answer: Outcome, out: &mut O) -> Outcome
+    requires { IsSaid answer }
+    ensures said { O.tells → Says result (record { outcome = answer; text = text.now }) (O.contents out.old) (O.contents out.new) }
+    ensures cause { OutCauses result (O.failed_puts out.old) (O.failed_puts out.new) }
+{
+    match out.put(text) {
+        Ok(()) => answer,
+        Err(SinkFault::Failed) => Outcome::OutsideFault(Which::Out),
+    }
+}
+
+/// Puts the usage text.
+#[tactic(auto, unfolding(run_spec::specs::Texts::usage_text))]
+pub fn say_usage<O: Sink>(out: &mut O) -> Outcome
+    ensures said { O.tells → Says result (record { outcome = Outcome.BadWords; text = usage_text }) (O.contents out.old) (O.contents out.new) }
+    ensures cause { OutCauses result (O.failed_puts out.old) (O.failed_puts out.new) }
+{
+    say(&USAGE, Outcome::BadWords, out)
+}
+
+/// Puts the text of a refusal that isn't the compiler's.
+pub fn say_refusal<O: Sink>(alloc: Global, refusal: Refusal, out: &mut O) -> Outcome
+    ensures said { O.tells → Says result (record { outcome = Outcome.Refused refusal; text = refusal_text refusal }) (O.contents out.old) (O.contents out.new) }
+    ensures cause { OutCauses result (O.failed_puts out.old) (O.failed_puts out.new) }
+{
+    match refusal_text(alloc, &refusal) {
+        Ok(text) => say(text.bytes(), Outcome::Refused(refusal), out),
+        Err(_) => Outcome::NoMemory,
+    }
+}
+
+/// Puts the text of a build with these marks.
+pub fn say_build<O: Sink>(alloc: Global, graph: &Graph, marks: &MarkList, out: &mut O) -> Outcome
+    requires { length marks.now ≡ length graph.now }
+    ensures said { O.tells → Says result (build_said graph.now marks.now) (O.contents out.old) (O.contents out.new) }
+    ensures cause { OutCauses result (O.failed_puts out.old) (O.failed_puts out.new) }
+{
+    match (
+        build_text(alloc, graph, marks),
+        build_outcome(alloc, graph, marks),
+    ) {
+        (Ok(text), Ok(answer)) => say(text.bytes(), answer, out),
+        _ => Outcome::NoMemory,
+    }
+}
