@@ -6,6 +6,7 @@ mod file;
 mod items;
 mod memory;
 mod outcome;
+mod rooms;
 mod text;
 
 pub use child::{Event, EventList, Exit, MaybeText, Request};
@@ -13,4 +14,5 @@ pub use file::{Entry, EntryList, FileList, FileName, NamedText, NamedTextList};
 pub use items::{Items, Numbers, Positions};
 pub use memory::NoMemory;
 pub use outcome::{Limit, Mark, MarkList, Outcome, ProjectFault, Refusal, Which};
+pub use rooms::RoomItems;
 pub use text::{Text, TextList};
