@@ -1,13 +1,26 @@
-// A library with one function.
+//! The outside over memory: a tree, children by a table, a source and a sink that tell what they hold. Each fails
+//! in the calls that it is told to fail.
 #![tactic(auto)]
 
-ghost use Rattle.std.specs.Prelude.{◌≡◌};
-ghost use Rattle.vr_memory.specs.Echo.{echo_of};
+mod answer;
+mod book;
+mod copies;
+mod failing;
+mod files;
+mod listing;
+mod mem_sink;
+mod mem_source;
+mod mem_tree;
+mod script_procs;
+mod table;
+mod tickets;
 
-// The `ensures` clause is the contract: what `echo` returns is `echo_of` of its argument, a definition
-// in `specs/Echo.antt`, which a caller's clause can cite too.
-pub fn echo(x: usize) -> usize
-    ensures { result ≡ echo_of x }
-{
-    x
-}
+pub use answer::{Answer, AnswerList};
+pub use book::ChildBook;
+pub use mem_sink::MemSink;
+pub use mem_source::MemSource;
+pub use mem_tree::MemTree;
+pub use script_procs::ScriptProcs;
+
+#[cfg(test)]
+mod tests;
