@@ -1,8 +1,8 @@
-ghost use Rattle.std.specs.Prelude.{◌≡◌, ℕ, nat_eq, IfOk, List, map, filter, IsPermutation, IsSorted};
-ghost use Rattle.std.specs.List.{dedup};
+ghost use Rattle.std.specs.Prelude.{◌≡◌, ◌==◌, ℕ, nat_eq, IfOk, List, map, filter, IsPermutation, IsSorted};
+ghost use Rattle.std.specs.List.{dedup, list_all, slice_split};
 ghost use Rattle.std.specs.Ordering.{nat_cmp};
 ghost use Rattle.std.specs.Cmp.Lexicographic.{pointwise, slice_cmp};
-ghost use Rattle.vr_outside.specs.Trees.{IsListing, Names, is_listed as listed};
+ghost use Rattle.vr_outside.specs.Trees.{IsListing, Names, is_listed as listed, is_shown};
 ghost use Rattle.vr_memory.specs.Trees.{file_of, HavePaths, paths_of};
 
 use std::alloc::Global;
@@ -41,11 +41,15 @@ fn listed_paths(alloc: Global, files: &[NamedText]) -> Result<Vec<Text>, NoMemor
 fn is_listed(path: &[u8]) -> bool
     ensures { result ≡ listed path.now }
 {
-    path.len() <= 1024
-        && !path.starts_with(b"vunit_out/")
-        && path
-            .split(|b| *b == b'/')
-            .all(|component| !component.starts_with(b"."))
+    path.len() <= 1024 && !path.starts_with(b"vunit_out/") && has_no_dot(path)
+}
+
+/// Whether no component of a path begins with a dot.
+fn has_no_dot(path: &[u8]) -> bool
+    ensures { result ≡ list_all is_shown (slice_split (λ b. b == 47) path.now) }
+{
+    path.split(|b| *b == b'/')
+        .all(|component| !component.starts_with(b"."))
 }
 
 fn sort_paths(paths: &mut Vec<Text>)

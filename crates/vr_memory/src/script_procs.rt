@@ -133,7 +133,7 @@ fn two_exits(
     requires { HaveSizes answers.now }
     ensures same { IfOk result (λ exits. exits.1 ≡ exits.0) }
     ensures sizes { IfOk result (λ exits. FitsExit exits.0) }
-    ensures exit { IfOk result (λ exits. IfSome (option_copied request) (λ r. exits.0 ≡ answer_of answers.now r)) }
+    ensures exit { IfOk result (λ exits. IfSome (option_copied request.entry) (λ r. exits.0 ≡ answer_of answers.now r)) }
 {
     match request {
         Some(request) => {
