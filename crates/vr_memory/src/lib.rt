@@ -4,6 +4,7 @@
 
 mod answer;
 mod book;
+mod conditions;
 mod copies;
 mod failing;
 mod files;
@@ -17,6 +18,7 @@ mod tickets;
 
 pub use answer::{Answer, AnswerList};
 pub use book::ChildBook;
+pub use conditions::{have_paths, have_sizes};
 pub use mem_sink::MemSink;
 pub use mem_source::MemSource;
 pub use mem_tree::MemTree;
