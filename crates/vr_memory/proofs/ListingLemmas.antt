@@ -42,9 +42,10 @@ filter_has p (y ∷ ys) x (suc k) below is passes =
 
 -- what a filter keeps was there
 filter_from : {X : Type 0} (p : X → Bool) (xs : List X) (x : X) → Contains (filter p xs) x → Contains xs x × (p x ≡ true)
-filter_from p xs x there =
-    ( All-contains (Contains xs) (filter p xs) x (All-filter p (Contains xs) xs (All-contains_itself xs)) there
-    , All-contains (λ y. p y ≡ true) (filter p xs) x (filter_passes p xs) there)
+filter_from p xs x there = (
+  All-contains (Contains xs) (filter p xs) x (All-filter p (Contains xs) xs (All-contains_itself xs)) there,
+  All-contains (λ y. p y ≡ true) (filter p xs) x (filter_passes p xs) there,
+)
 
 -- no file is none
 none_is_not : false ≡ true → ⊥

@@ -63,6 +63,13 @@ impl ChildBook {
         &self.journal
     }
 
+    /// The tickets of the running children, in order of start.
+    pub fn running(&self) -> &[u64]
+        ensures { result.now ≡ self.now.running }
+    {
+        self.running.as_slice()
+    }
+
     /// Whether the next call is to fail.
     pub fn fails(&self) -> bool
         ensures { result ≡ fails_at self.now.failing self.now.calls }
@@ -168,7 +175,10 @@ fn started_as(event: &Event, ticket: u64) -> Option<&Request>
     ensures { option_copied result ≡ started_with ticket (event.now ∷ []) }
 {
     match event {
-        Event::Started { ticket: other, request } if *other == ticket => Some(request),
+        Event::Started {
+            ticket: other,
+            request,
+        } if *other == ticket => Some(request),
         _ => None,
     }
 }

@@ -57,6 +57,13 @@ impl ScriptProcs {
     {
         self.book.journal()
     }
+
+    /// The tickets of the running children, in order of start.
+    pub fn running(&self) -> &[u64]
+        ensures { result.now ≡ self.now.book.running }
+    {
+        self.book.running()
+    }
 }
 
 impl Procs for ScriptProcs {
