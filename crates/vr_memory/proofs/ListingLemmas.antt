@@ -1,11 +1,10 @@
 -- A sorted listing without repeats: it rises, and has the listed paths of the files.
-use Rattle.std.proofs.Common.{ℕ, zero, suc, ◌+◌, ◌≡◌, ◌<◌, ◌≤◌, ◌⊎◌, Bool, true, false, cond, List, [], ◌∷◌, ◌++◌, length, filter, map, nat_eq, get_or, sym, ap, subst, refl, inl, inr, arith, rules, IsTrue}
-use Rattle.std.specs.Prelude.{IsSome, Some, None, Contains, IsPermutation, IsSorted, All}
+use Rattle.std.proofs.Common.{ℕ, zero, suc, ◌≡◌, ◌<◌, Bool, true, false, cond, List, [], ◌∷◌, length, filter, nat_eq, get_or, sym, subst, refl, arith}
+use Rattle.std.specs.Prelude.{IsSome, Some, Contains, IsPermutation, IsSorted}
 use Rattle.std.specs.List.{AllByRecursion, dedup}
 use Rattle.std.specs.List.Sorted.{IsStrictlySortedBy}
 use Rattle.std.specs.Ordering.{nat_cmp}
 use Rattle.std.specs.Cmp.Lexicographic.{pointwise, slice_cmp}
-use Rattle.std.proofs.lemmas.Grind.{common_steps}
 use Rattle.std.proofs.lemmas.Bool.{and_parts, leb-true, both_ways}
 use Rattle.std.proofs.lemmas.Cmp.{nat_list_cmp_total, nat_list_eq_equiv}
 use Rattle.std.proofs.lemmas.Slice.Eq.{bytes_eq-Decides}
@@ -15,7 +14,7 @@ use Rattle.std.proofs.lemmas.List.Kept.{IsStrictlySortedBy-dedup, Contains-dedup
 use Rattle.std.proofs.lemmas.List.Sorted.{Contains-permutation, IsPermutation-sym}
 use Rattle.std.proofs.lemmas.List.Elements.{All-filter, All-contains, All-contains_itself, All-weaker, filter_passes, recursion_from_All, All-from_recursion, Contains-append_right}
 use Rattle.vr_base.specs.declared.file.NamedText.{NamedText}
-use Rattle.vr_outside.specs.Trees.{IsRising, IsName, Lists, Names, is_listed}
+use Rattle.vr_outside.specs.Trees.{IsRising, IsName, Lists, is_listed}
 use Rattle.vr_memory.specs.Trees.{file_of, IsPath, HavePaths, paths_of}
 
 -- strictly sorted paths rise

@@ -1,5 +1,5 @@
 -- What a table answers keeps the sizes of an exit.
-use Rattle.std.proofs.Common.{ℕ, ◌≡◌, ◌≤◌, Bool, true, false, cond, List, [], ◌∷◌, lit≤}
+use Rattle.std.proofs.Common.{true, false, cond, List, [], ◌∷◌, lit≤}
 use Rattle.vr_base.specs.declared.child.Request.{Request}
 use Rattle.vr_outside.specs.Children.{FitsExit}
 use Rattle.vr_memory.specs.declared.answer.Answer.{Answer}

@@ -1,4 +1,4 @@
-use Rattle.std.proofs.Common.{◌≡◌, ℕ, ◌<◌, ◌++◌, take, drop, length}
+use Rattle.std.proofs.Common.{◌≡◌, ◌++◌, take, drop}
 use Rattle.vr_outside.specs.Children.{without}
 use Rattle.vr_memory.proofs.tickets.leave.Given as goal
 

@@ -1,4 +1,3 @@
-use Rattle.std.proofs.Common.{ℕ}
 use Rattle.std.specs.Prelude.{Contains}
 use Rattle.vr_memory.proofs.BookLemmas.{book_ended}
 use Rattle.vr_memory.proofs.book.ChildBook.close.Goals as goal

@@ -1,6 +1,5 @@
-use Rattle.std.proofs.Common.{◌≡◌, ℕ, ◌+◌, ◌≤◌, List, [], ◌∷◌, ◌++◌, length, sym, ◌∙◌, ap, subst, arith}
+use Rattle.std.proofs.Common.{◌≡◌, ◌+◌, ◌≤◌, [], ◌∷◌, ◌++◌, length, ◌∙◌, ap, arith}
 use Rattle.vr_base.specs.declared.child.Event.TheVariants as event
-use Rattle.vr_outside.specs.Children.{IsFresh}
 use Rattle.vr_memory.proofs.BookLemmas.{book_started, fresh}
 use Rattle.vr_memory.proofs.book.ChildBook.start.Goals as goal
 
