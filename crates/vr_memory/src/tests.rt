@@ -31,19 +31,31 @@ fn add(
     })
 }
 
+fn listed(alloc: Global, files: &[(&[u8], &[u8])]) -> Result<NamedTextList, NoMemory> {
+    let mut list = Items::new(alloc);
+    for (path, bytes) in files {
+        add(alloc, &mut list, path, bytes)?;
+    }
+    Ok(list)
+}
+
 /// A tree whose call 4 fails.
 fn tree(rt: &impl Abort, alloc: Global) -> Result<MemTree, NoMemory> {
-    let mut files = Items::new(alloc);
-    add(alloc, &mut files, b"src/b.vhd", b"second")?;
-    add(alloc, &mut files, b"vunit_outer/q", b"")?;
-    add(alloc, &mut files, b"vunit_out/tests/t", b"built")?;
-    add(alloc, &mut files, b"a.vhd", b"first")?;
-    add(alloc, &mut files, b".git/config", b"hidden")?;
-    add(alloc, &mut files, b"src/.cache/x.vhd", b"hidden")?;
-    add(alloc, &mut files, b"src.vhd", b"third")?;
-    add(alloc, &mut files, b"a.vhd", b"repeated")?;
-    add(alloc, &mut files, &[b'n'; 1025], b"long")?;
-    add(alloc, &mut files, &[b'n'; 1024], b"")?;
+    let files = listed(
+        alloc,
+        &[
+            (b"src/b.vhd", b"second"),
+            (b"vunit_outer/q", b""),
+            (b"vunit_out/tests/t", b"built"),
+            (b"a.vhd", b"first"),
+            (b".git/config", b"hidden"),
+            (b"src/.cache/x.vhd", b"hidden"),
+            (b"src.vhd", b"third"),
+            (b"a.vhd", b"repeated"),
+            (&[b'n'; 1025], b"long"),
+            (&[b'n'; 1024], b""),
+        ],
+    )?;
     assert!(rt; have_paths(&files));
     Ok(MemTree::new(files, numbers(alloc, &[4])?))
 }
@@ -115,6 +127,17 @@ fn request(alloc: Global, word: &[u8]) -> Result<Request, NoMemory> {
     })
 }
 
+fn answer(alloc: Global, word: &[u8], code: u32, output: &[u8]) -> Result<Answer, NoMemory> {
+    Ok(Answer {
+        request: request(alloc, word)?,
+        exit: Exit {
+            code,
+            output: Text::from_slice(alloc, output)?,
+            results: MaybeText::Nothing,
+        },
+    })
+}
+
 /// Children that answer to `run a` and `run b`.
 fn script(
     rt: &impl Abort,
@@ -123,22 +146,8 @@ fn script(
     failing: &[u64],
 ) -> Result<ScriptProcs, NoMemory> {
     let mut answers = Items::new(alloc);
-    answers.push(Answer {
-        request: request(alloc, b"a")?,
-        exit: Exit {
-            code: 0,
-            output: Text::from_slice(alloc, b"of a")?,
-            results: MaybeText::Given(Text::from_slice(alloc, b"left")?),
-        },
-    })?;
-    answers.push(Answer {
-        request: request(alloc, b"b")?,
-        exit: Exit {
-            code: 3,
-            output: Text::new(alloc),
-            results: MaybeText::Nothing,
-        },
-    })?;
+    answers.push(answer(alloc, b"a", 0, b"of a")?)?;
+    answers.push(answer(alloc, b"b", 3, b"")?)?;
     assert!(rt; have_sizes(&answers));
     let picks = places(alloc, picks)?;
     Ok(ScriptProcs::new(alloc, answers, picks, numbers(alloc, failing)?))
