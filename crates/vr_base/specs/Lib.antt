@@ -1,1 +1,6 @@
+pub mod Bytes
+pub mod Names
+pub mod Graphs
+pub mod Projects
+pub mod Jobs
 pub mod Rooms

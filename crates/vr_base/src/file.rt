@@ -1,4 +1,5 @@
-use crate::{Items, Positions, Text, TextList};
+use crate::{Items, NoMemory, Text};
+use std::alloc::Global;
 
 /// What names a file of a project: the library that it is analysed into, and its path in the project folder.
 #[derive(Debug, Drop)]
@@ -9,17 +10,18 @@ pub struct FileName {
 
 pub type FileList = Items<FileName>;
 
-/// A file as it is compiled: its name, the words of its compiler, its text, and the positions in compile order
-/// of all files that it depends on, directly or not.
-#[derive(Drop)]
-pub struct Entry {
-    pub name: FileName,
-    pub command: TextList,
-    pub text: Text,
-    pub deps: Positions,
-}
+impl FileName {
+    ghost use Rattle.std.specs.Prelude.{◌≡◌, IfOk};
 
-pub type EntryList = Items<Entry>;
+    pub fn copy(&self, alloc: Global) -> Result<FileName, NoMemory>
+        ensures { IfOk result (λ name. name ≡ self.now) }
+    {
+        Ok(FileName {
+            library: self.library.copy(alloc)?,
+            path: self.path.copy(alloc)?,
+        })
+    }
+}
 
 /// A file of a tree: its path and its bytes.
 #[derive(Drop)]

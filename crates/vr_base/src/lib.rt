@@ -3,16 +3,20 @@
 
 mod child;
 mod file;
+mod graph;
 mod items;
 mod memory;
 mod outcome;
+mod project;
 mod rooms;
 mod text;
 
 pub use child::{Event, EventList, Exit, MaybeText, Request};
-pub use file::{Entry, EntryList, FileList, FileName, NamedText, NamedTextList};
+pub use file::{FileList, FileName, NamedText, NamedTextList};
+pub use graph::{Built, BuiltFile, Entry, Graph};
 pub use items::{Items, Numbers, Positions};
 pub use memory::NoMemory;
-pub use outcome::{Limit, Mark, MarkList, Outcome, ProjectFault, Refusal, Which};
+pub use outcome::{Limit, Mark, MarkList, Outcome, Refusal, Which};
+pub use project::{Pair, PairList, Project, ProjectFault, ProjectFile, ProjectFileList};
 pub use rooms::RoomItems;
 pub use text::{Text, TextList};

@@ -1,4 +1,4 @@
-use crate::{FileList, Items, Text};
+use crate::{FileList, Items, ProjectFault, Text};
 
 /// What became of a file in a build.
 #[derive(Drop)]
@@ -16,18 +16,12 @@ pub enum Mark {
 
 pub type MarkList = Items<Mark>;
 
-/// The first fault of a project file.
-#[derive(Debug, Drop)]
-pub enum ProjectFault {
-    /// A line that is no library and path, counted from 1.
-    BadLine { line: u32 },
-}
-
 /// What is wrong with the sources, or with the files that the compiler refused.
 #[derive(Drop)]
 pub enum Refusal {
     /// There is no project file.
     NoProject,
+    /// The fault is never want of memory.
     Project { fault: ProjectFault },
     /// The compiler refused these files, in compile order.
     Compiler { files: FileList },

@@ -1,0 +1,54 @@
+-- The clean build of a graph: each file compiled in order, over the artefacts of the files that it depends on.
+use Rattle.std.specs.Prelude.{ℕ, Bool, ◌==◌, if◌then◌else◌, List, [], ◌∷◌, ◌++◌, slice_get, Option, Some, None, is_some}
+use Rattle.std.specs.List.{list_all, filter_map}
+use Rattle.vr_base.specs.declared.graph.Entry.{Entry}
+use Rattle.vr_base.specs.declared.graph.BuiltFile.{BuiltFile}
+use Rattle.vr_base.specs.declared.child.Request.{Request}
+use Rattle.vr_base.specs.declared.child.Exit.{Exit}
+use Rattle.vr_base.specs.Jobs.{compile_request}
+
+-- what becomes of a file: an artefact, a refusal, or a file below it was refused
+pub data Result : Type 0 where
+  Made : BuiltFile → Result
+  Refused : ℕ → List ℕ → Result
+  Blocked : Result
+
+abbrev pub built_of : Option Result → Option BuiltFile
+built_of (Some (Made file)) = Some file
+built_of (Some (Refused code output)) = None
+built_of (Some Blocked) = None
+built_of None = None
+
+-- the files that an entry depends on, as far as they are made
+abbrev pub built_below : List Result → Entry → List BuiltFile
+built_below results entry = filter_map (λ dep. built_of (slice_get results dep)) entry.deps
+
+-- what an exit says of a file
+abbrev pub result_of : Entry → Exit → Result
+result_of entry exit = if exit.code == 0 then Made (record { name = entry.name; artefact = exit.output }) else Refused exit.code exit.output
+
+-- whether all that an entry depends on is made
+abbrev pub is_free : List Result → Entry → Bool
+is_free results entry = list_all (λ dep. is_some (built_of (slice_get results dep))) entry.deps
+
+-- what becomes of one more file
+abbrev pub next_result : (Request → Exit) → List Result → Entry → Result
+next_result answer results entry = if is_free results entry then result_of entry (answer (compile_request entry (built_below results entry))) else Blocked
+
+-- what becomes of the files that are left, after those
+unfoldable pub results_after : (Request → Exit) → List Result → List Entry → List Result
+results_after answer results [] = results
+results_after answer results (entry ∷ entries) = results_after answer (results ++ next_result answer results entry ∷ []) entries
+
+abbrev pub clean_build : (Request → Exit) → List Entry → List Result
+clean_build answer graph = results_after answer [] graph
+
+-- what is asked of the compiler for the files that are left, after those
+unfoldable pub requests_after : (Request → Exit) → List Result → List Entry → List Request
+requests_after answer results [] = []
+requests_after answer results (entry ∷ entries) =
+    (if is_free results entry then compile_request entry (built_below results entry) ∷ [] else []) ++ requests_after answer (results ++ next_result answer results entry ∷ []) entries
+
+-- what a clean build asks of the compiler, in order
+abbrev pub clean_requests : (Request → Exit) → List Entry → List Request
+clean_requests answer graph = requests_after answer [] graph

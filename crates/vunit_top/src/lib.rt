@@ -1,0 +1,6 @@
+//! The top call.
+#![tactic(auto)]
+
+mod build;
+mod children;
+mod requests;
