@@ -3,3 +3,4 @@ pub mod Names
 pub mod Graphs
 pub mod Projects
 pub mod Jobs
+pub mod Rooms

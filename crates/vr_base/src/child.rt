@@ -1,4 +1,4 @@
-use crate::{Items, Text, TextList};
+use crate::{RoomItems, Text, TextList};
 
 /// A text, or none.
 #[derive(Debug, Drop)]
@@ -32,4 +32,4 @@ pub enum Event {
     Gone { ticket: u64 },
 }
 
-pub type EventList = Items<Event>;
+pub type EventList = RoomItems<Event>;

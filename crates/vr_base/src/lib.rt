@@ -8,6 +8,7 @@ mod items;
 mod memory;
 mod outcome;
 mod project;
+mod rooms;
 mod text;
 
 pub use child::{Event, EventList, Exit, MaybeText, Request};
@@ -17,4 +18,5 @@ pub use items::{Items, Numbers, Positions};
 pub use memory::NoMemory;
 pub use outcome::{Limit, Mark, MarkList, Outcome, Refusal, Which};
 pub use project::{Pair, PairList, Project, ProjectFault, ProjectFile, ProjectFileList};
+pub use rooms::RoomItems;
 pub use text::{Text, TextList};

@@ -1,0 +1,5 @@
+pub mod Failing
+pub mod Streams
+pub mod Trees
+pub mod Books
+pub mod Scripts

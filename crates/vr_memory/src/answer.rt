@@ -1,0 +1,10 @@
+use vr_base::{Exit, Items, Request};
+
+/// The exit that a child ends with, by its request.
+#[derive(Drop)]
+pub struct Answer {
+    pub request: Request,
+    pub exit: Exit,
+}
+
+pub type AnswerList = Items<Answer>;

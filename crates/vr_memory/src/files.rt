@@ -1,0 +1,37 @@
+ghost use Rattle.std.specs.Prelude.{◌≡◌, ℕ, Some, IfOk, IsTrue, ◌↔◌};
+ghost use Rattle.vr_outside.specs.Trees.{read_end, IsWithin};
+ghost use Rattle.vr_memory.specs.Trees.{file_of, HavePaths};
+
+use std::alloc::Global;
+use vr_base::{NamedText, NoMemory, Text};
+use vr_outside::ReadEnd;
+
+/// The bytes of the first file of a path, up to a limit.
+pub fn read_file(
+    alloc: Global,
+    files: &[NamedText],
+    path: &Text,
+    limit: u64,
+) -> Result<ReadEnd, NoMemory>
+    ensures size { IfOk result (IsWithin limit) }
+    ensures bytes { IfOk result (λ end. end ≡ read_end (file_of files.now path.now) limit) }
+{
+    for file in files {
+        if file.path.bytes() == path.bytes() {
+            return read_text(alloc, &file.bytes, limit);
+        }
+    }
+    Ok(ReadEnd::Absent)
+}
+
+/// A text, up to a limit.
+fn read_text(alloc: Global, text: &Text, limit: u64) -> Result<ReadEnd, NoMemory>
+    ensures size { IfOk result (IsWithin limit) }
+    ensures bytes { IfOk result (λ end. end ≡ read_end (Some text.now) limit) }
+{
+    if text.bytes().len() as u64 <= limit {
+        Ok(ReadEnd::Got(text.copy(alloc)?))
+    } else {
+        Ok(ReadEnd::TooLong)
+    }
+}

@@ -1,0 +1,28 @@
+//! The outside over memory: a tree, children by a table, a source and a sink that tell what they hold. Each fails
+//! in the calls that it is told to fail.
+#![tactic(auto)]
+
+mod answer;
+mod book;
+mod conditions;
+mod copies;
+mod failing;
+mod files;
+mod listing;
+mod mem_sink;
+mod mem_source;
+mod mem_tree;
+mod script_procs;
+mod table;
+mod tickets;
+
+pub use answer::{Answer, AnswerList};
+pub use book::ChildBook;
+pub use conditions::{have_paths, have_sizes};
+pub use mem_sink::MemSink;
+pub use mem_source::MemSource;
+pub use mem_tree::MemTree;
+pub use script_procs::ScriptProcs;
+
+#[cfg(test)]
+mod tests;

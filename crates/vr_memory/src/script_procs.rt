@@ -1,0 +1,153 @@
+ghost use Rattle.std.specs.Prelude.{◌≡◌, ℕ, ◌<◌, ◌++◌, [], ◌∷◌, length, IfOk, IfSome, Contains, option_copied};
+ghost use Rattle.vr_outside.specs.Counts.{StartCounts, ChildCounts};
+ghost use Rattle.vr_outside.specs.Children.{IsFresh, AddsTicket, AddsStart, ended_ticket, without, end_event, AnswersStarted, FitsExit};
+ghost use Rattle.vr_memory.specs.Failing.{next_call, StartFails, WaitFails};
+ghost use Rattle.vr_memory.specs.Books.{picked};
+ghost use Rattle.vr_memory.specs.Scripts.{answer_of, HaveSizes};
+
+use crate::copies::copy_exit;
+use crate::table::{exit_of, unknown};
+use crate::{Answer, AnswerList, ChildBook};
+use std::alloc::Global;
+use std::marker::Model;
+use vr_base::{EventList, Exit, NoMemory, Numbers, Positions, Request};
+use vr_outside::{Ended, Procs, StartFault, WaitFault};
+
+/// Children that answer by a table. A request that the table doesn't have ends with code 127, no output and no results.
+#[derive(Drop)]
+pub struct ScriptProcs {
+    answers: AnswerList,
+    book: ChildBook,
+}
+
+impl Model for ScriptProcs {
+    ghost use Rattle.vr_memory.specs.Scripts.{Script, HaveSizes};
+
+    ghost Value = { Script };
+
+    ghost view = { λ a. record { answers = a.answers; book = a.book } };
+
+    ghost invariant = { λ a. HaveSizes a.answers };
+}
+
+impl ScriptProcs {
+    /// Children that answer by this table, of which none was started; it takes no memory. Of two answers to one
+    /// request the first counts. Wait number k takes the running ticket of place `picks[k]`, modulo how many run;
+    /// past the end of the picks it takes the oldest. The calls of the numbers in `failing`, counted from 0 over
+    /// starts and waits, are to fail.
+    pub fn new(
+        alloc: Global,
+        answers: AnswerList,
+        picks: Positions,
+        failing: Numbers,
+    ) -> ScriptProcs
+        requires { HaveSizes answers }
+        ensures answers { result.answers ≡ answers }
+        ensures book { result.book ≡ record { running = []; journal = []; picks = picks; waits = 0; failing = failing; calls = 0; failed_starts = 0; lost_children = 0 } }
+    {
+        ScriptProcs {
+            answers,
+            book: ChildBook::new(alloc, picks, failing),
+        }
+    }
+
+    /// What has happened so far, in order.
+    pub fn journal(&self) -> &EventList
+        ensures { result.now.items ≡ self.now.book.journal }
+    {
+        self.book.journal()
+    }
+
+    /// The tickets of the running children, in order of start.
+    pub fn running(&self) -> &[u64]
+        ensures { result.now ≡ self.now.book.running }
+    {
+        self.book.running()
+    }
+}
+
+impl Procs for ScriptProcs {
+    ghost tells = { Unit {0} };
+
+    ghost running = { λ p. p.book.running };
+
+    ghost journal = { λ p. p.book.journal };
+
+    ghost answer = { λ p. answer_of p.answers };
+
+    ghost failed_starts = { λ p. p.book.failed_starts };
+
+    ghost lost_children = { λ p. p.book.lost_children };
+
+    fn start(&mut self, alloc: Global, request: &Request) -> Result<u64, StartFault>
+        ensures running { AddsTicket result self.old.book.running self.new.book.running }
+        ensures fresh { IfOk result (IsFresh self.old.book.journal) }
+        ensures journal { AddsStart request.now result self.old.book.journal self.new.book.journal }
+        ensures same { self.new.answers ≡ self.old.answers }
+        ensures cause { StartCounts result self.old.book.failed_starts self.new.book.failed_starts }
+        ensures children { self.new.book.lost_children ≡ self.old.book.lost_children }
+        ensures fails { StartFails result self.old.book.failing self.old.book.calls }
+        ensures calls { self.new.book.calls ≡ next_call self.old.book.calls }
+        ensures picks { self.new.book.picks ≡ self.old.book.picks }
+        ensures waits { self.new.book.waits ≡ self.old.book.waits }
+        ensures failing { self.new.book.failing ≡ self.old.book.failing }
+    {
+        self.book.start(alloc, request)
+    }
+
+    fn wait_any(&mut self, alloc: Global) -> Result<Ended, WaitFault>
+        requires { 0 < length self.old.book.running }
+        ensures picks { Contains self.old.book.running (ended_ticket result) }
+        ensures running { self.new.book.running ≡ without (ended_ticket result) self.old.book.running }
+        ensures sizes { IfOk result (λ end. FitsExit end.exit) }
+        ensures journal { self.new.book.journal ≡ self.old.book.journal ++ end_event result ∷ [] }
+        ensures exit { IfOk result (AnswersStarted (answer_of self.old.answers) self.old.book.journal) }
+        ensures same { self.new.answers ≡ self.old.answers }
+        ensures cause { ChildCounts result self.old.book.lost_children self.new.book.lost_children }
+        ensures starts { self.new.book.failed_starts ≡ self.old.book.failed_starts }
+        ensures picked { ended_ticket result ≡ picked self.old.book }
+        ensures fails { WaitFails result self.old.book.failing self.old.book.calls }
+        ensures calls { self.new.book.calls ≡ next_call self.old.book.calls }
+        ensures list { self.new.book.picks ≡ self.old.book.picks }
+        ensures waits { self.new.book.waits ≡ next_call self.old.book.waits }
+        ensures failing { self.new.book.failing ≡ self.old.book.failing }
+    {
+        let ticket = self.book.picked();
+        if self.book.fails() {
+            self.book.lose(ticket);
+            return Err(WaitFault::Lost { ticket });
+        }
+        match two_exits(alloc, self.answers.as_slice(), self.book.request(ticket)) {
+            Ok((exit, kept)) => {
+                self.book.end(ticket, kept);
+                Ok(Ended { ticket, exit })
+            }
+            Err(_) => {
+                self.book.forget(ticket);
+                Err(WaitFault::NoMemory { ticket })
+            }
+        }
+    }
+}
+
+/// The exit of a request by a table, twice: one for the journal. Where there is no request it is that of an
+/// unknown one.
+fn two_exits(
+    alloc: Global,
+    answers: &[Answer],
+    request: Option<&Request>,
+) -> Result<(Exit, Exit), NoMemory>
+    requires { HaveSizes answers.now }
+    ensures same { IfOk result (λ exits. exits.1 ≡ exits.0) }
+    ensures sizes { IfOk result (λ exits. FitsExit exits.0) }
+    ensures exit { IfOk result (λ exits. IfSome (option_copied request.entry) (λ r. exits.0 ≡ answer_of answers.now r)) }
+{
+    match request {
+        Some(request) => {
+            let exit = exit_of(alloc, answers, request)?;
+            let kept = copy_exit(alloc, &exit)?;
+            Ok((exit, kept))
+        }
+        None => Ok((unknown(alloc), unknown(alloc))),
+    }
+}
