@@ -1,6 +1,9 @@
 //! The program: the real tree, children, input and output.
 #![tactic(auto)]
 
+mod file_tree;
+mod files;
+mod listing;
 mod reading;
 mod streams;
 

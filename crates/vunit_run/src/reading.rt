@@ -1,7 +1,7 @@
 // Reading to an end or to a limit, and what a failed call of the system means.
 ghost use Rattle.std.specs.Prelude.{◌≡◌, ◌≤◌, length, IfOk};
 
-use std::alloc::{AllocError, Global};
+use std::alloc::{AllocError, AllocFailed, Global};
 use std::io;
 use std::io::{ErrorKind, Read};
 
@@ -14,6 +14,12 @@ pub enum IoFault {
 
 impl From<AllocError> for IoFault {
     fn from(_: AllocError) -> IoFault {
+        IoFault::NoMemory
+    }
+}
+
+impl<T: Drop> From<AllocFailed<T>> for IoFault {
+    fn from(_: AllocFailed<T>) -> IoFault {
         IoFault::NoMemory
     }
 }
