@@ -1,6 +1,8 @@
 //! The program: the real tree, children, input and output.
 #![tactic(auto)]
 
+mod child;
+mod child_procs;
 mod file_tree;
 mod files;
 mod listing;

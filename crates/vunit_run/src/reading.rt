@@ -4,6 +4,7 @@ ghost use Rattle.std.specs.Prelude.{◌≡◌, ◌≤◌, length, IfOk};
 use std::alloc::{AllocError, AllocFailed, Global};
 use std::io;
 use std::io::{ErrorKind, Read};
+use vr_base::NoMemory;
 
 /// Why a call of the system gave nothing.
 #[derive(Clone, Copy, Debug, PartialEq, Eq)]
@@ -20,6 +21,12 @@ impl From<AllocError> for IoFault {
 
 impl<T: Drop> From<AllocFailed<T>> for IoFault {
     fn from(_: AllocFailed<T>) -> IoFault {
+        IoFault::NoMemory
+    }
+}
+
+impl From<NoMemory> for IoFault {
+    fn from(_: NoMemory) -> IoFault {
         IoFault::NoMemory
     }
 }
