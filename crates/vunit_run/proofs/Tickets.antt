@@ -8,6 +8,6 @@ pub length-without : (ticket : ℕ) (tickets : List ℕ) → length tickets ≤ 
 length-without ticket [] = omega arith
 length-without ticket (x ∷ xs) =
     elim (x == ticket) as (λ b. length (x ∷ xs) ≤ length (if b then xs else x ∷ without ticket xs) + 1) [
-      true ↦ omega arith
-    | false ↦ omega (arith, length-without ticket xs)
+      | true ↦ omega arith
+      | false ↦ omega (arith, length-without ticket xs)
     ]

@@ -20,15 +20,16 @@ use streams::{StdSink, StdSource};
 use vr_base::{Items, MaybeText, Request, Text};
 use vr_outside::{NamesEnd, Procs, ReadEnd, Sink, Source, TakeEnd, Tree};
 
-// Until the top call is there: each file of the present folder goes through a child of the program itself, which
-// puts its input out again, and the program puts what the child printed.
+// Until the top call is there: without words, each file of the present folder goes through a child of the program
+// itself, which puts its input out again, and the program puts what the child printed.
 fn main(rt: HostRuntime) -> ExitCode {
-    let done = match env::args(&rt) {
-        Ok(mut words) => match words.nth(1) {
-            Some(word) if word.as_str() == "child-echo" => echo(rt),
-            _ => show_files(rt),
-        },
-        Err(_) => None,
+    let Ok(mut words) = env::args(&rt) else {
+        return ExitCode::from(2);
+    };
+    let done = match words.nth(1) {
+        None => show_files(rt),
+        Some(word) if word.as_str() == "child-echo" => echo(rt),
+        Some(_) => return ExitCode::from(2),
     };
     match done {
         Some(()) => ExitCode::SUCCESS,
