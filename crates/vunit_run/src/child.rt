@@ -1,7 +1,9 @@
 // One child: how it is started and given its input, and how its output, its end and its results are taken.
-ghost use Rattle.std.specs.Prelude.{◌≡◌, ◌≤◌, length, IfOk};
-ghost use Rattle.vr_base.specs.declared.child.Exit.{Exit};
+ghost use Rattle.std.specs.Prelude.{◌≡◌, ◌<◌, ◌≤◌, length, IfOk, option_map, string_bytes};
+ghost use Rattle.std.specs.Process.{exit_code};
 ghost use Rattle.vr_outside.specs.Children.{FitsExit, IsShort};
+ghost use Rattle.vunit_run.specs.Codes.{child_code, AnswersPath};
+ghost use Rattle.vunit_run.specs.Commands.{IsProgram, IsCommandOf};
 
 use crate::files::read_file;
 use crate::reading::{Front, IoFault, drain, read_front};
@@ -74,14 +76,18 @@ fn clear_results(files: &impl Files, results: &MaybeText) -> Result<(), IoFault>
     }
 }
 
-fn copied(alloc: Global, text: &MaybeText) -> Result<MaybeText, IoFault> {
+fn copied(alloc: Global, text: &MaybeText) -> Result<MaybeText, IoFault>
+    ensures { IfOk result (λ copy. copy ≡ text.now) }
+{
     match text {
         MaybeText::Nothing => Ok(MaybeText::Nothing),
         MaybeText::Given(text) => Ok(MaybeText::Given(text.copy(alloc)?)),
     }
 }
 
-fn utf8(text: &Text) -> Result<&str, IoFault> {
+fn utf8(text: &Text) -> Result<&str, IoFault>
+    ensures { IfOk result (λ same. same.now ≡ text.now) }
+{
     match str::from_utf8(text.bytes()) {
         Ok(text) => Ok(text),
         Err(_) => Err(IoFault::Failed),
@@ -89,11 +95,9 @@ fn utf8(text: &Text) -> Result<&str, IoFault> {
 }
 
 // The command of the words. There is none for no word.
-fn command_of(
-    alloc: Global,
-    own_path: &Option<String>,
-    words: &[Text],
-) -> Result<Command, IoFault> {
+fn command_of(alloc: Global, own_path: &Option<String>, words: &[Text]) -> Result<Command, IoFault>
+    ensures { IfOk result (IsCommandOf (option_map string_bytes own_path.now) words.now) }
+{
     let [first, rest @ ..] = words else {
         return Err(IoFault::Failed);
     };
@@ -105,7 +109,9 @@ fn command_of(
 }
 
 // The program that a first word names.
-fn program_of<'a>(own_path: &'a Option<String>, word: &'a Text) -> Result<&'a str, IoFault> {
+fn program_of<'a>(own_path: &'a Option<String>, word: &'a Text) -> Result<&'a str, IoFault>
+    ensures { IfOk result (λ program. IsProgram (option_map string_bytes own_path.now) word.now program.now) }
+{
     if word.bytes() != OWN_WORD {
         return utf8(word);
     }
@@ -131,7 +137,9 @@ pub fn end_child<P: OpenProcess + Drop>(
     alloc: Global,
     running: Running<P>,
 ) -> Result<Exit, IoFault>
-    ensures { IfOk result FitsExit }
+    requires { 0 < length buffer.old }
+    ensures sizes { IfOk result FitsExit }
+    ensures named { IfOk result (λ exit. AnswersPath running.results exit.results) }
 {
     let Running { mut child, results } = running;
     let output = take_output(&mut child, buffer, alloc);
@@ -152,6 +160,7 @@ fn take_output<P: OpenProcess>(
     buffer: &mut [u8],
     alloc: Global,
 ) -> Result<Front, IoFault>
+    requires { 0 < length buffer.old }
     ensures { IfOk result (λ front. length front.kept.items ≤ 262144) }
 {
     let Some(mut stdout) = child.stdout.take() else {
@@ -164,7 +173,9 @@ fn take_output<P: OpenProcess>(
     Ok(front)
 }
 
-fn code_of(status: ExitStatus, more: bool, results: &MaybeText) -> u32 {
+fn code_of(status: ExitStatus, more: bool, results: &MaybeText) -> u32
+    ensures { result ≡ child_code (exit_code status) more results.now }
+{
     let code = match status.code() {
         Some(code) => u32::try_from(code).unwrap_or(SIGNAL_CODE),
         None => SIGNAL_CODE,
@@ -182,7 +193,9 @@ fn take_results(
     alloc: Global,
     results: MaybeText,
 ) -> Result<MaybeText, IoFault>
-    ensures { IfOk result (IsShort 1048576) }
+    requires { 0 < length buffer.old }
+    ensures size { IfOk result (IsShort 1048576) }
+    ensures named { IfOk result (AnswersPath results) }
 {
     let MaybeText::Given(path) = results else {
         return Ok(MaybeText::Nothing);

@@ -1,6 +1,5 @@
 // Programs of the system as children.
-ghost use Rattle.std.specs.Prelude.{◌≡◌, ◌<◌, ◌++◌, ◌∷◌, [], length, Contains, IfOk, MatchResult};
-ghost use Rattle.vr_base.specs.declared.child.Exit.{Exit};
+ghost use Rattle.std.specs.Prelude.{◌≡◌, ◌<◌, ◌++◌, ◌∷◌, [], vec_len, Contains, IfOk, MatchResult};
 ghost use Rattle.vr_base.specs.declared.child.MaybeText.TheVariants.{Nothing};
 
 use crate::child::{Running, end_child, start_child};
@@ -29,6 +28,7 @@ pub struct ChildProcs<R: Processes> {
     failed_starts: u64,
     lost_children: u64,
     buffer: Vec<u8>,
+    ghost has_room: { 0 < vec_len buffer },
 }
 
 impl<R: Processes + Files + AllocGlobal + Drop> ChildProcs<R> {

@@ -1,5 +1,5 @@
 // The present folder as a tree.
-ghost use Rattle.std.specs.Prelude.{None};
+ghost use Rattle.std.specs.Prelude.{◌<◌, vec_len, None};
 
 use crate::files::read_file;
 use crate::listing::list_names;
@@ -18,6 +18,7 @@ pub struct FileTree<R> {
     files: R,
     failures: u64,
     buffer: Vec<u8>,
+    ghost has_room: { 0 < vec_len buffer },
 }
 
 impl<R: Files> FileTree<R> {

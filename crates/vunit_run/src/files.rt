@@ -1,5 +1,5 @@
 // One file, read up to a limit.
-ghost use Rattle.std.specs.Prelude.{IfOk};
+ghost use Rattle.std.specs.Prelude.{◌<◌, length, IfOk};
 ghost use Rattle.vr_outside.specs.Trees.{IsWithin};
 
 use crate::reading::{IoFault, read_front};
@@ -19,6 +19,7 @@ pub fn read_file<R: Files>(
     path: &[u8],
     limit: u64,
 ) -> Result<ReadEnd, IoFault>
+    requires { 0 < length buffer.old }
     ensures { IfOk result (IsWithin limit) }
 {
     let Ok(path) = str::from_utf8(path) else {

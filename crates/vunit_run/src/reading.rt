@@ -1,5 +1,7 @@
 // Reading to an end or to a limit, and what a failed call of the system means.
-ghost use Rattle.std.specs.Prelude.{◌≡◌, ◌≤◌, length, IfOk};
+ghost use Rattle.std.specs.Prelude.{◌≡◌, ◌<◌, ◌≤◌, length, take, IfOk, OnOk, OnErr};
+ghost use Rattle.std.specs.Io.KnownBytes.{Consumes, Keeps, IsAtEnd};
+ghost use Rattle.vunit_run.specs.Fronts.{IsFront};
 
 use std::alloc::{AllocError, AllocFailed, Global};
 use std::io;
@@ -48,15 +50,16 @@ pub struct Front {
     pub more: bool,
 }
 
-/// Reads to the end, or until there are more than `limit` bytes, and keeps at most these. The buffer isn't empty;
-/// what it holds means nothing.
+/// Reads to the end, or until there are more than `limit` bytes, and keeps at most these.
 pub fn read_front<R: Read>(
     reader: &mut R,
     buffer: &mut [u8],
     alloc: Global,
     limit: u64,
 ) -> Result<Front, IoFault>
-    ensures { IfOk result (λ front. length front.kept.items ≤ limit) }
+    requires { 0 < length buffer.old }
+    ensures size { IfOk result (λ front. length front.kept.items ≤ limit) }
+    ensures front { IfOk result (λ front. IsFront limit (R.remaining reader.old) front.kept.items front.more) }
 {
     let most = limit as usize;
     let mut kept = Vec::new(alloc);
@@ -76,7 +79,10 @@ pub fn read_front<R: Read>(
 }
 
 /// Reads to the end and keeps nothing.
-pub fn drain<R: Read>(reader: &mut R, buffer: &mut [u8]) -> Result<(), IoFault> {
+pub fn drain<R: Read>(reader: &mut R, buffer: &mut [u8]) -> Result<(), IoFault>
+    requires { 0 < length buffer.old }
+    ensures { OnOk result (IsAtEnd (R.remaining reader.new)) }
+{
     for _ in 0..u64::MAX {
         if read_some(reader, buffer)? == 0 {
             return Ok(());
@@ -87,7 +93,10 @@ pub fn drain<R: Read>(reader: &mut R, buffer: &mut [u8]) -> Result<(), IoFault> 
 
 // One read, tried again where a signal interrupts it. 0 is the end.
 fn read_some<R: Read>(reader: &mut R, buffer: &mut [u8]) -> Result<usize, IoFault>
-    ensures { IfOk result (λ count. count ≤ length buffer.new) }
+    ensures bound { IfOk result (λ count. count ≤ length buffer.new) }
+    ensures given { IfOk result (λ count. Consumes (R.remaining reader.old) (R.remaining reader.new) (take count buffer.new)) }
+    ensures end { IfOk result (λ count. count ≡ 0 → 0 < length buffer.old → IsAtEnd (R.remaining reader.new)) }
+    ensures err { OnErr result (Keeps (R.remaining reader.old) (R.remaining reader.new)) }
 {
     for _ in 0..u64::MAX {
         match reader.read(buffer) {

@@ -1,6 +1,7 @@
 // Standard input and output.
-ghost use Rattle.std.specs.Prelude.{◌≡◌, [], ◌≤◌, length, IfOk};
+ghost use Rattle.std.specs.Prelude.{◌<◌, length, vec_len, IfOk};
 ghost use Rattle.vr_outside.specs.Streams.{IsTaken};
+ghost use Rattle.vunit_run.specs.Fronts.{IsTakenOf};
 
 use crate::reading::{IoFault, drain, read_front};
 use std::alloc::Global;
@@ -18,6 +19,7 @@ pub struct StdSource<R> {
     input: R,
     failures: u64,
     buffer: Vec<u8>,
+    ghost has_room: { 0 < vec_len buffer },
 }
 
 impl<R: Input> StdSource<R> {
@@ -40,7 +42,9 @@ fn take_whole<R: io::Read>(
     alloc: Global,
     limit: u64,
 ) -> Result<TakeEnd, IoFault>
-    ensures { IfOk result (IsTaken limit) }
+    requires { 0 < length buffer.old }
+    ensures size { IfOk result (IsTaken limit) }
+    ensures input { IfOk result (IsTakenOf limit (R.remaining reader.old)) }
 {
     let front = read_front(reader, buffer, alloc, limit)?;
     if front.more {
