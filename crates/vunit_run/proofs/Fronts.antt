@@ -1,8 +1,8 @@
 -- What was kept of a reader's bytes once a read went past the limit.
-use Rattle.std.specs.Prelude.{◌≡◌, ℕ, ◌+◌, ◌<◌, ◌≤◌, true, nat_lt, List, ◌++◌, length, take, drop, Option, Some, None}
+use Rattle.std.specs.Prelude.{◌≡◌, ℕ, ◌+◌, ◌<◌, ◌≤◌, true, List, ◌++◌, length, take, drop, Option, Some, None}
 use Rattle.std.specs.Io.KnownBytes.{Consumes}
-use Rattle.std.proofs.Common.{arith, sym, ap, ◌∙◌, rules}
-use Rattle.std.proofs.lemmas.List.{take-append-le, take-append-drop, length-take-le, length-append, length-take}
+use Rattle.std.proofs.Common.{arith, sym, ap, ◌∙◌}
+use Rattle.std.proofs.lemmas.List.{take-append-le, take-append-drop, length-take-le, length-append}
 use Rattle.std.proofs.lemmas.Bool.{lt-ltb}
 use Rattle.std.proofs.Math.Seq.{take-append-add}
 use Rattle.vunit_run.specs.Fronts.{IsFront}
