@@ -1,5 +1,6 @@
 // One child: how it is started and given its input, and how its output, its end and its results are taken.
-ghost use Rattle.std.specs.Prelude.{◌≡◌, ◌<◌, ◌≤◌, length, IfOk, option_map, string_bytes};
+ghost use Rattle.std.specs.Prelude.{◌≡◌, ◌<◌, ◌≤◌, length, IfOk, IsOkUnless, MatchResult, option_map, string_bytes};
+ghost use Rattle.std.specs.Str.{IsUtf8};
 ghost use Rattle.std.specs.Process.{exit_code};
 ghost use Rattle.vr_outside.specs.Children.{FitsExit, IsShort};
 ghost use Rattle.vunit_run.specs.Codes.{child_code, AnswersPath};
@@ -77,7 +78,8 @@ fn clear_results(files: &impl Files, results: &MaybeText) -> Result<(), IoFault>
 }
 
 fn copied(alloc: Global, text: &MaybeText) -> Result<MaybeText, IoFault>
-    ensures { IfOk result (λ copy. copy ≡ text.now) }
+    ensures same { IfOk result (λ copy. copy ≡ text.now) }
+    ensures cause { IsOkUnless result IoFault.NoMemory }
 {
     match text {
         MaybeText::Nothing => Ok(MaybeText::Nothing),
@@ -86,7 +88,9 @@ fn copied(alloc: Global, text: &MaybeText) -> Result<MaybeText, IoFault>
 }
 
 fn utf8(text: &Text) -> Result<&str, IoFault>
-    ensures { IfOk result (λ same. same.now ≡ text.now) }
+    ensures { MatchResult result
+        (λ same. (same.now ≡ text.now) × IsUtf8 text.now)
+        (λ fault. (fault ≡ IoFault.Failed) × (¬ (IsUtf8 text.now))) }
 {
     match str::from_utf8(text.bytes()) {
         Ok(text) => Ok(text),

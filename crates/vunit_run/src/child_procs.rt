@@ -1,5 +1,5 @@
 // Programs of the system as children.
-ghost use Rattle.std.specs.Prelude.{◌≡◌, ◌<◌, ◌++◌, ◌∷◌, [], vec_len, Contains, IfOk, MatchResult};
+ghost use Rattle.std.specs.Prelude.{◌≡◌, ◌<◌, ◌++◌, ◌∷◌, [], vec_len, ◌⊎◌, Contains, IfOk, OnErr, MatchResult};
 ghost use Rattle.vr_base.specs.declared.child.MaybeText.TheVariants.{Nothing};
 
 use crate::child::{Running, end_child, start_child};
@@ -51,9 +51,13 @@ impl<R: Processes + Files + AllocGlobal + Drop> ChildProcs<R> {
     fn fresh_ticket(&self) -> Result<u64, IoFault>
         ensures ticket { IfOk result (λ ticket. ¬ (Contains self.now.tickets.items ticket)) }
         ensures later { IfOk result (λ ticket. ticket < u64.MAX) }
+        ensures refused { OnErr result ((self.now.next_ticket ≡ u64.MAX) ⊎ Contains self.now.tickets.items self.now.next_ticket) }
     {
         let ticket = self.next_ticket;
-        if ticket == u64::MAX || self.tickets.contains(&ticket) {
+        if ticket == u64::MAX {
+            return Err(IoFault::Failed);
+        }
+        if self.tickets.contains(&ticket) {
             return Err(IoFault::Failed);
         }
         Ok(ticket)

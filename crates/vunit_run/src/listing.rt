@@ -1,5 +1,5 @@
 // The names of all files of the present folder that a listing shows.
-ghost use Rattle.std.specs.Prelude.{◌≡◌, IsTrue, IfOk};
+ghost use Rattle.std.specs.Prelude.{◌≡◌, ◌↔◌, IsTrue, IfOk};
 ghost use Rattle.std.specs.Ordering.{nat_cmp};
 ghost use Rattle.std.specs.Cmp.Lexicographic.{slice_cmp};
 ghost use Rattle.std.specs.declared.cmp.Ordering.TheVariants.{Less};
@@ -165,7 +165,7 @@ fn or_absent(data: io::Result<fs::Metadata>) -> Result<Option<fs::Metadata>, IoF
 
 // Whether the paths are strictly rising, and each is a name.
 fn is_listing(paths: &[Text]) -> bool
-    ensures { IsTrue result → (IsRising paths.now × AllByRecursion IsName paths.now) }
+    ensures { IsTrue result ↔ (IsRising paths.now × AllByRecursion IsName paths.now) }
 {
     let mut at = paths.len();
     while at > 0 {
@@ -181,13 +181,13 @@ fn is_listing(paths: &[Text]) -> bool
 }
 
 fn is_name(path: &[u8]) -> bool
-    ensures { IsTrue result → IsName path.now }
+    ensures { IsTrue result ↔ IsName path.now }
 {
     !path.is_empty() && path.len() <= LONGEST_PATH && str::from_utf8(path).is_ok()
 }
 
 fn is_less(path: &[u8], next: &[u8]) -> bool
-    ensures { IsTrue result → slice_cmp nat_cmp path.now next.now ≡ Less }
+    ensures { IsTrue result ↔ (slice_cmp nat_cmp path.now next.now ≡ Less) }
 {
     path.cmp(next) == Ordering::Less
 }

@@ -1,7 +1,10 @@
 // Reading to an end or to a limit, and what a failed call of the system means.
-ghost use Rattle.std.specs.Prelude.{◌≡◌, ◌<◌, ◌≤◌, length, take, IfOk, OnOk, OnErr};
+ghost use Rattle.std.specs.Prelude.{◌≡◌, ◌≢◌, ◌<◌, ◌≤◌, length, take, IfOk, OnOk, OnErr};
 ghost use Rattle.std.specs.Io.KnownBytes.{Consumes, Keeps, IsAtEnd};
+ghost use Rattle.std.specs.IoError.{error_kind};
+ghost use Rattle.std.specs.declared.io.ErrorKind.TheVariants.{OutOfMemory};
 ghost use Rattle.vunit_run.specs.Fronts.{IsFront};
+ghost use Rattle.vunit_run.specs.declared.reading.IoFault.TheVariants.{NoMemory, Failed};
 
 use std::alloc::{AllocError, AllocFailed, Global};
 use std::io;
@@ -16,24 +19,32 @@ pub enum IoFault {
 }
 
 impl From<AllocError> for IoFault {
+    ghost from_gives = { λ _ fault. fault ≡ NoMemory };
+
     fn from(_: AllocError) -> IoFault {
         IoFault::NoMemory
     }
 }
 
 impl<T: Drop> From<AllocFailed<T>> for IoFault {
+    ghost from_gives = { λ _ fault. fault ≡ NoMemory };
+
     fn from(_: AllocFailed<T>) -> IoFault {
         IoFault::NoMemory
     }
 }
 
 impl From<NoMemory> for IoFault {
+    ghost from_gives = { λ _ fault. fault ≡ NoMemory };
+
     fn from(_: NoMemory) -> IoFault {
         IoFault::NoMemory
     }
 }
 
 impl From<io::Error> for IoFault {
+    ghost from_gives = { λ error fault. (error_kind error ≡ OutOfMemory → fault ≡ NoMemory) × (error_kind error ≢ OutOfMemory → fault ≡ Failed) };
+
     fn from(error: io::Error) -> IoFault {
         if error.kind() == ErrorKind::OutOfMemory {
             IoFault::NoMemory

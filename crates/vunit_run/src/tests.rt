@@ -1,10 +1,12 @@
 // The adapters over real files and real programs.
 use crate::child_procs::ChildProcs;
 use crate::file_tree::FileTree;
+use crate::reading::{IoFault, read_front};
 use std::alloc::Global;
-use std::process::Abort;
+use std::io::{ErrorKind, Read};
+use std::os::unix::fs::symlink;
 use std::test::Fail;
-use std::{env, fs};
+use std::{env, fs, io};
 use vr_base::{Exit, Items, MaybeText, NoMemory, Request, Text};
 use vr_outside::{NamesEnd, Procs, ReadEnd, StartFault, Tree, TreeFault};
 
@@ -130,6 +132,80 @@ fn lists_and_reads_the_present_folder(rt: HostRuntime) -> Result<(), Fail> {
             Err(TreeFault::Failed)
         )
     );
+    Ok(())
+}
+
+// The names of the present folder, or what kept them back.
+fn count_names(rt: &HostRuntime) -> Result<u64, TreeFault> {
+    let Ok(mut tree) = FileTree::new(rt.alloc(), *rt) else {
+        return Err(TreeFault::NoMemory);
+    };
+    match tree.names(rt.alloc(), 100)? {
+        NamesEnd::Got(names) => Ok(names.len()),
+        NamesEnd::TooMany => Ok(u64::MAX),
+    }
+}
+
+#[test]
+fn lists_links_to_files_and_paths_of_1024_bytes(rt: HostRuntime) -> Result<(), Fail> {
+    enter_new_folder(&rt, "odd")?;
+    let mut folder = String::new(rt.alloc());
+    for _ in 0..4 {
+        for _ in 0..250 {
+            folder.push('d')?;
+        }
+        folder.push('/')?;
+    }
+    fs::create_dir_all(&rt, folder.as_str())?;
+    let longest = format!(in rt.alloc(); "{folder}12345678901234567890")?;
+    fs::write(&rt, longest.as_str(), "")?;
+    fs::write(&rt, format!(in rt.alloc(); "{longest}1")?.as_str(), "")?;
+    symlink(&rt, longest.as_str(), "link_to_a_file")?;
+    symlink(&rt, folder.as_str(), "link_to_a_folder")?;
+    symlink(&rt, "nothing", "link_to_nothing")?;
+    assert_eq!(rt; count_names(&rt), Ok(2));
+    let end = exit_of(
+        &rt,
+        &["sh", "-c", "> \"$(printf '\\377')\""],
+        b"",
+        MaybeText::Nothing,
+    )?;
+    assert_eq!(rt; (end.code, count_names(&rt)), (0, Err(TreeFault::Failed)));
+    Ok(())
+}
+
+// A reader that breaks after its first bytes.
+#[derive(Drop)]
+struct Breaking {
+    has_begun: bool,
+    kind: ErrorKind,
+}
+
+impl Read for Breaking {
+    fn read(&mut self, buffer: &mut [u8]) -> io::Result<usize> {
+        if self.has_begun || buffer.is_empty() {
+            return Err(io::Error::from(self.kind));
+        }
+        self.has_begun = true;
+        Ok(1)
+    }
+}
+
+#[test]
+fn a_read_that_breaks_gives_its_own_fault(rt: HostRuntime) -> Result<(), Fail> {
+    for (kind, wanted) in [
+        (ErrorKind::Other, IoFault::Failed),
+        (ErrorKind::OutOfMemory, IoFault::NoMemory),
+    ] {
+        let mut reader = Breaking {
+            has_begun: false,
+            kind,
+        };
+        match read_front(&mut reader, &mut [0; 8], rt.alloc(), 5) {
+            Ok(_) => return Err(Fail::new("a front")),
+            Err(fault) => assert_eq!(rt; fault, wanted),
+        }
+    }
     Ok(())
 }
 
