@@ -3,7 +3,6 @@ use Rattle.std.specs.Ordering.{nat_cmp}
 use Rattle.std.specs.Cmp.Lexicographic.{slice_cmp}
 use Rattle.std.specs.declared.cmp.Ordering.TheVariants.{Less}
 use Rattle.std.proofs.Math.ListN.{get_or}
-use Rattle.vr_outside.specs.Trees.{IsRising}
 use Rattle.vunit_run.proofs.Listings.{next-is_greater}
 use Rattle.vunit_run.proofs.listing.is_listing.Goals as goal
 

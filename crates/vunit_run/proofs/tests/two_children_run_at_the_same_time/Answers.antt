@@ -1,4 +1,4 @@
-use Rattle.std.specs.Prelude.{length, ◌++◌, ◌∷◌, []}
+use Rattle.std.specs.Prelude.{length}
 use Rattle.std.proofs.Common.{arith, ap, length-append}
 use Rattle.vr_outside.specs.Children.{ended_ticket}
 use Rattle.vunit_run.proofs.Tickets.{length-without}
