@@ -1,3 +1,4 @@
 pub mod Fronts
 pub mod Codes
 pub mod Commands
+pub mod Status

@@ -33,7 +33,9 @@ pub struct ChildProcs<R: Processes> {
 
 impl<R: Processes + Files + AllocGlobal + Drop> ChildProcs<R> {
     /// No child runs. Where the program's own path isn't known, only commands with `@self` fail.
-    pub fn new(alloc: Global, runtime: R) -> Result<ChildProcs<R>, NoMemory> {
+    pub fn new(alloc: Global, runtime: R) -> Result<ChildProcs<R>, NoMemory>
+        ensures { IfOk result (λ procs. procs.tickets.items ≡ []) }
+    {
         let own_path = own_path(&runtime)?;
         Ok(ChildProcs {
             runtime,

@@ -1,4 +1,4 @@
-//! The program: the real tree, children, input and output.
+//! The program: the real tree, children, input and output, handed to the top call.
 #![tactic(auto)]
 
 mod child;
@@ -7,76 +7,91 @@ mod file_tree;
 mod files;
 mod listing;
 mod reading;
+mod status;
 mod streams;
 #[cfg(test)]
 mod tests;
 
 use child_procs::ChildProcs;
 use file_tree::FileTree;
-use std::alloc::Global;
+use status::status_of;
 use std::env;
+use std::io::ErrorKind;
 use std::process::ExitCode;
 use streams::{StdSink, StdSource};
-use vr_base::{Items, MaybeText, Request, Text};
-use vr_outside::{NamesEnd, Procs, ReadEnd, Sink, Source, TakeEnd, Tree};
+use vr_base::{NoMemory, Outcome, Text, TextList, Which};
+use vunit_top::run_vunit;
 
-// Until the top call is there: without words, each file of the present folder goes through a child of the program
-// itself, which puts its input out again, and the program puts what the child printed.
 fn main(rt: HostRuntime) -> ExitCode {
-    let Ok(mut words) = env::args(&rt) else {
-        return ExitCode::from(2);
-    };
-    let done = match words.nth(1) {
-        None => show_files(rt),
-        Some(word) if word.as_str() == "child-echo" => echo(rt),
-        Some(_) => return ExitCode::from(2),
-    };
-    match done {
-        Some(()) => ExitCode::SUCCESS,
-        None => ExitCode::FAILURE,
+    let outcome = run(rt);
+    match &outcome {
+        Outcome::OutsideFault(which) => tell(&rt, fault_line(*which)),
+        Outcome::NoMemory => tell(&rt, "vunit_run: out of memory"),
+        _ => {}
+    }
+    ExitCode::from(status_of(&outcome))
+}
+
+/// Puts one line on standard error. A line that can't be put is dropped.
+fn tell(rt: &HostRuntime, line: &str) {
+    let _ = eprintln!(rt; "{line}");
+}
+
+fn fault_line(which: Which) -> &'static str {
+    match which {
+        Which::Tree => "vunit_run: fault of tree",
+        Which::Disk => "vunit_run: fault of disk",
+        Which::Start => "vunit_run: fault of start",
+        Which::Child => "vunit_run: fault of child",
+        Which::Out => "vunit_run: fault of out",
+        Which::Report => "vunit_run: fault of report",
+        Which::Input => "vunit_run: fault of input",
     }
 }
 
-const LIMIT: u64 = 65_536;
-
-fn echo(rt: HostRuntime) -> Option<()> {
-    let mut source = StdSource::new(rt.alloc(), rt).ok()?;
-    match source.take(rt.alloc(), LIMIT).ok()? {
-        TakeEnd::Got(input) => StdSink::new(rt).put(input.bytes()).ok(),
-        TakeEnd::TooLong => None,
+/// Runs the words of the command line in the present folder.
+fn run(rt: HostRuntime) -> Outcome {
+    match words(rt) {
+        Ok(words) => run_words(rt, &words),
+        Err(NoMemory) => Outcome::NoMemory,
     }
 }
 
-fn show_files(rt: HostRuntime) -> Option<()> {
-    let mut tree = FileTree::new(rt.alloc(), rt).ok()?;
-    let NamesEnd::Got(names) = tree.names(rt.alloc(), LIMIT).ok()? else {
-        return None;
+fn run_words(rt: HostRuntime, words: &TextList) -> Outcome {
+    let Ok(mut input) = StdSource::new(rt.alloc(), rt) else {
+        return Outcome::NoMemory;
     };
-    for path in names.into_vec() {
-        let ReadEnd::Got(text) = tree.read(rt.alloc(), &path, LIMIT).ok()? else {
-            return None;
-        };
-        show_echo(rt, text)?;
-    }
-    Some(())
-}
-
-fn show_echo(rt: HostRuntime, input: Text) -> Option<()> {
-    let request = Request {
-        command: own_command(rt.alloc())?,
-        input,
-        results: MaybeText::Nothing,
+    let Ok(mut tree) = FileTree::new(rt.alloc(), rt) else {
+        return Outcome::NoMemory;
     };
-    let mut procs = ChildProcs::new(rt.alloc(), rt).ok()?;
-    let _ = procs.start(rt.alloc(), &request).ok()?;
-    let end = procs.wait_any(rt.alloc()).ok()?;
-    StdSink::new(rt).put(end.exit.output.bytes()).ok()
+    let Ok(mut procs) = ChildProcs::new(rt.alloc(), rt) else {
+        return Outcome::NoMemory;
+    };
+    let mut out = StdSink::new(rt);
+    run_vunit(
+        rt.alloc(),
+        words,
+        &mut input,
+        &mut tree,
+        &mut procs,
+        &mut out,
+    )
 }
 
-fn own_command(alloc: Global) -> Option<Items<Text>> {
-    let mut words = Items::new(alloc);
-    for word in [b"@self".as_slice(), b"child-echo".as_slice()] {
-        words.push(Text::from_slice(alloc, word).ok()?).ok()?;
+/// The words of the command line without the program's name, or the one word `--not-utf8` where one isn't UTF-8.
+fn words(rt: HostRuntime) -> Result<TextList, NoMemory> {
+    let mut words = TextList::new(rt.alloc());
+    match env::args(&rt) {
+        Ok(args) => {
+            for word in args.skip(1) {
+                words.push(Text::from_slice(rt.alloc(), word.as_bytes())?)?;
+            }
+            Ok(words)
+        }
+        Err(error) if error.kind() == ErrorKind::OutOfMemory => Err(NoMemory),
+        Err(_) => {
+            words.push(Text::from_slice(rt.alloc(), b"--not-utf8")?)?;
+            Ok(words)
+        }
     }
-    Some(words)
 }

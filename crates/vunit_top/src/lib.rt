@@ -15,3 +15,6 @@ mod top;
 mod words;
 
 pub use top::run_vunit;
+
+#[cfg(test)]
+mod tests;
