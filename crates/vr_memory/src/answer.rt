@@ -7,4 +7,5 @@ pub struct Answer {
     pub exit: Exit,
 }
 
+/// A table of answers.
 pub type AnswerList = Items<Answer>;

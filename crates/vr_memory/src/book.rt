@@ -1,7 +1,7 @@
-ghost use Rattle.std.specs.Prelude.{◌≡◌, ℕ, ◌<◌, ◌++◌, [], ◌∷◌, length, IfOk, OnErr, Contains, option_copied, Result, Ok, Err};
+ghost use Rattle.std.specs.Prelude.{◌≡◌, ◌<◌, [], ◌∷◌, length, IfOk, Contains, option_copied};
 ghost use Rattle.vr_base.specs.declared.child.Event.TheVariants as event;
-ghost use Rattle.vr_outside.specs.Counts.{StartCounts, Counted};
-ghost use Rattle.vr_outside.specs.Children.{IsFresh, AddsTicket, AddsStart, started_with, without};
+ghost use Rattle.vr_outside.specs.Counts.{StartCounts};
+ghost use Rattle.vr_outside.specs.Children.{IsFresh, AddsTicket, AddsStart, started_with};
 ghost use Rattle.vr_memory.specs.Failing.{next_call, fails as fails_at, StartFails};
 ghost use Rattle.vr_memory.specs.Books.{picked as picked_of, IsEnd, EndsChild, LosesChild};
 

@@ -1,4 +1,4 @@
-ghost use Rattle.std.specs.Prelude.{◌≡◌, ◌↔◌, ◌≤◌, IsTrue, length};
+ghost use Rattle.std.specs.Prelude.{◌↔◌, IsTrue};
 ghost use Rattle.vr_outside.specs.Children.{IsShort, FitsExit};
 ghost use Rattle.vr_memory.specs.Trees.{IsPath, HavePaths};
 ghost use Rattle.vr_memory.specs.Scripts.{HaveSizes};

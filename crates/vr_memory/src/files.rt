@@ -1,6 +1,6 @@
-ghost use Rattle.std.specs.Prelude.{◌≡◌, ℕ, Some, IfOk, IsTrue, ◌↔◌};
+ghost use Rattle.std.specs.Prelude.{◌≡◌, Some, IfOk};
 ghost use Rattle.vr_outside.specs.Trees.{read_end, IsWithin};
-ghost use Rattle.vr_memory.specs.Trees.{file_of, HavePaths};
+ghost use Rattle.vr_memory.specs.Trees.{file_of};
 
 use std::alloc::Global;
 use vr_base::{NamedText, NoMemory, Text};

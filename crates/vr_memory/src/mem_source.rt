@@ -42,8 +42,6 @@ impl MemSource {
 }
 
 impl Source for MemSource {
-    ghost use Rattle.std.specs.Prelude.{ℕ};
-
     ghost tells = { Unit {0} };
 
     ghost left = { λ s. s.left };

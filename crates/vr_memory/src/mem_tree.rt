@@ -1,4 +1,4 @@
-ghost use Rattle.std.specs.Prelude.{◌≡◌, ℕ, IfOk};
+ghost use Rattle.std.specs.Prelude.{◌≡◌, IfOk};
 ghost use Rattle.vr_outside.specs.Counts.{TreeCounts};
 ghost use Rattle.vr_outside.specs.Trees.{IsListing, Names, read_end, IsWithin};
 ghost use Rattle.vr_memory.specs.Failing.{next_call, TreeFails};

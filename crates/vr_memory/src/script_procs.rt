@@ -1,4 +1,4 @@
-ghost use Rattle.std.specs.Prelude.{◌≡◌, ℕ, ◌<◌, ◌++◌, [], ◌∷◌, length, IfOk, IfSome, Contains, option_copied};
+ghost use Rattle.std.specs.Prelude.{◌≡◌, ◌<◌, ◌++◌, [], ◌∷◌, length, IfOk, IfSome, Contains, option_copied};
 ghost use Rattle.vr_outside.specs.Counts.{StartCounts, ChildCounts};
 ghost use Rattle.vr_outside.specs.Children.{IsFresh, AddsTicket, AddsStart, ended_ticket, without, end_event, AnswersStarted, FitsExit};
 ghost use Rattle.vr_memory.specs.Failing.{next_call, StartFails, WaitFails};

@@ -1,4 +1,4 @@
-ghost use Rattle.std.specs.Prelude.{◌≡◌, ◌<◌, length, vec_capacity};
+ghost use Rattle.std.specs.Prelude.{◌≡◌, ◌<◌};
 ghost use Rattle.vr_outside.specs.Children.{without};
 ghost use Rattle.vr_memory.specs.Books.{pick as place_of};
 
