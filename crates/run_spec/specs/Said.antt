@@ -14,6 +14,7 @@ use Rattle.vr_outside.specs.Counts.{Rose}
 use Rattle.vr_outside.specs.Streams.{AddsFront}
 use Rattle.run_spec.specs.ChildJournal.{Setting}
 use Rattle.run_spec.specs.ChildJournal as journal
+use Rattle.run_spec.specs.CleanBuild.{clean_requests}
 use Rattle.run_spec.specs.Marks.{marks_of, is_refused, refused_files}
 use Rattle.run_spec.specs.Texts.{shown_bytes, build_text, refusal_text, usage_text, bad_request}
 use Rattle.run_spec.specs.Reading.{Reading, Bad, Child, Stops, Go}
@@ -83,6 +84,19 @@ abbrev pub IsSaid : Outcome → Type 0
 IsSaid outcome.NoMemory = ⊥
 IsSaid (outcome.OutsideFault which) = ⊥
 IsSaid answer = Unit {0}
+
+-- What children were started with is a front of what a clean build asks for, and all of it where the build ended
+-- by itself. So each compiler is handed the artefacts that the clean build makes.
+pub record IsClean (answer : Request → Exit) (graph : List Entry) (result : Outcome) (starts : List Request) : Type 0 where
+  pub left : List Request
+  pub all : clean_requests answer graph ≡ starts ++ left
+  pub none_left : IsSaid result → left ≡ []
+
+abbrev pub AsksCleanly : (Request → Exit) → Reading → Outcome → List Request → Type 0
+AsksCleanly answer (Go graph) result starts = IsClean answer graph result starts
+AsksCleanly answer Bad result starts = starts ≡ []
+AsksCleanly answer Child result starts = starts ≡ []
+AsksCleanly answer (Stops reason) result starts = starts ≡ []
 
 -- the counts of faults of the objects that a run is handed
 pub record Counts : Type 0 where

@@ -9,3 +9,4 @@ pub mod CsvProject
 pub mod Texts
 pub mod ReportLoops
 pub mod Tops
+pub mod Cleans

@@ -16,8 +16,9 @@ use Rattle.vr_base.specs.declared.outcome.Mark.{Mark}
 use Rattle.vr_base.specs.declared.outcome.Mark.TheVariants.{Compiled, Refused, Left}
 use Rattle.vr_base.specs.Jobs.{compile_request}
 use Rattle.run_spec.specs.PresentGraph.{below, IsListed}
-use Rattle.run_spec.specs.ChildJournal.{Book, empty_book, after, after_all, Lawful, Greedy, Answered, IsStart, must_wait, IsWhole, exit_at, made, built_file, request_at, is_startable, next_start, deps_of, artefact_of}
+use Rattle.run_spec.specs.ChildJournal.{starts_of, Book, empty_book, after, after_all, Lawful, Greedy, Answered, IsStart, must_wait, IsWhole, exit_at, made, built_file, request_at, is_startable, next_start, deps_of, artefact_of}
 use Rattle.run_spec.specs.Said.{one_at_a_time}
+use Rattle.vunit_top.proofs.Cleans.{Asked}
 use Rattle.run_spec.specs.Marks.{mark_of, mark_at, marks_of}
 use Rattle.run_spec.proofs.Places.{slice_get-pushed, slice_get-push_other, map-below_is, below-more, in_below, not_in_below, all_below, filter_map-below, first_found, first_none}
 use Rattle.run_spec.proofs.Journal.{after_all-append, Lawful-append, Greedy-append, Answered-append, after_two, after_run, exit_at-pushed, exit_at-push_other}
@@ -246,3 +247,4 @@ pub record HasBuilt (answer : Request → Exit) (graph : List Entry) (built : Li
   pub events : List Event
   pub journal : new ≡ old ++ events
   pub stands : Stands answer graph built events
+  pub asked : Asked answer graph built (starts_of events)

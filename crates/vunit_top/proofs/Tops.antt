@@ -6,13 +6,15 @@ use Rattle.std.proofs.lemmas.List.{drop_all}
 use Rattle.vr_base.specs.declared.child.Request.{Request}
 use Rattle.vr_base.specs.declared.child.Exit.{Exit}
 use Rattle.vr_base.specs.declared.child.Event.{Event}
+use Rattle.vr_base.specs.declared.outcome.Outcome.{Outcome}
 use Rattle.vr_base.specs.declared.outcome.Outcome.TheVariants as outcome
+use Rattle.run_spec.specs.CleanBuild.{clean_requests}
 use Rattle.vr_outside.specs.declared.streams.TakeEnd.TheVariants.{Got, TooLong}
 use Rattle.vr_outside.specs.Streams.{take_end}
-use Rattle.run_spec.specs.ChildJournal.{Lawful, Answered, since}
+use Rattle.run_spec.specs.ChildJournal.{Lawful, Answered, since, starts_of}
 use Rattle.run_spec.specs.Texts.{bad_request}
 use Rattle.run_spec.specs.Reading.{Reading, Bad, Child, Stops, Go}
-use Rattle.run_spec.specs.Said.{child_said, input_bytes, IsLawful, IsAnswered}
+use Rattle.run_spec.specs.Said.{child_said, input_bytes, IsLawful, IsAnswered, IsSaid, AsksCleanly}
 
 -- nothing was added
 pub since_itself : (journal : List Event) → since journal journal ≡ []
@@ -48,3 +50,12 @@ too_long input h =
       | inl t ↦ absurd (got_is_short input (h ∙ cond-true (leb (length input) input_bytes) (Got input) TooLong t))
       | inr f ↦ cond-false (leb (length input) input_bytes) _ _ f
     ]
+
+nothing_asked : (answer : Request → Exit) (r : Reading) (result : Outcome) → (IsSaid result → ⊥) → AsksCleanly answer r result []
+nothing_asked answer Bad result unsaid = refl
+nothing_asked answer Child result unsaid = refl
+nothing_asked answer (Stops reason) result unsaid = refl
+nothing_asked answer (Go graph) result unsaid = record { left = clean_requests answer graph; all = refl; none_left = λ said. absurd (unsaid said) }
+
+pub clean_at_rest : (answer : Request → Exit) (r : Reading) (result : Outcome) (journal : List Event) → (IsSaid result → ⊥) → AsksCleanly answer r result (starts_of (since journal journal))
+clean_at_rest answer r result journal unsaid = subst (λ (events : List Event). AsksCleanly answer r result (starts_of events)) (sym (since_itself journal)) (nothing_asked answer r result unsaid)

@@ -14,7 +14,8 @@ use Rattle.vr_base.specs.declared.project.ProjectFault.{ProjectFault}
 use Rattle.vr_base.specs.declared.project.ProjectFault.TheVariants as problem
 use Rattle.run_spec.specs.Csv.{files_after}
 use Rattle.vr_outside.specs.Counts.{Counted}
-use Rattle.run_spec.specs.ChildJournal.{IsWhole, Lawful, Answered, empty_book}
+use Rattle.run_spec.specs.ChildJournal.{starts_of, IsWhole, Lawful, Answered, empty_book}
+use Rattle.run_spec.specs.CleanBuild.{clean_requests}
 use Rattle.run_spec.specs.Marks.{marks_of}
 use Rattle.run_spec.specs.Said.{one_at_a_time}
 use Rattle.vr_outside.specs.Children.{started_with}
@@ -118,6 +119,7 @@ pub record AddsBuild (answer : Request → Exit) (graph : List Entry) (marks : L
   pub whole : IsWhole (one_at_a_time graph) events
   pub answered : Answered answer (one_at_a_time graph) empty_book events
   pub marked : marks ≡ marks_of (one_at_a_time graph) events
+  pub asked : clean_requests answer graph ≡ starts_of events
 
 -- a build that a fault or want of memory ended
 pub record AddsLawful (answer : Request → Exit) (graph : List Entry) (old new : List Event) : Type 0 where
@@ -125,6 +127,8 @@ pub record AddsLawful (answer : Request → Exit) (graph : List Entry) (old new 
   pub journal : new ≡ old ++ events
   pub lawful : Lawful (one_at_a_time graph) empty_book events
   pub answered : Answered answer (one_at_a_time graph) empty_book events
+  pub left : List Request
+  pub asked : clean_requests answer graph ≡ starts_of events ++ left
 
 abbrev pub Builds : (Request → Exit) → List Entry → Result (List Mark) BuildFault → List Event → List Event → Type 0
 Builds answer graph (Ok marks) old new = AddsBuild answer graph marks old new

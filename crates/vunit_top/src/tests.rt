@@ -191,7 +191,12 @@ fn nothing_is_started_after_a_refusal(rt: HostRuntime) -> Result<(), Fail> {
         )
     );
     assert_eq!(rt; run.events, 2);
-    let Outcome::Refused(Refusal::Compiler { files }) = run.outcome else {
+    let Ran {
+        outcome,
+        out: _,
+        events: _,
+    } = run;
+    let Outcome::Refused(Refusal::Compiler { files }) = outcome else {
         return Err(Fail::new("another answer"));
     };
     assert!(rt; files.len() == 1 && is(files.get(0).path.bytes(), b"a.vhd"));

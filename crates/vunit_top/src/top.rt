@@ -1,9 +1,9 @@
 ghost use Rattle.std.specs.Prelude.{◌≡◌, ◌++◌, [], ℕ, List};
 ghost use Rattle.run_spec.specs.PresentGraph.{IsListed};
-ghost use Rattle.run_spec.specs.ChildJournal.{Lawful, Answered, IsWhole, empty_book, since};
+ghost use Rattle.run_spec.specs.ChildJournal.{Lawful, Answered, IsWhole, empty_book, since, starts_of};
 ghost use Rattle.run_spec.specs.Marks.{marks_of};
 ghost use Rattle.run_spec.specs.Reading.{reading, project_reading};
-ghost use Rattle.run_spec.specs.Said.{Says, IsSaid, Causes, IsLawful, IsAnswered, EndsByItself, said, build_said, child_said, one_at_a_time};
+ghost use Rattle.run_spec.specs.Said.{Says, IsSaid, Causes, IsLawful, IsAnswered, IsClean, AsksCleanly, EndsByItself, said, build_said, child_said, one_at_a_time};
 
 use crate::build::build;
 use crate::children::BuildFault;
@@ -41,6 +41,7 @@ fn run_build<P: Procs, O: Sink>(alloc: Global, graph: &Graph, procs: &mut P, out
     ensures lawful { P.tells → Lawful (one_at_a_time graph.now) empty_book (since (P.journal procs.old) (P.journal procs.new)) }
     ensures answered { P.tells → Answered (P.answer procs.old) (one_at_a_time graph.now) empty_book (since (P.journal procs.old) (P.journal procs.new)) }
     ensures whole { P.tells → IsSaid result → IsWhole (one_at_a_time graph.now) (since (P.journal procs.old) (P.journal procs.new)) }
+    ensures starts { P.tells → IsClean (P.answer procs.old) graph.now result (starts_of (since (P.journal procs.old) (P.journal procs.new))) }
     ensures said { P.tells → O.tells → Says result (build_said graph.now (marks_of (one_at_a_time graph.now) (since (P.journal procs.old) (P.journal procs.new)))) (O.contents out.old) (O.contents out.new) }
     ensures cause { (tree input : ℕ) → Causes result
         (record { tree = tree; start = P.failed_starts procs.old; child = P.lost_children procs.old; out = O.failed_puts out.old; input = input })
@@ -67,6 +68,7 @@ fn run_compile<T: Tree, P: Procs, O: Sink>(
     ensures lawful { T.tells → P.tells → IsLawful (project_reading (T.file tree.old)) (since (P.journal procs.old) (P.journal procs.new)) }
     ensures answered { T.tells → P.tells → IsAnswered (P.answer procs.old) (project_reading (T.file tree.old)) (since (P.journal procs.old) (P.journal procs.new)) }
     ensures whole { T.tells → P.tells → IsSaid result → EndsByItself (project_reading (T.file tree.old)) (since (P.journal procs.old) (P.journal procs.new)) }
+    ensures starts { T.tells → P.tells → AsksCleanly (P.answer procs.old) (project_reading (T.file tree.old)) result (starts_of (since (P.journal procs.old) (P.journal procs.new))) }
     ensures said { (input : List ℕ) → T.tells → P.tells → O.tells → Says result (said (project_reading (T.file tree.old)) input (since (P.journal procs.old) (P.journal procs.new))) (O.contents out.old) (O.contents out.new) }
     ensures cause { (input : ℕ) → Causes result
         (record { tree = T.failed_reads tree.old; start = P.failed_starts procs.old; child = P.lost_children procs.old; out = O.failed_puts out.old; input = input })
@@ -109,6 +111,9 @@ pub fn run_vunit<I: Source, T: Tree, P: Procs, O: Sink>(
 
     // Where neither a fault nor want of memory is answered, it is greedy and finished too.
     ensures whole { T.tells → P.tells → IsSaid result → EndsByItself (reading words.now (T.file tree.old)) (since (P.journal procs.old) (P.journal procs.new)) }
+
+    // Children are started with what a clean build asks of its compilers, in its order, and no more.
+    ensures starts { T.tells → P.tells → AsksCleanly (P.answer procs.old) (reading words.now (T.file tree.old)) result (starts_of (since (P.journal procs.old) (P.journal procs.new))) }
 
     // The answer and the text that is put are those that words, sources, input and journal say.
     ensures said { I.tells → T.tells → P.tells → O.tells →

@@ -1,4 +1,4 @@
-use Rattle.vunit_top.proofs.Tops.{lawful_at_rest, answered_at_rest}
+use Rattle.vunit_top.proofs.Tops.{lawful_at_rest, answered_at_rest, clean_at_rest}
 use Rattle.vunit_top.proofs.top.run_compile.Goals as goal
 
 pub returns-in-Err-Failed-clause-lawful : goal.returns-in-Err-Failed-clause-lawful
@@ -12,3 +12,9 @@ returns-in-Err-NoMemory-clause-lawful g c = λ t p. lawful_at_rest _ (g.P.Procs.
 
 pub returns-in-Err-NoMemory-clause-answered : goal.returns-in-Err-NoMemory-clause-answered
 returns-in-Err-NoMemory-clause-answered g c = λ t p. answered_at_rest _ _ (g.P.Procs.journal c.args.procs.now)
+
+pub returns-in-Err-Failed-clause-starts : goal.returns-in-Err-Failed-clause-starts
+returns-in-Err-Failed-clause-starts g c = λ t p. clean_at_rest _ _ _ (g.P.Procs.journal c.args.procs.now) (λ said. said)
+
+pub returns-in-Err-NoMemory-clause-starts : goal.returns-in-Err-NoMemory-clause-starts
+returns-in-Err-NoMemory-clause-starts g c = λ t p. clean_at_rest _ _ _ (g.P.Procs.journal c.args.procs.now) (λ said. said)
