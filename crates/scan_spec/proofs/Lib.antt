@@ -1,0 +1,5 @@
+pub mod Cut
+pub mod Joined
+pub mod Search
+pub mod Forms
+pub mod Exists
