@@ -56,7 +56,7 @@ data Has (text : List ℕ) (row : Row) (at : ℕ) : Type 0 where
   may_open : IsOpening row → ((end : ℕ) → HasForm row text at end → at < end) → Has text row at
 
 -- a byte that isn't 0 is in the text
-in_text : (text : List ℕ) (at : ℕ) → slice_index text at ≢ 0 → at < length text
+pub in_text : (text : List ℕ) (at : ℕ) → slice_index text at ≢ 0 → at < length text
 in_text text at some = ⊎_elim (λ h. h) (λ h. absurd (some (get_or_past text at 0 h))) (order at (length text))
 
 one_byte : (test : ℕ → Bool) (text : List ℕ) (at : ℕ) → test (slice_index text at) ≡ true → EachByte test text at (at + 1)
@@ -68,12 +68,12 @@ word_of_letter b h = grind (arith, nat_tests)
 number_of_digit : (b : ℕ) → is_ascii_digit b ≡ true → is_number_byte b ≡ true
 number_of_digit b h = grind (arith, nat_tests)
 
-start_inside : {mark : ℕ} {text : List ℕ} {start end : ℕ} → Inside mark text start end → start ≤ end
+pub start_inside : {mark : ℕ} {text : List ℕ} {start end : ℕ} → Inside mark text start end → start ≤ end
 start_inside (nothing is) = omega arith
 start_inside (byte {at = at} inside other in_line up_to) = let before = start_inside inside in omega arith
 start_inside (pair {at = at} inside first second up_to) = let before = start_inside inside in omega arith
 
-marked_some : (mark : ℕ) (text : List ℕ) (at end : ℕ) → IsMarked mark text at end → at < end
+pub marked_some : (mark : ℕ) (text : List ℕ) (at end : ℕ) → IsMarked mark text at end → at < end
 marked_some mark text at end marked = let before : at + 1 ≤ marked.close = start_inside marked.inside in omega (arith, marked.up_to)
 
 block_some : (text : List ℕ) (at end : ℕ) → IsBlockComment text at end → at < end

@@ -1,0 +1,11 @@
+//! The tokens of a VHDL text.
+#![tactic(auto)]
+
+mod class;
+mod ends;
+mod piece;
+mod reserved;
+mod scan;
+
+pub use reserved::is_reserved;
+pub use scan::scan_tokens;
