@@ -9,3 +9,6 @@ mod scan;
 
 pub use reserved::is_reserved;
 pub use scan::scan_tokens;
+
+#[cfg(test)]
+mod tests;
