@@ -1,5 +1,6 @@
 -- The table of reserved words is exact: by trying all its words.
-use Rattle.std.proofs.Common.{◌≡◌, ℕ, ◌+◌, ◌-◌, ◌*◌, ◌/◌, ◌%◌, ◌<◌, ◌≤◌, ◌&&◌, ◌↔◌, IsTrue, Bool, true, false, List, [], ◌∷◌, ◌⊎◌, length, slice_index, slice_index_or, slice_range, bit_or, bytes_eq, nat_eq, nat_le, nat_lt, refl, sym, ◌∙◌, ap, subst, inl, inr, ⊎_elim, arith, add-one}
+use Rattle.std.proofs.Common.{◌≡◌, ◌≢◌, not, zero, suc, ℕ, ◌+◌, ◌-◌, ◌*◌, ◌/◌, ◌%◌, ◌<◌, ◌≤◌, ◌&&◌, ◌↔◌, IsTrue, Bool, true, false, List, [], ◌∷◌, ◌⊎◌, length, slice_index, slice_index_or, slice_range, bit_or, bytes_eq, nat_eq, nat_le, nat_lt, refl, sym, ◌∙◌, ap, subst, inl, inr, ⊎_elim, arith, add-one}
+use Rattle.std.proofs.Math.Dec.{eqb-suc-zero}
 use Rattle.std.specs.List.{list_any}
 use Rattle.std.specs.Char.{to_ascii_lowercase}
 use Rattle.std.proofs.Math.ListN.{get_or-map}
@@ -10,7 +11,7 @@ use Rattle.std.proofs.lemmas.List.Folds.{list_any_at}
 use Rattle.std.proofs.lemmas.Bool.{eqb-true}
 use Rattle.std.proofs.lemmas.Slice.Eq.{bytes_eq-Decides}
 use Rattle.scan_spec.specs.Words.{is_reserved, lower_case, reserved_words}
-use Rattle.vhdl_lex.specs.Places.{without_case, place_of}
+use Rattle.vhdl_lex.specs.Places.{IsNumberOf, without_case, place_of}
 use Rattle.vhdl_lex.specs.declared.reserved.TheConstants.{LETTERS, STARTS, NUMBERS}
 use Rattle.vhdl_lex.proofs.Classes.{tests_below, each_below, and_parts, or_parts}
 
@@ -144,3 +145,14 @@ empty_is_not = refl
 pub place_small : (word : List ℕ) → place_of word < 1024
 unfolding place_of
 place_small word = mod_below _ 1024 (omega arith)
+
+pub number_is : (word : List ℕ) (number : ℕ) → number ≢ 0 → number ≤ 115 → lower_case word ≡ lower_case (word_number (number - 1)) → IsNumberOf word number
+number_is word zero some within same = absurd (some refl)
+number_is word (suc number) some within same =
+    let small : number < 115 = omega arith in
+    let before : suc number - 1 ≡ number = omega arith in
+    (small, same ∙ ap (λ (n : ℕ). lower_case (word_number n)) before ∙ lower_is number small)
+
+pub reserved_by_number : (word : List ℕ) (number : ℕ) → IsNumberOf word number → not (nat_eq number 0) ≡ is_reserved word
+reserved_by_number word zero is = sym is
+reserved_by_number word (suc number) is = ap not (eqb-suc-zero number) ∙ sym (reserved_at word number is.0 is.1)

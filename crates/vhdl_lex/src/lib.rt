@@ -7,7 +7,7 @@ mod piece;
 mod reserved;
 mod scan;
 
-pub use reserved::is_reserved;
+pub use reserved::{is_reserved, reserved_number};
 pub use scan::scan_tokens;
 
 #[cfg(test)]

@@ -2,7 +2,7 @@
 
 ghost use Rattle.std.specs.Prelude.{◌≡◌, ◌<◌, length, slice_index, slice_index_or, []};
 ghost use Rattle.scan_spec.specs.Words.{is_reserved, reserved_words};
-ghost use Rattle.vhdl_lex.specs.Places.{place_of};
+ghost use Rattle.vhdl_lex.specs.Places.{IsNumberOf, place_of};
 
 /// The letters of all reserved words, in order.
 static LETTERS: [u8; 642] =
@@ -98,16 +98,24 @@ fn number_at(place: usize) -> usize
     NUMBERS[place] as usize
 }
 
+/// The number of a reserved word among all in the order of the alphabet, counted from 1, or 0 for another word.
+pub fn reserved_number(word: &[u8]) -> usize
+    ensures { IsNumberOf word.now result }
+{
+    if word.is_empty() {
+        return 0;
+    }
+    let number = number_at(place_of(word));
+    if number != 0 && word.eq_ignore_ascii_case(reserved_word(number - 1)) {
+        number
+    } else {
+        0
+    }
+}
+
 /// Whether a word is reserved, in letters of any case.
 pub fn is_reserved(word: &[u8]) -> bool
     ensures { result ≡ is_reserved word.now }
 {
-    if word.is_empty() {
-        return false;
-    }
-    let number = number_at(place_of(word));
-    if number == 0 {
-        return false;
-    }
-    word.eq_ignore_ascii_case(reserved_word(number - 1))
+    reserved_number(word) != 0
 }

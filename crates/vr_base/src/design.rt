@@ -17,6 +17,54 @@ pub enum UnitKind {
     Context,
 }
 
+/// What a token is to the grammar of design units (IEEE Std 1076-2008, clause 13): a reserved word that the grammar
+/// names, a delimiter, a name, or another token.
+#[derive(Clone, Copy, Debug, PartialEq, Eq)]
+pub enum Role {
+    Library,
+    Use,
+    Context,
+    Entity,
+    Architecture,
+    Configuration,
+    Package,
+    Body,
+    Is,
+    Of,
+    New,
+    Function,
+    Procedure,
+    Generate,
+    End,
+    If,
+    For,
+    Case,
+    Elsif,
+    Else,
+    /// A word, other than `if`, `case` and `for`, that says behind `end` what ends within a unit.
+    Inner,
+    Opening,
+    Closing,
+    Semicolon,
+    Colon,
+    Dot,
+    /// An identifier.
+    Name,
+    Other,
+}
+
+/// What begins at file level, as far as its first four tokens tell.
+#[derive(Clone, Copy, Debug, PartialEq, Eq)]
+pub enum Beginning {
+    /// A context item.
+    Item,
+    /// A unit without an owner.
+    Plain(UnitKind),
+    /// A unit whose owner comes next.
+    Owned(UnitKind),
+    Nothing,
+}
+
 /// A design unit: its name, and of an architecture or a configuration the name of its entity. `lead`, `first` and
 /// `last` are numbers of tokens: where its context items begin, its keyword, and its final semicolon.
 #[derive(Debug, Drop)]

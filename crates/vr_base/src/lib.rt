@@ -11,7 +11,7 @@ mod outcome;
 mod text;
 
 pub use child::{Event, EventList, Exit, MaybeText, Request};
-pub use design::{Scan, Scans, Unit, UnitFault, UnitKind, UnitList};
+pub use design::{Beginning, Role, Scan, Scans, Unit, UnitFault, UnitKind, UnitList};
 pub use file::{Entry, EntryList, FileList, FileName, NamedText, NamedTextList};
 pub use items::{Items, Numbers, Positions};
 pub use lexical::{LexFault, Span, SpanList, Token, TokenKind, TokenList, Tokens};
