@@ -1,6 +1,10 @@
 ghost use Rattle.std.specs.Prelude.{◌≡◌, ◌⊎◌, ℕ, List};
 ghost use Rattle.std.specs.List.{flat_map};
 ghost use Rattle.vr_base.specs.declared.lexical.LexFault.{LexFault};
+ghost use Rattle.vr_base.specs.declared.lexical.Token.{Token};
+ghost use Rattle.vr_base.specs.declared.design.Role.{Role};
+ghost use Rattle.vr_base.specs.declared.design.UnitFault.{UnitFault};
+ghost use Rattle.scan_spec.specs.Units.{Element, IsOutline, HasUnitFault, roles_of};
 ghost use Rattle.scan_spec.specs.Tokens.{Piece, IsCut, HasFault, bytes_of};
 
 /// The pieces of a cut, joined, are the text.
@@ -26,4 +30,20 @@ pub fn no_fault_beside()
 /// Each text has a cut or a fault.
 pub fn cut_or_fault()
     ensures { (text : List ℕ) → ((pieces : List Piece) × IsCut text pieces) ⊎ ((fault : LexFault) × HasFault text fault) }
+{}
+
+/// Tokens have no two outlines.
+pub fn one_outline()
+    ensures { (roles : List Role) (a b : List Element) → IsOutline roles a → IsOutline roles b → a ≡ b }
+{}
+
+/// Tokens have no two faults of the unit grammar.
+pub fn one_unit_fault()
+    ensures { (text : List ℕ) (tokens : List Token) (a b : UnitFault) → HasUnitFault text tokens a → HasUnitFault text tokens b → a ≡ b }
+{}
+
+/// Tokens that have an outline have no fault of the unit grammar.
+pub fn no_unit_fault_beside()
+    ensures { (text : List ℕ) (tokens : List Token) (elements : List Element) (fault : UnitFault) →
+        IsOutline (roles_of text tokens) elements → HasUnitFault text tokens fault → ⊥ }
 {}
