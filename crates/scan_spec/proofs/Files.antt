@@ -1,5 +1,5 @@
 -- A file is read in one way.
-use Rattle.std.proofs.Common.{◌≡◌, ◌≢◌, ℕ, zero, suc, ◌+◌, ◌-◌, ◌*◌, ◌<◌, ◌≤◌, ◌⊎◌, Bool, true, false, List, [], ◌∷◌, ◌++◌, length, refl, sym, ◌∙◌, ap, subst, inl, inr, ⊎_elim, arith}
+use Rattle.std.proofs.Common.{◌≡◌, ◌≢◌, ℕ, ◌+◌, ◌*◌, ◌<◌, ◌≤◌, List, [], ◌∷◌, length, refl, sym, ◌∙◌, ap, subst, ⊎_elim, arith}
 use Rattle.std.proofs.str.Laws.{order}
 use Rattle.std.proofs.lemmas.List.{get_or_past}
 use Rattle.vr_base.specs.declared.lexical.Token.{Token}
@@ -7,11 +7,10 @@ use Rattle.vr_base.specs.declared.design.UnitKind.{UnitKind}
 use Rattle.vr_base.specs.declared.design.UnitKind.TheVariants as kinds
 use Rattle.vr_base.specs.declared.design.Role.{Role}
 use Rattle.vr_base.specs.declared.design.Role.TheVariants.{Semicolon, Other}
-use Rattle.vr_base.specs.declared.design.Beginning.{Beginning}
 use Rattle.vr_base.specs.declared.design.Beginning.TheVariants as begins
 use Rattle.vr_base.specs.declared.design.UnitFault.{UnitFault}
 use Rattle.vr_base.specs.declared.design.UnitFault.TheVariants.{NoMemory, NotUnit, NotEnded}
-use Rattle.scan_spec.specs.Units.{role_at, roles_of, token_at, beginning, beginning_at, IsFirstSemicolon, IsEndPart, EndsPlain, IsOwner, Element, item, plain, owned, last_of, IsElement, Begins, BeginsAs, Follow, IsOutline, IsNoUnit, IsUnended, HasUnitFault}
+use Rattle.scan_spec.specs.Units.{role_at, roles_of, token_at, IsFirstSemicolon, IsEndPart, EndsPlain, Element, item, plain, owned, last_of, IsElement, Begins, BeginsAs, Follow, IsOutline, IsNoUnit, IsUnended, HasUnitFault}
 use Rattle.scan_spec.proofs.Grammar.{items_ordered, one_semicolon, one_end_part, one_owner}
 
 -- a role that the grammar names is that of a token

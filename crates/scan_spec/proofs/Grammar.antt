@@ -1,9 +1,9 @@
 -- Items are read in one way, and what ends them stands at one place.
-use Rattle.std.proofs.Common.{◌≡◌, ◌≢◌, ℕ, zero, suc, ◌+◌, ◌-◌, ◌*◌, ◌<◌, ◌≤◌, ◌⊎◌, Bool, true, false, List, length, refl, sym, ◌∙◌, ap, subst, inl, inr, ⊎_elim, arith}
+use Rattle.std.proofs.Common.{◌≡◌, ℕ, ◌+◌, ◌*◌, ◌≤◌, Bool, true, false, List, sym, ◌∙◌, subst, inl, inr, ⊎_elim, arith}
 use Rattle.std.proofs.str.Laws.{order}
 use Rattle.vr_base.specs.declared.design.Role.{Role}
-use Rattle.vr_base.specs.declared.design.Role.TheVariants.{Package, Function, Procedure, Generate, End, Is, Dot}
-use Rattle.scan_spec.specs.Units.{role_at, IsPlainEnd, IsGenerateEnd, IsPackageOpener, IsSubprogramOpener, OpensItems, IsGenerateOpener, Closes, IsSingle, Items, nothing, single, items, region, IsFirstSemicolon, IsEndPart, IsOwner}
+use Rattle.vr_base.specs.declared.design.Role.TheVariants.{Package, Generate, End, Is, Dot}
+use Rattle.scan_spec.specs.Units.{role_at, OpensItems, IsGenerateOpener, Closes, IsSingle, Items, nothing, single, items, region, IsFirstSemicolon, IsEndPart, IsOwner}
 
 pub close_word : (roles : List Role) (generate : Bool) (at : ℕ) → Closes roles generate at → role_at roles at ≡ End
 close_word roles true at closes = closes.word

@@ -1,8 +1,8 @@
 -- The tokens of a cut lie in the text, and there are no more of them than bytes.
-use Rattle.std.proofs.Common.{◌≡◌, ℕ, zero, suc, ◌+◌, ◌<◌, ◌≤◌, List, [], ◌∷◌, ◌++◌, length, slice_index_or, refl, sym, ◌∙◌, ap, subst, arith}
+use Rattle.std.proofs.Common.{◌≡◌, ℕ, zero, suc, ◌+◌, ◌<◌, ◌≤◌, List, [], ◌∷◌, ◌++◌, length, sym, ap, subst, arith}
 use Rattle.vr_base.specs.declared.lexical.Token.{Token}
 use Rattle.vr_base.specs.declared.lexical.Tokens.{Tokens}
-use Rattle.scan_spec.specs.Tokens.{Row, byte_order_mark, blank, line_comment, block_comment, tool_directive, token, Piece, Place, IsRight, Leads, behind, text_start, IsCut, token_of, tokens_of, AreOf}
+use Rattle.scan_spec.specs.Tokens.{Row, byte_order_mark, blank, line_comment, block_comment, tool_directive, token, Piece, Place, Leads, behind, text_start, token_of, tokens_of}
 use Rattle.scan_spec.specs.Units.{token_at, AreTokensOf}
 
 -- each token lies in a text of this length

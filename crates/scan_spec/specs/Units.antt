@@ -2,12 +2,11 @@
 --
 -- A file is a list of context items and design units. The grammar sees the role of each token. Places are numbers of
 -- tokens, and a place past the last token has the role of a token that the grammar doesn't name.
-use Rattle.std.specs.Prelude.{◌≡◌, ◌≢◌, ℕ, zero, suc, ◌+◌, ◌*◌, ◌<◌, ◌≤◌, ◌⊎◌, ◌==◌, Bool, true, false, cond, if◌then◌else◌, List, [], ◌∷◌, ◌++◌, length, map, count_by, slice_index, slice_index_or, slice_range, bytes_eq, codes, Option, Some, None, Result, Ok, Err}
+use Rattle.std.specs.Prelude.{◌≡◌, ◌≢◌, ℕ, zero, suc, ◌+◌, ◌*◌, ◌<◌, ◌≤◌, ◌⊎◌, ◌==◌, Bool, true, false, if◌then◌else◌, List, [], ◌∷◌, ◌++◌, length, map, count_by, slice_index, slice_index_or, slice_range, bytes_eq, codes, Result, Ok, Err}
 use Rattle.vr_base.specs.declared.lexical.TokenKind.{TokenKind}
 use Rattle.vr_base.specs.declared.lexical.TokenKind.TheVariants.{Word, Extended, Number, Str, Char, Tick, Symbol, High}
 use Rattle.vr_base.specs.declared.lexical.Token.{Token}
 use Rattle.vr_base.specs.declared.lexical.Tokens.{Tokens}
-use Rattle.vr_base.specs.declared.child.MaybeText.{MaybeText}
 use Rattle.vr_base.specs.declared.child.MaybeText.TheVariants.{Nothing, Given}
 use Rattle.vr_base.specs.declared.design.UnitKind.{UnitKind}
 use Rattle.vr_base.specs.declared.design.UnitKind.TheVariants as kinds
