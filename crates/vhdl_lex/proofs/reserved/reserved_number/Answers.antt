@@ -31,11 +31,11 @@ pub returns-else-number-ne0 : goal.returns-else-number-ne0
 returns-else-number-ne0 c =
     let at_place : slice_index NUMBERS (place_of c.args.word.now) ≡ c.number_at-number.result = ap (slice_index NUMBERS) (sym c.place_of.ensures) ∙ sym c.number_at-number.ensures in
     elim c.else-number-ne0.branch [
-      else-number-ne0-via-then-number-ne0+else-eq_ignore_ascii_case w ↦
-        let some : c.number_at-number.result ≡ (c.number_at-number.result - 1) + 1 = omega (arith, w.if-number-ne0.true) in
-        let place : c.place_of.result < 1024 = omega (arith, place_small c.args.word.now, c.place_of.ensures) in
-        let test = subst (λ (word : List ℕ). (IsTrue w.eq_ignore_ascii_case.result ↔ (lower_case c.args.word.now ≡ lower_case word))) w.reserved_word.ensures w.eq_ignore_ascii_case.ensures.test in
-        sym (decides c.args.word.now (c.number_at-number.result - 1) w.eq_ignore_ascii_case.result (λ i. omega (arith, c.type_inv.word i)) (omega (arith, number_within c.place_of.result place, c.number_at-number.ensures, w.if-number-ne0.true)) (at_place ∙ some) test) ∙ w.if-eq_ignore_ascii_case.false
-    | else-number-ne0-via-else-number-ne0 w ↦
-        sym (none_there c.args.word.now (λ i. omega (arith, c.type_inv.word i)) (at_place ∙ w.if-number-ne0.false))
+      | else-number-ne0-via-then-number-ne0+else-eq_ignore_ascii_case w ↦
+          let some : c.number_at-number.result ≡ (c.number_at-number.result - 1) + 1 = omega (arith, w.if-number-ne0.true) in
+          let place : c.place_of.result < 1024 = omega (arith, place_small c.args.word.now, c.place_of.ensures) in
+          let test = subst (λ (word : List ℕ). (IsTrue w.eq_ignore_ascii_case.result ↔ (lower_case c.args.word.now ≡ lower_case word))) w.reserved_word.ensures w.eq_ignore_ascii_case.ensures.test in
+          sym (decides c.args.word.now (c.number_at-number.result - 1) w.eq_ignore_ascii_case.result (λ i. omega (arith, c.type_inv.word i)) (omega (arith, number_within c.place_of.result place, c.number_at-number.ensures, w.if-number-ne0.true)) (at_place ∙ some) test) ∙ w.if-eq_ignore_ascii_case.false
+      | else-number-ne0-via-else-number-ne0 w ↦
+          sym (none_there c.args.word.now (λ i. omega (arith, c.type_inv.word i)) (at_place ∙ w.if-number-ne0.false))
     ]
