@@ -6,7 +6,7 @@ use Rattle.scan_spec.specs.Tokens.{Row, byte_order_mark, blank, line_comment, bl
 use Rattle.scan_spec.proofs.Search.{Decided, both, denied, same_bool, same_number, at_most}
 
 -- a fact about each number from one up to another
-each_from : (P : ℕ → Type 0) → ((n : ℕ) → Decided (P n)) → (start end : ℕ) → Decided ((at : ℕ) → start ≤ at → at < end → P at)
+pub each_from : (P : ℕ → Type 0) → ((n : ℕ) → Decided (P n)) → (start end : ℕ) → Decided ((at : ℕ) → start ≤ at → at < end → P at)
 each_from P decide start zero = inl (λ at from below. absurd (omega arith))
 each_from P decide start (suc end) =
     ⊎_elim

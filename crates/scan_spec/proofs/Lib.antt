@@ -6,3 +6,5 @@ pub mod Exists
 pub mod Grammar
 pub mod Files
 pub mod Lying
+pub mod Classes
+pub mod Outlines

@@ -47,3 +47,9 @@ pub fn no_unit_fault_beside()
     ensures { (text : List ℕ) (tokens : List Token) (elements : List Element) (fault : UnitFault) →
         IsOutline (roles_of text tokens) elements → HasUnitFault text tokens fault → ⊥ }
 {}
+
+/// The tokens of each text have an outline or a fault of the unit grammar.
+pub fn outline_or_fault()
+    ensures { (text : List ℕ) (tokens : List Token) →
+        ((elements : List Element) × IsOutline (roles_of text tokens) elements) ⊎ ((fault : UnitFault) × HasUnitFault text tokens fault) }
+{}
