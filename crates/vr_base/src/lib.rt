@@ -2,9 +2,11 @@
 #![tactic(auto)]
 
 mod child;
+mod design;
 mod file;
 mod graph;
 mod items;
+mod lexical;
 mod memory;
 mod outcome;
 mod project;
@@ -12,9 +14,11 @@ mod rooms;
 mod text;
 
 pub use child::{Event, EventList, Exit, MaybeText, Request};
+pub use design::{Beginning, Role, Scan, Scans, Unit, UnitFault, UnitKind, UnitList};
 pub use file::{FileList, FileName, NamedText, NamedTextList};
 pub use graph::{Built, BuiltFile, Entry, Graph};
 pub use items::{Items, Numbers, Positions};
+pub use lexical::{LexFault, Span, SpanList, Token, TokenKind, TokenList, Tokens};
 pub use memory::NoMemory;
 pub use outcome::{Limit, Mark, MarkList, Outcome, Refusal, Which};
 pub use project::{Pair, PairList, Project, ProjectFault, ProjectFile, ProjectFileList};

@@ -1,0 +1,5 @@
+use Rattle.scan_spec.proofs.Exists.{cut_or_fault}
+use Rattle.scan_spec.proofs.laws.cut_or_fault.Goals as goal
+
+pub returns : goal.returns
+returns c = cut_or_fault

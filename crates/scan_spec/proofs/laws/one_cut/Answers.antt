@@ -1,0 +1,5 @@
+use Rattle.scan_spec.proofs.Cut.{one_cut}
+use Rattle.scan_spec.proofs.laws.one_cut.Goals as goal
+
+pub returns : goal.returns
+returns c = one_cut

@@ -1,0 +1,5 @@
+use Rattle.scan_spec.proofs.Files.{one_outline}
+use Rattle.scan_spec.proofs.laws.one_outline.Goals as goal
+
+pub returns : goal.returns
+returns c = one_outline

@@ -1,0 +1,4 @@
+//! What the tokens of a VHDL text are, as definitions with their laws. Nothing here runs.
+#![tactic(auto)]
+
+pub mod laws;

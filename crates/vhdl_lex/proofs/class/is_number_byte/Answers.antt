@@ -1,0 +1,5 @@
+use Rattle.vhdl_lex.proofs.Classes.{number_class}
+use Rattle.vhdl_lex.proofs.class.is_number_byte.Goals as goal
+
+pub returns : goal.returns
+returns c = number_class c.args.byte c.ranges.byte.fits

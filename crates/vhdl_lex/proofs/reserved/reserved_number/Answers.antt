@@ -1,0 +1,41 @@
+use Rattle.std.proofs.Common.{◌≡◌, ◌↔◌, IsTrue, List, ℕ, ◌+◌, ◌-◌, ◌<◌, ◌≤◌, [], false, length, slice_index, sym, ◌∙◌, ap, subst, arith}
+use Rattle.std.proofs.lemmas.Bool.{eqb-true}
+use Rattle.std.proofs.lemmas.List.{nil_from_length}
+use Rattle.scan_spec.specs.Words.{is_reserved, lower_case}
+use Rattle.vhdl_lex.specs.Places.{place_of}
+use Rattle.vhdl_lex.specs.declared.reserved.TheConstants.{NUMBERS}
+use Rattle.vhdl_lex.proofs.WordTable.{number_within, number_is, decides, none_there, empty_is_not, place_small}
+use Rattle.vhdl_lex.proofs.reserved.reserved_number.Goals as goal
+use Rattle.vhdl_lex.proofs.reserved.reserved_number.Goals.{else-number-ne0-via-then-number-ne0+else-eq_ignore_ascii_case, else-number-ne0-via-else-number-ne0}
+
+pub returns-then-is_empty : goal.returns-then-is_empty
+returns-then-is_empty c =
+    let none : length c.args.word.now ≡ 0 = eqb-true (length c.args.word.now) 0 (sym c.is_empty.ensures ∙ c.if-is_empty.true) in
+    ap is_reserved (nil_from_length c.args.word.now none) ∙ sym empty_is_not
+
+pub number_at-number-requires : goal.number_at-number-requires
+number_at-number-requires c = omega (arith, place_small c.args.word.now, c.place_of.ensures)
+
+pub reserved_word-requires : goal.reserved_word-requires
+reserved_word-requires c =
+    let place : c.place_of.result < 1024 = omega (arith, place_small c.args.word.now, c.place_of.ensures) in
+    omega (arith, number_within c.place_of.result place, c.number_at-number.ensures, c.if-number-ne0.true)
+
+pub returns-then-eq_ignore_ascii_case : goal.returns-then-eq_ignore_ascii_case
+returns-then-eq_ignore_ascii_case c =
+    let place : c.place_of.result < 1024 = omega (arith, place_small c.args.word.now, c.place_of.ensures) in
+    let same : lower_case c.args.word.now ≡ lower_case c.reserved_word.result.now = c.eq_ignore_ascii_case.ensures.test.0 c.if-eq_ignore_ascii_case.true in
+    number_is c.args.word.now c.number_at-number.result c.if-number-ne0.true (omega (arith, number_within c.place_of.result place, c.number_at-number.ensures)) (same ∙ ap lower_case c.reserved_word.ensures)
+
+pub returns-else-number-ne0 : goal.returns-else-number-ne0
+returns-else-number-ne0 c =
+    let at_place : slice_index NUMBERS (place_of c.args.word.now) ≡ c.number_at-number.result = ap (slice_index NUMBERS) (sym c.place_of.ensures) ∙ sym c.number_at-number.ensures in
+    elim c.else-number-ne0.branch [
+      | else-number-ne0-via-then-number-ne0+else-eq_ignore_ascii_case w ↦
+          let some : c.number_at-number.result ≡ (c.number_at-number.result - 1) + 1 = omega (arith, w.if-number-ne0.true) in
+          let place : c.place_of.result < 1024 = omega (arith, place_small c.args.word.now, c.place_of.ensures) in
+          let test = subst (λ (word : List ℕ). (IsTrue w.eq_ignore_ascii_case.result ↔ (lower_case c.args.word.now ≡ lower_case word))) w.reserved_word.ensures w.eq_ignore_ascii_case.ensures.test in
+          sym (decides c.args.word.now (c.number_at-number.result - 1) w.eq_ignore_ascii_case.result (λ i. omega (arith, c.type_inv.word i)) (omega (arith, number_within c.place_of.result place, c.number_at-number.ensures, w.if-number-ne0.true)) (at_place ∙ some) test) ∙ w.if-eq_ignore_ascii_case.false
+      | else-number-ne0-via-else-number-ne0 w ↦
+          sym (none_there c.args.word.now (λ i. omega (arith, c.type_inv.word i)) (at_place ∙ w.if-number-ne0.false))
+    ]

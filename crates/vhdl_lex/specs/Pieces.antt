@@ -1,0 +1,42 @@
+-- What stands at a place of a text.
+use Rattle.std.specs.Prelude.{◌≡◌, ℕ, ◌<◌, ◌≤◌, List, [], length, Option, Some, None}
+use Rattle.vr_base.specs.declared.lexical.Token.{Token}
+use Rattle.vr_base.specs.declared.lexical.TokenKind.TheVariants.{Str, Extended}
+use Rattle.vr_base.specs.declared.lexical.LexFault.TheVariants.{NoMemory, UnclosedString, UnclosedExtended, UnclosedComment}
+use Rattle.scan_spec.specs.Tokens.{Row, line_comment, block_comment, token, Piece, row_at, HasForm, IsLongest, Leads, tokens_of, comments_of}
+use Rattle.vhdl_lex.specs.declared.piece.Found.{Found}
+use Rattle.vhdl_lex.specs.declared.piece.Found.TheVariants.{Gap, Comment, Lexeme, Unclosed}
+
+-- the token before a place lies in the text
+abbrev pub LiesIn : List ℕ → Option Token → Type 0
+LiesIn text None = Unit {0}
+LiesIn text (Some last) = (last.start < last.end) × (last.end ≤ length text)
+
+-- gaps that are no line comments stand from a place up to another
+pub record Skips (text : List ℕ) (last : Option Token) (at end : ℕ) : Type 0 where
+  pub pieces : List Piece
+  pub leads : Leads text (record { last = last; at = at }) pieces (record { last = last; at = end })
+  pub tokens : tokens_of pieces ≡ []
+  pub comments : comments_of pieces ≡ []
+  pub some : at < end
+  pub within : end ≤ length text
+
+-- the row fits first, and its longest piece ends here
+pub record Ends (row : Row) (text : List ℕ) (last : Option Token) (at end : ℕ) : Type 0 where
+  pub first : row_at text last at ≡ row
+  pub longest : IsLongest row text at end
+
+-- the row fits first, and no piece has its form
+pub record HasNoEnd (row : Row) (text : List ℕ) (last : Option Token) (at : ℕ) : Type 0 where
+  pub first : row_at text last at ≡ row
+  pub no_end : (end : ℕ) → end ≤ length text → HasForm row text at end → ⊥
+
+-- what was found stands at the place
+abbrev pub IsFound : List ℕ → Option Token → ℕ → Found → Type 0
+IsFound text last at (Gap end) = Skips text last at end
+IsFound text last at (Comment end) = Ends line_comment text last at end
+IsFound text last at (Lexeme kind end) = Ends (token kind) text last at end
+IsFound text last at (Unclosed NoMemory) = ⊥
+IsFound text last at (Unclosed (UnclosedString place)) = (place ≡ at) × HasNoEnd (token Str) text last at
+IsFound text last at (Unclosed (UnclosedExtended place)) = (place ≡ at) × HasNoEnd (token Extended) text last at
+IsFound text last at (Unclosed (UnclosedComment place)) = (place ≡ at) × HasNoEnd block_comment text last at

@@ -1,0 +1,84 @@
+//! Where pieces of a text end: one function a form, each with one loop.
+
+ghost use Rattle.std.specs.Prelude.{◌≡◌, ◌+◌, ◌<◌, ◌≤◌, false, not, length};
+ghost use Rattle.scan_spec.specs.Tokens.{is_line_end, is_word_byte, is_number_byte};
+ghost use Rattle.vhdl_lex.specs.Ends.{IsRunEnd, IsCommentEnd, IsMarkedEnd};
+
+use crate::class::{is_line_end, is_number_byte, is_word_byte};
+
+/// The end of the bytes of a word.
+#[inline(always)]
+pub fn word_end(text: &[u8], from: usize) -> usize
+    requires { from ≤ length text.now }
+    ensures { IsRunEnd is_word_byte text.now from result }
+{
+    let mut end = from;
+    while end < text.len() && is_word_byte(text[end]) {
+        end += 1;
+    }
+    end
+}
+
+/// The end of the bytes of a number.
+#[inline(always)]
+pub fn number_end(text: &[u8], from: usize) -> usize
+    requires { from ≤ length text.now }
+    ensures { IsRunEnd is_number_byte text.now from result }
+{
+    let mut end = from;
+    while end < text.len() && is_number_byte(text[end]) {
+        end += 1;
+    }
+    end
+}
+
+/// The end of the line.
+#[inline(always)]
+pub fn line_end(text: &[u8], from: usize) -> usize
+    requires { from ≤ length text.now }
+    ensures { IsRunEnd (λ byte. not (is_line_end byte)) text.now from result }
+{
+    let mut end = from;
+    while end < text.len() && !is_line_end(text[end]) {
+        end += 1;
+    }
+    end
+}
+
+/// The end of the block comment that opens at `at`.
+pub fn comment_end(text: &[u8], at: usize) -> Option<usize>
+    requires { at + 2 ≤ length text.now }
+    ensures { IsCommentEnd text.now at result }
+{
+    let mut close = at + 2;
+    while close + 1 < text.len() {
+        if text[close] == b'*' && text[close + 1] == b'/' {
+            return Some(close + 2);
+        }
+        close += 1;
+    }
+    None
+}
+
+/// The furthest end of the string or extended identifier that opens at `at` with the mark.
+#[inline(always)]
+pub fn marked_end(text: &[u8], at: usize, mark: u8) -> Option<usize>
+    requires within { at < length text.now }
+    requires some { 0 < mark }
+    requires in_line { is_line_end mark ≡ false }
+    ensures { IsMarkedEnd mark text.now at result }
+{
+    let mut end = None;
+    let mut close = at + 1;
+    while close < text.len() && !is_line_end(text[close]) {
+        if text[close] == mark {
+            if close + 1 == text.len() || text[close + 1] != mark {
+                return Some(close + 1);
+            }
+            end = Some(close + 1);
+            close += 1;
+        }
+        close += 1;
+    }
+    end
+}

@@ -1,0 +1,14 @@
+//! The tokens of a VHDL text.
+#![tactic(auto)]
+
+mod class;
+mod ends;
+mod piece;
+mod reserved;
+mod scan;
+
+pub use reserved::{is_reserved, reserved_number};
+pub use scan::scan_tokens;
+
+#[cfg(test)]
+mod tests;

@@ -1,0 +1,151 @@
+//! The piece that stands at a place of a text: a gap, a line comment or a token, or what has no end.
+
+ghost use Rattle.std.specs.Prelude.{◌≡◌, ◌≢◌, ◌<◌, ◌≤◌, ◌^◌, length, slice_index, Option};
+ghost use Rattle.vr_base.specs.declared.lexical.Token.{Token};
+ghost use Rattle.scan_spec.specs.Tokens.{stands_tick};
+ghost use Rattle.vhdl_lex.specs.Pieces.{IsFound, LiesIn};
+
+use crate::ends::{comment_end, line_end, marked_end, number_end, word_end};
+use crate::reserved::is_reserved;
+use vr_base::{LexFault, Token, TokenKind};
+
+/// What stands at a place. Each but the last ends before a byte.
+pub enum Found {
+    Gap(usize),
+    /// A line comment.
+    Comment(usize),
+    Lexeme(TokenKind, usize),
+    Unclosed(LexFault),
+}
+
+/// Whether an apostrophe behind this token is a tick.
+#[inline(never)]
+fn stands_tick(text: &[u8], last: Option<Token>) -> bool
+    requires { LiesIn text.now last }
+    ensures { result ≡ stands_tick text.now last }
+{
+    let Some(token) = last else { return false };
+    match token.kind {
+        TokenKind::Word => {
+            let word = &text[token.start as usize..token.end as usize];
+            !is_reserved(word) || word.eq_ignore_ascii_case(b"all")
+        }
+        TokenKind::Symbol => {
+            let byte = text[token.start as usize];
+            byte == b')' || byte == b']'
+        }
+        TokenKind::Extended | TokenKind::Str | TokenKind::Char => true,
+        TokenKind::Number | TokenKind::Tick | TokenKind::High => false,
+    }
+}
+
+/// At a dash: a line comment or a delimiter.
+#[inline(always)]
+fn dash_at(text: &[u8], at: usize) -> Found
+    requires dash { slice_index text.now at ≡ 45 }
+    requires within { at < length text.now }
+    ensures { (last : Option Token) → IsFound text.now last at result }
+{
+    if at + 1 < text.len() && text[at + 1] == b'-' {
+        Found::Comment(line_end(text, at + 1))
+    } else {
+        Found::Lexeme(TokenKind::Symbol, at + 1)
+    }
+}
+
+/// At a slash: a block comment or a delimiter.
+#[inline(always)]
+fn slash_at(text: &[u8], at: usize) -> Found
+    requires slash { slice_index text.now at ≡ 47 }
+    requires within { at < length text.now }
+    requires small { length text.now < 2 ^ 32 }
+    ensures { (last : Option Token) → IsFound text.now last at result }
+{
+    if at + 1 < text.len() && text[at + 1] == b'*' {
+        match comment_end(text, at) {
+            Some(end) => Found::Gap(end),
+            None => Found::Unclosed(LexFault::UnclosedComment { at: at as u32 }),
+        }
+    } else {
+        Found::Lexeme(TokenKind::Symbol, at + 1)
+    }
+}
+
+/// At a quotation mark: a string.
+#[inline(always)]
+fn quote_at(text: &[u8], at: usize) -> Found
+    requires quote { slice_index text.now at ≡ 34 }
+    requires within { at < length text.now }
+    requires small { length text.now < 2 ^ 32 }
+    ensures { (last : Option Token) → IsFound text.now last at result }
+{
+    match marked_end(text, at, b'"') {
+        Some(end) => Found::Lexeme(TokenKind::Str, end),
+        None => Found::Unclosed(LexFault::UnclosedString { at: at as u32 }),
+    }
+}
+
+/// At a backslash: an extended identifier.
+#[inline(always)]
+fn backslash_at(text: &[u8], at: usize) -> Found
+    requires backslash { slice_index text.now at ≡ 92 }
+    requires within { at < length text.now }
+    requires small { length text.now < 2 ^ 32 }
+    ensures { (last : Option Token) → IsFound text.now last at result }
+{
+    match marked_end(text, at, b'\\') {
+        Some(end) => Found::Lexeme(TokenKind::Extended, end),
+        None => Found::Unclosed(LexFault::UnclosedExtended { at: at as u32 }),
+    }
+}
+
+/// At an apostrophe: a character literal or a tick.
+#[inline(always)]
+fn apostrophe_at(text: &[u8], last: Option<Token>, at: usize) -> Found
+    requires apostrophe { slice_index text.now at ≡ 39 }
+    requires within { at < length text.now }
+    requires last { LiesIn text.now last }
+    ensures { IsFound text.now last at result }
+{
+    if at + 2 < text.len() && text[at + 2] == b'\'' && !stands_tick(text, last) {
+        Found::Lexeme(TokenKind::Char, at + 3)
+    } else {
+        Found::Lexeme(TokenKind::Tick, at + 1)
+    }
+}
+
+/// At a byte over 127: the mark of byte order at the start of the text, or a byte that is no part of VHDL.
+fn high_at(text: &[u8], at: usize) -> Found
+    requires high { 128 ≤ slice_index text.now at }
+    requires within { at < length text.now }
+    ensures { (last : Option Token) → IsFound text.now last at result }
+{
+    if at == 0 && text.len() >= 3 && text[0] == 0xEF && text[1] == 0xBB && text[2] == 0xBF {
+        Found::Gap(3)
+    } else {
+        Found::Lexeme(TokenKind::High, at + 1)
+    }
+}
+
+/// The piece at `at`, behind the token `last`.
+#[inline(always)]
+pub fn piece_at(text: &[u8], last: Option<Token>, at: usize) -> Found
+    requires within { at < length text.now }
+    requires small { length text.now < 2 ^ 32 }
+    requires last { LiesIn text.now last }
+    ensures { IsFound text.now last at result }
+{
+    match text[at] {
+        b'a'..=b'z' | b'A'..=b'Z' => Found::Lexeme(TokenKind::Word, word_end(text, at + 1)),
+        9..=13 | b' ' => Found::Gap(at + 1),
+        b'0'..=b'9' => Found::Lexeme(TokenKind::Number, number_end(text, at + 1)),
+        b'\'' => apostrophe_at(text, last, at),
+        b'-' => dash_at(text, at),
+        b'/' => slash_at(text, at),
+        b'"' => quote_at(text, at),
+        b'\\' => backslash_at(text, at),
+        b'`' => Found::Gap(line_end(text, at + 1)),
+        128..=255 => high_at(text, at),
+        _ => Found::Lexeme(TokenKind::Symbol, at + 1),
+    }
+}

@@ -1,0 +1,6 @@
+pub mod Counting
+pub mod Walks
+pub mod WordRoles
+pub mod Reaching
+pub mod Adding
+pub mod Exact

@@ -1,0 +1,76 @@
+-- Small walks over roles.
+use Rattle.std.proofs.Common.{◌≡◌, ◌≢◌, ℕ, ◌+◌, ◌*◌, ◌<◌, Bool, true, false, not, IsTrue, ◌↔◌, List, length, Option, Some, None, refl, sym, ◌∙◌, ap, subst, ⊎_elim, arith, add-one}
+use Rattle.std.proofs.str.Laws.{order}
+use Rattle.vr_base.specs.declared.design.Role.{Role}
+use Rattle.vr_base.specs.declared.design.Role.TheVariants.{Is, Dot, New, Name}
+use Rattle.vr_base.specs.declared.design.UnitKind.{UnitKind}
+use Rattle.vr_base.specs.declared.design.Beginning.TheVariants as begins
+use Rattle.scan_spec.specs.Units.{role_at, begins_generate, next_begins, IsOwner, HasBody, IsFirstSemicolon, IsEndPart, beginning_at, Begins, BeginsAs, Element, item, plain, owned, IsElement}
+use Rattle.scan_spec.proofs.Files.{in_file}
+use Rattle.scan_spec.proofs.Grammar.{one_close, one_owner}
+use Rattle.vhdl_units.specs.Parts.{IsNextMark, KnowsMark, IsUnitClose, IsSemicolonFrom, IsEndFrom}
+
+pub begins_more : (roles : List Role) (at : ℕ) → begins_generate roles (at + 1) ≡ next_begins (begins_generate roles at) (role_at roles at)
+begins_more roles at = ap (begins_generate roles) (add-one at)
+
+-- the names of an owner and the dots between them, as far as the walk has come
+pub record OwnerSoFar (roles : List Role) (start before at : ℕ) : Type 0 where
+  pub place : at ≡ start + 2 * before
+  pub names : (n : ℕ) → n < before → role_at roles (start + 2 * n) ≡ Name
+  pub dots : (n : ℕ) → n < before → role_at roles (start + 2 * n + 1) ≡ Dot
+
+-- the body's `is` is the next mark
+pub body_at_mark : (roles : List Role) (start at mark : ℕ) → IsNextMark roles start (at + 1) mark → (body : HasBody roles start at) → body.is_at ≡ mark
+body_at_mark roles start at mark next body =
+    ⊎_elim
+    (λ earlier. let none = next.none body.is_at (omega (arith, body.later)) earlier body.is_level in absurd (none.0 body.is_there))
+    (λ h. ⊎_elim
+    (λ later.
+    let is_in : body.is_at < length roles = in_file roles body.is_at (λ other. let is : role_at roles body.is_at ≡ Is = body.is_there in cc) in
+    let there = next.there (omega arith) in
+    let first = body.first mark (omega (arith, next.behind)) later there.0 in
+    absurd (⊎_elim first.0 first.1 there.1))
+    (λ same. omega arith)
+    (order mark body.is_at))
+    (order body.is_at mark)
+
+-- where the next mark is an `is`, whether there is a body hangs on what stands behind it
+pub body_here : (roles : List Role) (start at mark : ℕ) → IsNextMark roles start (at + 1) mark → role_at roles mark ≡ Is → role_at roles (mark + 1) ≢ New → HasBody roles start at
+body_here roles start at mark next is no_new =
+    let is_in : mark < length roles = in_file roles mark (λ other. cc) in
+    record { is_at = mark; later = omega (arith, next.behind); is_there = is; is_level = (next.there is_in).0; first = λ between behind before level. next.none between (omega arith) before level; no_new = no_new }
+
+pub body_without_new : (roles : List Role) (start at mark : ℕ) → IsNextMark roles start (at + 1) mark → HasBody roles start at → role_at roles (mark + 1) ≢ New
+body_without_new roles start at mark next body is = body.no_new (ap (λ (n : ℕ). role_at roles (n + 1)) (body_at_mark roles start at mark next body) ∙ is)
+
+pub no_test : (test : Bool) (P : Type 0) → (IsTrue test ↔ P) → IsTrue (not test) → P → ⊥
+no_test true P means fails p = cc
+no_test false P means fails p = let passes : false ≡ true = means.1 p in cc
+
+pub test_fails : (test : Bool) (P : Type 0) → (IsTrue test ↔ P) → (P → ⊥) → IsTrue (not test)
+test_fails true P means none = absurd (none (means.0 refl))
+test_fails false P means none = refl
+
+-- the known mark, one place on
+pub knows_next : (roles : List Role) (start at mark : ℕ) → KnowsMark roles start at mark → KnowsMark roles start (at + 1) mark
+knows_next roles start at mark knows later =
+    let next = knows (omega arith) in
+    record { behind = omega arith; within = next.within; none = λ between behind before level. next.none between (omega arith) before level; there = next.there }
+
+-- the end of a unit, by its close and the semicolon behind it
+pub end_from : (roles : List Role) (start close : ℕ) (last : Option ℕ) → IsUnitClose roles start close → IsSemicolonFrom roles (close + 1) last → IsEndFrom roles start last
+end_from roles start close None is none = λ last part.
+    let same : part.close ≡ close = one_close part.inside part.ends is.inside is.ends in
+    none last (subst (λ (n : ℕ). IsFirstSemicolon roles (n + 1) last) same part.semicolon)
+end_from roles start close (Some last) is semicolon = record { close = close; inside = is.inside; ends = is.ends; semicolon = semicolon }
+
+no_owned_element : (roles : List Role) (at : ℕ) (kind : UnitKind) (before : ℕ) → beginning_at roles at ≡ begins.Owned kind → IsOwner roles (at + 3) before → IsEndFrom roles (at + 5 + 2 * before) None → (element : Element) → IsElement roles at element → ⊥
+no_owned_element roles at kind before is owner none (item last) stands = let other = sym is ∙ stands.0 in cc
+no_owned_element roles at kind before is owner none (plain kind' last) stands = let other = sym is ∙ stands.0 in cc
+no_owned_element roles at kind before is owner none (owned kind' before' last) stands =
+    let same : before' ≡ before = one_owner roles (at + 3) before' before stands.1 owner in
+    none last (subst (λ (n : ℕ). IsEndPart roles (at + 5 + 2 * n) last) same stands.2)
+
+-- a unit with an owner and no end
+pub owned_unended : (roles : List Role) (at : ℕ) (kind : UnitKind) (before : ℕ) → beginning_at roles at ≡ begins.Owned kind → IsOwner roles (at + 3) before → IsEndFrom roles (at + 5 + 2 * before) None → Begins roles at × ((element : Element) → IsElement roles at element → ⊥)
+owned_unended roles at kind before is owner none = (subst (BeginsAs roles at) (sym is) (before, owner), no_owned_element roles at kind before is owner none)

@@ -1,0 +1,4 @@
+pub mod Lies
+pub mod Parts
+pub mod Walk
+pub mod Standing

@@ -1,0 +1,154 @@
+//! What a token within a unit does.
+
+ghost use Rattle.std.specs.Prelude.{◌≡◌, ◌≤◌, ◌<◌, ◌+◌, ◌↔◌, IsTrue, length, true};
+ghost use Rattle.scan_spec.specs.Units.{IsNotBehind, MayOpen, BeginsPackage, HasBody, IsPackageOpener, IsSubprogramOpener, IsGenerateOpener, Closes, IsLevel, begins_generate, ends_inner, role_at};
+ghost use Rattle.vhdl_units.specs.Walk.{AreCounts};
+ghost use Rattle.vhdl_units.specs.Parts.{IsClass, IsNextMark, IsSubprogramWord};
+
+use crate::ends::role_at;
+use crate::level::Counts;
+use vr_base::Role;
+
+/// The class of a token within a unit.
+#[derive(Clone, Copy)]
+pub enum Class {
+    /// It opens nothing and ends no region.
+    Single,
+    /// It opens the items of a package or of a subprogram.
+    Items,
+    /// It opens the region of a generate statement.
+    Region,
+    /// It ends the innermost region.
+    Close,
+}
+
+/// Whether a token is of this role.
+#[inline(always)]
+fn is_role(roles: &[Role], at: usize, role: Role) -> bool
+    ensures { IsTrue result ↔ (role_at roles.now at ≡ role) }
+{
+    role_at(roles, at) == role
+}
+
+/// Whether the token before isn't of this role.
+#[inline(always)]
+fn is_not_behind(role: Role, roles: &[Role], at: usize) -> bool
+    requires { at ≤ length roles.now }
+    ensures { IsTrue result ↔ IsNotBehind role roles.now at }
+{
+    at == 0 || roles[at - 1] != role
+}
+
+/// Whether an item can begin here.
+fn may_open(roles: &[Role], start: usize, at: usize, counts: Counts) -> bool
+    requires within { at ≤ length roles.now }
+    requires counts { AreCounts roles.now start at counts }
+    ensures { IsTrue result ↔ MayOpen roles.now start at }
+{
+    counts.opened == counts.closed
+        && is_not_behind(Role::End, roles, at)
+        && is_not_behind(Role::Colon, roles, at)
+}
+
+/// Whether a package that isn't an instance begins behind its word.
+fn begins_package(roles: &[Role], at: usize) -> bool
+    requires { at < length roles.now }
+    ensures { IsTrue result ↔ BeginsPackage roles.now at }
+{
+    let next = role_at(roles, at + 1);
+    next == Role::Body
+        || next == Role::Name
+            && role_at(roles, at + 2) == Role::Is
+            && role_at(roles, at + 3) != Role::New
+}
+
+/// Whether a token opens the items of a package.
+fn opens_package(roles: &[Role], start: usize, at: usize, counts: Counts) -> bool
+    requires within { at < length roles.now }
+    requires counts { AreCounts roles.now start at counts }
+    requires word { role_at roles.now at ≡ Role.Package }
+    ensures { IsTrue result ↔ IsPackageOpener roles.now start at }
+{
+    may_open(roles, start, at, counts) && begins_package(roles, at)
+}
+
+/// Whether a subprogram's word begins a body; `mark` is the first `is` or `;` at level behind it.
+fn has_body(roles: &[Role], start: usize, at: usize, mark: usize) -> bool
+    requires within { at < length roles.now }
+    requires mark { IsNextMark roles.now start (at + 1) mark }
+    ensures { IsTrue result ↔ HasBody roles.now start at }
+{
+    is_role(roles, mark, Role::Is) && !is_role(roles, mark + 1, Role::New)
+}
+
+/// Whether a token opens the items of a subprogram; `mark` is the first `is` or `;` at level behind it.
+fn opens_subprogram(roles: &[Role], start: usize, at: usize, counts: Counts, mark: usize) -> bool
+    requires within { at < length roles.now }
+    requires counts { AreCounts roles.now start at counts }
+    requires mark { IsNextMark roles.now start (at + 1) mark }
+    requires word { IsSubprogramWord (role_at roles.now at) }
+    ensures { IsTrue result ↔ IsSubprogramOpener roles.now start at }
+{
+    may_open(roles, start, at, counts) && has_body(roles, start, at, mark)
+}
+
+/// Whether a `generate` opens a region.
+fn opens_region(roles: &[Role], at: usize, begins: bool) -> bool
+    requires within { at < length roles.now }
+    requires begins { begins ≡ begins_generate roles.now at }
+    requires word { role_at roles.now at ≡ Role.Generate }
+    ensures { IsTrue result ↔ IsGenerateOpener roles.now at }
+{
+    begins && is_not_behind(Role::End, roles, at)
+}
+
+/// Whether the role behind an `end` says that something within a unit ends.
+fn ends_inner(role: Role) -> bool
+    ensures { result ≡ ends_inner role }
+{
+    match role {
+        Role::If | Role::Case | Role::For | Role::Inner | Role::Generate => true,
+        _ => false,
+    }
+}
+
+/// Whether an `end` ends the region.
+fn closes(roles: &[Role], inside: bool, at: usize) -> bool
+    requires within { at < length roles.now }
+    requires word { role_at roles.now at ≡ Role.End }
+    ensures { IsTrue result ↔ Closes roles.now inside at }
+{
+    let next = role_at(roles, at + 1);
+    if inside {
+        next == Role::Generate
+    } else {
+        !ends_inner(next)
+    }
+}
+
+/// The class of the token at `at`, within a unit whose items begin at `start`.
+#[inline(always)]
+pub fn class_at(
+    roles: &[Role],
+    start: usize,
+    at: usize,
+    inside: bool,
+    counts: Counts,
+    begins: bool,
+    mark: usize,
+) -> Class
+    requires within { at < length roles.now }
+    requires counts { AreCounts roles.now start at counts }
+    requires begins { begins ≡ begins_generate roles.now at }
+    requires mark { IsSubprogramWord (role_at roles.now at) → IsNextMark roles.now start (at + 1) mark }
+    ensures { IsClass roles.now start inside at result }
+{
+    match roles[at] {
+        Role::Package if opens_package(roles, start, at, counts) => Class::Items,
+        Role::Function | Role::Procedure if opens_subprogram(roles, start, at, counts, mark) =>
+            Class::Items,
+        Role::Generate if opens_region(roles, at, begins) => Class::Region,
+        Role::End if closes(roles, inside, at) => Class::Close,
+        _ => Class::Single,
+    }
+}

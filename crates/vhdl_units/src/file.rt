@@ -1,0 +1,103 @@
+//! The design units of a whole file.
+
+ghost use Rattle.std.specs.Prelude.{◌≡◌, ◌<◌, ◌≤◌, ◌++◌, List, length, IfOk};
+ghost use Rattle.vr_base.specs.declared.lexical.Token.{Token};
+ghost use Rattle.vr_base.specs.declared.design.UnitFault.{UnitFault};
+ghost use Rattle.scan_spec.specs.Units.{AreTokensOf, Element, HasUnitFault, IsOutline, Outlines, roles_of, units_of};
+ghost use Rattle.vhdl_units.specs.Lies.{AllLieIn};
+ghost use Rattle.vhdl_units.specs.Standing.{IsStanding, IsAdded, GivesUnits, GivesUnitFault};
+
+use crate::ends::begins_at;
+use crate::roles::roles_of;
+use crate::stands::{Standing, stands_at};
+use crate::texts::{owned_unit, plain_unit};
+use std::alloc::Global;
+use vr_base::{Items, Token, Tokens, Unit, UnitFault, UnitList};
+
+/// Where an element ends, and where the context items of the next unit begin.
+#[derive(Clone, Copy)]
+pub struct Next {
+    pub last: usize,
+    pub lead: usize,
+}
+
+/// The design units of a text of at most 4,194,304 bytes by its tokens, or the first fault of the unit grammar, in
+/// time in proportion to the number of tokens (IEEE Std 1076-2008, clause 13.1).
+pub fn outline(alloc: Global, text: &[u8], tokens: &Tokens) -> Result<UnitList, UnitFault>
+    requires tokens { AreTokensOf text.now tokens.now }
+    requires small { length text.now ≤ 4194304 }
+    // Units are those of the file, and a fault is one that it has.
+    ensures right { Outlines text.now tokens.now.list result }
+    // Where there is an outline its units are given, unless memory runs out.
+    ensures outline { (elements : List Element) → IsOutline (roles_of text.now tokens.now.list) elements →
+        GivesUnits (units_of text.now tokens.now.list elements) result }
+    // Where there is a fault it is given, unless memory runs out.
+    ensures fault { (fault : UnitFault) → HasUnitFault text.now tokens.now.list fault → GivesUnitFault fault result }
+{
+    read(alloc, text, tokens.list.as_slice())
+}
+
+/// Adds the unit that stands at a token, if one does.
+fn add_unit(
+    alloc: Global,
+    text: &[u8],
+    tokens: &[Token],
+    units: &mut Vec<Unit>,
+    lead: usize,
+    at: usize,
+    standing: Standing,
+) -> Result<Next, UnitFault>
+    requires lie { AllLieIn text.now tokens.now }
+    requires small { length tokens.now ≤ 4194304 }
+    requires within { at < length tokens.now }
+    requires lead { lead ≤ at }
+    requires standing { IsStanding (roles_of text.now tokens.now) at standing }
+    ensures { IsAdded text.now tokens.now lead at units.old.items units.new.items result }
+{
+    match standing {
+        Standing::Item(last) => Ok(Next { last, lead }),
+        Standing::Plain(kind, last) => {
+            let unit = plain_unit(alloc, text, tokens, lead, at, kind, last)?;
+            units.push(unit)?;
+            Ok(Next {
+                last,
+                lead: last + 1,
+            })
+        }
+        Standing::Owned(kind, before, last) => {
+            let unit = owned_unit(alloc, text, tokens, lead, at, kind, before, last)?;
+            units.push(unit)?;
+            Ok(Next {
+                last,
+                lead: last + 1,
+            })
+        }
+        Standing::NoUnit => Err(UnitFault::NotUnit {
+            at: tokens[at].start,
+        }),
+        Standing::Unended => Err(UnitFault::NotEnded {
+            at: tokens[at].start,
+        }),
+    }
+}
+
+fn read(alloc: Global, text: &[u8], tokens: &[Token]) -> Result<UnitList, UnitFault>
+    requires lie { AllLieIn text.now tokens.now }
+    requires small { length tokens.now ≤ 4194304 }
+    ensures { Outlines text.now tokens.now result }
+{
+    let known = roles_of(alloc, text, tokens)?;
+    let roles = known.as_slice();
+    let mut units = Vec::new(alloc);
+    let mut begins = false;
+    let mut lead = 0;
+    let mut at = 0;
+    while at < roles.len() {
+        let standing = stands_at(alloc, roles, at, begins)?;
+        let next = add_unit(alloc, text, tokens, &mut units, lead, at, standing)?;
+        begins = begins_at(roles, at, next.last + 1, begins);
+        lead = next.lead;
+        at = next.last + 1;
+    }
+    Ok(Items::from_vec(units))
+}

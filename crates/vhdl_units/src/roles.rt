@@ -1,0 +1,180 @@
+//! What each token is to the grammar of design units.
+
+ghost use Rattle.std.specs.Prelude.{◌≡◌, ◌≤◌, IfOk, List, length, slice_range};
+ghost use Rattle.vr_base.specs.declared.lexical.Token.{Token};
+ghost use Rattle.scan_spec.specs.Words.{lower_case};
+ghost use Rattle.scan_spec.specs.Units.{word_role, symbol_role, role_of, roles_of};
+ghost use Rattle.vhdl_units.specs.Lies.{LiesIn, AllLieIn};
+
+use std::alloc::Global;
+use vhdl_lex::reserved_number;
+use vr_base::{NoMemory, Role, Token, TokenKind};
+
+/// The roles of the reserved words, in the order of the alphabet.
+static ROLES: [Role; 115] = [
+    Role::Other,
+    Role::Other,
+    Role::Other,
+    Role::Other,
+    Role::Other,
+    Role::Other,
+    Role::Architecture,
+    Role::Other,
+    Role::Other,
+    Role::Other,
+    Role::Other,
+    Role::Other,
+    Role::Other,
+    Role::Inner,
+    Role::Body,
+    Role::Other,
+    Role::Other,
+    Role::Case,
+    Role::Inner,
+    Role::Configuration,
+    Role::Other,
+    Role::Context,
+    Role::Other,
+    Role::Other,
+    Role::Other,
+    Role::Other,
+    Role::Else,
+    Role::Elsif,
+    Role::End,
+    Role::Entity,
+    Role::Other,
+    Role::Other,
+    Role::Other,
+    Role::For,
+    Role::Other,
+    Role::Function,
+    Role::Generate,
+    Role::Other,
+    Role::Other,
+    Role::Other,
+    Role::If,
+    Role::Other,
+    Role::Other,
+    Role::Other,
+    Role::Other,
+    Role::Is,
+    Role::Other,
+    Role::Library,
+    Role::Other,
+    Role::Other,
+    Role::Inner,
+    Role::Other,
+    Role::Other,
+    Role::Other,
+    Role::New,
+    Role::Other,
+    Role::Other,
+    Role::Other,
+    Role::Other,
+    Role::Of,
+    Role::Other,
+    Role::Other,
+    Role::Other,
+    Role::Other,
+    Role::Other,
+    Role::Package,
+    Role::Other,
+    Role::Other,
+    Role::Inner,
+    Role::Procedure,
+    Role::Inner,
+    Role::Other,
+    Role::Inner,
+    Role::Other,
+    Role::Other,
+    Role::Inner,
+    Role::Other,
+    Role::Other,
+    Role::Other,
+    Role::Other,
+    Role::Other,
+    Role::Other,
+    Role::Other,
+    Role::Other,
+    Role::Other,
+    Role::Other,
+    Role::Other,
+    Role::Other,
+    Role::Other,
+    Role::Other,
+    Role::Other,
+    Role::Other,
+    Role::Other,
+    Role::Other,
+    Role::Other,
+    Role::Other,
+    Role::Other,
+    Role::Other,
+    Role::Other,
+    Role::Other,
+    Role::Other,
+    Role::Other,
+    Role::Inner,
+    Role::Other,
+    Role::Use,
+    Role::Other,
+    Role::Other,
+    Role::Other,
+    Role::Other,
+    Role::Other,
+    Role::Other,
+    Role::Other,
+    Role::Other,
+    Role::Other,
+    Role::Other,
+];
+
+/// The role of a word, in letters of any case.
+fn word_role(word: &[u8]) -> Role
+    ensures { result ≡ word_role (lower_case word.now) }
+{
+    match reserved_number(word) {
+        0 => Role::Name,
+        number => ROLES[number - 1],
+    }
+}
+
+/// The role of a delimiter.
+fn symbol_role(byte: u8) -> Role
+    ensures { result ≡ symbol_role byte }
+{
+    match byte {
+        b'(' => Role::Opening,
+        b')' => Role::Closing,
+        b'.' => Role::Dot,
+        b':' => Role::Colon,
+        b';' => Role::Semicolon,
+        _ => Role::Other,
+    }
+}
+
+/// The role of a token of the text.
+fn role_of(text: &[u8], token: Token) -> Role
+    requires { LiesIn text.now token }
+    ensures { result ≡ role_of text.now token }
+{
+    match token.kind {
+        TokenKind::Word => word_role(&text[token.start as usize..token.end as usize]),
+        TokenKind::Extended => Role::Name,
+        TokenKind::Symbol => symbol_role(text[token.start as usize]),
+        TokenKind::Number | TokenKind::Str | TokenKind::Char | TokenKind::Tick | TokenKind::High =>
+            Role::Other,
+    }
+}
+
+/// The roles of tokens of the text, in order.
+pub fn roles_of(alloc: Global, text: &[u8], tokens: &[Token]) -> Result<Vec<Role>, NoMemory>
+    requires { AllLieIn text.now tokens.now }
+    ensures { IfOk result (λ roles. roles.items ≡ roles_of text.now tokens.now) }
+{
+    let mut roles = Vec::with_capacity(alloc, tokens.len())?;
+    for token in tokens {
+        roles.push(role_of(text, *token))?;
+    }
+    Ok(roles)
+}

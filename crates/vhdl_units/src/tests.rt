@@ -1,0 +1,306 @@
+//! Tables of small files, their units written out by hand from the grammar, and large hostile ones.
+
+use crate::outline;
+use std::alloc::Global;
+use std::process::Abort;
+use std::test::Fail;
+use vhdl_lex::scan_tokens;
+use vr_base::{MaybeText, UnitFault, UnitKind, UnitList};
+
+fn word(kind: UnitKind) -> &'static [u8] {
+    match kind {
+        UnitKind::Entity => b"entity ",
+        UnitKind::Architecture => b"architecture ",
+        UnitKind::Configuration => b"configuration ",
+        UnitKind::Package => b"package ",
+        UnitKind::PackageBody => b"body ",
+        UnitKind::PackageInstance => b"instance ",
+        UnitKind::Context => b"context ",
+    }
+}
+
+/// Each unit as its kind, its name, its owner and its three places.
+fn written(alloc: Global, units: &UnitList) -> Result<Vec<u8>, Fail> {
+    let mut out = Vec::new(alloc);
+    for unit in units.as_slice() {
+        out.extend_from_slice(word(unit.kind))?;
+        out.extend_from_slice(unit.name.bytes())?;
+        if let MaybeText::Given(owner) = &unit.owner {
+            out.push(b'/')?;
+            out.extend_from_slice(owner.bytes())?;
+        }
+        let lead = unit.lead;
+        let first = unit.first;
+        let last = unit.last;
+        let places = format!(in alloc; " {lead} {first} {last}|")?;
+        out.extend_from_slice(places.as_bytes())?;
+    }
+    Ok(out)
+}
+
+fn outlined(alloc: Global, text: &[u8]) -> Result<Result<UnitList, UnitFault>, Fail> {
+    if text.len() > 4_194_304 {
+        return Err(Fail::from("a text within the limit"));
+    }
+    let tokens = scan_tokens(alloc, text)?;
+    Ok(outline(alloc, text, &tokens))
+}
+
+fn shown(alloc: Global, text: &[u8]) -> Result<Vec<u8>, Fail> {
+    match outlined(alloc, text)? {
+        Ok(units) => written(alloc, &units),
+        Err(UnitFault::NotUnit { at }) => Ok(format!(in alloc; "no unit@{at}")?.into_bytes()),
+        Err(UnitFault::NotEnded { at }) => Ok(format!(in alloc; "not ended@{at}")?.into_bytes()),
+        Err(UnitFault::NoMemory) => Err(Fail::from("out of memory")),
+    }
+}
+
+fn check(rt: &impl Abort, alloc: Global, table: &[(&[u8], &[u8])]) -> Result<(), Fail> {
+    for (text, want) in table {
+        let found = shown(alloc, text)?;
+        assert!(rt; found.as_slice() == *want, "at {text:?}: {found:?}");
+    }
+    Ok(())
+}
+
+#[test]
+fn files(rt: HostRuntime) -> Result<(), Fail> {
+    check(
+        &rt,
+        rt.alloc(),
+        &[
+            (b"", b""),
+            (
+                b"entity e is end;\narchitecture rtl of e is\n  package n is new work.g generic map (w => 8);\n  package m is\n    constant c : integer := 1;\n  end;\nbegin\n  g1: if true generate\n    signal s : bit;\n  begin\n    s <= '1';\n  end;\n  else generate\n  end generate;\nend;\npackage z is end;\n",
+                b"entity e 0 0 4|architecture rtl/e 5 5 64|package z 65 65 69|",
+            ),
+            (b"entity e is end;", b"entity e 0 0 4|"),
+            (b"ENTITY E IS END;", b"entity e 0 0 4|"),
+            (
+                b"library ieee; use ieee.a.all; entity e is end entity e;",
+                b"entity e 0 10 16|",
+            ),
+            (
+                b"context c is library l; end context c;",
+                b"context c 0 0 9|",
+            ),
+            (b"context a.b; entity e is end;", b"entity e 0 5 9|"),
+            (b"context a.b, c.d;", b""),
+            (b"package body P is end;", b"body p 0 0 5|"),
+            (b"package p is new q;", b"instance p 0 0 5|"),
+            (
+                b"configuration c of e is for a end for; end;",
+                b"configuration c/e 0 0 11|",
+            ),
+            (
+                b"configuration c of l.e is end;",
+                b"configuration c/e 0 0 8|",
+            ),
+            (
+                b"architecture \\A\\ of \\B\\ is begin end;",
+                b"architecture \\A\\/\\B\\ 0 0 7|",
+            ),
+            (b"entity e is end; library l;", b"entity e 0 0 4|"),
+            (
+                b"library a; entity e is end; use b; package p is end;",
+                b"entity e 0 3 7|package p 8 11 15|",
+            ),
+        ],
+    )
+}
+
+#[test]
+fn faults(rt: HostRuntime) -> Result<(), Fail> {
+    check(
+        &rt,
+        rt.alloc(),
+        &[
+            (b"foo", b"no unit@0"),
+            (b"entity e is", b"not ended@0"),
+            (b"entity e;", b"no unit@0"),
+            (b" entity e is end; foo", b"no unit@18"),
+            (b"entity end is end;", b"no unit@0"),
+            (b"; entity", b"no unit@0"),
+            (b"library", b"not ended@0"),
+            (b"library l", b"not ended@0"),
+            (b"use", b"not ended@0"),
+            (b"context", b"not ended@0"),
+            (b"context a", b"not ended@0"),
+            (b"context a is", b"not ended@0"),
+            (b"context a is end", b"not ended@0"),
+            (b"entity", b"no unit@0"),
+            (b"entity e", b"no unit@0"),
+            (b"entity e is end", b"not ended@0"),
+            (b"package", b"no unit@0"),
+            (b"package p", b"no unit@0"),
+            (b"package p is", b"not ended@0"),
+            (b"package p is new", b"not ended@0"),
+            (b"package body", b"no unit@0"),
+            (b"package body p", b"no unit@0"),
+            (b"package body p is", b"not ended@0"),
+            (b"package body p is end", b"not ended@0"),
+            (b"architecture a of", b"no unit@0"),
+            (b"architecture a of b", b"no unit@0"),
+            (b"architecture a of b.", b"no unit@0"),
+            (b"architecture a of b.is is", b"no unit@0"),
+            (b"architecture a of b is", b"not ended@0"),
+            (b"entity e is end; package p is", b"not ended@17"),
+            (b"entity e is ) function f is end; end;", b"no unit@33"),
+            (b"package p is procedure", b"not ended@0"),
+            (b"package p is function f return b is begin", b"not ended@0"),
+            (
+                b"architecture a of e is begin g: if c generate end;",
+                b"not ended@0",
+            ),
+        ],
+    )
+}
+
+#[test]
+fn items(rt: HostRuntime) -> Result<(), Fail> {
+    check(
+        &rt,
+        rt.alloc(),
+        &[
+            (
+                b"package p is function f return b; end;",
+                b"package p 0 0 9|",
+            ),
+            (
+                b"package body p is function f return b is begin return c; end; end;",
+                b"body p 0 0 16|",
+            ),
+            (
+                b"package p is function f is new g; end;",
+                b"package p 0 0 10|",
+            ),
+            (
+                b"package p is procedure q(a : b; c : d); end;",
+                b"package p 0 0 16|",
+            ),
+            (
+                b"package body p is procedure q(a : b; c : d) is begin end; end;",
+                b"body p 0 0 20|",
+            ),
+            (
+                b"package body p is impure function f return b is begin end; end;",
+                b"body p 0 0 14|",
+            ),
+            (
+                b"package body p is function f return b is begin end function f; end package body p;",
+                b"body p 0 0 18|",
+            ),
+            (
+                b"package p is generic (function f return b is g); end;",
+                b"package p 0 0 14|",
+            ),
+            (
+                b"package p is attribute x of f : function is y; end;",
+                b"package p 0 0 13|",
+            ),
+            (
+                b"package p is attribute x of q : package is y; end;",
+                b"package p 0 0 13|",
+            ),
+            (b"package p is package q is end; end;", b"package p 0 0 9|"),
+            (
+                b"package p is package q is new r; end;",
+                b"package p 0 0 10|",
+            ),
+            (
+                b"package p is type t is protected procedure q; end protected; end;",
+                b"package p 0 0 14|",
+            ),
+            (
+                b"package p is type t is record a : b; end record; end;",
+                b"package p 0 0 15|",
+            ),
+            (
+                b"package p is type t is range 0 to 1 units a; end units; end;",
+                b"package p 0 0 17|",
+            ),
+            (b"entity e is ) end;", b"entity e 0 0 5|"),
+        ],
+    )
+}
+
+#[test]
+fn statements(rt: HostRuntime) -> Result<(), Fail> {
+    check(
+        &rt,
+        rt.alloc(),
+        &[
+            (
+                b"architecture a of e is component c end component; begin p: process begin if x then end if; case y is end case; for i in z loop end loop; end process; b: block begin end block; end;",
+                b"architecture a/e 0 0 46|",
+            ),
+            (
+                b"architecture a of e is begin postponed process begin end postponed process; end;",
+                b"architecture a/e 0 0 14|",
+            ),
+            (
+                b"architecture a of e is begin g: for i in r generate h: if c generate end generate; end generate; end;",
+                b"architecture a/e 0 0 25|",
+            ),
+            (
+                b"architecture a of e is begin g: if c generate elsif d generate else generate end generate; end;",
+                b"architecture a/e 0 0 20|",
+            ),
+            (
+                b"architecture a of e is begin g: case c generate when d => end; when f => end generate; end;",
+                b"architecture a/e 0 0 25|",
+            ),
+            (
+                b"architecture a of e is begin end generate; end;",
+                b"architecture a/e 0 0 10|",
+            ),
+        ],
+    )
+}
+
+#[test]
+fn many_quotes(rt: HostRuntime) -> Result<(), Fail> {
+    let mut text = Vec::with_capacity(rt.alloc(), 4_194_304)?;
+    for _ in 0..4_194_304 {
+        text.push(b'"')?;
+    }
+    assert!(rt;
+        matches!(
+            outlined(rt.alloc(), &text)?,
+            Err(UnitFault::NotUnit { at: 0 })
+        )
+    );
+    Ok(())
+}
+
+#[test]
+fn many_regions(rt: HostRuntime) -> Result<(), Fail> {
+    let mut text = Vec::new(rt.alloc());
+    text.extend_from_slice(b"entity e is end; architecture a of e is begin ")?;
+    for _ in 0..100_000 {
+        text.extend_from_slice(b"g: if true generate ")?;
+    }
+    for _ in 0..100_000 {
+        text.extend_from_slice(b"end generate; ")?;
+    }
+    text.extend_from_slice(b"end;")?;
+    let units = outlined(rt.alloc(), &text)?.ok().ok_or("two units")?;
+    assert_eq!(rt; units.len(), 2);
+    Ok(())
+}
+
+#[test]
+fn many_words_of_subprograms(rt: HostRuntime) -> Result<(), Fail> {
+    let mut text = Vec::new(rt.alloc());
+    text.extend_from_slice(b"package p is ")?;
+    for _ in 0..400_000 {
+        text.extend_from_slice(b"function ")?;
+    }
+    assert!(rt;
+        matches!(
+            outlined(rt.alloc(), &text)?,
+            Err(UnitFault::NotEnded { at: 0 })
+        )
+    );
+    Ok(())
+}

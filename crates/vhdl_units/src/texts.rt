@@ -1,0 +1,94 @@
+//! The names of units, and units with them.
+
+ghost use Rattle.std.specs.Prelude.{◌≡◌, ◌+◌, ◌*◌, ◌<◌, ◌≤◌, [], ◌∷◌, length, IfOk};
+ghost use Rattle.vr_base.specs.declared.lexical.Token.{Token};
+ghost use Rattle.scan_spec.specs.Units.{name_of, name_place, unit_of, plain, owned, token_at};
+ghost use Rattle.vhdl_units.specs.Lies.{AllLieIn};
+
+use std::alloc::Global;
+use vr_base::{MaybeText, NoMemory, Text, Token, TokenKind, Unit, UnitKind};
+
+/// The name that a token is: a word in lower case, an extended identifier as written.
+fn name_of(alloc: Global, text: &[u8], tokens: &[Token], at: usize) -> Result<Text, NoMemory>
+    requires lie { AllLieIn text.now tokens.now }
+    requires within { at < length tokens.now }
+    ensures { IfOk result (λ name. name ≡ name_of text.now tokens.now at) }
+{
+    let token = tokens[at];
+    let bytes = &text[token.start as usize..token.end as usize];
+    let mut name = Vec::from_slice(alloc, bytes)?;
+    match token.kind {
+        TokenKind::Extended => {}
+        _ => name.make_ascii_lowercase(),
+    }
+    Ok(Text::from_vec(name))
+}
+
+/// The place of the name of a unit that begins at `at`.
+fn name_place(kind: UnitKind, at: usize) -> usize
+    requires { at < 4194304 }
+    ensures { result ≡ name_place kind at }
+{
+    match kind {
+        UnitKind::PackageBody => at + 2,
+        _ => at + 1,
+    }
+}
+
+/// A unit without an owner, from `at` to `last`.
+pub fn plain_unit(
+    alloc: Global,
+    text: &[u8],
+    tokens: &[Token],
+    lead: usize,
+    at: usize,
+    kind: UnitKind,
+    last: usize,
+) -> Result<Unit, NoMemory>
+    requires lie { AllLieIn text.now tokens.now }
+    requires lead { lead ≤ at }
+    requires named { at + 2 < last }
+    requires within { last < length tokens.now }
+    requires small { length tokens.now ≤ 4194304 }
+    ensures { IfOk result (λ unit. unit_of text.now tokens.now lead at (plain kind last) ≡ unit ∷ []) }
+{
+    let name = name_of(alloc, text, tokens, name_place(kind, at))?;
+    Ok(Unit {
+        kind,
+        name,
+        owner: MaybeText::Nothing,
+        lead: lead as u32,
+        first: at as u32,
+        last: last as u32,
+    })
+}
+
+/// A unit with an owner, from `at` to `last`; `before` names stand before the last of the owner.
+pub fn owned_unit(
+    alloc: Global,
+    text: &[u8],
+    tokens: &[Token],
+    lead: usize,
+    at: usize,
+    kind: UnitKind,
+    before: usize,
+    last: usize,
+) -> Result<Unit, NoMemory>
+    requires lie { AllLieIn text.now tokens.now }
+    requires lead { lead ≤ at }
+    requires named { at + 3 + 2 * before < last }
+    requires within { last < length tokens.now }
+    requires small { length tokens.now ≤ 4194304 }
+    ensures { IfOk result (λ unit. unit_of text.now tokens.now lead at (owned kind before last) ≡ unit ∷ []) }
+{
+    let name = name_of(alloc, text, tokens, name_place(kind, at))?;
+    let owner = name_of(alloc, text, tokens, at + 3 + 2 * before)?;
+    Ok(Unit {
+        kind,
+        name,
+        owner: MaybeText::Given(owner),
+        lead: lead as u32,
+        first: at as u32,
+        last: last as u32,
+    })
+}

@@ -1,0 +1,126 @@
+ghost use Rattle.std.specs.Prelude.{◌≡◌};
+ghost use Rattle.vr_base.specs.declared.design.UnitFault.TheVariants.{NoMemory as OutOfMemory};
+
+use crate::{Items, MaybeText, NoMemory, Text, Tokens};
+use std::alloc::{AllocError, AllocFailed};
+use thiserror::Error;
+
+/// The kinds of design units (IEEE Std 1076-2008, clause 13.1).
+#[derive(Clone, Copy, Debug, PartialEq, Eq)]
+pub enum UnitKind {
+    Entity,
+    Architecture,
+    Configuration,
+    Package,
+    PackageBody,
+    PackageInstance,
+    Context,
+}
+
+/// What a token is to the grammar of design units (IEEE Std 1076-2008, clause 13): a reserved word that the grammar
+/// names, a delimiter, a name, or another token.
+#[derive(Clone, Copy, Debug, PartialEq, Eq)]
+pub enum Role {
+    Library,
+    Use,
+    Context,
+    Entity,
+    Architecture,
+    Configuration,
+    Package,
+    Body,
+    Is,
+    Of,
+    New,
+    Function,
+    Procedure,
+    Generate,
+    End,
+    If,
+    For,
+    Case,
+    Elsif,
+    Else,
+    /// A word, other than `if`, `case` and `for`, that says behind `end` what ends within a unit.
+    Inner,
+    Opening,
+    Closing,
+    Semicolon,
+    Colon,
+    Dot,
+    /// An identifier.
+    Name,
+    Other,
+}
+
+/// What begins at file level, as far as its first four tokens tell.
+#[derive(Clone, Copy, Debug, PartialEq, Eq)]
+pub enum Beginning {
+    /// A context item.
+    Item,
+    /// A unit without an owner.
+    Plain(UnitKind),
+    /// A unit whose owner comes next.
+    Owned(UnitKind),
+    Nothing,
+}
+
+/// A design unit: its name, and of an architecture or a configuration the name of its entity. `lead`, `first` and
+/// `last` are numbers of tokens: where its context items begin, its keyword, and its final semicolon.
+#[derive(Debug, Drop)]
+pub struct Unit {
+    pub kind: UnitKind,
+    pub name: Text,
+    pub owner: MaybeText,
+    pub lead: u32,
+    pub first: u32,
+    pub last: u32,
+}
+
+pub type UnitList = Items<Unit>;
+
+/// What is known of the text of a file: its tokens and its design units.
+#[derive(Drop)]
+pub struct Scan {
+    pub tokens: Tokens,
+    pub units: UnitList,
+}
+
+pub type Scans = Items<Scan>;
+
+/// Why tokens are no design file. `at` is the byte at which the token stands.
+#[derive(Clone, Copy, Debug, PartialEq, Eq, Error)]
+pub enum UnitFault {
+    #[error("out of memory")]
+    NoMemory,
+    /// The token begins neither a context item nor a unit.
+    #[error("no design unit at byte {at}")]
+    NotUnit { at: u32 },
+    /// The context item or unit that the token begins has no end.
+    #[error("unit not ended at byte {at}")]
+    NotEnded { at: u32 },
+}
+
+impl From<NoMemory> for UnitFault {
+    ghost from_gives = { λ _ e. e ≡ OutOfMemory };
+
+    fn from(_: NoMemory) -> UnitFault {
+        UnitFault::NoMemory
+    }
+}
+
+impl From<AllocError> for UnitFault {
+    ghost from_gives = { λ _ e. e ≡ OutOfMemory };
+
+    fn from(_: AllocError) -> UnitFault {
+        UnitFault::NoMemory
+    }
+}
+
+impl<T: Drop> From<AllocFailed<T>> for UnitFault {
+    ghost from_gives = { λ _ e. e ≡ OutOfMemory };
+
+    fn from(_: AllocFailed<T>) -> UnitFault {
+        UnitFault::NoMemory
+    }
+}
