@@ -4,5 +4,6 @@ pub mod CleanBuild
 pub mod Marks
 pub mod Texts
 pub mod Csv
+pub mod Findings
 pub mod Reading
 pub mod Said

@@ -11,6 +11,7 @@ use Rattle.vr_base.specs.declared.outcome.Refusal.TheVariants as refusal
 use Rattle.std.specs.Str.{bytes_eq}
 use Rattle.run_spec.specs.Csv.{csv_project}
 use Rattle.run_spec.specs.PresentGraph.{listed}
+use Rattle.run_spec.specs.Findings.{Finding, first_fault}
 
 -- the words are no command line; the program is a child; the sources are refused; or this graph is to be compiled
 pub data Reading : Type 0 where
@@ -43,29 +44,34 @@ texts_of tree left [] = Some []
 texts_of tree left (file ∷ files) =
     option_and_then (λ text. before_others text (texts_of tree (left - length text) files)) (fitting (tree file.name.path) left)
 
-abbrev pub go_with : List ProjectFile → Option (List (List ℕ)) → Reading
-go_with files None = Stops refusal.NotBuilt
-go_with files (Some texts) = Go (listed files texts)
+-- the files are compiled, unless one has a fault
+abbrev pub go_unless : Option Refusal → List Entry → Reading
+go_unless None graph = Go graph
+go_unless (Some reason) graph = Stops reason
+
+abbrev pub go_with : (List ℕ → Finding) → List ProjectFile → Option (List (List ℕ)) → Reading
+go_with scan files None = Stops refusal.NotBuilt
+go_with scan files (Some texts) = go_unless (first_fault scan files texts) (listed files texts)
 
 -- the reading of the files of a project
-abbrev pub sources_reading : (List ℕ → Option (List ℕ)) → List ProjectFile → Reading
-sources_reading tree files = if nat_le (length files) bounds.files then go_with files (texts_of tree bounds.bytes files) else Stops refusal.NotBuilt
+abbrev pub sources_reading : (List ℕ → Finding) → (List ℕ → Option (List ℕ)) → List ProjectFile → Reading
+sources_reading scan tree files = if nat_le (length files) bounds.files then go_with scan files (texts_of tree bounds.bytes files) else Stops refusal.NotBuilt
 
-abbrev pub listing_reading : (List ℕ → Option (List ℕ)) → Result Project ProjectFault → Reading
-listing_reading tree (Ok project) = sources_reading tree project.files
-listing_reading tree (Err fault) = Stops (refusal.Project fault)
+abbrev pub listing_reading : (List ℕ → Finding) → (List ℕ → Option (List ℕ)) → Result Project ProjectFault → Reading
+listing_reading scan tree (Ok project) = sources_reading scan tree project.files
+listing_reading scan tree (Err fault) = Stops (refusal.Project fault)
 
-abbrev pub csv_reading : (List ℕ → Option (List ℕ)) → Option (List ℕ) → Reading
-csv_reading tree None = Stops refusal.NoProject
-csv_reading tree (Some bytes) = if nat_le (length bytes) bounds.bytes then listing_reading tree (csv_project bytes) else Stops refusal.NotBuilt
+abbrev pub csv_reading : (List ℕ → Finding) → (List ℕ → Option (List ℕ)) → Option (List ℕ) → Reading
+csv_reading scan tree None = Stops refusal.NoProject
+csv_reading scan tree (Some bytes) = if nat_le (length bytes) bounds.bytes then listing_reading scan tree (csv_project bytes) else Stops refusal.NotBuilt
 
-abbrev pub toml_reading : (List ℕ → Option (List ℕ)) → Option (List ℕ) → Reading
-toml_reading tree (Some bytes) = Stops refusal.NotBuilt
-toml_reading tree None = csv_reading tree (tree (codes "vunit.csv"))
+abbrev pub toml_reading : (List ℕ → Finding) → (List ℕ → Option (List ℕ)) → Option (List ℕ) → Reading
+toml_reading scan tree (Some bytes) = Stops refusal.NotBuilt
+toml_reading scan tree None = csv_reading scan tree (tree (codes "vunit.csv"))
 
 -- the reading of the project in a tree
-unfoldable pub project_reading : (List ℕ → Option (List ℕ)) → Reading
-project_reading tree = toml_reading tree (tree (codes "vunit.toml"))
+unfoldable pub project_reading : (List ℕ → Finding) → (List ℕ → Option (List ℕ)) → Reading
+project_reading scan tree = toml_reading scan tree (tree (codes "vunit.toml"))
 
 abbrev pub begins_as_child : List (List ℕ) → Bool
 begins_as_child [] = false
@@ -75,6 +81,6 @@ abbrev pub is_compile : List (List ℕ) → Bool
 is_compile (word ∷ []) = bytes_eq word (codes "--compile")
 is_compile words = false
 
--- the reading of words and a tree
-abbrev pub reading : List (List ℕ) → (List ℕ → Option (List ℕ)) → Reading
-reading words tree = if begins_as_child words then Child else if is_compile words then project_reading tree else Bad
+-- the reading of words and a tree, over a scanner
+abbrev pub reading : (List ℕ → Finding) → List (List ℕ) → (List ℕ → Option (List ℕ)) → Reading
+reading scan words tree = if begins_as_child words then Child else if is_compile words then project_reading scan tree else Bad

@@ -3,6 +3,11 @@ use Rattle.std.specs.Prelude.{ℕ, ◌-◌, ◌==◌, ◌||◌, if◌then◌else
 use Rattle.std.specs.Fmt.{decimal}
 use Rattle.std.specs.List.{list_any}
 use Rattle.vr_base.specs.declared.graph.Entry.{Entry}
+use Rattle.vr_base.specs.declared.file.FileName.{FileName}
+use Rattle.vr_base.specs.declared.lexical.LexFault.{LexFault}
+use Rattle.vr_base.specs.declared.lexical.LexFault.TheVariants as lex
+use Rattle.vr_base.specs.declared.design.UnitFault.{UnitFault}
+use Rattle.vr_base.specs.declared.design.UnitFault.TheVariants as unit
 use Rattle.vr_base.specs.declared.project.ProjectFault.{ProjectFault}
 use Rattle.vr_base.specs.declared.project.ProjectFault.TheVariants as fault
 use Rattle.vr_base.specs.declared.outcome.Mark.{Mark}
@@ -84,9 +89,41 @@ abbrev pub fault_words : ProjectFault → List ℕ
 fault_words fault.NoMemory = []
 fault_words (fault.BadLine line) = bad_line ++ decimal line
 
+-- a file, as it is named behind the program's name
+unfoldable pub file_words : FileName → List ℕ
+file_words file = file.library ++ (codes ", " ++ file.path)
+
+unfoldable pub unclosed_string : List ℕ
+unclosed_string = codes ": unclosed string at "
+
+unfoldable pub unclosed_extended : List ℕ
+unclosed_extended = codes ": unclosed extended identifier at "
+
+unfoldable pub unclosed_comment : List ℕ
+unclosed_comment = codes ": unclosed comment at "
+
+abbrev pub lex_words : LexFault → List ℕ
+lex_words lex.NoMemory = []
+lex_words (lex.UnclosedString at) = unclosed_string ++ decimal at
+lex_words (lex.UnclosedExtended at) = unclosed_extended ++ decimal at
+lex_words (lex.UnclosedComment at) = unclosed_comment ++ decimal at
+
+unfoldable pub no_unit : List ℕ
+no_unit = codes ": no design unit at "
+
+unfoldable pub not_ended : List ℕ
+not_ended = codes ": design unit not ended at "
+
+abbrev pub unit_words : UnitFault → List ℕ
+unit_words unit.NoMemory = []
+unit_words (unit.NotUnit at) = no_unit ++ decimal at
+unit_words (unit.NotEnded at) = not_ended ++ decimal at
+
 abbrev pub refusal_words : Refusal → List ℕ
 refusal_words refusal.NoProject = no_project
 refusal_words (refusal.Project fault) = fault_words fault
+refusal_words (refusal.Lex file fault) = file_words file ++ lex_words fault
+refusal_words (refusal.Units file fault) = file_words file ++ unit_words fault
 refusal_words (refusal.Compiler files) = []
 refusal_words refusal.NotBuilt = not_built
 

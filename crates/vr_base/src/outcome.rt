@@ -1,4 +1,4 @@
-use crate::{FileList, Items, ProjectFault, Text};
+use crate::{FileList, FileName, Items, LexFault, ProjectFault, Text, UnitFault};
 
 /// What became of a file in a build.
 #[derive(Drop)]
@@ -23,6 +23,10 @@ pub enum Refusal {
     NoProject,
     /// The fault is never want of memory.
     Project { fault: ProjectFault },
+    /// A file has a lexical fault, which is never want of memory.
+    Lex { file: FileName, fault: LexFault },
+    /// A file has a fault of the unit grammar, which is never want of memory.
+    Units { file: FileName, fault: UnitFault },
     /// The compiler refused these files, in compile order.
     Compiler { files: FileList },
     /// A part of the program that isn't built yet was asked for.
