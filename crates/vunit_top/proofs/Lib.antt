@@ -10,3 +10,4 @@ pub mod Texts
 pub mod ReportLoops
 pub mod Tops
 pub mod Cleans
+pub mod Faults

@@ -9,6 +9,7 @@ mod listed;
 mod parts;
 mod report;
 mod requests;
+mod scanning;
 mod seen;
 mod sources;
 mod top;

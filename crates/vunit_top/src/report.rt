@@ -2,12 +2,13 @@ ghost use Rattle.std.specs.Prelude.{◌≡◌, ◌≤◌, ◌++◌, length, IfOk
 ghost use Rattle.std.specs.List.{list_any};
 ghost use Rattle.std.specs.Fmt.{decimal};
 ghost use Rattle.run_spec.specs.Marks.{is_refused, is_compiled, refused_files};
-ghost use Rattle.run_spec.specs.Texts.{line_end, shown, shown_bytes, compiling, passed, failed, skipped, file_text, files_text, build_line, build_text, refusal_words, fault_words, refusal_text, bad_line, program, no_project, not_built, compile_failed, compile_passed, not_needed};
+ghost use Rattle.run_spec.specs.Texts.{line_end, shown, shown_bytes, compiling, passed, failed, skipped, file_text, files_text, build_line, build_text, refusal_words, fault_words, refusal_text, bad_line, program, no_project, not_built, file_words, lex_words, unit_words, unclosed_string, unclosed_extended, unclosed_comment, no_unit, not_ended, compile_failed, compile_passed, not_needed};
 ghost use Rattle.run_spec.specs.Said.{build_outcome};
 
 use std::alloc::Global;
 use vr_base::{
-    Entry, FileList, Graph, Mark, MarkList, NoMemory, Outcome, ProjectFault, Refusal, Text,
+    Entry, FileList, FileName, Graph, LexFault, Mark, MarkList, NoMemory, Outcome, ProjectFault,
+    Refusal, Text, UnitFault,
 };
 
 /// How much of what a child printed is shown.
@@ -188,9 +189,7 @@ pub fn build_outcome(alloc: Global, graph: &Graph, marks: &MarkList) -> Result<O
 fn put_bad_line(alloc: Global, out: &mut Vec<u8>, line: u32) -> Result<(), NoMemory>
     ensures { OnOk result (out.new.items ≡ out.old.items ++ (bad_line ++ decimal line)) }
 {
-    put(out, b"vunit.csv: bad line ")?;
-    put(out, line.to_string(alloc)?.as_bytes())?;
-    Ok(())
+    put_place(alloc, out, b"vunit.csv: bad line ", line)
 }
 
 fn put_fault(alloc: Global, out: &mut Vec<u8>, fault: &ProjectFault) -> Result<(), NoMemory>
@@ -202,6 +201,50 @@ fn put_fault(alloc: Global, out: &mut Vec<u8>, fault: &ProjectFault) -> Result<(
     }
 }
 
+#[tactic(auto, unfolding(run_spec::specs::Texts::file_words))]
+fn put_file_words(out: &mut Vec<u8>, file: &FileName) -> Result<(), NoMemory>
+    ensures { OnOk result (out.new.items ≡ out.old.items ++ file_words file.now) }
+{
+    put(out, file.library.bytes())?;
+    put(out, b", ")?;
+    put(out, file.path.bytes())?;
+    Ok(())
+}
+
+/// Puts words, and a number behind them.
+fn put_place(alloc: Global, out: &mut Vec<u8>, words: &[u8], at: u32) -> Result<(), NoMemory>
+    ensures { OnOk result (out.new.items ≡ out.old.items ++ (words.now ++ decimal at)) }
+{
+    put(out, words)?;
+    put(out, at.to_string(alloc)?.as_bytes())?;
+    Ok(())
+}
+
+#[tactic(auto, unfolding(run_spec::specs::Texts::unclosed_string, run_spec::specs::Texts::unclosed_extended, run_spec::specs::Texts::unclosed_comment))]
+fn put_lex_fault(alloc: Global, out: &mut Vec<u8>, fault: &LexFault) -> Result<(), NoMemory>
+    ensures { OnOk result (out.new.items ≡ out.old.items ++ lex_words fault.now) }
+{
+    match fault {
+        LexFault::NoMemory => Ok(()),
+        LexFault::UnclosedString { at } => put_place(alloc, out, b": unclosed string at ", *at),
+        LexFault::UnclosedExtended { at } => {
+            put_place(alloc, out, b": unclosed extended identifier at ", *at)
+        }
+        LexFault::UnclosedComment { at } => put_place(alloc, out, b": unclosed comment at ", *at),
+    }
+}
+
+#[tactic(auto, unfolding(run_spec::specs::Texts::no_unit, run_spec::specs::Texts::not_ended))]
+fn put_unit_fault(alloc: Global, out: &mut Vec<u8>, fault: &UnitFault) -> Result<(), NoMemory>
+    ensures { OnOk result (out.new.items ≡ out.old.items ++ unit_words fault.now) }
+{
+    match fault {
+        UnitFault::NoMemory => Ok(()),
+        UnitFault::NotUnit { at } => put_place(alloc, out, b": no design unit at ", *at),
+        UnitFault::NotEnded { at } => put_place(alloc, out, b": design unit not ended at ", *at),
+    }
+}
+
 #[tactic(auto, unfolding(run_spec::specs::Texts::no_project, run_spec::specs::Texts::not_built))]
 fn put_refusal(alloc: Global, out: &mut Vec<u8>, refusal: &Refusal) -> Result<(), NoMemory>
     ensures { OnOk result (out.new.items ≡ out.old.items ++ refusal_words refusal.now) }
@@ -209,6 +252,16 @@ fn put_refusal(alloc: Global, out: &mut Vec<u8>, refusal: &Refusal) -> Result<()
     match refusal {
         Refusal::NoProject => put(out, b"no vunit.toml and no vunit.csv"),
         Refusal::Project { fault } => put_fault(alloc, out, fault),
+        Refusal::Lex { file, fault } => {
+            put_file_words(out, file)?;
+            put_lex_fault(alloc, out, fault)?;
+            Ok(())
+        }
+        Refusal::Units { file, fault } => {
+            put_file_words(out, file)?;
+            put_unit_fault(alloc, out, fault)?;
+            Ok(())
+        }
         Refusal::Compiler { files: _ } => Ok(()),
         Refusal::NotBuilt => put(out, b"not built yet"),
     }

@@ -1,14 +1,16 @@
 ghost use Rattle.std.specs.Prelude.{◌≡◌, ◌≤◌, ◌^◌, ◌<◌, length, codes, Option, List, ℕ, Some, None, IfOk, IfSome};
 ghost use Rattle.vr_base.specs.Projects.{IsProject};
 ghost use Rattle.vr_outside.specs.Trees.{read_end, IsWithin};
-ghost use Rattle.run_spec.specs.PresentGraph.{IsListed};
+ghost use Rattle.run_spec.specs.PresentGraph.{listed, IsListed};
 ghost use Rattle.run_spec.specs.Csv.{csv_project};
-ghost use Rattle.run_spec.specs.Reading.{Stops, fitting, texts_of, sources_reading, listing_reading, csv_reading, toml_reading, project_reading};
+ghost use Rattle.run_spec.specs.Findings.{Finding, IsScanner, first_fault};
+ghost use Rattle.run_spec.specs.Reading.{Stops, go_unless, fitting, texts_of, sources_reading, listing_reading, csv_reading, toml_reading, project_reading};
 ghost use Rattle.vunit_top.specs.Sources.{AreTexts, LeadsTexts, Leads, ReadCounts, IsPlain};
 ghost use Rattle.vunit_top.specs.declared.sources.ReadStop.TheVariants.{NoMemory as out_of_memory};
 
 use crate::csv::read_csv_project;
 use crate::listed::listed_graph;
+use crate::scanning::first_fault;
 use std::alloc::Global;
 use vr_base::{Graph, NoMemory, Project, ProjectFault, ProjectFile, Refusal, Text, TextList};
 use vr_outside::{ReadEnd, Tree, TreeFault};
@@ -103,10 +105,25 @@ fn read_texts<T: Tree>(
     Ok(texts)
 }
 
+/// The graph of a project whose texts are read, unless a file has a fault.
+fn scanned_graph(alloc: Global, project: &Project, texts: TextList) -> Result<Graph, ReadStop>
+    requires project { IsProject project.now }
+    requires few { length project.now.files ≤ 4096 }
+    requires texts { AreTexts project.now.files texts }
+    ensures graph { (scan : List ℕ → Finding) → IsScanner scan → Leads (go_unless (first_fault scan project.now.files texts) (listed project.now.files texts)) result }
+    ensures listed { IfOk result IsListed }
+    ensures cause { (count : ℕ) → ReadCounts result count count }
+{
+    match first_fault(alloc, project.files.as_slice(), texts.as_slice())? {
+        None => Ok(listed_graph(alloc, project, texts)?),
+        Some(reason) => Err(ReadStop::Refused(reason)),
+    }
+}
+
 /// The graph of a project whose files are read.
 fn read_sources<T: Tree>(alloc: Global, tree: &mut T, project: &Project) -> Result<Graph, ReadStop>
     requires { IsProject project.now }
-    ensures graph { T.tells → Leads (sources_reading (T.file tree.old) project.now.files) result }
+    ensures graph { (scan : List ℕ → Finding) → IsScanner scan → T.tells → Leads (sources_reading scan (T.file tree.old) project.now.files) result }
     ensures listed { IfOk result IsListed }
     ensures same { T.file tree.new ≡ T.file tree.old }
     ensures cause { ReadCounts result (T.failed_reads tree.old) (T.failed_reads tree.new) }
@@ -115,13 +132,13 @@ fn read_sources<T: Tree>(alloc: Global, tree: &mut T, project: &Project) -> Resu
         return Err(ReadStop::Refused(Refusal::NotBuilt));
     }
     let texts = read_texts(alloc, tree, project.files.as_slice(), MOST_BYTES)?;
-    Ok(listed_graph(alloc, project, texts)?)
+    scanned_graph(alloc, project, texts)
 }
 
 /// The graph of the project that the bytes of a project file list.
 fn read_listing<T: Tree>(alloc: Global, tree: &mut T, bytes: &Text) -> Result<Graph, ReadStop>
     requires { length bytes.now ≤ 2097152 }
-    ensures graph { T.tells → Leads (listing_reading (T.file tree.old) (csv_project bytes.now)) result }
+    ensures graph { (scan : List ℕ → Finding) → IsScanner scan → T.tells → Leads (listing_reading scan (T.file tree.old) (csv_project bytes.now)) result }
     ensures listed { IfOk result IsListed }
     ensures same { T.file tree.new ≡ T.file tree.old }
     ensures cause { ReadCounts result (T.failed_reads tree.old) (T.failed_reads tree.new) }
@@ -137,7 +154,7 @@ fn read_listing<T: Tree>(alloc: Global, tree: &mut T, bytes: &Text) -> Result<Gr
 
 /// The graph of the project in a tree that has no `vunit.toml`.
 fn read_csv<T: Tree>(alloc: Global, tree: &mut T) -> Result<Graph, ReadStop>
-    ensures graph { T.tells → Leads (csv_reading (T.file tree.old) (T.file tree.old (codes "vunit.csv"))) result }
+    ensures graph { (scan : List ℕ → Finding) → IsScanner scan → T.tells → Leads (csv_reading scan (T.file tree.old) (T.file tree.old (codes "vunit.csv"))) result }
     ensures listed { IfOk result IsListed }
     ensures same { T.file tree.new ≡ T.file tree.old }
     ensures cause { ReadCounts result (T.failed_reads tree.old) (T.failed_reads tree.new) }
@@ -153,7 +170,7 @@ fn read_csv<T: Tree>(alloc: Global, tree: &mut T) -> Result<Graph, ReadStop>
 /// The graph of the project in a tree, or what is wrong with its sources. Each file is read once.
 #[tactic(auto, unfolding(run_spec::specs::Reading::project_reading))]
 pub fn read_project<T: Tree>(alloc: Global, tree: &mut T) -> Result<Graph, ReadStop>
-    ensures graph { T.tells → Leads (project_reading (T.file tree.old)) result }
+    ensures graph { (scan : List ℕ → Finding) → IsScanner scan → T.tells → Leads (project_reading scan (T.file tree.old)) result }
     ensures listed { IfOk result IsListed }
     ensures same { T.file tree.new ≡ T.file tree.old }
     ensures cause { ReadCounts result (T.failed_reads tree.old) (T.failed_reads tree.new) }

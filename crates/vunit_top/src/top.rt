@@ -2,6 +2,7 @@ ghost use Rattle.std.specs.Prelude.{◌≡◌, ◌++◌, [], ℕ, List};
 ghost use Rattle.run_spec.specs.PresentGraph.{IsListed};
 ghost use Rattle.run_spec.specs.ChildJournal.{Lawful, Answered, IsWhole, empty_book, since, starts_of};
 ghost use Rattle.run_spec.specs.Marks.{marks_of};
+ghost use Rattle.run_spec.specs.Findings.{Finding, IsScanner};
 ghost use Rattle.run_spec.specs.Reading.{reading, project_reading};
 ghost use Rattle.run_spec.specs.Said.{Says, IsSaid, Causes, IsLawful, IsAnswered, IsClean, AsksCleanly, EndsByItself, said, build_said, child_said, one_at_a_time};
 
@@ -65,11 +66,11 @@ fn run_compile<T: Tree, P: Procs, O: Sink>(
     requires { P.running procs.old ≡ [] }
     ensures running { P.running procs.new ≡ [] }
     ensures kept { P.tells → (P.journal procs.new ≡ P.journal procs.old ++ since (P.journal procs.old) (P.journal procs.new)) }
-    ensures lawful { T.tells → P.tells → IsLawful (project_reading (T.file tree.old)) (since (P.journal procs.old) (P.journal procs.new)) }
-    ensures answered { T.tells → P.tells → IsAnswered (P.answer procs.old) (project_reading (T.file tree.old)) (since (P.journal procs.old) (P.journal procs.new)) }
-    ensures whole { T.tells → P.tells → IsSaid result → EndsByItself (project_reading (T.file tree.old)) (since (P.journal procs.old) (P.journal procs.new)) }
-    ensures starts { T.tells → P.tells → AsksCleanly (P.answer procs.old) (project_reading (T.file tree.old)) result (starts_of (since (P.journal procs.old) (P.journal procs.new))) }
-    ensures said { (input : List ℕ) → T.tells → P.tells → O.tells → Says result (said (project_reading (T.file tree.old)) input (since (P.journal procs.old) (P.journal procs.new))) (O.contents out.old) (O.contents out.new) }
+    ensures lawful { (scan : List ℕ → Finding) → IsScanner scan → T.tells → P.tells → IsLawful (project_reading scan (T.file tree.old)) (since (P.journal procs.old) (P.journal procs.new)) }
+    ensures answered { (scan : List ℕ → Finding) → IsScanner scan → T.tells → P.tells → IsAnswered (P.answer procs.old) (project_reading scan (T.file tree.old)) (since (P.journal procs.old) (P.journal procs.new)) }
+    ensures whole { (scan : List ℕ → Finding) → IsScanner scan → T.tells → P.tells → IsSaid result → EndsByItself (project_reading scan (T.file tree.old)) (since (P.journal procs.old) (P.journal procs.new)) }
+    ensures starts { (scan : List ℕ → Finding) → IsScanner scan → T.tells → P.tells → AsksCleanly (P.answer procs.old) (project_reading scan (T.file tree.old)) result (starts_of (since (P.journal procs.old) (P.journal procs.new))) }
+    ensures said { (input : List ℕ) (scan : List ℕ → Finding) → IsScanner scan → T.tells → P.tells → O.tells → Says result (said (project_reading scan (T.file tree.old)) input (since (P.journal procs.old) (P.journal procs.new))) (O.contents out.old) (O.contents out.new) }
     ensures cause { (input : ℕ) → Causes result
         (record { tree = T.failed_reads tree.old; start = P.failed_starts procs.old; child = P.lost_children procs.old; out = O.failed_puts out.old; input = input })
         (record { tree = T.failed_reads tree.new; start = P.failed_starts procs.new; child = P.lost_children procs.new; out = O.failed_puts out.new; input = input }) }
@@ -106,18 +107,18 @@ pub fn run_vunit<I: Source, T: Tree, P: Procs, O: Sink>(
     // The journal has grown at its end alone. What was added is a lawful journal of the graph that words and
     // sources say, on every answer; without a graph nothing was added.
     ensures kept { P.tells → (P.journal procs.new ≡ P.journal procs.old ++ since (P.journal procs.old) (P.journal procs.new)) }
-    ensures lawful { T.tells → P.tells → IsLawful (reading words.now (T.file tree.old)) (since (P.journal procs.old) (P.journal procs.new)) }
-    ensures answered { T.tells → P.tells → IsAnswered (P.answer procs.old) (reading words.now (T.file tree.old)) (since (P.journal procs.old) (P.journal procs.new)) }
+    ensures lawful { (scan : List ℕ → Finding) → IsScanner scan → T.tells → P.tells → IsLawful (reading scan words.now (T.file tree.old)) (since (P.journal procs.old) (P.journal procs.new)) }
+    ensures answered { (scan : List ℕ → Finding) → IsScanner scan → T.tells → P.tells → IsAnswered (P.answer procs.old) (reading scan words.now (T.file tree.old)) (since (P.journal procs.old) (P.journal procs.new)) }
 
     // Where neither a fault nor want of memory is answered, it is greedy and finished too.
-    ensures whole { T.tells → P.tells → IsSaid result → EndsByItself (reading words.now (T.file tree.old)) (since (P.journal procs.old) (P.journal procs.new)) }
+    ensures whole { (scan : List ℕ → Finding) → IsScanner scan → T.tells → P.tells → IsSaid result → EndsByItself (reading scan words.now (T.file tree.old)) (since (P.journal procs.old) (P.journal procs.new)) }
 
     // Children are started with what a clean build asks of its compilers, in its order, and no more.
-    ensures starts { T.tells → P.tells → AsksCleanly (P.answer procs.old) (reading words.now (T.file tree.old)) result (starts_of (since (P.journal procs.old) (P.journal procs.new))) }
+    ensures starts { (scan : List ℕ → Finding) → IsScanner scan → T.tells → P.tells → AsksCleanly (P.answer procs.old) (reading scan words.now (T.file tree.old)) result (starts_of (since (P.journal procs.old) (P.journal procs.new))) }
 
     // The answer and the text that is put are those that words, sources, input and journal say.
-    ensures said { I.tells → T.tells → P.tells → O.tells →
-        Says result (said (reading words.now (T.file tree.old)) (I.left input.old) (since (P.journal procs.old) (P.journal procs.new))) (O.contents out.old) (O.contents out.new) }
+    ensures said { (scan : List ℕ → Finding) → IsScanner scan → I.tells → T.tells → P.tells → O.tells →
+        Says result (said (reading scan words.now (T.file tree.old)) (I.left input.old) (since (P.journal procs.old) (P.journal procs.new))) (O.contents out.old) (O.contents out.new) }
 
     // A fault is answered only where its count rose; after any other answer but want of memory all counts stand.
     ensures cause { Causes result
