@@ -1,13 +1,6 @@
-/* A plain tokenizer of VHDL for the same table of pieces as the crate vhdl_lex, to compare speeds with. It reads a
- * file, cuts it so many times, and prints the number of tokens and the bytes per second.
- *
- *   cc -O2 -o tokenizer tokenizer.c && ./tokenizer FILE TIMES
- */
+/* A plain tokenizer of VHDL for the same table of pieces as the crate vhdl_lex, to compare its speed with (compare.c). */
 #include <stdint.h>
-#include <stdio.h>
 #include <stdlib.h>
-#include <string.h>
-#include <time.h>
 
 enum kind { WORD, EXTENDED, NUMBER, STR, CHAR, TICK, SYMBOL, HIGH };
 
@@ -174,30 +167,4 @@ static int cut(const uint8_t *text, size_t length, struct scan *scan) {
         at = end;
     }
     return 1;
-}
-
-int main(int count, char **words) {
-    if (count != 3) return 2;
-    FILE *file = fopen(words[1], "rb");
-    if (!file) return 2;
-    uint8_t *text = malloc(4194304);
-    size_t length = text ? fread(text, 1, 4194304, file) : 0;
-    long times = atol(words[2]);
-    fill_classes();
-    size_t tokens = 0;
-    struct timespec from, to;
-    clock_gettime(CLOCK_MONOTONIC, &from);
-    for (long i = 0; i < times; i++) {
-        struct scan scan = {0};
-        scan.room = length / 4 + 1;
-        scan.tokens = malloc(scan.room * sizeof *scan.tokens);
-        if (!scan.tokens || !cut(text, length, &scan)) return 1;
-        tokens += scan.count + scan.comment_count;
-        free(scan.tokens);
-        free(scan.comments);
-    }
-    clock_gettime(CLOCK_MONOTONIC, &to);
-    double seconds = (to.tv_sec - from.tv_sec) + (to.tv_nsec - from.tv_nsec) / 1e9;
-    printf("%zu tokens and comments, %.0f bytes per second\n", tokens / (times ? times : 1), length * times / seconds);
-    return 0;
 }
