@@ -8,7 +8,7 @@
 #include <time.h>
 
 struct scanned {
-    bool whole;
+    bool whole, faulty;
     uint64_t tokens, comments;
 };
 

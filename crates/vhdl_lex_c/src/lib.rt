@@ -2,16 +2,20 @@
 #![tactic(auto)]
 
 ghost use Rattle.std.specs.Prelude.{◌≡◌, ◌≤◌, List, length, true};
-ghost use Rattle.scan_spec.specs.Tokens.{Piece, IsCut, tokens_of, comments_of};
+ghost use Rattle.vr_base.specs.declared.lexical.LexFault.{LexFault};
+ghost use Rattle.scan_spec.specs.Tokens.{Piece, HasFault, IsCut, tokens_of, comments_of};
 
 use std::alloc::Global;
 use vhdl_lex::scan_tokens;
+use vr_base::LexFault;
 
-/// What a scan found: whether the text has a cut, and how many tokens and line comments it has.
+/// What a scan found: whether the text has a cut, and then how many tokens and line comments it has; or whether it has a fault.
+/// Where neither is so, there was no memory.
 #[derive(Clone, Copy)]
 #[repr(C)]
 pub struct Scanned {
     pub whole: bool,
+    pub faulty: bool,
     pub tokens: u64,
     pub comments: u64,
 }
@@ -21,23 +25,19 @@ pub struct Scanned {
 #[unsafe(no_mangle)]
 pub extern "C" fn vhdl_lex_scan(alloc: Global, text: &[u8], out: &mut Scanned)
     requires { length text.now ≤ 4194304 }
-    ensures { out.new.whole ≡ true → (pieces : List Piece) × IsCut text.now pieces
+    ensures cut { out.new.whole ≡ true → (pieces : List Piece) × IsCut text.now pieces
         × (out.new.tokens ≡ length (tokens_of pieces)) × (out.new.comments ≡ length (comments_of pieces)) }
+    ensures fault { out.new.faulty ≡ true → (fault : LexFault) × HasFault text.now fault }
 {
-    match scan_tokens(alloc, text) {
-        Ok(tokens) => {
-            *out = Scanned {
-                whole: true,
-                tokens: tokens.list.len(),
-                comments: tokens.comments.len(),
-            };
-        }
-        Err(_) => {
-            *out = Scanned {
-                whole: false,
-                tokens: 0,
-                comments: 0,
-            };
-        }
-    }
+    let (whole, faulty, tokens, comments) = match scan_tokens(alloc, text) {
+        Ok(tokens) => (true, false, tokens.list.len(), tokens.comments.len()),
+        Err(LexFault::NoMemory) => (false, false, 0, 0),
+        Err(_fault) => (false, true, 0, 0),
+    };
+    *out = Scanned {
+        whole,
+        faulty,
+        tokens,
+        comments,
+    };
 }
