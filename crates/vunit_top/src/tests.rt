@@ -247,6 +247,40 @@ fn sources_are_refused(rt: HostRuntime) -> Result<(), Fail> {
     Ok(())
 }
 
+/// The text of a second file behind package a, and what is put behind the program's name.
+type Scanned<'a> = (&'a [u8], &'a [u8]);
+
+#[test]
+fn texts_are_refused(rt: HostRuntime) -> Result<(), Fail> {
+    let table: &[Scanned] = &[
+        (b"foo", b"lib, b.vhd: no design unit at 0"),
+        (b"entity e is", b"lib, b.vhd: design unit not ended at 0"),
+        (b"package b is \"abc", b"lib, b.vhd: unclosed string at 13"),
+        (
+            b"\n\\abc\n",
+            b"lib, b.vhd: unclosed extended identifier at 1",
+        ),
+        (
+            b"entity e is end; /* end;",
+            b"lib, b.vhd: unclosed comment at 17",
+        ),
+        (
+            b"entity e is end;\nend;",
+            b"lib, b.vhd: no design unit at 17",
+        ),
+    ];
+    for (second, words) in table {
+        let files: &[File] = &[
+            (b"vunit.csv", b"lib,a.vhd\nlib,b.vhd\nlib,c.vhd\n"),
+            (b"a.vhd", PACKAGE_A),
+            (b"b.vhd", *second),
+            (b"c.vhd", b"foo"),
+        ];
+        refused(&rt, rt.alloc(), files, words)?;
+    }
+    Ok(())
+}
+
 fn refused(rt: &impl Abort, alloc: Global, files: &[File], words: &[u8]) -> Result<(), Fail> {
     let run = run(rt, alloc, &[b"--compile"], files, &[], NONE)?;
     let mut text = Vec::from_slice(alloc, b"vunit_run: ")?;
