@@ -24,6 +24,7 @@ pub fn plain_tokens(alloc: Global, text: &[u8]) -> Result<Tokens, LexFault>
     pieces(alloc, text)
 }
 
+/// Piece by piece, each behind the one before.
 fn pieces(alloc: Global, text: &[u8]) -> Result<Tokens, LexFault>
     requires { length text.now ≤ 4194304 }
     ensures { Scans text.now result }

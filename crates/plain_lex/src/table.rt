@@ -8,8 +8,8 @@ use crate::bytes::{byte_at, is_blank};
 use crate::reserved::is_reserved;
 use vr_base::{Token, TokenKind};
 
-/// The rows of the table, in its order but for the kinds of tokens.
-#[derive(Clone, Copy, Debug, PartialEq, Eq)]
+/// The rows of the table: five kinds of gaps, and the kinds of tokens.
+#[derive(Clone, Copy)]
 pub enum Row {
     ByteOrderMark,
     Blank,
@@ -53,18 +53,21 @@ fn stands_tick(text: &[u8], last: Option<Token>) -> bool
     }
 }
 
+/// At the start of the text the three bytes of the mark of byte order.
 fn is_byte_order_mark(at_start: bool, first: u8, second: u8, third: u8) -> bool
     ensures { result ≡ (at_start && first == 0xEF && second == 0xBB && third == 0xBF) }
 {
     at_start && first == 0xEF && second == 0xBB && third == 0xBF
 }
 
+/// Whether the first two bytes are these.
 fn are_both(first: u8, second: u8, one: u8, two: u8) -> bool
     ensures { result ≡ (first == one && second == two) }
 {
     first == one && second == two
 }
 
+/// Apostrophes around one byte, where the first is no tick.
 fn is_char(tick: bool, first: u8, third: u8) -> bool
     ensures { result ≡ (first == 39 && third == 39 && not tick) }
 {
