@@ -1,0 +1,89 @@
+ghost use Rattle.std.specs.Prelude.{◌≡◌, ◌==◌, length};
+ghost use Rattle.std.specs.Int.{w32, w64};
+ghost use Rattle.byte_codec.specs.Reading.{Reads, number_at, taken_at, text_at};
+
+use std::marker::Model;
+
+/// Bytes that are read from front to back. Contracts see those that are left.
+#[derive(Drop)]
+pub struct ByteReader<'a> {
+    left: &'a [u8],
+}
+
+impl<'a> Model for ByteReader<'a> {
+    ghost use Rattle.std.specs.Prelude.{List, ℕ};
+
+    ghost Value = { List ℕ };
+
+    ghost view = { λ a. a.left.now };
+}
+
+impl<'a> ByteReader<'a> {
+    /// All of the bytes are left.
+    pub fn new(bytes: &'a [u8]) -> ByteReader<'a>
+        ensures { result ≡ bytes.now }
+    {
+        ByteReader { left: bytes }
+    }
+
+    /// So many bytes as they are, or none where fewer are left.
+    pub fn take(&mut self, count: usize) -> Option<&'a [u8]>
+        ensures { Reads (λ bytes. bytes.now) result self.new (taken_at count self.old) }
+    {
+        if self.left.len() < count {
+            return None;
+        }
+        let (front, left) = self.left.split_at(count);
+        self.left = left;
+        Some(front)
+    }
+
+    /// A number of four bytes, the low one first, or none where fewer are left.
+    pub fn u32(&mut self) -> Option<u32>
+        ensures { Reads (λ number. number) result self.new (number_at w32 self.old) }
+    {
+        if self.left.len() < 4 {
+            return None;
+        }
+        let (front, left) = self.left.split_at(4);
+        self.left = left;
+        Some(u32::from_le_bytes([front[0], front[1], front[2], front[3]]))
+    }
+
+    /// A number of eight bytes, the low one first, or none where fewer are left.
+    pub fn u64(&mut self) -> Option<u64>
+        ensures { Reads (λ number. number) result self.new (number_at w64 self.old) }
+    {
+        if self.left.len() < 8 {
+            return None;
+        }
+        let (front, left) = self.left.split_at(8);
+        self.left = left;
+        Some(u64::from_le_bytes([
+            front[0], front[1], front[2], front[3], front[4], front[5], front[6], front[7],
+        ]))
+    }
+
+    /// A text: a length in four bytes, and that many bytes; or none where fewer are left.
+    #[tactic(auto, unfolding(crate::specs::Reading::text_at))]
+    pub fn text(&mut self) -> Option<&'a [u8]>
+        ensures { Reads (λ bytes. bytes.now) result self.new (text_at self.old) }
+    {
+        let count = self.u32()?;
+        self.take(count as usize)
+    }
+
+    /// The bytes that are left.
+    pub fn rest(&self) -> &'a [u8]
+        ensures { result.now ≡ self.now }
+    {
+        self.left
+    }
+
+    /// Whether no byte is left.
+    pub fn is_at_end(&self) -> bool
+        ensures { result ≡ (length self.now == 0) }
+    {
+        self.left.is_empty()
+    }
+}
