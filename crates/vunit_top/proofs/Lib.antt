@@ -4,7 +4,6 @@ pub mod Builds
 pub mod Utf8Test
 pub mod Splits
 pub mod SeenNames
-pub mod ListedGraph
 pub mod CsvProject
 pub mod Texts
 pub mod ReportLoops

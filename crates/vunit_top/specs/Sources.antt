@@ -1,17 +1,11 @@
--- The texts of the files of a project, and what is read of a tree.
-use Rattle.std.specs.Prelude.{◌≡◌, ℕ, ◌≤◌, List, length, sum_by, Option, Some, None, Result, Ok, Err}
+-- What is read of a tree.
+use Rattle.std.specs.Prelude.{◌≡◌, ℕ, List, Option, Some, None, Result, Ok, Err}
 use Rattle.vr_base.specs.declared.graph.Entry.{Entry}
-use Rattle.vr_base.specs.declared.project.ProjectFile.{ProjectFile}
 use Rattle.vr_base.specs.declared.outcome.Refusal.TheVariants.{NotBuilt}
 use Rattle.vr_outside.specs.Counts.{Counted}
 use Rattle.run_spec.specs.Reading.{Reading, Stops, Go}
 use Rattle.vunit_top.specs.declared.sources.ReadStop.{ReadStop}
 use Rattle.vunit_top.specs.declared.sources.ReadStop.TheVariants as stop
-
--- one text for each file, of at most 2,097,152 bytes together
-pub record AreTexts (files : List ProjectFile) (texts : List (List ℕ)) : Type 0 where
-  pub each : length texts ≡ length files
-  pub small : sum_by (λ text. length text) texts ≤ 2097152
 
 -- the texts that were read are the whole, or the whole has none
 abbrev pub LeadsTexts : Option (List (List ℕ)) → Result (List (List ℕ)) ReadStop → Type 0

@@ -5,7 +5,6 @@ mod build;
 mod children;
 mod csv;
 mod ends;
-mod listed;
 mod parts;
 mod report;
 mod requests;

@@ -4,8 +4,9 @@ ghost use Rattle.vr_base.specs.Bytes.{text_bytes};
 ghost use Rattle.vr_base.specs.Graphs.{IsBuiltFile};
 ghost use Rattle.vr_base.specs.Jobs.{name_bytes, built_bytes, all_built_bytes, compile_input, compile_request};
 
+use source_view::copy_words;
 use std::alloc::Global;
-use vr_base::{Built, BuiltFile, Entry, FileName, MaybeText, NoMemory, Request, Text, TextList};
+use vr_base::{Built, BuiltFile, Entry, FileName, MaybeText, NoMemory, Request, Text};
 
 #[tactic(auto, unfolding(vr_base::specs::Bytes::text_bytes))]
 fn put_text(out: &mut Vec<u8>, text: &[u8]) -> Result<(), NoMemory>
@@ -60,16 +61,6 @@ fn put_compile_input(out: &mut Vec<u8>, entry: &Entry, built: &Built) -> Result<
     put_text(out, entry.text.bytes())?;
     put_all_built(out, built)?;
     Ok(())
-}
-
-pub fn copy_words(alloc: Global, words: &TextList) -> Result<TextList, NoMemory>
-    ensures { IfOk result (λ copy. copy ≡ words.now) }
-{
-    let mut copy = TextList::new(alloc);
-    for word in words.as_slice() {
-        copy.push(word.copy(alloc)?)?;
-    }
-    Ok(copy)
 }
 
 /// What a compiler is started with for a file over the files that it depends on, in compile order.

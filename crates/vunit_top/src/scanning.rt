@@ -1,7 +1,7 @@
 ghost use Rattle.std.specs.Prelude.{◌≡◌, ℕ, ◌≤◌, List, length, IfOk, Some};
 ghost use Rattle.scan_spec.specs.Units.{AreTokensOf};
 ghost use Rattle.run_spec.specs.Findings.{Finding, IsScanner, refusal_of, first_fault};
-ghost use Rattle.vunit_top.specs.Sources.{AreTexts};
+ghost use Rattle.source_view.specs.Listed.{AreTexts};
 
 use std::alloc::Global;
 use vhdl_lex::scan_tokens;

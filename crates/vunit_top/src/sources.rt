@@ -5,12 +5,13 @@ ghost use Rattle.run_spec.specs.PresentGraph.{listed, IsListed};
 ghost use Rattle.run_spec.specs.Csv.{csv_project};
 ghost use Rattle.run_spec.specs.Findings.{Finding, IsScanner, first_fault};
 ghost use Rattle.run_spec.specs.Reading.{Stops, go_unless, fitting, texts_of, sources_reading, listing_reading, csv_reading, toml_reading, project_reading};
-ghost use Rattle.vunit_top.specs.Sources.{AreTexts, LeadsTexts, Leads, ReadCounts, IsPlain};
+ghost use Rattle.source_view.specs.Listed.{AreTexts};
+ghost use Rattle.vunit_top.specs.Sources.{LeadsTexts, Leads, ReadCounts, IsPlain};
 ghost use Rattle.vunit_top.specs.declared.sources.ReadStop.TheVariants.{NoMemory as out_of_memory};
 
 use crate::csv::read_csv_project;
-use crate::listed::listed_graph;
 use crate::scanning::first_fault;
+use source_view::listed_graph;
 use std::alloc::Global;
 use vr_base::{Graph, NoMemory, Project, ProjectFault, ProjectFile, Refusal, Text, TextList};
 use vr_outside::{ReadEnd, Tree, TreeFault};

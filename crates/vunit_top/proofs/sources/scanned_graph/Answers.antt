@@ -1,6 +1,6 @@
 use Rattle.std.proofs.Common.{◌≡◌, length, subst, sym, arith}
 use Rattle.run_spec.specs.PresentGraph.{IsListed}
-use Rattle.vunit_top.proofs.ListedGraph.{listed_is_listed}
+use Rattle.source_view.proofs.ListedGraph.{listed_is_listed}
 use Rattle.vunit_top.proofs.sources.scanned_graph.Goals as goal
 
 pub returns-in_ok-listed_graph-in-None-clause-listed : goal.returns-in_ok-listed_graph-in-None-clause-listed

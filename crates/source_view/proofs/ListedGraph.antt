@@ -1,5 +1,5 @@
 -- The files of a listed project are a graph.
-use Rattle.std.proofs.Common.{◌≡◌, ◌≢◌, ℕ, zero, suc, ◌+◌, ◌<◌, ◌≤◌, List, [], ◌∷◌, ◌++◌, length, get_or, drop, refl, sym, ap, subst, ◌∙◌, arith, add-zero}
+use Rattle.std.proofs.Common.{◌≡◌, ◌≢◌, ℕ, zero, suc, ◌+◌, ◌<◌, ◌≤◌, List, [], ◌∷◌, ◌++◌, length, get_or, drop, Option, Some, refl, sym, ap, subst, ◌∙◌, arith, add-zero}
 use Rattle.std.specs.Prelude.{All, Contains, sum_by}
 use Rattle.std.proofs.lemmas.List.{drop_more, append_assoc, length-append}
 use Rattle.std.proofs.lemmas.Option.{slice_get_within, slice_get-get_or}
@@ -12,8 +12,7 @@ use Rattle.vr_base.specs.Projects.{IsProject}
 use Rattle.vr_base.proofs.GraphFronts.{IsGraph-front}
 use Rattle.run_spec.specs.PresentGraph.{below, listed_entry, listed_from, listed, IsListed}
 use Rattle.run_spec.proofs.Places.{length-below, get_or-below}
-use Rattle.vunit_top.specs.Sources.{AreTexts}
-use Rattle.vunit_top.proofs.Splits.{some_is}
+use Rattle.source_view.specs.Listed.{AreTexts}
 
 pub listed_no_text : (place : ℕ) (files : List ProjectFile) → listed_from place files [] ≡ []
 unfolding listed_from
@@ -134,6 +133,9 @@ module _ (project : Project) (texts : List (List ℕ)) (is : IsProject project) 
             ∙ sym (listed-more files done text file low) in
             (subst IsGraph (ap (λ (fs : List ProjectFile). listed fs (done ++ text ∷ [])) (sym same) ∙ sym pushed) (push_is_graph done more text whole), pushed),
       )
+
+some_is : {X : Type 0} (x y : X) → ◌≡◌ {A = Option X} (Some x) (Some y) → x ≡ y
+some_is x y e = cc
 
 -- each file of a listed project depends on all earlier ones
 pub listed_is_listed : (files : List ProjectFile) (texts : List (List ℕ)) → length texts ≤ length files → IsListed (listed files texts)

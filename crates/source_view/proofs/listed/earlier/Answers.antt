@@ -1,6 +1,6 @@
 use Rattle.std.proofs.Common.{sym, ap, ◌∙◌, List, ℕ, ◌++◌, ◌∷◌, []}
 use Rattle.run_spec.proofs.Places.{below-zero, below-more}
-use Rattle.vunit_top.proofs.listed.earlier.Goals as goal
+use Rattle.source_view.proofs.listed.earlier.Goals as goal
 
 pub loop-dep-init : goal.loop-dep-init
 loop-dep-init c = c.new-places.ensures ∙ sym below-zero

@@ -1,7 +1,7 @@
 use Rattle.std.proofs.Common.{◌≡◌, ◌++◌}
 use Rattle.std.specs.Vec.Iter.{into_iter_items}
 use Rattle.run_spec.specs.PresentGraph.{listed}
-use Rattle.vunit_top.proofs.listed.listed_graph.Given as goal
+use Rattle.source_view.proofs.listed.listed_graph.Given as goal
 
 abbrev pub invariant-loop-text : goal.invariant-loop-text
 invariant-loop-text l = record {

@@ -1,7 +1,7 @@
 use Rattle.std.proofs.Common.{◌≡◌, ◌∙◌, List, ℕ, [], ◌∷◌, ◌++◌, sym, ap, append_assoc}
 use Rattle.std.specs.Vec.Iter.{into_iter_items}
-use Rattle.vunit_top.proofs.ListedGraph.{listed_no_text, next_file}
-use Rattle.vunit_top.proofs.listed.listed_graph.Goals as goal
+use Rattle.source_view.proofs.ListedGraph.{listed_no_text, next_file}
+use Rattle.source_view.proofs.listed.listed_graph.Goals as goal
 
 pub loop-text-init : goal.loop-text-init
 loop-text-init c = record {

@@ -1,9 +1,9 @@
 ghost use Rattle.std.specs.Prelude.{◌≡◌, ◌≤◌, length, All, sum, map, IfOk};
 ghost use Rattle.vr_base.specs.Projects.{IsProject};
 ghost use Rattle.run_spec.specs.PresentGraph.{below, listed_entry, listed, IsListed};
-ghost use Rattle.vunit_top.specs.Sources.{AreTexts};
+ghost use Rattle.source_view.specs.Listed.{AreTexts};
 
-use crate::requests::copy_words;
+use crate::words::copy_words;
 use std::alloc::Global;
 use vr_base::{Entry, Graph, NoMemory, Positions, Project, ProjectFile, Text, TextList};
 

@@ -1,0 +1,5 @@
+pub mod ListedGraph
+pub mod Numbering
+pub mod Parts
+pub mod Rising
+pub mod ViewLaws
