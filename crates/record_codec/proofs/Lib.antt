@@ -1,0 +1,6 @@
+pub mod Spelled
+pub mod Records
+pub mod Marks
+pub mod Closings
+pub mod SeenNames
+pub mod Standing

@@ -1,0 +1,5 @@
+use Rattle.std.proofs.Common.{ℕ, List, ◌<◌, ◌≤◌, length, get_or}
+use Rattle.record_codec.proofs.sizes.are_short.Given as goal
+
+abbrev pub invariant-loop-word : goal.invariant-loop-word
+invariant-loop-word l = (k : ℕ) (d : List ℕ) → k < l.word-index → length (get_or l.words k d) ≤ 1024

@@ -1,0 +1,17 @@
+//! The records of a store as bytes.
+#![tactic(auto)]
+
+mod closed;
+mod laws;
+mod names;
+mod reading;
+mod sizes;
+mod views;
+mod writing;
+
+pub use laws::laws_of_records;
+pub use reading::{Record, read_record};
+pub use writing::record_bytes;
+
+#[cfg(test)]
+mod tests;

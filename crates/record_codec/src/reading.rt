@@ -1,0 +1,170 @@
+ghost use Rattle.std.specs.Prelude.{◌≡◌, ℕ, List, IfOk, IfSome, IsSome};
+ghost use Rattle.std.specs.Int.{w32};
+ghost use Rattle.vr_base.specs.declared.graph.Entry.{Entry};
+ghost use Rattle.vr_base.specs.Graphs.{IsGraph};
+ghost use Rattle.byte_codec.specs.Reading.{Reads, number_at, text_at, counted_at};
+ghost use Rattle.record_codec.specs.Reading.{name_at, entry_at, record_at, ReadsAll};
+ghost use Rattle.record_codec.specs.Spelling.{record_bytes, IsRecord};
+
+use crate::views::is_view;
+use byte_codec::ByteReader;
+use std::alloc::Global;
+use vr_base::{Entry, FileName, Graph, Items, NoMemory, Positions, Text, TextList};
+
+/// A record of a store: a view, and what the compiler gave for its last file.
+#[derive(Drop)]
+pub struct Record {
+    pub view: Graph,
+    pub artefact: Text,
+}
+
+/// The files and the artefact that some bytes spell. The files may be no view.
+#[derive(Drop)]
+struct Parts {
+    entries: Items<Entry>,
+    artefact: Text,
+}
+
+fn text_of(alloc: Global, reader: &mut ByteReader<'_>) -> Result<Option<Text>, NoMemory>
+    ensures { IfOk result (λ text. Reads (λ bytes. bytes) text reader.new (text_at reader.old)) }
+{
+    let Some(bytes) = reader.text() else {
+        return Ok(None);
+    };
+    Ok(Some(Text::from_slice(alloc, bytes)?))
+}
+
+#[tactic(auto, unfolding(crate::specs::Reading::name_at))]
+fn name_of(alloc: Global, reader: &mut ByteReader<'_>) -> Result<Option<FileName>, NoMemory>
+    ensures { IfOk result (λ name. Reads (λ same. same) name reader.new (name_at reader.old)) }
+{
+    let Some(library) = text_of(alloc, reader)? else {
+        return Ok(None);
+    };
+    let Some(path) = text_of(alloc, reader)? else {
+        return Ok(None);
+    };
+    Ok(Some(FileName { library, path }))
+}
+
+fn words_of(alloc: Global, reader: &mut ByteReader<'_>) -> Result<Option<TextList>, NoMemory>
+    ensures { IfOk result (λ words. Reads (λ same. same) words reader.new (counted_at text_at reader.old)) }
+{
+    let Some(count) = reader.u32() else {
+        return Ok(None);
+    };
+    let mut words = TextList::new(alloc);
+    for _ in 0..count {
+        let Some(word) = text_of(alloc, reader)? else {
+            return Ok(None);
+        };
+        words.push(word)?;
+    }
+    Ok(Some(words))
+}
+
+fn positions_of(alloc: Global, reader: &mut ByteReader<'_>) -> Result<Option<Positions>, NoMemory>
+    ensures { IfOk result (λ positions. Reads (λ same. same) positions reader.new (counted_at (number_at w32) reader.old)) }
+{
+    let Some(count) = reader.u32() else {
+        return Ok(None);
+    };
+    let mut positions = Positions::new(alloc);
+    for _ in 0..count {
+        let Some(position) = reader.u32() else {
+            return Ok(None);
+        };
+        positions.push(position)?;
+    }
+    Ok(Some(positions))
+}
+
+#[tactic(auto, unfolding(crate::specs::Reading::entry_at))]
+fn entry_of(alloc: Global, reader: &mut ByteReader<'_>) -> Result<Option<Entry>, NoMemory>
+    ensures { IfOk result (λ entry. Reads (λ same. same) entry reader.new (entry_at reader.old)) }
+{
+    let Some(name) = name_of(alloc, reader)? else {
+        return Ok(None);
+    };
+    let Some(command) = words_of(alloc, reader)? else {
+        return Ok(None);
+    };
+    let Some(text) = text_of(alloc, reader)? else {
+        return Ok(None);
+    };
+    let Some(deps) = positions_of(alloc, reader)? else {
+        return Ok(None);
+    };
+    Ok(Some(Entry {
+        name,
+        command,
+        text,
+        deps,
+    }))
+}
+
+fn entries_of(alloc: Global, reader: &mut ByteReader<'_>) -> Result<Option<Items<Entry>>, NoMemory>
+    ensures { IfOk result (λ entries. Reads (λ same. same) entries reader.new (counted_at entry_at reader.old)) }
+{
+    let Some(count) = reader.u32() else {
+        return Ok(None);
+    };
+    let mut entries = Items::new(alloc);
+    for _ in 0..count {
+        let Some(entry) = entry_of(alloc, reader)? else {
+            return Ok(None);
+        };
+        entries.push(entry)?;
+    }
+    Ok(Some(entries))
+}
+
+/// The files and the artefact that all of the bytes spell, if they do.
+#[tactic(auto, unfolding(crate::specs::Reading::record_at))]
+fn parts_of(alloc: Global, bytes: &[u8]) -> Result<Option<Parts>, NoMemory>
+    ensures { IfOk result (λ parts. ReadsAll (λ p. (p.entries, p.artefact)) parts (record_at bytes.now)) }
+{
+    let mut reader = ByteReader::new(bytes);
+    let Some(entries) = entries_of(alloc, &mut reader)? else {
+        return Ok(None);
+    };
+    let Some(artefact) = text_of(alloc, &mut reader)? else {
+        return Ok(None);
+    };
+    if !reader.is_at_end() {
+        return Ok(None);
+    }
+    Ok(Some(Parts { entries, artefact }))
+}
+
+fn graph_of(alloc: Global, entries: Items<Entry>) -> Result<Graph, NoMemory>
+    requires { IsGraph entries }
+    ensures { IfOk result (λ graph. graph ≡ entries) }
+{
+    let mut graph = Graph::new(alloc);
+    for entry in entries.into_vec() {
+        graph.push(entry)?;
+    }
+    Ok(graph)
+}
+
+/// The record whose bytes these are; `None` exactly where no record has these bytes.
+pub fn read_record(alloc: Global, bytes: &[u8]) -> Result<Option<Record>, NoMemory>
+    // What is given is a record with these bytes,
+    ensures found { IfOk result (λ given. IfSome given (λ r. IsRecord r.view r.artefact × (bytes.now ≡ record_bytes r.view r.artefact))) }
+    // and where a record has these bytes, there is an answer, and it is that one.
+    ensures some { (view : List Entry) (artefact : List ℕ) → IsRecord view artefact → bytes.now ≡ record_bytes view artefact → IfOk result (λ given. IsSome given) }
+    ensures only { (view : List Entry) (artefact : List ℕ) → IsRecord view artefact → bytes.now ≡ record_bytes view artefact → IfOk result (λ given. IfSome given (λ r. (r.view ≡ view) × (r.artefact ≡ artefact))) }
+{
+    let Some(Parts { entries, artefact }) = parts_of(alloc, bytes)? else {
+        return Ok(None);
+    };
+    if artefact.bytes().len() > 262_144 {
+        return Ok(None);
+    }
+    if !is_view(alloc, entries.as_slice())? {
+        return Ok(None);
+    }
+    let view = graph_of(alloc, entries)?;
+    Ok(Some(Record { view, artefact }))
+}

@@ -1,0 +1,56 @@
+ghost use Rattle.std.specs.Prelude.{◌≡◌, ◌↔◌, ◌<◌, ◌≤◌, length, All, IsTrue};
+ghost use Rattle.std.specs.List.Sorted.{IsStrictlyIncreasing};
+ghost use Rattle.vr_base.specs.Names.{FitsName, FitsCommand};
+ghost use Rattle.record_codec.specs.Validity.{FitsFile};
+
+use vr_base::{Entry, FileName, Text, TextList};
+
+fn fits_name(name: &FileName) -> bool
+    ensures { IsTrue result ↔ FitsName name.now }
+{
+    let library = name.library.bytes().len();
+    let path = name.path.bytes().len();
+    1 <= library && library <= 64 && 1 <= path && path <= 1024
+}
+
+fn are_short(words: &[Text]) -> bool
+    ensures { IsTrue result ↔ All (λ word. length word ≤ 1024) words.now }
+{
+    for word in words {
+        if word.bytes().len() > 1024 {
+            return false;
+        }
+    }
+    true
+}
+
+fn fits_command(command: &TextList) -> bool
+    ensures { IsTrue result ↔ FitsCommand command.now }
+{
+    let words = command.as_slice();
+    1 <= words.len() && words.len() <= 64 && are_short(words)
+}
+
+/// Whether the name, the words and the text of a file are of the sizes of a graph.
+pub fn fits_file(entry: &Entry) -> bool
+    ensures { IsTrue result ↔ FitsFile entry.now }
+{
+    fits_name(&entry.name) && fits_command(&entry.command) && entry.text.bytes().len() <= 4_194_304
+}
+
+/// Whether positions rise and are all below a place.
+pub fn rise_below(place: u32, positions: &[u32]) -> bool
+    ensures rising { IsTrue result → IsStrictlyIncreasing positions.now }
+    ensures below { IsTrue result → All (λ position. position < place) positions.now }
+    ensures only { IsStrictlyIncreasing positions.now → All (λ position. position < place) positions.now → IsTrue result }
+{
+    for i in 0..positions.len() {
+        if positions[i] >= place {
+            return false;
+        }
+        if i > 0 && positions[i - 1] >= positions[i] {
+            return false;
+        }
+    }
+    true
+}

@@ -1,0 +1,84 @@
+ghost use Rattle.std.specs.Prelude.{◌≡◌, ◌↔◌, ◌<◌, ◌≤◌, length, sum_by, IsTrue, IfOk};
+ghost use Rattle.vr_base.specs.Graphs.{IsGraph};
+ghost use Rattle.source_view.specs.View.{IsView};
+ghost use Rattle.record_codec.specs.Validity.{StandsAt, StandBelow};
+
+use crate::closed::is_closed;
+use crate::names::are_distinct;
+use crate::sizes::{fits_file, rise_below};
+use std::alloc::Global;
+use vr_base::{Entry, NoMemory};
+
+/// Whether the texts of files have at most 67,108,864 bytes together.
+fn are_small(entries: &[Entry]) -> bool
+    ensures { IsTrue result ↔ (sum_by (λ entry. length entry.text) entries.now ≤ 67108864) }
+{
+    let mut left: usize = 67_108_864;
+    for entry in entries {
+        let size = entry.text.bytes().len();
+        if size > left {
+            return false;
+        }
+        left -= size;
+    }
+    true
+}
+
+/// Whether the file at a place stands there in a graph, where all files before it do.
+fn stands_at(alloc: Global, entries: &[Entry], place: usize) -> Result<bool, NoMemory>
+    requires place { place < length entries.now }
+    requires few { length entries.now ≤ 4096 }
+    requires before { StandBelow entries.now place }
+    ensures { IfOk result (λ stands. IsTrue stands ↔ StandsAt entries.now place) }
+{
+    let entry = &entries[place];
+    if !fits_file(entry) {
+        return Ok(false);
+    }
+    if !rise_below(place as u32, entry.deps.as_slice()) {
+        return Ok(false);
+    }
+    is_closed(alloc, entries, place)
+}
+
+/// Whether each file stands in a graph where it is.
+fn all_stand(alloc: Global, entries: &[Entry]) -> Result<bool, NoMemory>
+    requires { length entries.now ≤ 4096 }
+    ensures { IfOk result (λ all. IsTrue all ↔ StandBelow entries.now (length entries.now)) }
+{
+    for place in 0..entries.len() {
+        if !stands_at(alloc, entries, place)? {
+            return Ok(false);
+        }
+    }
+    Ok(true)
+}
+
+/// Whether the last file depends on all others. Its dependencies rise and stand before it, so their number tells.
+fn is_whole(entries: &[Entry]) -> bool
+    requires some { 0 < length entries.now }
+    requires stand { StandBelow entries.now (length entries.now) }
+    ensures { IsTrue result ↔ IsView entries.now }
+{
+    let last = entries.len() - 1;
+    entries[last].deps.as_slice().len() == last
+}
+
+/// Whether files are a graph whose last file depends on all others.
+pub fn is_view(alloc: Global, entries: &[Entry]) -> Result<bool, NoMemory>
+    ensures { IfOk result (λ is. IsTrue is ↔ (IsGraph entries.now × IsView entries.now)) }
+{
+    if entries.is_empty() || entries.len() > 4096 {
+        return Ok(false);
+    }
+    if !are_small(entries) {
+        return Ok(false);
+    }
+    if !are_distinct(alloc, entries)? {
+        return Ok(false);
+    }
+    if !all_stand(alloc, entries)? {
+        return Ok(false);
+    }
+    Ok(is_whole(entries))
+}
