@@ -19,7 +19,7 @@ pub use file::{FileList, FileName, NamedText, NamedTextList};
 pub use graph::{Built, BuiltFile, Entry, Graph};
 pub use items::{Items, Numbers, Positions};
 pub use lexical::{LexFault, Span, SpanList, Token, TokenKind, TokenList, Tokens};
-pub use memory::NoMemory;
+pub use memory::{DiskFailed, NoMemory};
 pub use outcome::{Limit, Mark, MarkList, Outcome, Refusal, Which};
 pub use project::{Pair, PairList, Project, ProjectFault, ProjectFile, ProjectFileList};
 pub use rooms::RoomItems;

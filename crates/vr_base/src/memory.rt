@@ -7,6 +7,10 @@ use std::alloc::{AllocError, AllocFailed};
 #[derive(Clone, Copy, Debug, PartialEq, Eq)]
 pub struct NoMemory;
 
+/// A call of a disk failed.
+#[derive(Clone, Copy, Debug, PartialEq, Eq)]
+pub struct DiskFailed;
+
 impl From<AllocError> for NoMemory {
     ghost from_gives = { λ _ e. e ≡ record {} };
 

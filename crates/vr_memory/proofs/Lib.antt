@@ -1,3 +1,5 @@
 mod ListingLemmas
 mod BookLemmas
 mod TableLemmas
+mod LogLemmas
+mod CrashLemmas

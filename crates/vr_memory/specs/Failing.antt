@@ -2,6 +2,7 @@
 -- and stays at the last number of 64 bits once it is there.
 use Rattle.std.specs.Prelude.{◌≡◌, ℕ, ◌+◌, ◌-◌, ◌^◌, ◌<◌, ◌==◌, ◌⊎◌, Bool, true, false, min, List, Result, Ok, Err}
 use Rattle.std.specs.List.{list_any}
+use Rattle.vr_base.specs.declared.memory.DiskFailed.{DiskFailed}
 use Rattle.vr_outside.specs.declared.tree.TreeFault.{TreeFault}
 use Rattle.vr_outside.specs.declared.tree.TreeFault.TheVariants as tree
 use Rattle.vr_outside.specs.declared.procs.StartFault.{StartFault}
@@ -49,3 +50,13 @@ SourceFails (Err source.Failed) failing call = fails failing call ≡ true
 abbrev pub SinkFails : {T : Type 0} → Result T SinkFault → List ℕ → ℕ → (room wanted : ℕ) → Type 0
 SinkFails (Ok value) failing call room wanted = fails failing call ≡ false
 SinkFails (Err sink.Failed) failing call room wanted = (fails failing call ≡ true) ⊎ (room < wanted)
+
+-- A call of a disk that only asks fails where it is listed, and nowhere else.
+abbrev pub AskFails : {T : Type 0} → Result T DiskFailed → List ℕ → ℕ → Type 0
+AskFails (Ok value) failing call = fails failing call ≡ false
+AskFails (Err fault) failing call = fails failing call ≡ true
+
+-- A call of a disk that is listed fails. Any other may find no memory.
+abbrev pub DiskFails : {T : Type 0} → Result T DiskFailed → List ℕ → ℕ → Type 0
+DiskFails (Ok value) failing call = fails failing call ≡ false
+DiskFails (Err fault) failing call = Unit {0}

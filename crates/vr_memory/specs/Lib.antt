@@ -3,3 +3,5 @@ pub mod Streams
 pub mod Trees
 pub mod Books
 pub mod Scripts
+pub mod Disks
+pub mod DiskLaws

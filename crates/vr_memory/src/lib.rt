@@ -1,28 +1,41 @@
-//! The outside over memory: a tree, children by a table, a source and a sink that tell what they hold. Each fails
-//! in the calls that it is told to fail.
+//! The outside over memory: a tree, a disk, children by a table, a source and a sink that tell what they hold. Each
+//! fails in the calls that it is told to fail.
 #![tactic(auto)]
 
 mod answer;
 mod book;
 mod conditions;
 mod copies;
+mod disk_log;
+mod disk_sides;
 mod failing;
 mod files;
+mod images;
+mod kept;
 mod listing;
+mod mem_disk;
 mod mem_sink;
 mod mem_source;
 mod mem_tree;
 mod script_procs;
+mod side_book;
 mod table;
 mod tickets;
 
 pub use answer::{Answer, AnswerList};
 pub use book::ChildBook;
 pub use conditions::{have_paths, have_sizes};
+pub use disk_log::DiskLog;
+pub use disk_sides::DiskSides;
+pub use kept::{Act, Kept, KeptList};
+pub use mem_disk::MemDisk;
 pub use mem_sink::MemSink;
 pub use mem_source::MemSource;
 pub use mem_tree::MemTree;
 pub use script_procs::ScriptProcs;
+pub use side_book::SideBook;
 
+#[cfg(test)]
+mod disk_tests;
 #[cfg(test)]
 mod tests;

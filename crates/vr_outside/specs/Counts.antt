@@ -1,5 +1,6 @@
 -- Counts of faults. A count never falls, and stays at the last number of 64 bits once it is there.
 use Rattle.std.specs.Prelude.{◌≡◌, ℕ, ◌+◌, ◌-◌, ◌^◌, ◌≤◌, min, Result, Ok, Err}
+use Rattle.vr_base.specs.declared.memory.DiskFailed.{DiskFailed}
 use Rattle.vr_outside.specs.declared.tree.TreeFault.{TreeFault}
 use Rattle.vr_outside.specs.declared.tree.TreeFault.TheVariants as tree
 use Rattle.vr_outside.specs.declared.procs.StartFault.{StartFault}
@@ -48,3 +49,8 @@ SourceCounts (Err source.Failed) before now = Counted before now
 abbrev pub SinkCounts : {T : Type 0} → Result T SinkFault → ℕ → ℕ → Type 0
 SinkCounts (Ok value) before now = now ≡ before
 SinkCounts (Err sink.Failed) before now = Counted before now
+
+-- the same of a disk
+abbrev pub DiskCounts : {T : Type 0} → Result T DiskFailed → ℕ → ℕ → Type 0
+DiskCounts (Ok value) before now = now ≡ before
+DiskCounts (Err fault) before now = Counted before now

@@ -2,3 +2,4 @@ pub mod Counts
 pub mod Trees
 pub mod Children
 pub mod Streams
+pub mod Disks

@@ -1,14 +1,18 @@
-//! The outside, as the program sees it: a tree of sources, children, an input and an output. Each object counts
-//! its faults. An object tells its contents, or it tells nothing but its counts, its running tickets, and the
+//! The outside, as the program sees it: a tree of sources, a disk, children, an input and an output. Each object
+//! counts its faults. An object tells its contents, or it tells nothing but its counts, its running tickets, and the
 //! size and form of what it answers.
 #![tactic(auto)]
 
 mod counts;
+mod disk;
+mod durable;
 mod procs;
 mod streams;
 mod tree;
 
 pub use counts::counted;
+pub use disk::{Disk, Side};
+pub use durable::{cut_durably, write_both_durably, write_durably};
 pub use procs::{Ended, Procs, StartFault, WaitFault};
 pub use streams::{Sink, SinkFault, Source, SourceFault, TakeEnd};
 pub use tree::{NamesEnd, ReadEnd, Tree, TreeFault};

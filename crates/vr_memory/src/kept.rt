@@ -1,0 +1,21 @@
+use vr_base::{RoomItems, Text};
+use vr_outside::Side;
+
+/// What a call of a disk does to a side.
+#[derive(Drop)]
+pub enum Act {
+    Write { at: u64, bytes: Text },
+    Cut { len: u64 },
+    Sync,
+}
+
+/// A call of a disk: its number, its side, what it does, and whether it was done or failed inside.
+#[derive(Drop)]
+pub struct Kept {
+    pub number: u64,
+    pub side: Side,
+    pub act: Act,
+    pub done: bool,
+}
+
+pub type KeptList = RoomItems<Kept>;
