@@ -7,7 +7,7 @@ use Rattle.std.proofs.lemmas.List.{get_or_default, take_more}
 use Rattle.std.proofs.lemmas.List.Sums.{sum_by_push}
 use Rattle.vr_base.specs.declared.graph.Entry.{Entry}
 use Rattle.vr_base.specs.Graphs.{IsEntryAt}
-use Rattle.source_view.specs.View.{IsView}
+use Rattle.vr_base.specs.View.{IsView}
 use Rattle.source_view.proofs.Rising.{before_later, place_le, few}
 use Rattle.record_codec.specs.Validity.{FitsFile, IsClosedAt, IsBefore, StandsAt, StandBelow}
 

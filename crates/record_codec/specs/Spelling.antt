@@ -4,7 +4,7 @@ use Rattle.std.specs.List.{flat_map}
 use Rattle.vr_base.specs.declared.graph.Entry.{Entry}
 use Rattle.vr_base.specs.Bytes.{number_bytes, text_bytes}
 use Rattle.vr_base.specs.Graphs.{IsGraph}
-use Rattle.source_view.specs.View.{IsView}
+use Rattle.vr_base.specs.View.{IsView}
 use Rattle.vr_base.specs.Jobs.{name_bytes}
 
 -- words, with their number in front

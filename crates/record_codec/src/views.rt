@@ -1,6 +1,6 @@
 ghost use Rattle.std.specs.Prelude.{◌≡◌, ◌↔◌, ◌<◌, ◌≤◌, length, sum_by, IsTrue, IfOk};
 ghost use Rattle.vr_base.specs.Graphs.{IsGraph};
-ghost use Rattle.source_view.specs.View.{IsView};
+ghost use Rattle.vr_base.specs.View.{IsView};
 ghost use Rattle.record_codec.specs.Validity.{StandsAt, StandBelow};
 
 use crate::closed::is_closed;

@@ -1,5 +1,5 @@
 ghost use Rattle.std.specs.Prelude.{◌≡◌, ◌<◌, ◌≤◌, ◌^◌, ◌++◌, length, All, IfOk, OnOk};
-ghost use Rattle.source_view.specs.View.{IsView};
+ghost use Rattle.vr_base.specs.View.{IsView};
 ghost use Rattle.vr_base.specs.Jobs.{name_bytes};
 ghost use Rattle.record_codec.specs.Spelling.{words_bytes, positions_bytes, entry_bytes, record_bytes, HasSpelling};
 

@@ -6,7 +6,8 @@ use Rattle.std.proofs.lemmas.Bool.{cases_lt, eq-eqb, ne_eqb}
 use Rattle.std.proofs.lemmas.List.{get_or_default, get_or-set_same, get_or-set_other}
 use Rattle.std.proofs.lemmas.List.Sums.{position_or_len_is, sum_by-cons, sum_by-take-drop}
 use Rattle.source_view.proofs.Rising.{before_later}
-use Rattle.source_view.specs.View.{place_in, IsNumbered}
+use Rattle.vr_base.specs.View.{place_in}
+use Rattle.source_view.specs.Numbers.{IsNumbered}
 
 module _ (positions : List ℕ) (rising : IsStrictlyIncreasing positions) where
   -- each position has its own place

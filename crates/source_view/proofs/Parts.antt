@@ -8,7 +8,7 @@ use Rattle.std.proofs.lemmas.List.Sums.{sum_by-cons}
 use Rattle.std.proofs.lemmas.Option.{slice_get-get_or}
 use Rattle.vr_base.specs.declared.graph.Entry.{Entry}
 use Rattle.vr_base.specs.Graphs.{IsEntryAt, IsGraph}
-use Rattle.source_view.specs.View.{place_in, renumbered, part}
+use Rattle.vr_base.specs.View.{place_in, renumbered, part}
 use Rattle.source_view.proofs.Numbering.{place_of, place_within, get_or-place, place_lower, sum_of_part}
 use Rattle.source_view.proofs.Rising.{before_later, few}
 

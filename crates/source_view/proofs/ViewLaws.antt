@@ -8,9 +8,10 @@ use Rattle.std.proofs.lemmas.List.Elements.{Contains-append_left, All-contains_i
 use Rattle.std.proofs.lemmas.Option.{slice_get-get_or, get_or_from_slice_get}
 use Rattle.vr_base.specs.declared.graph.Entry.{Entry}
 use Rattle.vr_base.specs.Graphs.{IsGraph}
-use Rattle.source_view.specs.View.{IsView}
+use Rattle.vr_base.specs.View.{IsView}
 use Rattle.vr_base.proofs.GraphFronts.{IsGraph-front}
-use Rattle.source_view.specs.View.{place_in, renumbered, part, viewed, view, IsNumbered, with_numbers}
+use Rattle.vr_base.specs.View.{place_in, renumbered, part, viewed, view}
+use Rattle.source_view.specs.Numbers.{IsNumbered, with_numbers}
 use Rattle.source_view.proofs.Numbering.{place_at, place_of, place_within, get_or-place, place_lower}
 use Rattle.source_view.proofs.Parts.{IsPart, no_entry, map_same, map_map, part_is, length-part, get_or-part, at_place, part_is_graph}
 

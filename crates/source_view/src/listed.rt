@@ -3,7 +3,6 @@ ghost use Rattle.vr_base.specs.Projects.{IsProject};
 ghost use Rattle.run_spec.specs.PresentGraph.{below, listed_entry, listed, IsListed};
 ghost use Rattle.source_view.specs.Listed.{AreTexts};
 
-use crate::words::copy_words;
 use std::alloc::Global;
 use vr_base::{Entry, Graph, NoMemory, Positions, Project, ProjectFile, Text, TextList};
 
@@ -29,7 +28,7 @@ fn listed_entry(
 {
     Ok(Entry {
         name: file.name.copy(alloc)?,
-        command: copy_words(alloc, &file.command)?,
+        command: file.command.copy(alloc)?,
         text,
         deps: earlier(alloc, place)?,
     })

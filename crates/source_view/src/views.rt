@@ -2,10 +2,9 @@ ghost use Rattle.std.specs.Prelude.{◌≡◌, ℕ, List, ◌+◌, ◌<◌, ◌�
 ghost use Rattle.std.specs.List.Sorted.{IsStrictlyIncreasing};
 ghost use Rattle.vr_base.specs.declared.graph.Entry.{Entry};
 ghost use Rattle.vr_base.specs.Graphs.{IsGraph};
-ghost use Rattle.source_view.specs.View.{IsView};
-ghost use Rattle.source_view.specs.View.{viewed, view, IsNumbered, with_numbers};
+ghost use Rattle.vr_base.specs.View.{viewed, view, IsView};
+ghost use Rattle.source_view.specs.Numbers.{IsNumbered, with_numbers};
 
-use crate::words::copy_words;
 use std::alloc::Global;
 use vr_base::{Entry, Graph, NoMemory, Positions};
 
@@ -53,7 +52,7 @@ fn with_numbers(alloc: Global, table: &[u32], entry: &Entry) -> Result<Entry, No
 {
     Ok(Entry {
         name: entry.name.copy(alloc)?,
-        command: copy_words(alloc, &entry.command)?,
+        command: entry.command.copy(alloc)?,
         text: entry.text.copy(alloc)?,
         deps: renumbered(alloc, table, entry.deps.as_slice())?,
     })

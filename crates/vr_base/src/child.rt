@@ -1,10 +1,24 @@
-use crate::{RoomItems, Text, TextList};
+ghost use Rattle.std.specs.Prelude.{◌≡◌, IfOk};
+
+use crate::{NoMemory, RoomItems, Text, TextList};
+use std::alloc::Global;
 
 /// A text, or none.
 #[derive(Debug, Drop)]
 pub enum MaybeText {
     Nothing,
     Given(Text),
+}
+
+impl MaybeText {
+    pub fn copy(&self, alloc: Global) -> Result<MaybeText, NoMemory>
+        ensures { IfOk result (λ copy. copy ≡ self.now) }
+    {
+        match self {
+            MaybeText::Nothing => Ok(MaybeText::Nothing),
+            MaybeText::Given(text) => Ok(MaybeText::Given(text.copy(alloc)?)),
+        }
+    }
 }
 
 /// What a child is started with: its command words, its whole input, and where it leaves its results, if anywhere.
@@ -15,12 +29,36 @@ pub struct Request {
     pub results: MaybeText,
 }
 
+impl Request {
+    pub fn copy(&self, alloc: Global) -> Result<Request, NoMemory>
+        ensures { IfOk result (λ copy. copy ≡ self.now) }
+    {
+        Ok(Request {
+            command: self.command.copy(alloc)?,
+            input: self.input.copy(alloc)?,
+            results: self.results.copy(alloc)?,
+        })
+    }
+}
+
 /// How a child ended: its code, what it printed, and the results that it left.
 #[derive(Drop)]
 pub struct Exit {
     pub code: u32,
     pub output: Text,
     pub results: MaybeText,
+}
+
+impl Exit {
+    pub fn copy(&self, alloc: Global) -> Result<Exit, NoMemory>
+        ensures { IfOk result (λ copy. copy ≡ self.now) }
+    {
+        Ok(Exit {
+            code: self.code,
+            output: self.output.copy(alloc)?,
+            results: self.results.copy(alloc)?,
+        })
+    }
 }
 
 /// What happened to children, one event a start or an end. A ticket names a started child.

@@ -73,3 +73,16 @@ impl Text {
         Text::from_slice(alloc, self.bytes())
     }
 }
+
+impl Items<Text> {
+    /// A copy of the texts.
+    pub fn copy(&self, alloc: Global) -> Result<TextList, NoMemory>
+        ensures { IfOk result (λ copy. copy ≡ self.now) }
+    {
+        let mut copy = TextList::new(alloc);
+        for text in self.as_slice() {
+            copy.push(text.copy(alloc)?)?;
+        }
+        Ok(copy)
+    }
+}

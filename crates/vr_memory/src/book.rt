@@ -5,7 +5,6 @@ ghost use Rattle.vr_outside.specs.Children.{IsFresh, AddsTicket, AddsStart, star
 ghost use Rattle.vr_memory.specs.Failing.{next_call, fails as fails_at, StartFails};
 ghost use Rattle.vr_memory.specs.Books.{picked as picked_of, IsEnd, EndsChild, LosesChild};
 
-use crate::copies::copy_request;
 use crate::failing::{call_after, is_failing};
 use crate::tickets::{leave, pick};
 use std::alloc::Global;
@@ -116,7 +115,7 @@ impl ChildBook {
             self.failed_starts = counted(self.failed_starts);
             return Err(StartFault::Failed);
         }
-        let Ok(request) = copy_request(alloc, request) else {
+        let Ok(request) = request.copy(alloc) else {
             return Err(StartFault::NoMemory);
         };
         let Ok(()) = self.journal.reserve(self.running.len() + 2) else {

@@ -5,7 +5,6 @@
 mod answer;
 mod book;
 mod conditions;
-mod copies;
 mod disk_log;
 mod disk_sides;
 mod failing;

@@ -5,7 +5,6 @@ ghost use Rattle.vr_memory.specs.Failing.{next_call, StartFails, WaitFails};
 ghost use Rattle.vr_memory.specs.Books.{picked};
 ghost use Rattle.vr_memory.specs.Scripts.{answer_of, HaveSizes};
 
-use crate::copies::copy_exit;
 use crate::table::{exit_of, unknown};
 use crate::{Answer, AnswerList, ChildBook};
 use std::alloc::Global;
@@ -145,7 +144,7 @@ fn two_exits(
     match request {
         Some(request) => {
             let exit = exit_of(alloc, answers, request)?;
-            let kept = copy_exit(alloc, &exit)?;
+            let kept = exit.copy(alloc)?;
             Ok((exit, kept))
         }
         None => Ok((unknown(alloc), unknown(alloc))),

@@ -2,7 +2,6 @@ ghost use Rattle.std.specs.Prelude.{◌≡◌, IfOk};
 ghost use Rattle.vr_memory.specs.Scripts.{same_maybe as same_maybe_of, same_request as same_request_of, same_texts as same_texts_of, answer_of, unknown_exit};
 
 use crate::Answer;
-use crate::copies::copy_exit;
 use std::alloc::Global;
 use vr_base::{Exit, MaybeText, NoMemory, Request, Text};
 
@@ -12,7 +11,7 @@ pub fn exit_of(alloc: Global, answers: &[Answer], request: &Request) -> Result<E
 {
     for answer in answers {
         if same_request(&answer.request, request) {
-            return copy_exit(alloc, &answer.exit);
+            return answer.exit.copy(alloc);
         }
     }
     Ok(unknown(alloc))

@@ -1,5 +1,5 @@
 // One child: how it is started and given its input, and how its output, its end and its results are taken.
-ghost use Rattle.std.specs.Prelude.{◌≡◌, ◌<◌, ◌≤◌, length, IfOk, IsOkUnless, MatchResult, option_map, string_bytes};
+ghost use Rattle.std.specs.Prelude.{◌≡◌, ◌<◌, ◌≤◌, length, IfOk, MatchResult, option_map, string_bytes};
 ghost use Rattle.std.specs.Str.{IsUtf8};
 ghost use Rattle.std.specs.Process.{exit_code};
 ghost use Rattle.vr_outside.specs.Children.{FitsExit, IsShort};
@@ -47,7 +47,7 @@ pub fn start_child<R: Processes + Files>(
     request: &Request,
 ) -> Result<Running<R::Started>, IoFault> {
     clear_results(runtime, &request.results)?;
-    let results = copied(alloc, &request.results)?;
+    let results = request.results.copy(alloc)?;
     let mut command = command_of(alloc, own_path, request.command.as_slice())?;
     command.stdin(Stdio::piped()).stdout(Stdio::piped());
     let mut child = command.spawn(runtime)?;
@@ -74,16 +74,6 @@ fn clear_results(files: &impl Files, results: &MaybeText) -> Result<(), IoFault>
         Ok(()) => Ok(()),
         Err(error) if error.kind() == ErrorKind::NotFound => Ok(()),
         Err(error) => Err(IoFault::from(error)),
-    }
-}
-
-fn copied(alloc: Global, text: &MaybeText) -> Result<MaybeText, IoFault>
-    ensures same { IfOk result (λ copy. copy ≡ text.now) }
-    ensures cause { IsOkUnless result IoFault.NoMemory }
-{
-    match text {
-        MaybeText::Nothing => Ok(MaybeText::Nothing),
-        MaybeText::Given(text) => Ok(MaybeText::Given(text.copy(alloc)?)),
     }
 }
 

@@ -4,7 +4,6 @@ ghost use Rattle.vr_base.specs.Bytes.{text_bytes};
 ghost use Rattle.vr_base.specs.Graphs.{IsBuiltFile};
 ghost use Rattle.vr_base.specs.Jobs.{name_bytes, built_bytes, all_built_bytes, compile_input, compile_request};
 
-use source_view::copy_words;
 use std::alloc::Global;
 use vr_base::{Built, BuiltFile, Entry, FileName, MaybeText, NoMemory, Request, Text};
 
@@ -72,7 +71,7 @@ pub fn compile_request(alloc: Global, entry: &Entry, built: &Built) -> Result<Re
     let mut input = Vec::new(alloc);
     put_compile_input(&mut input, entry, built)?;
     Ok(Request {
-        command: copy_words(alloc, &entry.command)?,
+        command: entry.command.copy(alloc)?,
         input: Text::from_vec(input),
         results: MaybeText::Nothing,
     })

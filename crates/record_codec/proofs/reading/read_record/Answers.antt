@@ -1,7 +1,7 @@
 use Rattle.std.proofs.Common.{◌≡◌, ◌∙◌, List, length, Some, ap, sym, subst, arith}
 use Rattle.vr_base.specs.declared.graph.Entry.{Entry}
 use Rattle.vr_base.specs.Graphs.{IsGraph}
-use Rattle.source_view.specs.View.{IsView}
+use Rattle.vr_base.specs.View.{IsView}
 use Rattle.record_codec.specs.Reading.{record_at}
 use Rattle.record_codec.specs.Spelling.{record_bytes}
 use Rattle.record_codec.proofs.Records.{record_takes, not_read, is_that}

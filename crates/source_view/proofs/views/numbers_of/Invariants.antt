@@ -1,5 +1,5 @@
 use Rattle.std.proofs.Common.{◌≡◌, length}
-use Rattle.source_view.specs.View.{IsNumbered}
+use Rattle.source_view.specs.Numbers.{IsNumbered}
 use Rattle.source_view.proofs.views.numbers_of.Given as goal
 
 abbrev pub invariant-loop-number : goal.invariant-loop-number

@@ -4,7 +4,8 @@ use Rattle.std.specs.List.Sorted.{IsStrictlyIncreasing}
 use Rattle.std.proofs.lemmas.List.{take_all}
 use Rattle.vr_base.specs.declared.graph.Entry.{Entry}
 use Rattle.vr_base.specs.Graphs.{IsGraph}
-use Rattle.source_view.specs.View.{viewed, view, IsNumbered, with_numbers}
+use Rattle.vr_base.specs.View.{viewed, view}
+use Rattle.source_view.specs.Numbers.{IsNumbered, with_numbers}
 use Rattle.source_view.proofs.Parts.{length-part}
 use Rattle.source_view.proofs.ViewLaws.{viewed_is_part, visited, visits_within, visited_deps, next_file}
 use Rattle.source_view.proofs.views.view_of.Goals as goal

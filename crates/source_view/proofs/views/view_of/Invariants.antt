@@ -1,5 +1,5 @@
 use Rattle.std.proofs.Common.{◌≡◌, take}
-use Rattle.source_view.specs.View.{view}
+use Rattle.vr_base.specs.View.{view}
 use Rattle.source_view.proofs.views.view_of.Given as goal
 
 abbrev pub invariant-loop-position : goal.invariant-loop-position
