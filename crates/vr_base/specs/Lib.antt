@@ -4,3 +4,4 @@ pub mod Graphs
 pub mod Projects
 pub mod Jobs
 pub mod Rooms
+pub mod View

@@ -23,14 +23,6 @@ part graph positions = map (renumbered positions) (filter_map (slice_get graph) 
 abbrev pub view : List Entry → ℕ → List Entry
 view graph at = part graph (viewed graph at)
 
--- a table that has the new numbers of the first positions
-abbrev pub IsNumbered : List ℕ → List ℕ → ℕ → Type 0
-IsNumbered table positions count = (place : ℕ) → place < count → slice_index table (slice_index positions place) ≡ place
-
--- a file whose dependencies have the numbers of a table
-abbrev pub with_numbers : List ℕ → Entry → Entry
-with_numbers table entry = record { name = entry.name; command = entry.command; text = entry.text; deps = map (slice_index table) entry.deps }
-
 -- at least one file, of which the last depends on all others
 pub record IsView (view : List Entry) : Type 0 where
   pub some : 0 < length view
