@@ -1,6 +1,8 @@
 -- Counts of faults. A count never falls, and stays at the last number of 64 bits once it is there.
 use Rattle.std.specs.Prelude.{◌≡◌, ℕ, ◌+◌, ◌-◌, ◌^◌, ◌≤◌, min, Result, Ok, Err}
 use Rattle.vr_base.specs.declared.memory.DiskFailed.{DiskFailed}
+use Rattle.vr_outside.specs.declared.records.StoreFault.{StoreFault}
+use Rattle.vr_outside.specs.declared.records.StoreFault.TheVariants as store
 use Rattle.vr_outside.specs.declared.tree.TreeFault.{TreeFault}
 use Rattle.vr_outside.specs.declared.tree.TreeFault.TheVariants as tree
 use Rattle.vr_outside.specs.declared.procs.StartFault.{StartFault}
@@ -54,3 +56,9 @@ SinkCounts (Err sink.Failed) before now = Counted before now
 abbrev pub DiskCounts : {T : Type 0} → Result T DiskFailed → ℕ → ℕ → Type 0
 DiskCounts (Ok value) before now = now ≡ before
 DiskCounts (Err fault) before now = Counted before now
+
+-- the same of a store on a disk
+abbrev pub StoreCounts : {T : Type 0} → Result T StoreFault → ℕ → ℕ → Type 0
+StoreCounts (Ok value) before now = now ≡ before
+StoreCounts (Err store.NoMemory) before now = now ≡ before
+StoreCounts (Err store.DiskFailed) before now = Counted before now

@@ -3,3 +3,4 @@ pub mod Trees
 pub mod Children
 pub mod Streams
 pub mod Disks
+pub mod Records

@@ -1,0 +1,81 @@
+-- Records of compiled files, the latest record of a name, and which files have one of their present view.
+use Rattle.std.specs.Prelude.{◌≡◌, ◌⊎◌, ◌↔◌, ℕ, ◌-◌, ◌<◌, Bool, true, false, ◌&&◌, List, [], ◌∷◌, ◌++◌, length, slice_get, slice_index_or, Option, Some, None, Result, Ok, Err, if◌then◌else◌}
+use Rattle.std.specs.Option.{option_or, option_map_or}
+use Rattle.std.specs.List.{list_any}
+use Rattle.std.specs.Str.{bytes_eq}
+use Rattle.vr_base.specs.declared.file.FileName.{FileName}
+use Rattle.vr_base.specs.declared.graph.Entry.{Entry}
+use Rattle.vr_base.specs.declared.memory.DiskFailed.{DiskFailed}
+use Rattle.vr_base.specs.View.{view}
+use Rattle.vr_outside.specs.declared.records.Need.{Need}
+use Rattle.vr_outside.specs.declared.records.Need.TheVariants.{Fresh}
+use Rattle.vr_outside.specs.Disks.{DiskState, Image, IsImage}
+
+-- what was compiled, the file last, and what the compiler gave for it
+pub record Record : Type 0 where
+  pub view : List Entry
+  pub artefact : List ℕ
+
+abbrev pub is_same_name : FileName → FileName → Bool
+is_same_name a b = bytes_eq a.library b.library && bytes_eq a.path b.path
+
+-- the file that a view is of: its last
+abbrev pub last_of : List Entry → Option Entry
+last_of view = slice_get view (length view - 1)
+
+-- the view ends in this name
+abbrev pub is_of : FileName → Record → Bool
+is_of name kept = option_map_or (λ entry. is_same_name entry.name name) (last_of kept.view) false
+
+-- the last record of a name
+unfoldable pub latest : FileName → List Record → Option Record
+latest name [] = None
+latest name (first ∷ rest) = option_or (latest name rest) (if is_of name first then Some first else None)
+
+-- a later record has the same name
+abbrev pub is_replaced : List Record → Record → Bool
+is_replaced later kept = option_map_or (λ entry. list_any (is_of entry.name) later) (last_of kept.view) false
+
+-- the latest record of each name, in their order
+unfoldable pub latest_alone : List Record → List Record
+latest_alone [] = []
+latest_alone (first ∷ rest) = if is_replaced rest first then latest_alone rest else first ∷ latest_alone rest
+
+-- all the records, or the latest alone
+abbrev pub IsKeptOf : List Record → List Record → Type 0
+IsKeptOf before now = (now ≡ before) ⊎ (now ≡ latest_alone before)
+
+-- An image has the records of an image of a disk, or the latest of these alone.
+pub record HasRecordsOf (records_of : Image → List Record) (disk : DiskState) (image : Image) : Type 0 where
+  pub before : Image
+  pub was : IsImage disk before
+  pub kept : IsKeptOf (records_of before) (records_of image)
+
+abbrev pub IsEither : List Record → List Record → List Record → Type 0
+IsEither records one other = (records ≡ one) ⊎ (records ≡ other)
+
+-- The latest record of the file at a place of a graph has its present view, and this artefact.
+pub record IsRecorded (graph : List Entry) (records : List Record) (at : ℕ) : Type 0 where
+  pub entry : Entry
+  pub stands : slice_get graph at ≡ Some entry
+  pub artefact : List ℕ
+  pub is : latest entry.name records ≡ Some (record { view = view graph at; artefact = artefact })
+
+-- one need for each file, which is fresh exactly where the latest record of its name has its present view
+pub record AreNeeds (graph : List Entry) (records : List Record) (needs : List Need) : Type 0 where
+  pub each : length needs ≡ length graph
+  pub fresh : (at : ℕ) (other : Need) → at < length graph → (slice_index_or needs at other ≡ Fresh) ↔ IsRecorded graph records at
+
+-- the positions that the file at a place depends on
+abbrev pub deps_at : List Entry → ℕ → List ℕ
+deps_at graph at = option_map_or (λ entry. entry.deps) (slice_get graph at) []
+
+-- the records after a commit that answered
+abbrev pub after_commit : {T : Type 0} → Result T DiskFailed → List Record → Record → List Record
+after_commit (Ok value) before new = before ++ new ∷ []
+after_commit (Err fault) before new = before
+
+-- the records after a store was emptied
+abbrev pub after_reset : {T : Type 0} → Result T DiskFailed → List Record → List Record
+after_reset (Ok value) before = []
+after_reset (Err fault) before = before

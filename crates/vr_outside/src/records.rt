@@ -1,0 +1,156 @@
+ghost use Rattle.std.specs.Prelude.{◌≡◌, ℕ, ◌<◌, ◌≤◌, ◌++◌, [], ◌∷◌, List, Bool, false, Option, option_map, length, All, IfOk, OnOk, is_err};
+ghost use Rattle.vr_base.specs.View.{view};
+ghost use Rattle.vr_outside.specs.Counts.{DiskCounts, StoreCounts};
+ghost use Rattle.vr_outside.specs.Disks.{DiskState, Image, reads_of, IsImage, IsDurable, AtAnyMoment, NeverLoses};
+ghost use Rattle.vr_outside.specs.Records.{Record, latest, deps_at, IsRecorded, AreNeeds, HasRecordsOf, IsKeptOf, IsEither, after_commit, after_reset};
+ghost use Rattle.vr_outside.specs.declared.records.StoreFault.TheVariants as fault;
+
+use crate::Disk;
+use std::alloc::{AllocError, AllocFailed, Global};
+use vr_base::{DiskFailed, FileName, Graph, Items, NoMemory, Text};
+
+/// Why records can't be read or kept.
+#[derive(Clone, Copy, Debug, PartialEq, Eq)]
+pub enum StoreFault {
+    NoMemory,
+    DiskFailed,
+}
+
+impl From<NoMemory> for StoreFault {
+    ghost from_gives = { λ _ e. e ≡ fault.NoMemory };
+
+    fn from(_: NoMemory) -> StoreFault {
+        StoreFault::NoMemory
+    }
+}
+
+impl From<AllocError> for StoreFault {
+    ghost from_gives = { λ _ e. e ≡ fault.NoMemory };
+
+    fn from(_: AllocError) -> StoreFault {
+        StoreFault::NoMemory
+    }
+}
+
+impl<T: Drop> From<AllocFailed<T>> for StoreFault {
+    ghost from_gives = { λ _ e. e ≡ fault.NoMemory };
+
+    fn from(_: AllocFailed<T>) -> StoreFault {
+        StoreFault::NoMemory
+    }
+}
+
+impl From<DiskFailed> for StoreFault {
+    ghost from_gives = { λ _ e. e ≡ fault.DiskFailed };
+
+    fn from(_: DiskFailed) -> StoreFault {
+        StoreFault::DiskFailed
+    }
+}
+
+/// Whether a file has a record of its present view.
+#[derive(Clone, Copy, Debug, PartialEq, Eq)]
+pub enum Need {
+    /// It has: nothing is to be done.
+    Fresh,
+    Stale,
+}
+
+/// One need for each file of a graph, in order.
+pub type Needs = Items<Need>;
+
+/// Records of compiled files on a disk: of each the view that was compiled, and what the compiler gave. The last
+/// record of a name counts. After `DiskFailed` a store is broken until it is opened again.
+pub trait Records: Sized {
+    /// A record that is ready to be kept.
+    type Prepared;
+
+    /// The records that an image of a disk holds, in order.
+    ghost records_of: { Image → List Record };
+
+    /// The records of the store, in order.
+    ghost records: { Self → List Record };
+
+    /// The disk is the one that the store was opened over, and only the store wrote it since.
+    ghost stands: { Self → DiskState → Type 0 };
+
+    ghost broken: { Self → Bool };
+
+    /// What a prepared record will be.
+    ghost record_of: { Self.Prepared → Record };
+
+    /// The store has room for the record, and prepared nothing and changed nothing since.
+    ghost is_ready: { Self → Self.Prepared → Type 0 };
+
+    /// Opens the records of a disk. Whatever a disk holds stands for some records, possibly none. It first syncs
+    /// both sides.
+    fn from_disk<D: Disk>(alloc: Global, disk: &mut D) -> Result<Self, StoreFault>
+        // At any moment, after a fault too, a stop leaves the records of an image at entry, or the latest of these.
+        ensures any_moment { D.tells → AtAnyMoment (D.moments disk.old) (D.moments disk.new) (HasRecordsOf records_of (D.moments disk.old).now) }
+        // Once each image has those of what reads gave at entry, each image has them.
+        ensures loses { D.tells → NeverLoses (D.moments disk.old) (D.moments disk.new) (λ image. IsKeptOf (records_of (reads_of (D.moments disk.old).now)) (records_of image)) }
+        ensures records { D.tells → IfOk result (λ store. IsKeptOf (records_of (reads_of (D.moments disk.old).now)) (records store)) }
+        ensures stands { D.tells → IfOk result (λ store. stands store (D.moments disk.new).now) }
+        ensures whole { IfOk result (λ store. broken store ≡ false) }
+        ensures cause { StoreCounts result (D.failed_disk_calls disk.old) (D.failed_disk_calls disk.new) };
+
+    /// For each file of a graph, whether its latest record has its present view.
+    fn needs(&self, alloc: Global, graph: &Graph) -> Result<Needs, NoMemory>
+        ensures { IfOk result (λ needs. AreNeeds graph.now (records self.now) needs) };
+
+    /// What the compiler gave by the latest record of a name, lent from the store; `None` exactly where the name
+    /// has no record. It takes no memory.
+    fn artefact(&self, name: &FileName) -> Option<&[u8]>
+        ensures { option_map (λ bytes. bytes.now) result ≡ option_map (λ kept. kept.artefact) (latest name.now (records self.now)) };
+
+    /// Makes a record of the present view of a file ready, with room for it. After `NoMemory` the store stands.
+    fn prepare(
+        &mut self,
+        alloc: Global,
+        graph: &Graph,
+        at: u32,
+        artefact: &Text,
+    ) -> Result<Self::Prepared, NoMemory>
+        requires place { at < length graph.now }
+        requires artefact { length artefact.now ≤ 262144 }
+        requires recorded { All (IsRecorded graph.now (records self.old)) (deps_at graph.now at) }
+        ensures record { IfOk result (λ prepared. record_of prepared ≡ record { view = view graph.now at; artefact = artefact.now }) }
+        ensures ready { IfOk result (λ prepared. is_ready self.new prepared) }
+        ensures records { records self.new ≡ records self.old }
+        ensures broken { broken self.new ≡ broken self.old }
+        ensures stands { (disk : DiskState) → stands self.old disk → stands self.new disk };
+
+    /// Adds a prepared record. It takes no memory.
+    fn commit<D: Disk>(&mut self, disk: &mut D, prepared: Self::Prepared) -> Result<(), DiskFailed>
+        requires whole { broken self.old ≡ false }
+        requires ready { is_ready self.old prepared }
+        requires stands { D.tells → stands self.old (D.moments disk.old).now }
+        ensures added { records self.new ≡ after_commit result (records self.old) (record_of prepared) }
+        ensures stands { D.tells → OnOk result (stands self.new (D.moments disk.new).now) }
+        // At any moment, after a fault too, a stop leaves the records from before, with the new one or without.
+        ensures any_moment { D.tells → AtAnyMoment (D.moments disk.old) (D.moments disk.new) (λ image. IsEither (records_of image) (records self.old) (records self.old ++ record_of prepared ∷ [])) }
+        // Once each image has the new one, each image has it.
+        ensures loses { D.tells → NeverLoses (D.moments disk.old) (D.moments disk.new) (λ image. records_of image ≡ records self.old ++ record_of prepared ∷ []) }
+        ensures broken { broken self.new ≡ is_err result }
+        ensures cause { DiskCounts result (D.failed_disk_calls disk.old) (D.failed_disk_calls disk.new) };
+
+    /// Leaves no record. It takes no memory.
+    fn reset<D: Disk>(&mut self, disk: &mut D) -> Result<(), DiskFailed>
+        requires whole { broken self.old ≡ false }
+        requires stands { D.tells → stands self.old (D.moments disk.old).now }
+        ensures emptied { records self.new ≡ after_reset result (records self.old) }
+        ensures stands { D.tells → OnOk result (stands self.new (D.moments disk.new).now) }
+        ensures any_moment { D.tells → AtAnyMoment (D.moments disk.old) (D.moments disk.new) (λ image. IsEither (records_of image) (records self.old) []) }
+        ensures loses { D.tells → NeverLoses (D.moments disk.old) (D.moments disk.new) (λ image. records_of image ≡ []) }
+        ensures broken { broken self.new ≡ is_err result }
+        ensures cause { DiskCounts result (D.failed_disk_calls disk.old) (D.failed_disk_calls disk.new) };
+
+    /// Whether a call of this store has answered `DiskFailed`.
+    fn is_broken(&self) -> bool
+        ensures { result ≡ broken self.now };
+
+    /// Where the store stands, a stop leaves what reads give, and that has the store's records.
+    ghost durable: { (store : Self) (disk : DiskState) → stands store disk → IsDurable disk };
+
+    ghost held: { (store : Self) (disk : DiskState) → stands store disk → records_of (reads_of disk) ≡ records store };
+}
