@@ -9,6 +9,7 @@ use Rattle.vr_base.specs.declared.project.Project.{Project}
 use Rattle.vr_base.specs.declared.project.ProjectFile.{ProjectFile}
 use Rattle.vr_base.specs.declared.project.ProjectFault.{ProjectFault}
 use Rattle.vr_base.specs.declared.project.ProjectFault.TheVariants.{BadLine}
+pub use Rattle.vr_base.specs.Names.{is_same_name}
 
 abbrev pub is_upper : ℕ → Bool
 is_upper byte = nat_le 65 byte && nat_le byte 90
@@ -71,9 +72,6 @@ file_of line =
     let library = trimmed (before_first (λ byte. byte == 44) line) in
     let path = trimmed (after_first (λ byte. byte == 44) line) in
     if names_file line library path then Some (record { library = map lower library; path = path }) else None
-
-abbrev pub is_same_name : FileName → FileName → Bool
-is_same_name a b = bytes_eq a.library b.library && bytes_eq a.path b.path
 
 -- a name that can't be added: its library is `work`, or it came before
 unfoldable pub is_refused_name : List FileName → FileName → Bool

@@ -1,6 +1,6 @@
 -- The first files of a graph are a graph.
-use Rattle.std.proofs.Common.{◌≡◌, ◌≢◌, ℕ, ◌+◌, ◌<◌, ◌≤◌, List, [], ◌∷◌, ◌++◌, length, get_or, refl, sym, ap, subst, ◌∙◌, arith}
-use Rattle.std.specs.Prelude.{All, AllPairs, Contains, sum_by}
+use Rattle.std.proofs.Common.{◌≡◌, ◌≢◌, ℕ, ◌+◌, ◌<◌, List, ◌++◌, length, get_or, subst, arith}
+use Rattle.std.specs.Prelude.{All, Contains}
 use Rattle.std.proofs.lemmas.List.{length-append, get_or_append_left}
 use Rattle.std.proofs.lemmas.List.Sums.{sum_by-append}
 use Rattle.vr_base.specs.declared.graph.Entry.{Entry}

@@ -1,6 +1,11 @@
--- How long the names of files and the words of commands are.
-use Rattle.std.specs.Prelude.{ℕ, ◌≤◌, List, length, All}
+-- When two files have one name, and how long the names of files and the words of commands are.
+use Rattle.std.specs.Prelude.{ℕ, ◌≤◌, Bool, ◌&&◌, List, length, All}
+use Rattle.std.specs.Str.{bytes_eq}
 use Rattle.vr_base.specs.declared.file.FileName.{FileName}
+
+-- the same library and the same path
+abbrev pub is_same_name : FileName → FileName → Bool
+is_same_name a b = bytes_eq a.library b.library && bytes_eq a.path b.path
 
 -- from low to high bytes or words
 pub record IsBetween (low high n : ℕ) : Type 0 where

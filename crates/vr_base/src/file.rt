@@ -1,5 +1,11 @@
+ghost use Rattle.std.specs.Prelude.{[], ◌∷◌};
+ghost use Rattle.std.specs.Cmp.Rules.{comparing, hashing};
+ghost use Rattle.std.proofs.Common.{rules};
+ghost use Rattle.vr_base.specs.Names.{is_same_name};
+
 use crate::{Items, NoMemory, Text};
 use std::alloc::Global;
+use std::hash::{Hash, Hasher};
 
 /// What names a file of a project: the library that it is analysed into, and its path in the project folder.
 #[derive(Debug, Drop)]
@@ -9,6 +15,32 @@ pub struct FileName {
 }
 
 pub type FileList = Items<FileName>;
+
+impl PartialEq for FileName {
+    ghost eq = { is_same_name };
+
+    ghost laws = { Prim.search (comparing, rules) };
+
+    fn eq(&self, other: &FileName) -> bool {
+        self.path.same(&other.path) && self.library.same(&other.library)
+    }
+}
+
+impl Eq for FileName {
+    ghost laws = { Prim.search (comparing, rules) };
+}
+
+/// Each part is handed over whole.
+impl Hash for FileName {
+    ghost hash_input = { λ a. a.library ∷ (a.path ∷ []) };
+
+    ghost respects_eq = { Prim.search (hashing, rules) };
+
+    fn hash<H: Hasher>(&self, state: &mut H) {
+        state.write(self.library.bytes());
+        state.write(self.path.bytes());
+    }
+}
 
 impl FileName {
     ghost use Rattle.std.specs.Prelude.{◌≡◌, IfOk};

@@ -1,11 +1,11 @@
 -- Records of compiled files, the latest record of a name, and which files have one of their present view.
-use Rattle.std.specs.Prelude.{◌≡◌, ◌⊎◌, ◌↔◌, ℕ, ◌-◌, ◌<◌, Bool, true, false, ◌&&◌, List, [], ◌∷◌, ◌++◌, length, slice_get, slice_index_or, Option, Some, None, Result, Ok, Err, if◌then◌else◌}
+use Rattle.std.specs.Prelude.{◌≡◌, ◌⊎◌, ◌↔◌, ℕ, ◌-◌, ◌<◌, Bool, true, false, List, [], ◌∷◌, ◌++◌, length, slice_get, slice_index_or, Option, Some, None, Result, Ok, Err, if◌then◌else◌}
 use Rattle.std.specs.Option.{option_or, option_map_or}
 use Rattle.std.specs.List.{list_any}
-use Rattle.std.specs.Str.{bytes_eq}
 use Rattle.vr_base.specs.declared.file.FileName.{FileName}
 use Rattle.vr_base.specs.declared.graph.Entry.{Entry}
 use Rattle.vr_base.specs.declared.memory.DiskFailed.{DiskFailed}
+use Rattle.vr_base.specs.Names.{is_same_name}
 use Rattle.vr_base.specs.View.{view}
 use Rattle.vr_outside.specs.declared.records.Need.{Need}
 use Rattle.vr_outside.specs.declared.records.Need.TheVariants.{Fresh}
@@ -15,9 +15,6 @@ use Rattle.vr_outside.specs.Disks.{DiskState, Image, IsImage}
 pub record Record : Type 0 where
   pub view : List Entry
   pub artefact : List ℕ
-
-abbrev pub is_same_name : FileName → FileName → Bool
-is_same_name a b = bytes_eq a.library b.library && bytes_eq a.path b.path
 
 -- the file that a view is of: its last
 abbrev pub last_of : List Entry → Option Entry
