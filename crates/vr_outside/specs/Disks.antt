@@ -183,3 +183,8 @@ pub record NeverLoses (old new : Moments) (P : Image → Type 0) : Type 0 where
 -- an image of one of two moments
 abbrev pub IsOfEither : (one other : DiskState) → Image → Type 0
 IsOfEither one other image = IsImage one image ⊎ IsImage other image
+
+-- Opening a disk: images only become fewer until both sides are synced, and from then on each image has P. It may end
+-- before that.
+abbrev pub Opens : (old new : Moments) → (Image → Type 0) → Type 0
+Opens old new P = Goes old.now old new ⊎ ((middle : Moments) × Goes old.now old middle × AtAnyMoment middle new P)

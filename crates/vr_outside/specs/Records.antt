@@ -1,5 +1,5 @@
 -- Records of compiled files, the latest record of a name, and which files have one of their present view.
-use Rattle.std.specs.Prelude.{◌≡◌, ◌⊎◌, ◌↔◌, ℕ, ◌-◌, ◌<◌, Bool, true, false, List, [], ◌∷◌, ◌++◌, length, slice_get, slice_index_or, Option, Some, None, Result, Ok, Err, if◌then◌else◌}
+use Rattle.std.specs.Prelude.{◌≡◌, ◌⊎◌, ◌↔◌, ℕ, ◌-◌, ◌<◌, Bool, false, List, [], ◌∷◌, length, slice_get, slice_index_or, Option, Some, None, Result, Ok, Err, if◌then◌else◌}
 use Rattle.std.specs.Option.{option_or, option_map_or}
 use Rattle.std.specs.List.{list_any}
 use Rattle.vr_base.specs.declared.file.FileName.{FileName}
@@ -52,27 +52,31 @@ abbrev pub IsEither : List Record → List Record → List Record → Type 0
 IsEither records one other = (records ≡ one) ⊎ (records ≡ other)
 
 -- The latest record of the file at a place of a graph has its present view, and this artefact.
-pub record IsRecorded (graph : List Entry) (records : List Record) (at : ℕ) : Type 0 where
+pub record IsRecorded (latest_of : FileName → Option Record) (graph : List Entry) (at : ℕ) : Type 0 where
   pub entry : Entry
   pub stands : slice_get graph at ≡ Some entry
   pub artefact : List ℕ
-  pub is : latest entry.name records ≡ Some (record { view = view graph at; artefact = artefact })
+  pub is : latest_of entry.name ≡ Some (record { view = view graph at; artefact = artefact })
 
 -- one need for each file, which is fresh exactly where the latest record of its name has its present view
-pub record AreNeeds (graph : List Entry) (records : List Record) (needs : List Need) : Type 0 where
+pub record AreNeeds (latest_of : FileName → Option Record) (graph : List Entry) (needs : List Need) : Type 0 where
   pub each : length needs ≡ length graph
-  pub fresh : (at : ℕ) (other : Need) → at < length graph → (slice_index_or needs at other ≡ Fresh) ↔ IsRecorded graph records at
+  pub fresh : (at : ℕ) (other : Need) → at < length graph → (slice_index_or needs at other ≡ Fresh) ↔ IsRecorded latest_of graph at
 
 -- the positions that the file at a place depends on
 abbrev pub deps_at : List Entry → ℕ → List ℕ
 deps_at graph at = option_map_or (λ entry. entry.deps) (slice_get graph at) []
 
--- the records after a commit that answered
-abbrev pub after_commit : {T : Type 0} → Result T DiskFailed → List Record → Record → List Record
-after_commit (Ok value) before new = before ++ new ∷ []
-after_commit (Err fault) before new = before
+-- the latest record of each name, with one more record
+abbrev pub with_record : Record → (FileName → Option Record) → FileName → Option Record
+with_record new latest_of name = if is_of name new then Some new else latest_of name
 
--- the records after a store was emptied
-abbrev pub after_reset : {T : Type 0} → Result T DiskFailed → List Record → List Record
-after_reset (Ok value) before = []
-after_reset (Err fault) before = before
+-- the latest records after a commit that answered
+abbrev pub after_commit : {T : Type 0} → Result T DiskFailed → Record → (FileName → Option Record) → FileName → Option Record
+after_commit (Ok value) new latest_of = with_record new latest_of
+after_commit (Err fault) new latest_of = latest_of
+
+-- the latest records after a store was emptied
+abbrev pub after_reset : {T : Type 0} → Result T DiskFailed → (FileName → Option Record) → FileName → Option Record
+after_reset (Ok value) latest_of name = None
+after_reset (Err fault) latest_of name = latest_of name

@@ -1,7 +1,8 @@
-ghost use Rattle.std.specs.Prelude.{◌≡◌, ℕ, ◌<◌, ◌≤◌, ◌++◌, [], ◌∷◌, List, Bool, false, Option, option_map, length, All, IfOk, OnOk, is_err};
+ghost use Rattle.std.specs.Prelude.{◌≡◌, ◌<◌, ◌≤◌, ◌++◌, [], ◌∷◌, List, Bool, false, Option, option_map, length, All, IfOk, OnOk, is_err};
 ghost use Rattle.vr_base.specs.View.{view};
+ghost use Rattle.vr_base.specs.declared.file.FileName.{FileName};
 ghost use Rattle.vr_outside.specs.Counts.{DiskCounts, StoreCounts};
-ghost use Rattle.vr_outside.specs.Disks.{DiskState, Image, reads_of, IsImage, IsDurable, AtAnyMoment, NeverLoses};
+ghost use Rattle.vr_outside.specs.Disks.{DiskState, Image, reads_of, IsDurable, AtAnyMoment, NeverLoses, Opens};
 ghost use Rattle.vr_outside.specs.Records.{Record, latest, deps_at, IsRecorded, AreNeeds, HasRecordsOf, IsKeptOf, IsEither, after_commit, after_reset};
 ghost use Rattle.vr_outside.specs.declared.records.StoreFault.TheVariants as fault;
 
@@ -68,8 +69,8 @@ pub trait Records: Sized {
     /// The records that an image of a disk holds, in order.
     ghost records_of: { Image → List Record };
 
-    /// The records of the store, in order.
-    ghost records: { Self → List Record };
+    /// The latest record of a name.
+    ghost latest_of: { Self → FileName → Option Record };
 
     /// The disk is the one that the store was opened over, and only the store wrote it since.
     ghost stands: { Self → DiskState → Type 0 };
@@ -87,21 +88,21 @@ pub trait Records: Sized {
     fn from_disk<D: Disk>(alloc: Global, disk: &mut D) -> Result<Self, StoreFault>
         // At any moment, after a fault too, a stop leaves the records of an image at entry, or the latest of these.
         ensures any_moment { D.tells → AtAnyMoment (D.moments disk.old) (D.moments disk.new) (HasRecordsOf records_of (D.moments disk.old).now) }
-        // Once each image has those of what reads gave at entry, each image has them.
-        ensures loses { D.tells → NeverLoses (D.moments disk.old) (D.moments disk.new) (λ image. IsKeptOf (records_of (reads_of (D.moments disk.old).now)) (records_of image)) }
-        ensures records { D.tells → IfOk result (λ store. IsKeptOf (records_of (reads_of (D.moments disk.old).now)) (records store)) }
+        // Once both sides are synced, it leaves those of what reads gave at entry, or the latest of these.
+        ensures opens { D.tells → Opens (D.moments disk.old) (D.moments disk.new) (λ image. IsKeptOf (records_of (reads_of (D.moments disk.old).now)) (records_of image)) }
+        ensures records { D.tells → OnOk result (IsKeptOf (records_of (reads_of (D.moments disk.old).now)) (records_of (reads_of (D.moments disk.new).now))) }
         ensures stands { D.tells → IfOk result (λ store. stands store (D.moments disk.new).now) }
         ensures whole { IfOk result (λ store. broken store ≡ false) }
         ensures cause { StoreCounts result (D.failed_disk_calls disk.old) (D.failed_disk_calls disk.new) };
 
     /// For each file of a graph, whether its latest record has its present view.
     fn needs(&self, alloc: Global, graph: &Graph) -> Result<Needs, NoMemory>
-        ensures { IfOk result (λ needs. AreNeeds graph.now (records self.now) needs) };
+        ensures { IfOk result (λ needs. AreNeeds (latest_of self.now) graph.now needs) };
 
     /// What the compiler gave by the latest record of a name, lent from the store; `None` exactly where the name
     /// has no record. It takes no memory.
     fn artefact(&self, name: &FileName) -> Option<&[u8]>
-        ensures { option_map (λ bytes. bytes.now) result ≡ option_map (λ kept. kept.artefact) (latest name.now (records self.now)) };
+        ensures { option_map (λ bytes. bytes.now) result ≡ option_map (λ kept. kept.artefact) (latest_of self.now name.now) };
 
     /// Makes a record of the present view of a file ready, with room for it. After `NoMemory` the store stands.
     fn prepare(
@@ -113,10 +114,10 @@ pub trait Records: Sized {
     ) -> Result<Self::Prepared, NoMemory>
         requires place { at < length graph.now }
         requires artefact { length artefact.now ≤ 262144 }
-        requires recorded { All (IsRecorded graph.now (records self.old)) (deps_at graph.now at) }
+        requires recorded { All (IsRecorded (latest_of self.old) graph.now) (deps_at graph.now at) }
         ensures record { IfOk result (λ prepared. record_of prepared ≡ record { view = view graph.now at; artefact = artefact.now }) }
         ensures ready { IfOk result (λ prepared. is_ready self.new prepared) }
-        ensures records { records self.new ≡ records self.old }
+        ensures latest { (name : FileName) → latest_of self.new name ≡ latest_of self.old name }
         ensures broken { broken self.new ≡ broken self.old }
         ensures stands { (disk : DiskState) → stands self.old disk → stands self.new disk };
 
@@ -125,12 +126,13 @@ pub trait Records: Sized {
         requires whole { broken self.old ≡ false }
         requires ready { is_ready self.old prepared }
         requires stands { D.tells → stands self.old (D.moments disk.old).now }
-        ensures added { records self.new ≡ after_commit result (records self.old) (record_of prepared) }
+        ensures latest { (name : FileName) → latest_of self.new name ≡ after_commit result (record_of prepared) (latest_of self.old) name }
         ensures stands { D.tells → OnOk result (stands self.new (D.moments disk.new).now) }
+        ensures added { D.tells → OnOk result (records_of (reads_of (D.moments disk.new).now) ≡ records_of (reads_of (D.moments disk.old).now) ++ record_of prepared ∷ []) }
         // At any moment, after a fault too, a stop leaves the records from before, with the new one or without.
-        ensures any_moment { D.tells → AtAnyMoment (D.moments disk.old) (D.moments disk.new) (λ image. IsEither (records_of image) (records self.old) (records self.old ++ record_of prepared ∷ [])) }
+        ensures any_moment { D.tells → AtAnyMoment (D.moments disk.old) (D.moments disk.new) (λ image. IsEither (records_of image) (records_of (reads_of (D.moments disk.old).now)) (records_of (reads_of (D.moments disk.old).now) ++ record_of prepared ∷ [])) }
         // Once each image has the new one, each image has it.
-        ensures loses { D.tells → NeverLoses (D.moments disk.old) (D.moments disk.new) (λ image. records_of image ≡ records self.old ++ record_of prepared ∷ []) }
+        ensures loses { D.tells → NeverLoses (D.moments disk.old) (D.moments disk.new) (λ image. records_of image ≡ records_of (reads_of (D.moments disk.old).now) ++ record_of prepared ∷ []) }
         ensures broken { broken self.new ≡ is_err result }
         ensures cause { DiskCounts result (D.failed_disk_calls disk.old) (D.failed_disk_calls disk.new) };
 
@@ -138,9 +140,12 @@ pub trait Records: Sized {
     fn reset<D: Disk>(&mut self, disk: &mut D) -> Result<(), DiskFailed>
         requires whole { broken self.old ≡ false }
         requires stands { D.tells → stands self.old (D.moments disk.old).now }
-        ensures emptied { records self.new ≡ after_reset result (records self.old) }
+        ensures latest { (name : FileName) → latest_of self.new name ≡ after_reset result (latest_of self.old) name }
         ensures stands { D.tells → OnOk result (stands self.new (D.moments disk.new).now) }
-        ensures any_moment { D.tells → AtAnyMoment (D.moments disk.old) (D.moments disk.new) (λ image. IsEither (records_of image) (records self.old) []) }
+        ensures emptied { D.tells → OnOk result (records_of (reads_of (D.moments disk.new).now) ≡ []) }
+        // At any moment, after a fault too, a stop leaves the records from before, or none.
+        ensures any_moment { D.tells → AtAnyMoment (D.moments disk.old) (D.moments disk.new) (λ image. IsEither (records_of image) (records_of (reads_of (D.moments disk.old).now)) []) }
+        // Once no image has a record, none has one.
         ensures loses { D.tells → NeverLoses (D.moments disk.old) (D.moments disk.new) (λ image. records_of image ≡ []) }
         ensures broken { broken self.new ≡ is_err result }
         ensures cause { DiskCounts result (D.failed_disk_calls disk.old) (D.failed_disk_calls disk.new) };
@@ -149,8 +154,8 @@ pub trait Records: Sized {
     fn is_broken(&self) -> bool
         ensures { result ≡ broken self.now };
 
-    /// Where the store stands, a stop leaves what reads give, and that has the store's records.
+    /// Where the store stands, a stop leaves what reads give, and the latest record of each name is the disk's.
     ghost durable: { (store : Self) (disk : DiskState) → stands store disk → IsDurable disk };
 
-    ghost held: { (store : Self) (disk : DiskState) → stands store disk → records_of (reads_of disk) ≡ records store };
+    ghost held: { (store : Self) (disk : DiskState) (name : FileName) → stands store disk → latest_of store name ≡ latest name (records_of (reads_of disk)) };
 }
