@@ -10,13 +10,7 @@ use crate::views::is_view;
 use byte_codec::ByteReader;
 use std::alloc::Global;
 use vr_base::{Entry, FileName, Graph, Items, NoMemory, Positions, Text, TextList};
-
-/// A record of a store: a view, and what the compiler gave for its last file.
-#[derive(Drop)]
-pub struct Record {
-    pub view: Graph,
-    pub artefact: Text,
-}
+use vr_outside::Record;
 
 /// The files and the artefact that some bytes spell. The files may be no view.
 #[derive(Drop)]

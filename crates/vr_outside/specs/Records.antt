@@ -7,14 +7,10 @@ use Rattle.vr_base.specs.declared.graph.Entry.{Entry}
 use Rattle.vr_base.specs.declared.memory.DiskFailed.{DiskFailed}
 use Rattle.vr_base.specs.Names.{is_same_name}
 use Rattle.vr_base.specs.View.{view}
+use Rattle.vr_outside.specs.declared.records.Record.{Record}
 use Rattle.vr_outside.specs.declared.records.Need.{Need}
 use Rattle.vr_outside.specs.declared.records.Need.TheVariants.{Fresh}
 use Rattle.vr_outside.specs.Disks.{DiskState, Image, IsImage}
-
--- what was compiled, the file last, and what the compiler gave for it
-pub record Record : Type 0 where
-  pub view : List Entry
-  pub artefact : List ℕ
 
 -- the file that a view is of: its last
 abbrev pub last_of : List Entry → Option Entry

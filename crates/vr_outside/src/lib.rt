@@ -15,6 +15,6 @@ pub use counts::counted;
 pub use disk::{Disk, Side};
 pub use durable::{cut_durably, write_both_durably, write_durably};
 pub use procs::{Ended, Procs, StartFault, WaitFault};
-pub use records::{Need, Needs, Records, StoreFault};
+pub use records::{Need, Needs, Record, Records, StoreFault};
 pub use streams::{Sink, SinkFault, Source, SourceFault, TakeEnd};
 pub use tree::{NamesEnd, ReadEnd, Tree, TreeFault};

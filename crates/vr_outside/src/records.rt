@@ -3,7 +3,8 @@ ghost use Rattle.vr_base.specs.View.{view};
 ghost use Rattle.vr_base.specs.declared.file.FileName.{FileName};
 ghost use Rattle.vr_outside.specs.Counts.{DiskCounts, StoreCounts};
 ghost use Rattle.vr_outside.specs.Disks.{DiskState, Image, reads_of, IsDurable, AtAnyMoment, NeverLoses, Opens};
-ghost use Rattle.vr_outside.specs.Records.{Record, latest, deps_at, IsRecorded, AreNeeds, HasRecordsOf, IsKeptOf, IsEither, after_commit, after_reset};
+ghost use Rattle.vr_outside.specs.Records.{latest, deps_at, IsRecorded, AreNeeds, HasRecordsOf, IsKeptOf, IsEither, after_commit, after_reset};
+ghost use Rattle.vr_outside.specs.declared.records.Record.{Record};
 ghost use Rattle.vr_outside.specs.declared.records.StoreFault.TheVariants as fault;
 
 use crate::Disk;
@@ -47,6 +48,13 @@ impl From<DiskFailed> for StoreFault {
     fn from(_: DiskFailed) -> StoreFault {
         StoreFault::DiskFailed
     }
+}
+
+/// What was compiled, the file last, and what the compiler gave for it.
+#[derive(Drop)]
+pub struct Record {
+    pub view: Graph,
+    pub artefact: Text,
 }
 
 /// Whether a file has a record of its present view.
