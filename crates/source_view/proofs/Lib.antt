@@ -1,3 +1,4 @@
+pub mod KeptFiles
 pub mod ListedGraph
 pub mod Numbering
 pub mod Parts

@@ -1,10 +1,12 @@
 //! The graph of a project, and the views of its files.
 #![tactic(auto)]
 
+mod kept_views;
 mod listed;
 mod same;
 mod views;
 
+pub use kept_views::is_view_of;
 pub use listed::listed_graph;
 pub use same::same_view;
 pub use views::{laws_of_views, view_of};

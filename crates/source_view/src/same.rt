@@ -3,13 +3,14 @@ ghost use Rattle.std.specs.Prelude.{◌≡◌, ◌↔◌, IsTrue};
 use vr_base::{Entry, FileName, Graph, TextList};
 
 /// Whether two files have the same library and the same path.
-fn same_name(a: &FileName, b: &FileName) -> bool
+pub fn same_name(a: &FileName, b: &FileName) -> bool
     ensures { IsTrue result ↔ (a.now ≡ b.now) }
 {
     a.path.same(&b.path) && a.library.same(&b.library)
 }
 
-fn same_words(a: &TextList, b: &TextList) -> bool
+/// Whether two lists have the same words in the same order.
+pub fn same_words(a: &TextList, b: &TextList) -> bool
     ensures { IsTrue result ↔ (a.now ≡ b.now) }
 {
     let a = a.as_slice();
