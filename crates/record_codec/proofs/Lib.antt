@@ -4,3 +4,5 @@ pub mod Marks
 pub mod Closings
 pub mod SeenNames
 pub mod Standing
+pub mod Deciding
+pub mod FoundRecords

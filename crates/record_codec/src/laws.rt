@@ -3,6 +3,7 @@ ghost use Rattle.vr_base.specs.declared.graph.Entry.{Entry};
 ghost use Rattle.byte_codec.specs.Reading.{AreBytes};
 ghost use Rattle.record_codec.specs.Spelling.{record_bytes, IsRecord};
 ghost use Rattle.record_codec.specs.Reading.{record_at};
+ghost use Rattle.record_codec.specs.Found.{record_in};
 
 /// What holds of the bytes of records, whoever writes or reads them.
 pub fn laws_of_records()
@@ -10,6 +11,8 @@ pub fn laws_of_records()
     ensures takes { (bytes : List ℕ) (view : List Entry) (artefact : List ℕ) → AreBytes bytes → record_at bytes ≡ Some (view, artefact) → bytes ≡ record_bytes view artefact }
     // and what is spelled so is read.
     ensures again { (view : List Entry) (artefact : List ℕ) → IsRecord view artefact → record_at (record_bytes view artefact) ≡ Some (view, artefact) }
+    // As a function of bytes, the record is that one.
+    ensures read { (view : List Entry) (artefact : List ℕ) → IsRecord view artefact → record_in (record_bytes view artefact) ≡ Some (view, artefact) }
     // Two records never have the same bytes.
     ensures view { (view other : List Entry) (artefact gift : List ℕ) → IsRecord view artefact → IsRecord other gift → record_bytes view artefact ≡ record_bytes other gift → view ≡ other }
     ensures artefact { (view other : List Entry) (artefact gift : List ℕ) → IsRecord view artefact → IsRecord other gift → record_bytes view artefact ≡ record_bytes other gift → artefact ≡ gift }

@@ -1,10 +1,12 @@
 ghost use Rattle.std.specs.Prelude.{◌≡◌, ℕ, List, IfOk, IfSome, IsSome};
 ghost use Rattle.std.specs.Int.{w32};
+ghost use Rattle.std.specs.Option.{option_map};
 ghost use Rattle.vr_base.specs.declared.graph.Entry.{Entry};
 ghost use Rattle.vr_base.specs.Graphs.{IsGraph};
 ghost use Rattle.byte_codec.specs.Reading.{Reads, number_at, text_at, counted_at};
 ghost use Rattle.record_codec.specs.Reading.{name_at, entry_at, record_at, ReadsAll};
 ghost use Rattle.record_codec.specs.Spelling.{record_bytes, IsRecord};
+ghost use Rattle.record_codec.specs.Found.{record_in};
 
 use crate::views::is_view;
 use byte_codec::ByteReader;
@@ -149,6 +151,8 @@ pub fn read_record(alloc: Global, bytes: &[u8]) -> Result<Option<Record>, NoMemo
     // and where a record has these bytes, there is an answer, and it is that one.
     ensures some { (view : List Entry) (artefact : List ℕ) → IsRecord view artefact → bytes.now ≡ record_bytes view artefact → IfOk result (λ given. IsSome given) }
     ensures only { (view : List Entry) (artefact : List ℕ) → IsRecord view artefact → bytes.now ≡ record_bytes view artefact → IfOk result (λ given. IfSome given (λ r. (r.view ≡ view) × (r.artefact ≡ artefact))) }
+    // As a function of the bytes, it is this:
+    ensures exact { IfOk result (λ given. option_map (λ r. (r.view, r.artefact)) given ≡ record_in bytes.now) }
 {
     let Some(Parts { entries, artefact }) = parts_of(alloc, bytes)? else {
         return Ok(None);
