@@ -1,4 +1,4 @@
-ghost use Rattle.std.specs.Prelude.{◌≡◌, ℕ, List, IfOk, IfSome, IsSome};
+ghost use Rattle.std.specs.Prelude.{◌≡◌, ◌↔◌, ℕ, List, IsTrue, IfOk, IfSome, IsSome};
 ghost use Rattle.std.specs.Int.{w32};
 ghost use Rattle.std.specs.Option.{option_map};
 ghost use Rattle.vr_base.specs.declared.graph.Entry.{Entry};
@@ -133,6 +133,16 @@ fn parts_of(alloc: Global, bytes: &[u8]) -> Result<Option<Parts>, NoMemory>
     Ok(Some(Parts { entries, artefact }))
 }
 
+/// Whether the files are a view, and the artefact has at most 262,144 bytes.
+fn is_record(alloc: Global, parts: &Parts) -> Result<bool, NoMemory>
+    ensures { IfOk result (λ is. IsTrue is ↔ IsRecord parts.now.entries parts.now.artefact) }
+{
+    if parts.artefact.bytes().len() > 262_144 {
+        return Ok(false);
+    }
+    Ok(is_view(alloc, parts.entries.as_slice())?)
+}
+
 fn graph_of(alloc: Global, entries: Items<Entry>) -> Result<Graph, NoMemory>
     requires { IsGraph entries }
     ensures { IfOk result (λ graph. graph ≡ entries) }
@@ -154,15 +164,13 @@ pub fn read_record(alloc: Global, bytes: &[u8]) -> Result<Option<Record>, NoMemo
     // As a function of the bytes, it is this:
     ensures exact { IfOk result (λ given. option_map (λ r. (r.view, r.artefact)) given ≡ record_in bytes.now) }
 {
-    let Some(Parts { entries, artefact }) = parts_of(alloc, bytes)? else {
+    let Some(parts) = parts_of(alloc, bytes)? else {
         return Ok(None);
     };
-    if artefact.bytes().len() > 262_144 {
+    if !is_record(alloc, &parts)? {
         return Ok(None);
     }
-    if !is_view(alloc, entries.as_slice())? {
-        return Ok(None);
-    }
+    let Parts { entries, artefact } = parts;
     let view = graph_of(alloc, entries)?;
     Ok(Some(Record { view, artefact }))
 }
