@@ -1,3 +1,5 @@
 pub mod Places
 pub mod Journal
 pub mod OneFinding
+pub mod SameViews
+pub mod RecordedArtefacts

@@ -7,3 +7,4 @@ pub mod Csv
 pub mod Findings
 pub mod Reading
 pub mod Said
+pub mod Recorded

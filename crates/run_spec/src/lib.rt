@@ -4,4 +4,4 @@
 
 mod laws;
 
-pub use laws::{one_scanner, some_scanner};
+pub use laws::{laws_of_recorded, one_scanner, some_scanner};
