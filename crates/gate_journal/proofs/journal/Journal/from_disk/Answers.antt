@@ -1,0 +1,31 @@
+use Rattle.std.proofs.Common.{◌≡◌, inl, inr, sym, ◌∙◌}
+use Rattle.vr_outside.specs.Disks.{reads_of}
+use Rattle.gate_journal.specs.Payloads.{payloads}
+use Rattle.gate_journal.specs.Journals.{Stands}
+use Rattle.gate_journal.proofs.Readings.{ok_both, present_has, read_has, then_all, then_has}
+use Rattle.gate_journal.proofs.journal.Journal.from_disk.Goals as goal
+
+pub returns-in_err-sides-clause-any_moment : goal.returns-in_err-sides-clause-any_moment
+returns-in_err-sides-clause-any_moment g c = λ told. read_has c.args.form (g.D.Disk.moments c.args.disk.now) (g.D.Disk.moments c.read_sides.new.disk) (c.read_sides.ensures.moments told)
+
+pub returns-in_err-sides-clause-opens : goal.returns-in_err-sides-clause-opens
+returns-in_err-sides-clause-opens g c = λ told. inl (c.read_sides.ensures.moments told)
+
+pub returns-clause-any_moment : goal.returns-clause-any_moment
+returns-clause-any_moment g c = λ told.
+    let moments = g.D.Disk.moments in
+    then_has c.args.form (moments c.args.disk.now) (moments c.read_sides.new.disk) (moments c.open_sides.new.disk) (c.read_sides.ensures.moments told) (c.in_ok-sides.ensures.settled told) (c.open_sides.ensures.any_moment told)
+
+pub returns-clause-opens : goal.returns-clause-opens
+returns-clause-opens g c = λ told.
+    let moments = g.D.Disk.moments in
+    inr (moments c.read_sides.new.disk, c.read_sides.ensures.moments told, then_all c.args.form (moments c.args.disk.now) (moments c.read_sides.new.disk) (moments c.open_sides.new.disk) (c.in_ok-sides.ensures.settled told) (c.open_sides.ensures.any_moment told))
+
+pub returns-clause-held : goal.returns-clause-held
+returns-clause-held g c = λ told.
+    let middle = g.D.Disk.moments c.read_sides.new.disk in
+    let new = g.D.Disk.moments c.open_sides.new.disk in
+    let list = payloads c.args.form (reads_of middle.now) in
+    ok_both c.open_sides.result (λ opened. Stands opened.journal new.now) (λ opened. opened.payloads ≡ list) (λ opened. payloads c.args.form (reads_of new.now) ≡ opened.payloads)
+    (λ opened stands is. present_has c.args.form middle new list (c.open_sides.ensures.any_moment told) stands.settled ∙ sym is)
+    (c.open_sides.ensures.stands told) (c.open_sides.ensures.payloads told)

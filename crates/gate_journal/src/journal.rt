@@ -1,0 +1,239 @@
+ghost use Rattle.std.specs.Prelude.{◌≡◌, ◌≤◌, ◌+◌, ◌-◌, ◌^◌, ◌<◌, ◌++◌, ◌∷◌, [], false, length, IfOk, OnOk, is_err};
+ghost use Rattle.vr_base.specs.Bytes.{text_bytes};
+ghost use Rattle.vr_outside.specs.Counts.{DiskCounts};
+ghost use Rattle.vr_outside.specs.Disks.{reads_of, AtAnyMoment, NeverLoses};
+ghost use Rattle.gate_journal.specs.Payloads.{payloads};
+ghost use Rattle.gate_journal.specs.Journals.{Stands, IsEither, IsWithTwo, other_side};
+ghost use Rattle.gate_journal.specs.Steps.{Went, last_of, committing, resetting};
+
+use crate::layout::empty_side;
+use crate::making::make_side;
+use crate::{Payloads, Ready, ReadySide};
+use std::alloc::Global;
+use std::marker::Model;
+use vr_base::{DiskFailed, NoMemory};
+use vr_outside::{Disk, Side, cut_durably, write_durably};
+
+/// A list of payloads on a disk. Contracts see what it knows of the disk.
+#[derive(Drop)]
+pub struct Journal {
+    form: u8,
+    live: Side,
+    generation: u64,
+    len: u64,
+    broken: bool,
+}
+
+impl Model for Journal {
+    ghost use Rattle.std.specs.Prelude.{◌≤◌};
+    ghost use Rattle.gate_journal.specs.Journals.{JournalState};
+
+    ghost Value = { JournalState };
+
+    ghost view = { λ j. record { form = j.form; live = j.live; generation = j.generation; len = j.len; broken = j.broken } };
+
+    ghost invariant = { λ j. 19 ≤ j.len };
+}
+
+impl Journal {
+    /// A journal of what an opened disk holds.
+    pub(crate) fn of(form: u8, live: Side, generation: u64, len: u64) -> Journal
+        requires { 19 ≤ len }
+        ensures { result ≡ record { form = form; live = live; generation = generation; len = len; broken = false } }
+    {
+        Journal {
+            form,
+            live,
+            generation,
+            len,
+            broken: false,
+        }
+    }
+
+    /// The generation of the side that counts.
+    pub fn generation(&self) -> u64
+        requires { self.now.broken ≡ false }
+        ensures { result ≡ self.now.generation }
+    {
+        self.generation
+    }
+
+    /// The number of bytes of the side that counts, up to and with the closed gate.
+    pub fn length(&self) -> u64
+        requires { self.now.broken ≡ false }
+        ensures { result ≡ self.now.len }
+    {
+        self.len
+    }
+
+    /// Whether a call of this journal has answered `DiskFailed`.
+    pub fn is_broken(&self) -> bool
+        ensures { result ≡ self.now.broken }
+    {
+        self.broken
+    }
+
+    /// Makes a payload ready to be committed.
+    pub fn prepare(&self, alloc: Global, payload: &[u8]) -> Result<Ready, NoMemory>
+        requires { length payload.now < 2 ^ 32 }
+        ensures { IfOk result (λ ready. ready ≡ payload.now) }
+    {
+        Ready::new(alloc, payload)
+    }
+
+    /// Adds a payload at the end. It takes no memory.
+    pub fn commit<D: Disk>(&mut self, disk: &mut D, ready: Ready) -> Result<(), DiskFailed>
+        requires whole { self.old.broken ≡ false }
+        requires stands { D.tells → Stands self.old (D.moments disk.old).now }
+        ensures stands { D.tells → OnOk result (Stands self.new (D.moments disk.new).now) }
+        ensures added { D.tells → OnOk result (payloads self.old.form (reads_of (D.moments disk.new).now) ≡ payloads self.old.form (reads_of (D.moments disk.old).now) ++ ready ∷ []) }
+        // At any moment, after a fault too, a stop leaves the payloads from before, with the new one or without.
+        ensures any_moment { D.tells → AtAnyMoment (D.moments disk.old) (D.moments disk.new) (λ image. IsEither (payloads self.old.form image) (payloads self.old.form (reads_of (D.moments disk.old).now)) (payloads self.old.form (reads_of (D.moments disk.old).now) ++ ready ∷ [])) }
+        // Once each image has the new one, each image has it.
+        ensures loses { D.tells → NeverLoses (D.moments disk.old) (D.moments disk.new) (λ image. payloads self.old.form image ≡ payloads self.old.form (reads_of (D.moments disk.old).now) ++ ready ∷ []) }
+        ensures form { self.new.form ≡ self.old.form }
+        ensures broken { self.new.broken ≡ is_err result }
+        ensures cause { DiskCounts result (D.failed_disk_calls disk.old) (D.failed_disk_calls disk.new) }
+    {
+        match self.append(disk, ready.bytes()) {
+            Ok(()) => {
+                self.len += ready.bytes().len() as u64;
+                Ok(())
+            }
+            Err(fault) => {
+                self.broken = true;
+                Err(fault)
+            }
+        }
+    }
+
+    /// Writes behind the closed gate, and then opens it.
+    fn append<D: Disk>(&self, disk: &mut D, bytes: &[u8]) -> Result<(), DiskFailed>
+        requires { D.tells → Stands self.now (D.moments disk.old).now }
+        ensures fits { OnOk result (self.now.len + length bytes.now < 2 ^ 63) }
+        ensures steps { D.tells → Went (committing self.now.live self.now.len bytes.now (D.moments disk.old).now) (D.moments disk.old) (D.moments disk.new) }
+        ensures appended { D.tells → OnOk result ((D.moments disk.new).now ≡ last_of (D.moments disk.old).now (committing self.now.live self.now.len bytes.now (D.moments disk.old).now)) }
+        ensures cause { DiskCounts result (D.failed_disk_calls disk.old) (D.failed_disk_calls disk.new) }
+    {
+        write_durably(disk, self.live, self.len, bytes)?;
+        write_durably(disk, self.live, self.len - 1, &[1])
+    }
+
+    /// Makes a side ready that has these payloads alone, of the next generation.
+    pub fn prepare_side(
+        &self,
+        alloc: Global,
+        form: u8,
+        payloads: &Payloads,
+    ) -> Result<ReadySide, NoMemory>
+        requires form { form ≡ self.now.form }
+        requires generation { self.now.generation + 1 < 2 ^ 64 }
+        ensures { IfOk result (λ side. side ≡ record { form = form; generation = self.now.generation + 1; payloads = payloads.now }) }
+    {
+        ReadySide::new(alloc, form, self.generation + 1, payloads)
+    }
+
+    /// Puts a prepared side in the place of the one that counts. It takes no memory.
+    pub fn replace<D: Disk>(&mut self, disk: &mut D, side: ReadySide) -> Result<(), DiskFailed>
+        requires whole { self.old.broken ≡ false }
+        requires form { side.form ≡ self.old.form }
+        requires generation { side.generation ≡ self.old.generation + 1 }
+        requires stands { D.tells → Stands self.old (D.moments disk.old).now }
+        ensures stands { D.tells → OnOk result (Stands self.new (D.moments disk.new).now) }
+        ensures replaced { D.tells → OnOk result (payloads self.old.form (reads_of (D.moments disk.new).now) ≡ side.payloads) }
+        ensures any_moment { D.tells → AtAnyMoment (D.moments disk.old) (D.moments disk.new) (λ image. IsEither (payloads self.old.form image) (payloads self.old.form (reads_of (D.moments disk.old).now)) side.payloads) }
+        ensures loses { D.tells → NeverLoses (D.moments disk.old) (D.moments disk.new) (λ image. payloads self.old.form image ≡ side.payloads) }
+        ensures form { self.new.form ≡ self.old.form }
+        ensures broken { self.new.broken ≡ is_err result }
+        ensures cause { DiskCounts result (D.failed_disk_calls disk.old) (D.failed_disk_calls disk.new) }
+    {
+        let other = other(self.live);
+        let generation = side.generation();
+        let bytes = side.bytes();
+        match make_side(disk, other, bytes) {
+            Ok(()) => {
+                self.live = other;
+                self.generation = generation;
+                self.len = bytes.len() as u64 + 1;
+                Ok(())
+            }
+            Err(fault) => {
+                self.broken = true;
+                Err(fault)
+            }
+        }
+    }
+
+    /// Leaves no payload, by a side of generation 1. It takes no memory.
+    pub fn reset<D: Disk>(&mut self, disk: &mut D) -> Result<(), DiskFailed>
+        requires whole { self.old.broken ≡ false }
+        requires stands { D.tells → Stands self.old (D.moments disk.old).now }
+        ensures stands { D.tells → OnOk result (Stands self.new (D.moments disk.new).now) }
+        ensures emptied { D.tells → OnOk result (payloads self.old.form (reads_of (D.moments disk.new).now) ≡ []) }
+        ensures any_moment { D.tells → AtAnyMoment (D.moments disk.old) (D.moments disk.new) (λ image. IsEither (payloads self.old.form image) (payloads self.old.form (reads_of (D.moments disk.old).now)) []) }
+        ensures loses { D.tells → NeverLoses (D.moments disk.old) (D.moments disk.new) (λ image. payloads self.old.form image ≡ []) }
+        ensures form { self.new.form ≡ self.old.form }
+        ensures broken { self.new.broken ≡ is_err result }
+        ensures cause { DiskCounts result (D.failed_disk_calls disk.old) (D.failed_disk_calls disk.new) }
+    {
+        let other = other(self.live);
+        match clear_sides(disk, self.live, other, &empty_side(self.form)) {
+            Ok(()) => {
+                self.live = other;
+                self.generation = 1;
+                self.len = 19;
+                Ok(())
+            }
+            Err(fault) => {
+                self.broken = true;
+                Err(fault)
+            }
+        }
+    }
+}
+
+fn other(side: Side) -> Side
+    ensures { result ≡ other_side side }
+{
+    match side {
+        Side::A => Side::B,
+        Side::B => Side::A,
+    }
+}
+
+/// Empties the other side, makes the live one dead, and then makes the other.
+fn clear_sides<D: Disk>(
+    disk: &mut D,
+    live: Side,
+    other: Side,
+    bytes: &[u8],
+) -> Result<(), DiskFailed>
+    ensures steps { D.tells → Went (resetting live other bytes.now (D.moments disk.old).now) (D.moments disk.old) (D.moments disk.new) }
+    ensures made { D.tells → OnOk result ((D.moments disk.new).now ≡ last_of (D.moments disk.old).now (resetting live other bytes.now (D.moments disk.old).now)) }
+    ensures cause { DiskCounts result (D.failed_disk_calls disk.old) (D.failed_disk_calls disk.new) }
+{
+    cut_durably(disk, other, 0)?;
+    write_durably(disk, live, 0, &[0])?;
+    make_side(disk, other, bytes)
+}
+
+/// Commits two payloads, one after the other. At any moment a stop leaves the payloads from before, with the first
+/// one, with both, or with none.
+pub fn commit_both<D: Disk>(
+    journal: &mut Journal,
+    disk: &mut D,
+    first: Ready,
+    second: Ready,
+) -> Result<(), DiskFailed>
+    requires whole { journal.old.broken ≡ false }
+    requires stands { D.tells → Stands journal.old (D.moments disk.old).now }
+    ensures stands { D.tells → OnOk result (Stands journal.new (D.moments disk.new).now) }
+    ensures added { D.tells → OnOk result (payloads journal.old.form (reads_of (D.moments disk.new).now) ≡ payloads journal.old.form (reads_of (D.moments disk.old).now) ++ (first ∷ second ∷ [])) }
+    ensures any_moment { D.tells → AtAnyMoment (D.moments disk.old) (D.moments disk.new) (λ image. IsWithTwo (payloads journal.old.form image) (payloads journal.old.form (reads_of (D.moments disk.old).now)) first second) }
+    ensures form { journal.new.form ≡ journal.old.form }
+    ensures broken { journal.new.broken ≡ is_err result }
+    ensures cause { DiskCounts result (D.failed_disk_calls disk.old) (D.failed_disk_calls disk.new) }
+{
+    journal.commit(disk, first)?;
+    journal.commit(disk, second)
+}

@@ -1,0 +1,20 @@
+//! A list of payloads on the two sides of a disk that may lose power at any moment. A payload counts once the gate in
+//! front of it is open, and that is written alone, after all that stands behind it.
+#![tactic(auto)]
+
+mod journal;
+mod layout;
+mod making;
+mod opening;
+mod parsing;
+mod payloads;
+mod ready;
+mod sides;
+
+pub use journal::{Journal, commit_both};
+pub use opening::Opened;
+pub use payloads::Payloads;
+pub use ready::{Ready, ReadySide};
+
+#[cfg(test)]
+mod tests;

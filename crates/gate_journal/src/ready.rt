@@ -1,0 +1,102 @@
+ghost use Rattle.std.specs.Prelude.{◌≡◌, ◌^◌, ◌<◌, ◌++◌, ◌∷◌, [], length, All, IfOk};
+ghost use Rattle.vr_base.specs.Bytes.{text_bytes};
+ghost use Rattle.gate_journal.specs.Payloads.{side_bytes};
+
+use crate::Payloads;
+use crate::layout::full_side;
+use byte_codec::ByteWriter;
+use std::alloc::Global;
+use std::marker::Model;
+use vr_base::{NoMemory, Text};
+
+/// A payload that is ready to be committed. Contracts see its bytes.
+#[derive(Drop)]
+pub struct Ready {
+    bytes: Text,
+}
+
+impl Model for Ready {
+    ghost use Rattle.std.specs.Prelude.{List, ℕ};
+    ghost use Rattle.gate_journal.specs.Journals.{payload_within, IsReady};
+
+    ghost Value = { List ℕ };
+
+    ghost view = { λ a. payload_within a.bytes };
+
+    ghost invariant = { λ a. IsReady a.bytes };
+}
+
+impl Ready {
+    /// A copy of the payload, with its length in front and a closed gate behind.
+    pub(crate) fn new(alloc: Global, payload: &[u8]) -> Result<Ready, NoMemory>
+        requires { length payload.now < 2 ^ 32 }
+        ensures { IfOk result (λ ready. ready ≡ payload.now) }
+    {
+        let mut out = ByteWriter::new(alloc);
+        out.text(payload)?;
+        out.plain(&[0])?;
+        Ok(Ready {
+            bytes: out.into_text(),
+        })
+    }
+
+    /// What is written behind the closed gate.
+    pub(crate) fn bytes(&self) -> &[u8]
+        ensures bytes { result.now ≡ text_bytes self.now ++ 0 ∷ [] }
+        ensures small { length self.now < 2 ^ 32 }
+    {
+        self.bytes.bytes()
+    }
+}
+
+/// A side that is ready to take the place of the one that counts. Contracts see its content.
+#[derive(Drop)]
+pub struct ReadySide {
+    form: u8,
+    generation: u64,
+    bytes: Text,
+}
+
+impl Model for ReadySide {
+    ghost use Rattle.std.specs.Prelude.{◌∷◌};
+    ghost use Rattle.gate_journal.specs.Payloads.{payloads_in};
+    ghost use Rattle.gate_journal.specs.Journals.{SideContent, IsReadySide};
+
+    ghost Value = { SideContent };
+
+    ghost view = { λ a. record { form = a.form; generation = a.generation; payloads = payloads_in (1 ∷ a.bytes) } };
+
+    ghost invariant = { λ a. IsReadySide a.form a.generation a.bytes };
+}
+
+impl ReadySide {
+    /// The side of these payloads.
+    pub(crate) fn new(
+        alloc: Global,
+        form: u8,
+        generation: u64,
+        payloads: &Payloads,
+    ) -> Result<ReadySide, NoMemory>
+        ensures { IfOk result (λ side. side ≡ record { form = form; generation = generation; payloads = payloads.now }) }
+    {
+        Ok(ReadySide {
+            form,
+            generation,
+            bytes: full_side(alloc, form, generation, payloads)?,
+        })
+    }
+
+    pub(crate) fn generation(&self) -> u64
+        ensures { result ≡ self.now.generation }
+    {
+        self.generation
+    }
+
+    /// The bytes of the side, but for the first, which is 1.
+    pub(crate) fn bytes(&self) -> &[u8]
+        ensures bytes { 1 ∷ result.now ≡ side_bytes self.now.form self.now.generation self.now.payloads }
+        ensures small { All (λ payload. length payload < 2 ^ 32) self.now.payloads }
+    {
+        self.bytes.bytes()
+    }
+}
