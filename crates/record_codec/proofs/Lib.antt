@@ -2,7 +2,7 @@ pub mod Spelled
 pub mod Records
 pub mod Marks
 pub mod Closings
-pub mod SeenNames
+pub mod Distinct
 pub mod Standing
 pub mod Deciding
 pub mod FoundRecords

@@ -5,11 +5,11 @@ use Rattle.std.specs.Option.{option_and_then, option_map_or}
 use Rattle.std.specs.Str.{is_utf8, bytes_eq}
 use Rattle.std.specs.Str.Lines.{lines}
 use Rattle.vr_base.specs.declared.file.FileName.{FileName}
+use Rattle.name_set.specs.Names.{has_name}
 use Rattle.vr_base.specs.declared.project.Project.{Project}
 use Rattle.vr_base.specs.declared.project.ProjectFile.{ProjectFile}
 use Rattle.vr_base.specs.declared.project.ProjectFault.{ProjectFault}
 use Rattle.vr_base.specs.declared.project.ProjectFault.TheVariants.{BadLine}
-pub use Rattle.vr_base.specs.Names.{is_same_name}
 
 abbrev pub is_upper : ℕ → Bool
 is_upper byte = nat_le 65 byte && nat_le byte 90
@@ -75,7 +75,7 @@ file_of line =
 
 -- a name that can't be added: its library is `work`, or it came before
 unfoldable pub is_refused_name : List FileName → FileName → Bool
-is_refused_name before name = bytes_eq name.library (codes "work") || list_any (λ other. is_same_name other name) before
+is_refused_name before name = bytes_eq name.library (codes "work") || has_name before name
 
 -- the file that a line adds
 unfoldable pub added_by : List FileName → List ℕ → Option FileName

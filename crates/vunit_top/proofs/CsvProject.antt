@@ -2,21 +2,23 @@
 use Rattle.std.proofs.Common.{◌≡◌, ◌≢◌, ℕ, zero, suc, eqb, ◌+◌, ◌<◌, ◌≤◌, true, false, cond, List, [], ◌∷◌, ◌++◌, length, get_or, map, Option, Some, None, Result, Ok, Err, refl, sym, ap, subst, ◌∙◌, arith, inl, inr}
 use Rattle.std.specs.Prelude.{All, AllPairs}
 use Rattle.std.specs.Str.{bytes_eq}
-use Rattle.std.specs.List.{list_any, before_first, after_first}
+use Rattle.std.specs.List.{before_first, after_first}
 use Rattle.std.specs.Option.{option_and_then, option_map_or}
-use Rattle.std.proofs.lemmas.Bool.{cases_Bool, and_parts, and_from, cond-true, cond-false, leb-true, or_parts, both_ways}
+use Rattle.std.proofs.lemmas.Bool.{cases_Bool, and_parts, cond-true, cond-false, leb-true, or_parts, both_ways}
 use Rattle.std.proofs.lemmas.List.{length-map, get_or-map}
 use Rattle.std.proofs.lemmas.List.Elements.{All-push}
 use Rattle.std.proofs.lemmas.List.Quantifiers.{all_pairs_push}
 use Rattle.std.proofs.lemmas.List.Folds.{list_any_at}
-use Rattle.std.proofs.lemmas.Slice.Eq.{bytes_eq-Decides}
 use Rattle.vr_base.specs.declared.file.FileName.{FileName}
 use Rattle.vr_base.specs.declared.project.ProjectFile.{ProjectFile}
 use Rattle.vr_base.specs.declared.project.ProjectFault.{ProjectFault}
 use Rattle.vr_base.specs.declared.project.ProjectFault.TheVariants.{BadLine}
 use Rattle.vr_base.specs.Names.{IsBetween, FitsName}
 use Rattle.vr_base.specs.Projects.{IsProject, IsProjectFile}
-use Rattle.run_spec.specs.Csv.{file_of, names_file, trimmed, lower, begins_with_letter, is_refused_name, is_same_name, added_by, files_after, listed_file, listed_project, listed_command}
+use Rattle.name_set.specs.Names.{has_name}
+use Rattle.vr_base.specs.Names.{is_same_name}
+use Rattle.name_set.proofs.SameNames.{same_names}
+use Rattle.run_spec.specs.Csv.{file_of, names_file, trimmed, lower, begins_with_letter, is_refused_name, added_by, files_after, listed_file, listed_project, listed_command}
 
 some_is : {X : Type 0} (x y : X) → ◌≡◌ {A = Option X} (Some x) (Some y) → x ≡ y
 some_is x y e = cc
@@ -57,10 +59,6 @@ file_fits : (line : List ℕ) (name : FileName) → file_of line ≡ Some name �
 unfolding file_of
 file_fits line name h = fits_of line (trimmed (before_first (λ (byte : ℕ). eqb byte 44) line)) (trimmed (after_first (λ (byte : ℕ). eqb byte 44) line)) name h
 
--- names that are the same pass the test
-same_names : (a b : FileName) → a ≡ b → is_same_name a b ≡ true
-same_names a b e = and_from _ _ ((bytes_eq-Decides a.library b.library).1 (ap (λ (n : FileName). n.library) e)) ((bytes_eq-Decides a.path b.path).1 (ap (λ (n : FileName). n.path) e))
-
 and_then_some : {X Y : Type 0} (f : X → Option Y) (o : Option X) (y : Y) → option_and_then f o ≡ Some y → (x : X) × (o ≡ Some x) × (f x ≡ Some y)
 and_then_some f None y h = absurd cc
 and_then_some f (Some x) y h = (x, refl, h)
@@ -85,10 +83,10 @@ pub record AreNames (names : List FileName) : Type 0 where
 one_more : (before : List FileName) (name : FileName) → AreNames before → FitsName name → is_refused_name before name ≡ false → AreNames (before ++ name ∷ [])
 unfolding is_refused_name
 one_more before name are fits new_one =
-    let no_other : list_any (λ other. is_same_name other name) before ≡ false = (or_parts _ _ new_one).1 in
+    let no_other : has_name before name ≡ false = (or_parts _ _ new_one).1 in
     record {
       distinct = all_pairs_push (λ a b. a ≢ b) before name are.distinct (λ k d lt same.
-          both_ways (list_any (λ other. is_same_name other name) before) no_other (list_any_at (λ other. is_same_name other name) before k d lt (same_names (get_or before k d) name same)));
+          both_ways (has_name before name) no_other (list_any_at (λ other. is_same_name other name) before k d lt (same_names (get_or before k d) name same)));
       fit = All-push FitsName before name are.fit fits;
     }
 

@@ -3,7 +3,7 @@ pub mod OneChild
 pub mod Builds
 pub mod Utf8Test
 pub mod Splits
-pub mod SeenNames
+pub mod NewNames
 pub mod CsvProject
 pub mod Texts
 pub mod ReportLoops

@@ -5,14 +5,14 @@ ghost use Rattle.std.specs.Str.Lines.{lines};
 ghost use Rattle.run_spec.specs.Csv.{is_library, is_library_byte, is_letter, is_upper, is_path, is_path_byte, is_component, has_components, has_path_bytes, begins_with_letter, is_blank, without_blanks, trimmed, lower, names_file, file_of, added_by, csv_files, csv_project, listed_file, listed_project};
 ghost use Rattle.vr_base.specs.declared.file.FileName.{FileName};
 ghost use Rattle.vr_base.specs.Projects.{IsProject};
-ghost use Rattle.vunit_top.specs.Seen.{Holds, Adds, Admits};
+ghost use Rattle.name_set.specs.Names.{Holds};
+ghost use Rattle.vunit_top.specs.NewNames.{Adds, Admits};
 ghost use Rattle.vunit_top.specs.Steps.{TakesLine, Reads};
 
 use crate::parts::{cut_at, next_line, sides};
-use crate::seen::{Key, see};
 use crate::words::is_same;
+use name_set::NameSet;
 use std::alloc::Global;
-use std::collections::BTreeSet;
 use vr_base::{
     FileList, FileName, NoMemory, PairList, Project, ProjectFault, ProjectFile, ProjectFileList,
     Text, TextList,
@@ -186,28 +186,24 @@ fn file_of(alloc: Global, line: &[u8]) -> Result<Option<FileName>, NoMemory>
 
 /// Whether a name may be added to those before it, which the set holds. It then holds this name too.
 #[tactic(auto, unfolding(run_spec::specs::Csv::is_refused_name))]
-fn admit(alloc: Global, seen: &mut BTreeSet<Key>, name: &FileName) -> Result<bool, NoMemory>
+fn admit(seen: &mut NameSet, name: &FileName) -> Result<bool, NoMemory>
     ensures { IfOk result (λ admitted. (before : List FileName) → Holds seen.old before → Admits seen.new before name.now admitted) }
 {
     if is_same(name.library.bytes(), b"work") {
         return Ok(false);
     }
-    see(alloc, seen, name)
+    Ok(seen.add(name)?)
 }
 
 /// The file that a line adds to those before it, which the set holds.
 #[tactic(auto, unfolding(run_spec::specs::Csv::added_by))]
-fn added_by(
-    alloc: Global,
-    seen: &mut BTreeSet<Key>,
-    line: &[u8],
-) -> Result<Option<FileName>, NoMemory>
+fn added_by(alloc: Global, seen: &mut NameSet, line: &[u8]) -> Result<Option<FileName>, NoMemory>
     ensures { IfOk result (λ name. (before : List FileName) → Holds seen.old before → Adds seen.new before (added_by before line.now) name) }
 {
     match file_of(alloc, line)? {
         None => Ok(None),
         Some(name) => {
-            if admit(alloc, seen, &name)? {
+            if admit(seen, &name)? {
                 Ok(Some(name))
             } else {
                 Ok(None)
@@ -221,7 +217,7 @@ fn added_by(
 fn take_line(
     alloc: Global,
     files: &mut FileList,
-    seen: &mut BTreeSet<Key>,
+    seen: &mut NameSet,
     number: u32,
     line: &[u8],
 ) -> Result<(), ProjectFault>
@@ -243,7 +239,7 @@ fn read_files(alloc: Global, bytes: &[u8]) -> Result<FileList, ProjectFault>
     ensures { Reads (csv_files bytes.now) result }
 {
     let mut files = FileList::new(alloc);
-    let mut seen = BTreeSet::new(alloc);
+    let mut seen = NameSet::new(alloc);
     let mut rest = bytes;
     let mut number = 1;
     'lines: loop {

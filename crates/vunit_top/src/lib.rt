@@ -9,7 +9,6 @@ mod parts;
 mod report;
 mod requests;
 mod scanning;
-mod seen;
 mod sources;
 mod top;
 mod words;

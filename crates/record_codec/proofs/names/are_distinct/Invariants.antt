@@ -1,6 +1,6 @@
 use Rattle.std.proofs.Common.{◌≢◌, map, take}
 use Rattle.std.specs.Prelude.{AllPairs}
-use Rattle.record_codec.specs.Seen.{Holds}
+use Rattle.name_set.specs.Names.{Holds}
 use Rattle.record_codec.proofs.names.are_distinct.Given as goal
 
 abbrev pub invariant-loop-entry : goal.invariant-loop-entry

@@ -1,7 +1,7 @@
 use Rattle.std.proofs.Common.{◌≡◌, ◌+◌, ◌≤◌, length}
 use Rattle.std.specs.Str.Lines.{lines}
 use Rattle.run_spec.specs.Csv.{files_after, csv_files}
-use Rattle.vunit_top.specs.Seen.{Holds}
+use Rattle.name_set.specs.Names.{Holds}
 use Rattle.vunit_top.proofs.csv.read_files.Given as goal
 
 abbrev pub invariant-lines : goal.invariant-lines

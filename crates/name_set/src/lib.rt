@@ -1,0 +1,9 @@
+//! The set of names of files seen so far.
+#![tactic(auto)]
+
+mod names;
+
+pub use names::NameSet;
+
+#[cfg(test)]
+mod tests;
