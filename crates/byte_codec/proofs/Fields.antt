@@ -1,8 +1,8 @@
 -- What is read is spelled so, and what is spelled so is read.
-use Rattle.std.proofs.Common.{◌≡◌, ℕ, ◌+◌, ◌^◌, ◌<◌, ◌≤◌, Bool, true, false, cond, ltb, List, ◌++◌, length, take, drop, Option, Some, None, refl, sym, ap, subst, ◌∙◌, append_assoc, arith, inl, inr}
+use Rattle.std.proofs.Common.{◌≡◌, ℕ, ◌+◌, ◌^◌, ◌<◌, ◌≤◌, Bool, true, false, cond, eqb, ltb, List, ◌++◌, length, take, drop, Option, Some, None, refl, sym, ap, subst, ◌∙◌, append_assoc, arith, inl, inr}
 use Rattle.std.specs.Int.{Width, w32, w64, byte_len, from_le_bytes, to_le_bytes}
-use Rattle.std.proofs.lemmas.Bool.{cases_lt, ltb-false, le-ltb}
-use Rattle.std.proofs.lemmas.List.{take_at, drop_at, take-append-drop, length-append, length-take, get_or-drop, get_or-take, get_or_past}
+use Rattle.std.proofs.lemmas.Bool.{cases_lt, eqb-true, ltb-false, le-ltb}
+use Rattle.std.proofs.lemmas.List.{append-nil, nil_from_length, take_at, drop_at, take-append-drop, length-append, length-take, get_or-drop, get_or-take, get_or_past}
 use Rattle.std.proofs.lemmas.Nat.{le_bytes_4, le_bytes_8, from_le_bytes-to_le_bytes_4, from_le_bytes-to_le_bytes_8}
 use Rattle.vr_base.specs.Bytes.{number_bytes, text_bytes}
 use Rattle.byte_codec.specs.Reading.{◌>>=◌, AreBytes, Takes, number_at, taken_at, text_at}
@@ -31,11 +31,24 @@ pub guard_then : {A : Type 0} (b : Bool) (r : Option A) (y : A) → cond b None 
 guard_then true r y e = absurd cc
 guard_then false r y e = (refl, e)
 
+-- a test that has to pass
+pub guard_ended : {A : Type 0} (b : Bool) (x y : A) → cond b (Some x) None ≡ Some y → (b ≡ true) × (x ≡ y)
+guard_ended true x y e = (refl, cc)
+guard_ended false x y e = absurd cc
+
+pub guard_first : {A : Type 0} (b : Bool) (r : Option A) (y : A) → cond b r None ≡ Some y → (b ≡ true) × (r ≡ Some y)
+guard_first true r y e = (refl, e)
+guard_first false r y e = absurd cc
+
 pub some_is : {X : Type 0} (x y : X) → ◌≡◌ {A = Option X} (Some x) (Some y) → x ≡ y
 some_is x y e = cc
 
 pub Takes-then : (a x b y c : List ℕ) → Takes a x b → Takes b y c → Takes a (x ++ y) c
 Takes-then a x b y c p q = record { parts = p.parts ∙ ap (λ (t : List ℕ). x ++ t) q.parts ∙ sym (append_assoc x y c); left_are_bytes = q.left_are_bytes }
+
+-- where no byte is left, what was read is all that stood there
+pub ends_there : (bytes spelling left : List ℕ) → Takes bytes spelling left → eqb (length left) 0 ≡ true → bytes ≡ spelling
+ends_there bytes spelling left t e = t.parts ∙ ap (λ (r : List ℕ). spelling ++ r) (nil_from_length left (eqb-true _ _ e)) ∙ append-nil spelling
 
 record IsWide (w : Width) (limit : ℕ) : Type 0 where
   len : (n : ℕ) → length (to_le_bytes w n) ≡ byte_len w
@@ -59,7 +72,7 @@ wide64 = record {
   below = λ bytes fits. omega (arith, fits 0, fits 1, fits 2, fits 3, fits 4, fits 5, fits 6, fits 7);
 }
 
-taken_takes : (count : ℕ) (bytes text left : List ℕ) → AreBytes bytes → taken_at count bytes ≡ Some (text, left) → Takes bytes text left × (length text ≡ count)
+pub taken_takes : (count : ℕ) (bytes text left : List ℕ) → AreBytes bytes → taken_at count bytes ≡ Some (text, left) → Takes bytes text left × (length text ≡ count)
 taken_takes count bytes text left fits e =
     let g = guard_some (ltb (length bytes) count) (take count bytes, drop count bytes) (text, left) e in
     let long : count ≤ length bytes = ltb-false _ _ g.0 in
@@ -67,7 +80,7 @@ taken_takes count bytes text left fits e =
     let left-is : drop count bytes ≡ left = ap (λ (p : List ℕ × List ℕ). p.1) g.1 in
     (record { parts = rw (← text-is, ← left-is) (sym (take-append-drop count bytes)); left_are_bytes = rw (← left-is) (AreBytes-drop count bytes fits) }, ap length (sym text-is) ∙ omega (arith, length-take count bytes))
 
-taken_again : (text left : List ℕ) → taken_at (length text) (text ++ left) ≡ Some (text, left)
+pub taken_again : (text left : List ℕ) → taken_at (length text) (text ++ left) ≡ Some (text, left)
 taken_again text left =
     let long : ltb (length (text ++ left)) (length text) ≡ false = le-ltb _ _ (omega (arith, length-append text left)) in
     rw (long, take_at text left (length text) refl, drop_at text left (length text) refl) refl

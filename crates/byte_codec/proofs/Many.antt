@@ -1,5 +1,6 @@
 -- Things that are read one after the other, as a loop does, and their laws.
 use Rattle.std.proofs.Common.{◌≡◌, ℕ, zero, suc, ◌-◌, ◌+◌, ◌^◌, ◌≤◌, ◌<◌, List, [], ◌∷◌, ◌++◌, length, Option, Some, None, refl, sym, ap, subst, ◌∙◌, append_assoc, arith}
+use Rattle.std.specs.Prelude.{All}
 use Rattle.std.specs.List.{flat_map, AllByRecursion}
 use Rattle.std.specs.Int.{w32}
 use Rattle.std.proofs.lemmas.List.{append-nil}
@@ -7,6 +8,16 @@ use Rattle.std.proofs.lemmas.List.Concat.{flat_map-cons}
 use Rattle.vr_base.specs.Bytes.{number_bytes}
 use Rattle.byte_codec.specs.Reading.{◌>>=◌, AreBytes, Takes, number_at, many_at, counted_at}
 use Rattle.byte_codec.proofs.Fields.{bind_some, some_is, Takes-then, u32_takes, u32_again}
+
+-- a property of all items, item by item
+pub by_recursion : {X : Type 0} (P : X → Type 0) (xs : List X) → All P xs → AllByRecursion P xs
+by_recursion P [] all = tt
+by_recursion P (x ∷ xs) all = (all 0 x (omega arith), by_recursion P xs (λ k d l. all (suc k) d (omega arith)))
+
+pub by_place : {X : Type 0} (P : X → Type 0) (xs : List X) → AllByRecursion P xs → All P xs
+by_place P [] all k d l = absurd (omega arith)
+by_place P (x ∷ xs) all zero d l = all.0
+by_place P (x ∷ xs) all (suc k) d l = by_place P xs all.1 k d (omega arith)
 
 -- what was read before, and what is still read
 abbrev pub with_front : {X : Type 0} → List X → Option (List X × List ℕ) → Option (List X × List ℕ)
@@ -21,11 +32,14 @@ no_front (Some x) = refl
 no_front None = refl
 
 module _ {X : Type 0} (read : List ℕ → Option (X × List ℕ)) where
+  pub begins_many : (bytes : List ℕ) (count : ℕ) → with_front [] (many_at read (count - 0) bytes) ≡ many_at read count bytes
+  begins_many bytes count =
+      let k : count - 0 ≡ count = omega arith in
+      no_front (many_at read (count - 0) bytes) ∙ ap (λ (n : ℕ). many_at read n bytes) k
+
   pub begins : (bytes : List ℕ) (count : ℕ) (left : List ℕ) → number_at w32 bytes ≡ Some (count, left) → with_front [] (many_at read (count - 0) left) ≡ counted_at read bytes
   unfolding counted_at
-  begins bytes count left h =
-      let k : count - 0 ≡ count = omega arith in
-      no_front (many_at read (count - 0) left) ∙ ap (λ (n : ℕ). many_at read n left) k ∙ rw h refl
+  begins bytes count left h = begins_many left count ∙ rw h refl
 
   pub no_count : (bytes : List ℕ) → number_at w32 bytes ≡ None → counted_at read bytes ≡ None
   unfolding counted_at

@@ -48,3 +48,8 @@ unfoldable pub counted_at : {X : Type 0} → (List ℕ → Option (X × List ℕ
 counted_at read bytes = do
   n ← number_at w32 bytes
   many_at read n.0 n.1
+
+-- What was read whole, seen by view, is what reading gives.
+abbrev pub ReadsAll : {X Y : Type 0} → (X → Y) → Option X → Option Y → Type 0
+ReadsAll view None read = read ≡ None
+ReadsAll view (Some x) read = read ≡ Some (view x)

@@ -1,11 +1,13 @@
-//! Numbers and texts as bytes: the one writer and the one reader that all formats use.
+//! Numbers, texts and names of files as bytes: the one writer and the one reader that all formats use.
 #![tactic(auto)]
 
 mod laws;
+mod names;
 mod reader;
 mod writer;
 
 pub use laws::laws_of_bytes;
+pub use names::fits_name;
 pub use reader::ByteReader;
 pub use writer::ByteWriter;
 

@@ -1,8 +1,11 @@
-ghost use Rattle.std.specs.Prelude.{◌≡◌, ◌==◌, length};
+ghost use Rattle.std.specs.Prelude.{◌≡◌, ◌==◌, length, IfOk};
 ghost use Rattle.std.specs.Int.{w32, w64};
 ghost use Rattle.byte_codec.specs.Reading.{Reads, number_at, taken_at, text_at};
+ghost use Rattle.byte_codec.specs.Names.{name_at};
 
+use std::alloc::Global;
 use std::marker::Model;
+use vr_base::{FileName, NoMemory, Text};
 
 /// Bytes that are read from front to back. Contracts see those that are left.
 #[derive(Drop)]
@@ -71,6 +74,30 @@ impl<'a> ByteReader<'a> {
     {
         let count = self.u32()?;
         self.take(count as usize)
+    }
+
+    /// A text of its own: a length in four bytes, and that many bytes; or none where fewer are left.
+    pub fn owned_text(&mut self, alloc: Global) -> Result<Option<Text>, NoMemory>
+        ensures { IfOk result (λ text. Reads (λ bytes. bytes) text self.new (text_at self.old)) }
+    {
+        let Some(bytes) = self.text() else {
+            return Ok(None);
+        };
+        Ok(Some(Text::from_slice(alloc, bytes)?))
+    }
+
+    /// A name of a file: the texts of its library and its path; or none where bytes are missing.
+    #[tactic(auto, unfolding(crate::specs::Names::name_at))]
+    pub fn name(&mut self, alloc: Global) -> Result<Option<FileName>, NoMemory>
+        ensures { IfOk result (λ name. Reads (λ same. same) name self.new (name_at self.old)) }
+    {
+        let Some(library) = self.owned_text(alloc)? else {
+            return Ok(None);
+        };
+        let Some(path) = self.owned_text(alloc)? else {
+            return Ok(None);
+        };
+        Ok(Some(FileName { library, path }))
     }
 
     /// The bytes that are left.

@@ -1,10 +1,11 @@
 ghost use Rattle.std.specs.Prelude.{◌≡◌, ◌<◌, ◌^◌, ◌++◌, [], length, OnOk};
 ghost use Rattle.std.specs.Int.{w64, to_le_bytes};
 ghost use Rattle.vr_base.specs.Bytes.{number_bytes, text_bytes};
+ghost use Rattle.vr_base.specs.Jobs.{name_bytes};
 
 use std::alloc::Global;
 use std::marker::Model;
-use vr_base::{NoMemory, Text};
+use vr_base::{FileName, NoMemory, Text};
 
 /// Bytes that are written from front to back. Contracts see their list.
 #[derive(Drop)]
@@ -62,6 +63,18 @@ impl ByteWriter {
     {
         self.u32(text.len() as u32)?;
         self.plain(text)?;
+        Ok(())
+    }
+
+    /// Writes a name of a file: its library and its path, as texts.
+    #[tactic(auto, unfolding(vr_base::specs::Jobs::name_bytes))]
+    pub fn name(&mut self, name: &FileName) -> Result<(), NoMemory>
+        requires library { length name.now.library < 2 ^ 32 }
+        requires path { length name.now.path < 2 ^ 32 }
+        ensures { OnOk result (self.new ≡ self.old ++ name_bytes name.now) }
+    {
+        self.text(name.library.bytes())?;
+        self.text(name.path.bytes())?;
         Ok(())
     }
 

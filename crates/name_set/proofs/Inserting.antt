@@ -10,7 +10,8 @@ use Rattle.std.specs.declared.cmp.Ordering.TheVariants.{Less, Equal, Greater}
 use Rattle.std.specs.BTreeSet.{insert_key}
 use Rattle.vr_base.specs.declared.file.FileName.{FileName}
 use Rattle.name_set.specs.declared.names.Key.{Key}
-use Rattle.name_set.specs.Names.{is_same_name, has_name}
+use Rattle.name_set.specs.Names.{has_name}
+use Rattle.vr_base.specs.Names.{is_same_name}
 use Rattle.name_set.specs.Keys.{name_of, key_cmp}
 use Rattle.name_set.proofs.SameNames.{names_same, same_back}
 

@@ -1,54 +1,19 @@
 -- The files and the artefact that are read are spelled so, and what is spelled so is read.
-use Rattle.std.proofs.Common.{◌≡◌, ℕ, zero, suc, ◌^◌, ◌<◌, Bool, true, false, cond, eqb, List, [], ◌∷◌, ◌++◌, length, Some, None, refl, sym, ap, subst, ◌∙◌, append_assoc, arith}
-use Rattle.std.specs.Prelude.{All}
+use Rattle.std.proofs.Common.{◌≡◌, ℕ, ◌^◌, ◌<◌, cond, eqb, List, [], ◌++◌, length, Some, None, refl, sym, ap, subst, ◌∙◌, append_assoc, arith}
 use Rattle.std.specs.List.{flat_map, AllByRecursion}
 use Rattle.std.specs.Int.{w32}
-use Rattle.std.proofs.lemmas.Bool.{eqb-true}
-use Rattle.std.proofs.lemmas.List.{append-nil, nil_from_length}
-use Rattle.vr_base.specs.declared.file.FileName.{FileName}
+use Rattle.std.proofs.lemmas.List.{append-nil}
 use Rattle.vr_base.specs.declared.graph.Entry.{Entry}
 use Rattle.vr_base.specs.Bytes.{number_bytes, text_bytes}
 use Rattle.vr_base.specs.Jobs.{name_bytes}
 use Rattle.byte_codec.specs.Reading.{◌>>=◌, AreBytes, Takes, number_at, text_at, counted_at}
-use Rattle.byte_codec.proofs.Fields.{bind_some, some_is, Takes-then, u32_takes, u32_again, text_takes, text_again}
-use Rattle.byte_codec.proofs.Many.{counted_take, counted_again}
+use Rattle.byte_codec.specs.Names.{name_at}
+use Rattle.byte_codec.proofs.Fields.{bind_some, guard_ended, some_is, Takes-then, ends_there, u32_takes, u32_again, text_takes, text_again}
+use Rattle.byte_codec.proofs.Many.{by_recursion, by_place, counted_take, counted_again}
+use Rattle.byte_codec.proofs.NameFields.{name_takes, name_again}
 use Rattle.record_codec.specs.Spelling.{words_bytes, positions_bytes, entry_bytes, record_bytes, HasSpelling, IsRecord}
-use Rattle.record_codec.specs.Reading.{name_at, entry_at, record_at}
+use Rattle.record_codec.specs.Reading.{entry_at, record_at}
 use Rattle.record_codec.proofs.Spelled.{has_spelling}
-
--- a property of all items, item by item
-by_recursion : {X : Type 0} (P : X → Type 0) (xs : List X) → All P xs → AllByRecursion P xs
-by_recursion P [] all = tt
-by_recursion P (x ∷ xs) all = (all 0 x (omega arith), by_recursion P xs (λ k d l. all (suc k) d (omega arith)))
-
-by_place : {X : Type 0} (P : X → Type 0) (xs : List X) → AllByRecursion P xs → All P xs
-by_place P [] all k d l = absurd (omega arith)
-by_place P (x ∷ xs) all zero d l = all.0
-by_place P (x ∷ xs) all (suc k) d l = by_place P xs all.1 k d (omega arith)
-
-guard_ended : {A : Type 0} (b : Bool) (x y : A) → cond b (Some x) None ≡ Some y → (b ≡ true) × (x ≡ y)
-guard_ended true x y e = (refl, cc)
-guard_ended false x y e = absurd cc
-
-record NameFits (name : FileName) : Type 0 where
-  library : length name.library < 2 ^ 32
-  path : length name.path < 2 ^ 32
-
-name_takes : (bytes : List ℕ) (name : FileName) (left : List ℕ) → AreBytes bytes → name_at bytes ≡ Some (name, left) → Takes bytes (name_bytes name) left × NameFits name
-unfolding name_at name_bytes
-name_takes bytes name left fits e =
-    let a = bind_some (text_at bytes) (λ library. text_at library.1 >>= λ path. Some (record { library = library.0; path = path.0 }, path.1)) (name, left) e in
-    let b = bind_some (text_at a.0.1) (λ path. Some (record { library = a.0.0; path = path.0 }, path.1)) (name, left) a.2 in
-    let t0 = text_takes bytes a.0.0 a.0.1 fits a.1 in
-    let t1 = text_takes a.0.1 b.0.0 b.0.1 t0.0.left_are_bytes b.1 in
-    let both = Takes-then bytes (text_bytes a.0.0) a.0.1 (text_bytes b.0.0) b.0.1 t0.0 t1.0 in
-    let made : FileName × List ℕ = (record { library = a.0.0; path = b.0.0 }, b.0.1) in
-    subst (λ (y : FileName × List ℕ). Takes bytes (text_bytes y.0.library ++ text_bytes y.0.path) y.1 × NameFits y.0) (some_is made (name, left) b.2) (both, record { library = t0.1; path = t1.1 })
-
-name_again : (name : FileName) (left : List ℕ) → NameFits name → name_at (name_bytes name ++ left) ≡ Some (name, left)
-unfolding name_at name_bytes
-name_again name left fits =
-    ap name_at (append_assoc (text_bytes name.library) (text_bytes name.path) left) ∙ rw (text_again name.library (text_bytes name.path ++ left) fits.library, text_again name.path left fits.path) refl
 
 abbrev TextFits : List ℕ → Type 0
 TextFits text = length text < 2 ^ 32
@@ -99,10 +64,9 @@ record_takes bytes view artefact fits e =
     let g = guard_ended (eqb (length b.0.1) 0) (a.0.0, b.0.0) (view, artefact) b.2 in
     let t0 = counted_take entry_at entry_bytes HasSpelling entry_takes bytes a.0.0 a.0.1 fits a.1 in
     let t1 = text_takes a.0.1 b.0.0 b.0.1 t0.0.left_are_bytes b.1 in
-    let nothing : b.0.1 ≡ [] = nil_from_length b.0.1 (eqb-true _ _ g.0) in
-    let both = (Takes-then bytes (number_bytes (length a.0.0) ++ flat_map entry_bytes a.0.0) a.0.1 (text_bytes b.0.0) b.0.1 t0.0 t1.0).parts in
+    let both = Takes-then bytes (number_bytes (length a.0.0) ++ flat_map entry_bytes a.0.0) a.0.1 (text_bytes b.0.0) b.0.1 t0.0 t1.0 in
     let whole : bytes ≡ number_bytes (length a.0.0) ++ (flat_map entry_bytes a.0.0 ++ text_bytes b.0.0) =
-    both ∙ ap (λ (r : List ℕ). ((number_bytes (length a.0.0) ++ flat_map entry_bytes a.0.0) ++ text_bytes b.0.0) ++ r) nothing ∙ append-nil ((number_bytes (length a.0.0) ++ flat_map entry_bytes a.0.0) ++ text_bytes b.0.0) ∙ append_assoc (number_bytes (length a.0.0)) (flat_map entry_bytes a.0.0) (text_bytes b.0.0) in
+    ends_there bytes ((number_bytes (length a.0.0) ++ flat_map entry_bytes a.0.0) ++ text_bytes b.0.0) b.0.1 both g.0 ∙ append_assoc (number_bytes (length a.0.0)) (flat_map entry_bytes a.0.0) (text_bytes b.0.0) in
     subst (λ (r : List Entry × List ℕ). bytes ≡ record_bytes r.0 r.1) g.1 whole
 
 pub record_again : (view : List Entry) (artefact : List ℕ) → IsRecord view artefact → record_at (record_bytes view artefact) ≡ Some (view, artefact)

@@ -1,15 +1,9 @@
 -- Reading a record from front to back: the files and the artefact, whether or not they are a view.
-use Rattle.std.specs.Prelude.{◌≡◌, ℕ, List, ◌==◌, length, Option, Some, None, if◌then◌else◌}
+use Rattle.std.specs.Prelude.{ℕ, List, ◌==◌, length, Option, Some, None, if◌then◌else◌}
 use Rattle.std.specs.Int.{w32}
-use Rattle.vr_base.specs.declared.file.FileName.{FileName}
 use Rattle.vr_base.specs.declared.graph.Entry.{Entry}
 use Rattle.byte_codec.specs.Reading.{◌>>=◌, number_at, text_at, counted_at}
-
-unfoldable pub name_at : List ℕ → Option (FileName × List ℕ)
-name_at bytes = do
-  library ← text_at bytes
-  path ← text_at library.1
-  Some (record { library = library.0; path = path.0 }, path.1)
+use Rattle.byte_codec.specs.Names.{name_at}
 
 unfoldable pub entry_at : List ℕ → Option (Entry × List ℕ)
 entry_at bytes = do
@@ -25,8 +19,3 @@ record_at bytes = do
   view ← counted_at entry_at bytes
   artefact ← text_at view.1
   if length artefact.1 == 0 then Some (view.0, artefact.0) else None
-
--- What was read whole, seen by view, is what reading gives.
-abbrev pub ReadsAll : {X Y : Type 0} → (X → Y) → Option X → Option Y → Type 0
-ReadsAll view None read = read ≡ None
-ReadsAll view (Some x) read = read ≡ Some (view x)

@@ -3,15 +3,15 @@ ghost use Rattle.std.specs.Int.{w32};
 ghost use Rattle.std.specs.Option.{option_map};
 ghost use Rattle.vr_base.specs.declared.graph.Entry.{Entry};
 ghost use Rattle.vr_base.specs.Graphs.{IsGraph};
-ghost use Rattle.byte_codec.specs.Reading.{Reads, number_at, text_at, counted_at};
-ghost use Rattle.record_codec.specs.Reading.{name_at, entry_at, record_at, ReadsAll};
+ghost use Rattle.byte_codec.specs.Reading.{Reads, ReadsAll, number_at, text_at, counted_at};
+ghost use Rattle.record_codec.specs.Reading.{entry_at, record_at};
 ghost use Rattle.record_codec.specs.Spelling.{record_bytes, IsRecord};
 ghost use Rattle.record_codec.specs.Found.{record_in};
 
 use crate::views::is_view;
 use byte_codec::ByteReader;
 use std::alloc::Global;
-use vr_base::{Entry, FileName, Graph, Items, NoMemory, Positions, Text, TextList};
+use vr_base::{Entry, Graph, Items, NoMemory, Positions, Text, TextList};
 use vr_outside::Record;
 
 /// The files and the artefact that some bytes spell. The files may be no view.
@@ -19,28 +19,6 @@ use vr_outside::Record;
 struct Parts {
     entries: Items<Entry>,
     artefact: Text,
-}
-
-fn text_of(alloc: Global, reader: &mut ByteReader<'_>) -> Result<Option<Text>, NoMemory>
-    ensures { IfOk result (λ text. Reads (λ bytes. bytes) text reader.new (text_at reader.old)) }
-{
-    let Some(bytes) = reader.text() else {
-        return Ok(None);
-    };
-    Ok(Some(Text::from_slice(alloc, bytes)?))
-}
-
-#[tactic(auto, unfolding(crate::specs::Reading::name_at))]
-fn name_of(alloc: Global, reader: &mut ByteReader<'_>) -> Result<Option<FileName>, NoMemory>
-    ensures { IfOk result (λ name. Reads (λ same. same) name reader.new (name_at reader.old)) }
-{
-    let Some(library) = text_of(alloc, reader)? else {
-        return Ok(None);
-    };
-    let Some(path) = text_of(alloc, reader)? else {
-        return Ok(None);
-    };
-    Ok(Some(FileName { library, path }))
 }
 
 fn words_of(alloc: Global, reader: &mut ByteReader<'_>) -> Result<Option<TextList>, NoMemory>
@@ -51,7 +29,7 @@ fn words_of(alloc: Global, reader: &mut ByteReader<'_>) -> Result<Option<TextLis
     };
     let mut words = TextList::new(alloc);
     for _ in 0..count {
-        let Some(word) = text_of(alloc, reader)? else {
+        let Some(word) = reader.owned_text(alloc)? else {
             return Ok(None);
         };
         words.push(word)?;
@@ -79,13 +57,13 @@ fn positions_of(alloc: Global, reader: &mut ByteReader<'_>) -> Result<Option<Pos
 fn entry_of(alloc: Global, reader: &mut ByteReader<'_>) -> Result<Option<Entry>, NoMemory>
     ensures { IfOk result (λ entry. Reads (λ same. same) entry reader.new (entry_at reader.old)) }
 {
-    let Some(name) = name_of(alloc, reader)? else {
+    let Some(name) = reader.name(alloc)? else {
         return Ok(None);
     };
     let Some(command) = words_of(alloc, reader)? else {
         return Ok(None);
     };
-    let Some(text) = text_of(alloc, reader)? else {
+    let Some(text) = reader.owned_text(alloc)? else {
         return Ok(None);
     };
     let Some(deps) = positions_of(alloc, reader)? else {
@@ -124,7 +102,7 @@ fn parts_of(alloc: Global, bytes: &[u8]) -> Result<Option<Parts>, NoMemory>
     let Some(entries) = entries_of(alloc, &mut reader)? else {
         return Ok(None);
     };
-    let Some(artefact) = text_of(alloc, &mut reader)? else {
+    let Some(artefact) = reader.owned_text(alloc)? else {
         return Ok(None);
     };
     if !reader.is_at_end() {

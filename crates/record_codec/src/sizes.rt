@@ -1,17 +1,10 @@
 ghost use Rattle.std.specs.Prelude.{◌≡◌, ◌↔◌, ◌<◌, ◌≤◌, length, All, IsTrue};
 ghost use Rattle.std.specs.List.Sorted.{IsStrictlyIncreasing};
-ghost use Rattle.vr_base.specs.Names.{FitsName, FitsCommand};
+ghost use Rattle.vr_base.specs.Names.{FitsCommand};
 ghost use Rattle.record_codec.specs.Validity.{FitsFile};
 
-use vr_base::{Entry, FileName, Text, TextList};
-
-fn fits_name(name: &FileName) -> bool
-    ensures { IsTrue result ↔ FitsName name.now }
-{
-    let library = name.library.bytes().len();
-    let path = name.path.bytes().len();
-    1 <= library && library <= 64 && 1 <= path && path <= 1024
-}
+use byte_codec::fits_name;
+use vr_base::{Entry, Text, TextList};
 
 fn are_short(words: &[Text]) -> bool
     ensures { IsTrue result ↔ All (λ word. length word ≤ 1024) words.now }

@@ -1,22 +1,10 @@
 ghost use Rattle.std.specs.Prelude.{◌≡◌, ◌<◌, ◌≤◌, ◌^◌, ◌++◌, length, All, IfOk, OnOk};
 ghost use Rattle.vr_base.specs.View.{IsView};
-ghost use Rattle.vr_base.specs.Jobs.{name_bytes};
 ghost use Rattle.record_codec.specs.Spelling.{words_bytes, positions_bytes, entry_bytes, record_bytes, HasSpelling};
 
 use byte_codec::ByteWriter;
 use std::alloc::Global;
-use vr_base::{Entry, FileName, Graph, NoMemory, Text, TextList};
-
-#[tactic(auto, unfolding(vr_base::specs::Jobs::name_bytes))]
-fn put_name(out: &mut ByteWriter, name: &FileName) -> Result<(), NoMemory>
-    requires library { length name.now.library < 2 ^ 32 }
-    requires path { length name.now.path < 2 ^ 32 }
-    ensures { OnOk result (out.new ≡ out.old ++ name_bytes name.now) }
-{
-    out.text(name.library.bytes())?;
-    out.text(name.path.bytes())?;
-    Ok(())
-}
+use vr_base::{Entry, Graph, NoMemory, Text, TextList};
 
 #[tactic(auto, unfolding(crate::specs::Spelling::words_bytes))]
 fn put_words(out: &mut ByteWriter, words: &TextList) -> Result<(), NoMemory>
@@ -49,7 +37,7 @@ fn put_entry(out: &mut ByteWriter, entry: &Entry) -> Result<(), NoMemory>
     requires { HasSpelling entry.now }
     ensures { OnOk result (out.new ≡ out.old ++ entry_bytes entry.now) }
 {
-    put_name(out, &entry.name)?;
+    out.name(&entry.name)?;
     put_words(out, &entry.command)?;
     out.text(entry.text.bytes())?;
     put_positions(out, entry.deps.as_slice())?;

@@ -1,4 +1,5 @@
 use Rattle.byte_codec.proofs.Fields.{u32_takes, u32_again, u64_takes, u64_again, text_takes, text_again}
+use Rattle.byte_codec.proofs.NameFields.{name_takes, name_again}
 use Rattle.byte_codec.proofs.laws.laws_of_bytes.Goals as goal
 
 pub returns-clause-u32_takes : goal.returns-clause-u32_takes
@@ -18,3 +19,9 @@ returns-clause-text_takes c = text_takes
 
 pub returns-clause-text_again : goal.returns-clause-text_again
 returns-clause-text_again c = text_again
+
+pub returns-clause-name_takes : goal.returns-clause-name_takes
+returns-clause-name_takes c = name_takes
+
+pub returns-clause-name_again : goal.returns-clause-name_again
+returns-clause-name_again c = name_again

@@ -17,7 +17,7 @@ pub loop-preserved : goal.loop-preserved
 loop-preserved c =
     let one = rw c.in-Some-2.is at c.in_ok-word.ensures in
     rw c.in_ok-push.ensures.ok
-    (goes_on text_at c.loop.words c.in-Some.count c.loop.counter c.loop.reader c.in-Some-2.word c.text_of.new.reader (counted_at text_at c.args.reader.now) c.loop-test.true one c.loop.invariant)
+    (goes_on text_at c.loop.words c.in-Some.count c.loop.counter c.loop.reader c.in-Some-2.word c.owned_text.new.self (counted_at text_at c.args.reader.now) c.loop-test.true one c.loop.invariant)
 
 pub returns : goal.returns
 returns c = is_done text_at c.loop.words c.in-Some.count c.loop.counter c.loop.reader (counted_at text_at c.args.reader.now) c.loop-test.false c.loop.invariant
