@@ -1,0 +1,13 @@
+//! The requests of a compiler as bytes.
+#![tactic(auto)]
+
+mod laws;
+mod reading;
+mod writing;
+
+pub use laws::laws_of_jobs;
+pub use reading::{CompileJob, read_compile_request};
+pub use writing::compile_request;
+
+#[cfg(test)]
+mod tests;
