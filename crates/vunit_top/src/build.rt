@@ -7,7 +7,7 @@ ghost use Rattle.run_spec.specs.Said.{one_at_a_time};
 ghost use Rattle.vunit_top.specs.Steps.{Compiles, BuildCounts, MarksExit, GrowsBy, Builds};
 
 use crate::children::{BuildFault, run_child};
-use crate::requests::compile_request;
+use job_codec::compile_request;
 use std::alloc::Global;
 use vr_base::{Built, BuiltFile, Entry, Exit, Graph, Mark, MarkList, NoMemory, Text};
 use vr_outside::Procs;

@@ -7,7 +7,6 @@ mod csv;
 mod ends;
 mod parts;
 mod report;
-mod requests;
 mod scanning;
 mod sources;
 mod top;
