@@ -1,5 +1,5 @@
 -- What is given of a moment is an image of it.
-use Rattle.std.proofs.Common.{◌≡◌, ℕ, ◌<◌, ◌^◌, Bool, true, false, cond, List, [], ◌∷◌, ◌++◌, length, get_or, ap, ◌∙◌, arith}
+use Rattle.std.proofs.Common.{◌≡◌, ℕ, ◌<◌, Bool, true, false, cond, List, [], ◌∷◌, ◌++◌, length, get_or, ap, ◌∙◌, arith}
 use Rattle.std.specs.Prelude.{Contains, ◌&&◌, not, nat_lt, ◌==◌}
 use Rattle.std.proofs.lemmas.Bool.{lt-ltb}
 use Rattle.std.proofs.lemmas.List.Elements.{Contains-append_right, Contains-get_or}
@@ -51,9 +51,6 @@ filled_image side wanted fill bytes sound filled = record {
   no_longer = omega (arith, filled.size, sound.image.no_shorter, sound.image.no_longer);
   kept = λ k below there out. filled.bytes_are k below ∙ byte_is side fill k there out;
 }
-
-pub filled_short : (side : SideState) (wanted fill : ℕ) (bytes : List ℕ) → IsSoundSide side → IsFilled side wanted fill bytes → length bytes < 2 ^ 63
-filled_short side wanted fill bytes sound filled = omega (arith, filled.size, sound.short, sound.image.no_shorter, sound.image.no_longer)
 
 pub filled_disk_image : (log : Log) (moment wanted fill : ℕ) (image : Image) → AreFilled (moment_of log moment) wanted fill image → IsImage (moment_of log moment) image
 filled_disk_image log moment wanted fill image filled =

@@ -2,4 +2,5 @@ mod ListingLemmas
 mod BookLemmas
 mod TableLemmas
 mod LogLemmas
+mod ReadsLemmas
 mod CrashLemmas

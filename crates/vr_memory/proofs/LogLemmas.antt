@@ -27,7 +27,7 @@ either_within true more less other image within is = within is
 either_within false more less other image within is = is
 
 write_within : (done : Bool) (at : ℕ) (bytes : List ℕ) (side : SideState) (image : List ℕ) → IsSideImage (write_after done at bytes side) image → IsSideImage (write_inside at bytes side) image
-write_within true at bytes side image is = either_within (is_allowed at (length bytes) side) _ _ side image (within_written at bytes side image) is
+write_within true at bytes side image is = either_within (is_allowed at (length bytes) side.reads) _ _ side image (within_written at bytes side image) is
 write_within false at bytes side image is = is
 
 -- after a call there are images from inside of it
@@ -93,7 +93,7 @@ either_stands false more side image within is = is
 
 -- what stood may still stand inside a call
 side_stands : (call : Act) (side : SideState) (image : List ℕ) → IsSideImage side image → IsSideImage (side_inside call side) image
-side_stands (act.Write at bytes) side image is = either_stands (is_allowed at (length bytes) side) _ side image (within_touching at (length bytes) side image) is
+side_stands (act.Write at bytes) side image is = either_stands (is_allowed at (length bytes) side.reads) _ side image (within_touching at (length bytes) side image) is
 side_stands (act.Cut len) side image is = within_cutting len side image is
 side_stands act.Sync side image is = is
 

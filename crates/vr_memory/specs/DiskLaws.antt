@@ -17,17 +17,17 @@ either_sound : (test : Bool) (one other : SideState) → (test ≡ true → IsSo
 either_sound true one other sound otherwise = sound refl
 either_sound false one other sound otherwise = otherwise
 
-pub allowed_within : (at count : ℕ) (side : SideState) → is_allowed at count side ≡ true → at ≤ length side.reads
-allowed_within at count side test = grind (arith, nat_tests)
+pub allowed_within : (at count : ℕ) (reads : List ℕ) → is_allowed at count reads ≡ true → at ≤ length reads
+allowed_within at count reads test = grind (arith, nat_tests)
 
-pub allowed_fits : (at count : ℕ) (side : SideState) → is_allowed at count side ≡ true → at + count < 2 ^ 63
-allowed_fits at count side test = grind (arith, nat_tests)
+pub allowed_fits : (at count : ℕ) (reads : List ℕ) → is_allowed at count reads ≡ true → at + count < 2 ^ 63
+allowed_fits at count reads test = grind (arith, nat_tests)
 
 write_inside_sound : (at : ℕ) (bytes : List ℕ) (side : SideState) → IsSoundSide side → IsSoundSide (write_inside at bytes side)
-write_inside_sound at bytes side sound = either_sound (is_allowed at (length bytes) side) _ side (λ test. touching_sound at (length bytes) side (allowed_fits at (length bytes) side test) sound) sound
+write_inside_sound at bytes side sound = either_sound (is_allowed at (length bytes) side.reads) _ side (λ test. touching_sound at (length bytes) side (allowed_fits at (length bytes) side.reads test) sound) sound
 
 write_after_sound : (done : Bool) (at : ℕ) (bytes : List ℕ) (side : SideState) → IsSoundSide side → IsSoundSide (write_after done at bytes side)
-write_after_sound true at bytes side sound = either_sound (is_allowed at (length bytes) side) _ side (λ test. written_sound at bytes side (allowed_within at (length bytes) side test) (allowed_fits at (length bytes) side test) sound) sound
+write_after_sound true at bytes side sound = either_sound (is_allowed at (length bytes) side.reads) _ side (λ test. written_sound at bytes side (allowed_within at (length bytes) side.reads test) (allowed_fits at (length bytes) side.reads test) sound) sound
 write_after_sound false at bytes side sound = write_inside_sound at bytes side sound
 
 synced_sound : (side : SideState) → IsSoundSide side → IsSoundSide (synced side)

@@ -1,21 +1,23 @@
 -- What a disk over memory holds: the bytes that it began with, and the calls since then that may have changed it.
-use Rattle.std.specs.Prelude.{◌≡◌, ℕ, ◌+◌, ◌^◌, ◌<◌, nat_le, nat_lt, ◌==◌, min, max, Bool, true, false, not, ◌&&◌, List, [], ◌∷◌, length, slice_index, if◌then◌else◌}
-use Rattle.vr_outside.specs.Disks.{SideState, DiskState, Image, Moments, on_side, is_touched, touching, written, cutting, shortened, settled, synced}
+use Rattle.std.specs.Prelude.{◌≡◌, ℕ, ◌+◌, ◌^◌, ◌<◌, nat_le, nat_lt, ◌==◌, min, max, Bool, true, false, not, ◌&&◌, List, [], ◌∷◌, length, take, slice_index, if◌then◌else◌}
+use Rattle.vr_outside.specs.declared.disk.Side.{Side}
+use Rattle.vr_outside.specs.declared.disk.Side.TheVariants.{A, B}
+use Rattle.vr_outside.specs.Disks.{SideState, DiskState, Image, Moments, on_side, is_touched, overwritten, touching, written, cutting, shortened, settled, synced}
 use Rattle.vr_memory.specs.declared.kept.Act.{Act}
 use Rattle.vr_memory.specs.declared.kept.Act.TheVariants as act
 use Rattle.vr_memory.specs.declared.kept.Kept.{Kept}
 
--- whether a write begins at or before the length, and ends below 2^63
-abbrev pub is_allowed : (at count : ℕ) → SideState → Bool
-is_allowed at count side = nat_le at (length side.reads) && nat_lt (at + count) (2 ^ 63)
+-- whether a write begins at or before the end of what reads give, and ends below 2^63
+abbrev pub is_allowed : (at count : ℕ) → List ℕ → Bool
+is_allowed at count reads = nat_le at (length reads) && nat_lt (at + count) (2 ^ 63)
 
 -- a side inside a write, and after one that failed
 abbrev pub write_inside : (at : ℕ) (bytes : List ℕ) → SideState → SideState
-write_inside at bytes side = if is_allowed at (length bytes) side then touching at (length bytes) side else side
+write_inside at bytes side = if is_allowed at (length bytes) side.reads then touching at (length bytes) side else side
 
 -- a side after a write that was done, or that failed
 abbrev pub write_after : Bool → (at : ℕ) (bytes : List ℕ) → SideState → SideState
-write_after true at bytes side = if is_allowed at (length bytes) side then written at bytes side else side
+write_after true at bytes side = if is_allowed at (length bytes) side.reads then written at bytes side else side
 write_after false at bytes side = write_inside at bytes side
 
 -- a side inside a call
@@ -29,6 +31,18 @@ abbrev pub side_after : Bool → Act → SideState → SideState
 side_after done (act.Write at bytes) side = write_after done at bytes side
 side_after done (act.Cut len) side = if done then shortened len side else cutting len side
 side_after done act.Sync side = if done then synced side else side
+
+-- what reads give after a call that was done, or that failed
+abbrev pub reads_after : Bool → Act → List ℕ → List ℕ
+reads_after false call reads = reads
+reads_after true (act.Write at bytes) reads = if is_allowed at (length bytes) reads then overwritten at bytes reads else reads
+reads_after true (act.Cut len) reads = take len reads
+reads_after true act.Sync reads = reads
+
+-- the bytes of both sides with those of one changed
+abbrev pub on_bytes : Side → (List ℕ → List ℕ) → Image → Image
+on_bytes A change image = record { a = change image.a; b = image.b }
+on_bytes B change image = record { a = image.a; b = change image.b }
 
 abbrev pub disk_inside : Kept → DiskState → DiskState
 disk_inside kept disk = on_side kept.side (side_inside kept.act) disk

@@ -2,32 +2,35 @@ ghost use Rattle.std.specs.Prelude.{◌≡◌, ◌^◌, ◌<◌, ◌++◌, [], �
 ghost use Rattle.vr_outside.specs.Disks.{side_of, Goes};
 ghost use Rattle.vr_memory.specs.Disks.{moments_of, moment_of, beginning, disk_after, disk_inside};
 
+use crate::disk_reads::DiskReads;
+use crate::disk_sides::DiskSides;
 use crate::images::fits;
 use crate::kept::{Kept, KeptList};
-use crate::{DiskSides, SideBook};
+use crate::side_book::SideBook;
 use std::alloc::Global;
 use std::marker::Model;
 use vr_base::{NoMemory, Text};
 use vr_outside::Side;
 
-/// The calls that may have changed a disk, and what they made of it.
+/// The calls that may have changed a disk, and what reads give after them.
 #[derive(Drop)]
 pub struct DiskLog {
     first_a: Text,
     first_b: Text,
     kept: KeptList,
-    sides: DiskSides,
+    reads: DiskReads,
 }
 
 impl Model for DiskLog {
     ghost use Rattle.std.specs.Prelude.{◌≡◌};
+    ghost use Rattle.vr_outside.specs.Disks.{reads_of};
     ghost use Rattle.vr_memory.specs.Disks.{Log, now_of, start_of};
 
     ghost Value = { Log };
 
     ghost view = { λ l. record { first = record { a = l.first_a; b = l.first_b }; kept = l.kept.items } };
 
-    ghost invariant = { λ l. l.sides ≡ now_of l.kept.items (start_of (record { a = l.first_a; b = l.first_b })) };
+    ghost invariant = { λ l. l.reads ≡ reads_of (now_of l.kept.items (start_of (record { a = l.first_a; b = l.first_b }))) };
 }
 
 impl DiskLog {
@@ -39,7 +42,7 @@ impl DiskLog {
             first_a: Text::new(alloc),
             first_b: Text::new(alloc),
             kept: KeptList::new(alloc),
-            sides: DiskSides::new(SideBook::new(alloc), SideBook::new(alloc)),
+            reads: DiskReads::new(Vec::new(alloc), Vec::new(alloc)),
         }
     }
 
@@ -49,15 +52,15 @@ impl DiskLog {
         requires b { length b.items < 2 ^ 63 }
         ensures { IfOk result (λ log. log ≡ record { first = record { a = a.items; b = b.items }; kept = [] }) }
     {
-        let sides = DiskSides::new(
-            SideBook::settled(alloc, a.as_slice())?,
-            SideBook::settled(alloc, b.as_slice())?,
+        let reads = DiskReads::new(
+            Vec::from_slice(alloc, a.as_slice())?,
+            Vec::from_slice(alloc, b.as_slice())?,
         );
         Ok(DiskLog {
             first_a: Text::from_vec(a),
             first_b: Text::from_vec(b),
             kept: KeptList::new(alloc),
-            sides,
+            reads,
         })
     }
 
@@ -66,11 +69,11 @@ impl DiskLog {
         ensures reads { result.now ≡ (side_of side (moments_of self.now).now).reads }
         ensures short { length result.now < 2 ^ 63 }
     {
-        self.sides.side(side).reads()
+        self.reads.side(side)
     }
 
     /// Goes through a call. After `NoMemory` the log stands.
-    pub fn keep(&mut self, alloc: Global, kept: Kept) -> Result<(), NoMemory>
+    pub fn keep(&mut self, kept: Kept) -> Result<(), NoMemory>
         ensures first { self.new.first ≡ self.old.first }
         ensures ok { OnOk result (self.new.kept ≡ self.old.kept ++ kept ∷ []) }
         ensures err { OnErr result (self.new ≡ self.old) }
@@ -78,7 +81,7 @@ impl DiskLog {
         ensures goes { Goes (disk_inside kept (moments_of self.old).now) (moments_of self.old) (moments_of self.new) }
     {
         self.kept.reserve(1)?;
-        self.sides.apply(alloc, kept.side, &kept.act, kept.done)?;
+        self.reads.apply(kept.side, &kept.act, kept.done)?;
         self.kept.push_within(kept);
         Ok(())
     }

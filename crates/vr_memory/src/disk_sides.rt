@@ -2,8 +2,8 @@ ghost use Rattle.std.specs.Prelude.{◌≡◌, ◌==◌, OnOk, OnErr, IfOk};
 ghost use Rattle.vr_outside.specs.Disks.{Image, on_side, side_of, settled as settled_side};
 ghost use Rattle.vr_memory.specs.Disks.{side_after};
 
-use crate::SideBook;
 use crate::kept::Act;
+use crate::side_book::SideBook;
 use std::alloc::Global;
 use std::marker::Model;
 use vr_base::NoMemory;

@@ -1,7 +1,7 @@
-ghost use Rattle.std.specs.Prelude.{◌≡◌, ℕ, ◌+◌, ◌^◌, ◌≤◌, ◌<◌, nat_lt, length, IfOk};
-ghost use Rattle.vr_outside.specs.Disks.{is_touched as is_touched_by, overwritten as overwritten_by};
+ghost use Rattle.std.specs.Prelude.{◌≡◌, ℕ, ◌+◌, ◌^◌, ◌≤◌, ◌<◌, nat_lt, length, OnOk, OnErr};
+ghost use Rattle.vr_outside.specs.Disks.{is_touched as is_touched_by, overwritten};
+ghost use Rattle.vr_memory.specs.Disks.{is_allowed as is_allowed_by};
 
-use std::alloc::Global;
 use vr_base::NoMemory;
 
 const LIMIT: u64 = 1 << 63;
@@ -13,17 +13,28 @@ pub fn fits(at: u64, count: usize) -> bool
     at < LIMIT && (count as u64) < LIMIT - at
 }
 
-/// Bytes with others written over them, and past their end.
-pub fn overwritten(alloc: Global, old: &[u8], at: usize, bytes: &[u8]) -> Result<Vec<u8>, NoMemory>
-    requires { at ≤ length old.now }
-    ensures { IfOk result (λ next. next.items ≡ overwritten_by at bytes.now old.now) }
+/// Whether a write begins at or before the end of what reads give, and ends below 2^63.
+pub fn is_allowed(at: u64, count: usize, reads: &[u8]) -> bool
+    ensures { result ≡ is_allowed_by at count reads.now }
 {
-    let mut next = Vec::from_slice(alloc, &old[..at])?;
-    next.extend_from_slice(bytes)?;
-    if bytes.len() < old.len() - at {
-        next.extend_from_slice(&old[at + bytes.len()..])?;
+    at <= reads.len() as u64 && fits(at, count)
+}
+
+/// Writes over bytes in place, and past their end. After `NoMemory` they stand.
+pub fn overwrite(bytes: &mut Vec<u8>, at: usize, new: &[u8]) -> Result<(), NoMemory>
+    requires { at ≤ length bytes.old.items }
+    ensures ok { OnOk result (bytes.new.items ≡ overwritten at new.now bytes.old.items) }
+    ensures err { OnErr result (bytes.new.items ≡ bytes.old.items) }
+{
+    let end = bytes.len();
+    let over = end - at;
+    if new.len() <= over {
+        bytes[at..at + new.len()].copy_from_slice(new);
+        return Ok(());
     }
-    Ok(next)
+    bytes.extend_from_slice(&new[over..])?;
+    bytes[at..end].copy_from_slice(&new[..over]);
+    Ok(())
 }
 
 /// Whether some write touched a position.

@@ -6,6 +6,7 @@ mod answer;
 mod book;
 mod conditions;
 mod disk_log;
+mod disk_reads;
 mod disk_sides;
 mod failing;
 mod files;

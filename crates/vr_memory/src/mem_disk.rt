@@ -5,9 +5,10 @@ ghost use Rattle.vr_memory.specs.Failing.{fails, next_call, AskFails, DiskFails}
 ghost use Rattle.vr_memory.specs.Disks.{moments_of, moment_of, disk_inside, disk_after, AreFilled};
 ghost use Rattle.vr_memory.specs.DiskLaws.{log_sound};
 
+use crate::disk_log::DiskLog;
 use crate::failing::{call_after, is_failing};
 use crate::images::fits;
-use crate::{Act, DiskLog, Kept};
+use crate::kept::{Act, Kept};
 use std::alloc::Global;
 use std::marker::Model;
 use vr_base::{DiskFailed, NoMemory, Numbers, Text};
@@ -107,7 +108,7 @@ impl MemDisk {
         ensures failing { self.new.failing ≡ self.old.failing }
     {
         let done = kept.done;
-        let Ok(()) = self.log.keep(self.alloc, kept) else {
+        let Ok(()) = self.log.keep(kept) else {
             self.failed = counted(self.failed);
             return Err(DiskFailed);
         };

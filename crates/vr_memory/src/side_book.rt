@@ -2,7 +2,7 @@ ghost use Rattle.std.specs.Prelude.{◌≡◌, ℕ, ◌+◌, ◌^◌, ◌≤◌,
 ghost use Rattle.vr_outside.specs.Disks.{SideState, settled as settled_side, touching, written, cutting, shortened, synced};
 ghost use Rattle.vr_memory.specs.Disks.{write_after, side_after, IsFilled};
 
-use crate::images::{fits, is_touched, overwritten};
+use crate::images::{is_allowed, is_touched, overwrite};
 use crate::kept::Act;
 use std::alloc::Global;
 use std::marker::Model;
@@ -54,20 +54,13 @@ impl SideBook {
         })
     }
 
-    /// What reads give.
-    pub fn reads(&self) -> &[u8]
-        ensures { result.now ≡ self.now.reads }
-    {
-        self.reads.as_slice()
-    }
-
     /// Goes through a call that was done, or that failed inside. After `NoMemory` the side stands.
     pub fn apply(&mut self, alloc: Global, act: &Act, done: bool) -> Result<(), NoMemory>
         ensures ok { OnOk result (self.new ≡ side_after done act.now self.old) }
         ensures err { OnErr result (self.new ≡ self.old) }
     {
         match act {
-            Act::Write { at, bytes } => self.go_through_write(alloc, *at, bytes.bytes(), done),
+            Act::Write { at, bytes } => self.go_through_write(*at, bytes.bytes(), done),
             Act::Cut { len } => {
                 self.cut(*len, done);
                 Ok(())
@@ -77,35 +70,33 @@ impl SideBook {
     }
 
     /// Goes through a write, unless it isn't allowed.
-    fn go_through_write(
-        &mut self,
-        alloc: Global,
-        at: u64,
-        bytes: &[u8],
-        done: bool,
-    ) -> Result<(), NoMemory>
+    fn go_through_write(&mut self, at: u64, bytes: &[u8], done: bool) -> Result<(), NoMemory>
         ensures ok { OnOk result (self.new ≡ write_after done at bytes.now self.old) }
         ensures err { OnErr result (self.new ≡ self.old) }
     {
-        if at > self.reads.len() as u64 || !fits(at, bytes.len()) {
+        if !is_allowed(at, bytes.len(), self.reads.as_slice()) {
             return Ok(());
         }
         if done {
-            self.write(alloc, at, bytes)
+            self.write(at, bytes)
         } else {
             self.touch(at, bytes.len() as u64)
         }
     }
 
-    fn write(&mut self, alloc: Global, at: u64, bytes: &[u8]) -> Result<(), NoMemory>
+    fn write(&mut self, at: u64, bytes: &[u8]) -> Result<(), NoMemory>
         requires within { at ≤ length self.old.reads }
         requires fits { at + length bytes.now < 2 ^ 63 }
         ensures ok { OnOk result (self.new ≡ written at bytes.now self.old) }
         ensures err { OnErr result (self.new ≡ self.old) }
     {
-        let next = overwritten(alloc, self.reads(), at as usize, bytes)?;
-        self.touch(at, bytes.len() as u64)?;
-        self.reads = next;
+        let count = bytes.len() as u64;
+        self.touched.reserve(1)?;
+        overwrite(&mut self.reads, at as usize, bytes)?;
+        let Ok(()) = self.touched.insert(0, (at, count)) else {
+            unreachable!()
+        };
+        self.high = self.high.max(at + count);
         Ok(())
     }
 

@@ -1,8 +1,9 @@
 use Rattle.std.proofs.Common.{List, sym, ap, ◌∙◌, ◌++◌, [], ◌∷◌}
-use Rattle.vr_outside.specs.Disks.{Image}
+use Rattle.vr_outside.specs.Disks.{Image, reads_of}
 use Rattle.vr_memory.specs.declared.kept.Kept.{Kept}
-use Rattle.vr_memory.specs.Disks.{Log, now_of, start_of, disk_after}
+use Rattle.vr_memory.specs.Disks.{Log, now_of, start_of, disk_after, reads_after, on_bytes}
 use Rattle.vr_memory.proofs.LogLemmas.{now_of-push, kept_goes, kept_stands}
+use Rattle.vr_memory.proofs.ReadsLemmas.{disk_reads_after}
 use Rattle.vr_memory.proofs.disk_log.DiskLog.keep.Goals as goal
 
 abbrev log_of : Image → List Kept → Log
@@ -13,9 +14,10 @@ invariant_of-self-2 c =
     let start = start_of (record { a = c.self.inside.first_a; b = c.self.inside.first_b }) in
     let items = c.push_within.ensures.items ∙ ap (λ (l : List Kept). l ++ c.args.kept ∷ []) c.reserve.ensures.items in
     c.in_ok-apply.ensures.ok
-    ∙ ap (disk_after c.args.kept) c.self.invariant
-    ∙ sym (now_of-push c.self.inside.kept.items c.args.kept start)
-    ∙ ap (λ (l : List Kept). now_of l start) (sym items)
+    ∙ ap (on_bytes c.args.kept.side (reads_after c.args.kept.done c.args.kept.act)) c.self.invariant
+    ∙ sym (disk_reads_after c.args.kept (now_of c.self.inside.kept.items start))
+    ∙ ap reads_of (sym (now_of-push c.self.inside.kept.items c.args.kept start))
+    ∙ ap (λ (l : List Kept). reads_of (now_of l start)) (sym items)
 
 pub returns-in_err-reserve-clause-goes : goal.returns-in_err-reserve-clause-goes
 returns-in_err-reserve-clause-goes c =
