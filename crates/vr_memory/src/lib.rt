@@ -25,15 +25,11 @@ mod tickets;
 pub use answer::{Answer, AnswerList};
 pub use book::ChildBook;
 pub use conditions::{have_paths, have_sizes};
-pub use disk_log::DiskLog;
-pub use disk_sides::DiskSides;
-pub use kept::{Act, Kept, KeptList};
 pub use mem_disk::MemDisk;
 pub use mem_sink::MemSink;
 pub use mem_source::MemSource;
 pub use mem_tree::MemTree;
 pub use script_procs::ScriptProcs;
-pub use side_book::SideBook;
 
 #[cfg(test)]
 mod disk_tests;
