@@ -1,3 +1,4 @@
+pub mod Lengths
 pub mod Spelled
 pub mod Records
 pub mod Marks

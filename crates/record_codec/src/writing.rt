@@ -44,12 +44,14 @@ fn put_entry(out: &mut ByteWriter, entry: &Entry) -> Result<(), NoMemory>
     Ok(())
 }
 
-/// The bytes of a record: of a view, and of what the compiler gave for its last file.
+/// The bytes of a record, fewer than 2 ^ 32: of a view, and of what the compiler gave for its last file.
 #[tactic(auto, unfolding(crate::specs::Spelling::record_bytes))]
 pub fn record_bytes(alloc: Global, view: &Graph, artefact: &Text) -> Result<Text, NoMemory>
     requires whole { IsView view.now }
     requires artefact { length artefact.now ≤ 262144 }
-    ensures { IfOk result (λ bytes. bytes ≡ record_bytes view.now artefact.now) }
+    ensures bytes { IfOk result (λ bytes. bytes ≡ record_bytes view.now artefact.now) }
+    // Its length fits the four bytes in front of a payload.
+    ensures small { IfOk result (λ bytes. length bytes < 2 ^ 32) }
 {
     let mut out = ByteWriter::new(alloc);
     let entries = view.as_slice();
