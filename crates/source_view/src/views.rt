@@ -62,7 +62,8 @@ fn with_numbers(alloc: Global, table: &[u32], entry: &Entry) -> Result<Entry, No
 /// numbers of its dependencies.
 pub fn view_of(alloc: Global, graph: &Graph, at: u32) -> Result<Graph, NoMemory>
     requires { at < length graph.now }
-    ensures { IfOk result (λ copy. copy ≡ view graph.now at) }
+    ensures copy { IfOk result (λ copy. copy ≡ view graph.now at) }
+    ensures whole { IfOk result IsView }
 {
     let positions = positions_of(alloc, graph, at)?;
     let table = numbers_of(alloc, graph.len() as usize, &positions)?;

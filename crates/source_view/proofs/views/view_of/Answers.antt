@@ -4,10 +4,10 @@ use Rattle.std.specs.List.Sorted.{IsStrictlyIncreasing}
 use Rattle.std.proofs.lemmas.List.{take_all}
 use Rattle.vr_base.specs.declared.graph.Entry.{Entry}
 use Rattle.vr_base.specs.Graphs.{IsGraph}
-use Rattle.vr_base.specs.View.{viewed, view}
+use Rattle.vr_base.specs.View.{viewed, view, IsView}
 use Rattle.source_view.specs.Numbers.{IsNumbered, with_numbers}
 use Rattle.source_view.proofs.Parts.{length-part}
-use Rattle.source_view.proofs.ViewLaws.{viewed_is_part, visited, visits_within, visited_deps, next_file}
+use Rattle.source_view.proofs.ViewLaws.{viewed_is_part, view_is_whole, visited, visits_within, visited_deps, next_file}
 use Rattle.source_view.proofs.views.view_of.Goals as goal
 
 pub numbers_of-requires-clause-rising : goal.numbers_of-requires-clause-rising
@@ -44,7 +44,10 @@ loop-position-preserved c =
     let next = next_file c.args.graph.now c.args.at c.len.ensures.graph c.requires c.loop-position.position-index (get_or c.as_slice-position-items.result.now c.loop-position.position-index 0) c.in_ok-table.table.items c.get.result.now c.in_ok-entry.entry v.here v.is c.get.ensures.entry numbered copied in
     c.in_ok-push.ensures.ok ∙ ap (λ (files : List Entry). files ++ c.in_ok-entry.entry ∷ []) c.loop-position.invariant ∙ next.1
 
-pub returns : goal.returns
-returns c =
+pub returns-clause-copy : goal.returns-clause-copy
+returns-clause-copy c =
     let count : length (view c.args.graph.now c.args.at) ≡ length c.as_slice-position-items.result.now = length-part c.args.graph.now (viewed c.args.graph.now c.args.at) (viewed_is_part c.args.graph.now c.args.at c.len.ensures.graph c.requires) ∙ ap length (sym (c.as_slice-position-items.ensures.value ∙ c.in_ok-positions.ensures)) in
     c.loop-position.invariant ∙ take_all c.loop-position.position-index (view c.args.graph.now c.args.at) (omega (arith, count, c.loop-position-test.false))
+
+pub returns-clause-whole : goal.returns-clause-whole
+returns-clause-whole c = subst IsView (sym (returns-clause-copy c)) (view_is_whole c.args.graph.now c.args.at c.len.ensures.graph c.requires)
