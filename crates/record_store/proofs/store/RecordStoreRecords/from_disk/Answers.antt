@@ -1,0 +1,37 @@
+use Rattle.std.proofs.Common.{ℕ, List, sym, subst}
+use Rattle.vr_outside.specs.Disks.{reads_of}
+use Rattle.record_store.specs.Stored.{records_among, HoldsLatest}
+use Rattle.record_store.proofs.StoreMoments.{open_leaves, open_opens}
+use Rattle.record_store.proofs.store.RecordStoreRecords.from_disk.Goals as goal
+
+pub returns-in_err-journal-clause-opens : goal.returns-in_err-journal-clause-opens
+returns-in_err-journal-clause-opens g c = λ told.
+    let old = g.D.Disk.moments c.args.disk.now in
+    open_opens old (g.D.Disk.moments c.from_disk.new.disk) (reads_of old.now) (c.from_disk.ensures.opens told)
+
+pub returns-in_err-journal-clause-any_moment : goal.returns-in_err-journal-clause-any_moment
+returns-in_err-journal-clause-any_moment g c = λ told. open_leaves (g.D.Disk.moments c.args.disk.now) (g.D.Disk.moments c.from_disk.new.disk) (c.from_disk.ensures.any_moment told)
+
+pub returns-in_err-index-clause-any_moment : goal.returns-in_err-index-clause-any_moment
+returns-in_err-index-clause-any_moment g c = λ told. open_leaves (g.D.Disk.moments c.args.disk.now) (g.D.Disk.moments c.from_disk.new.disk) (c.from_disk.ensures.any_moment told)
+
+pub returns-in_err-index-clause-opens : goal.returns-in_err-index-clause-opens
+returns-in_err-index-clause-opens g c = λ told.
+    let old = g.D.Disk.moments c.args.disk.now in
+    open_opens old (g.D.Disk.moments c.from_disk.new.disk) (reads_of old.now) (c.from_disk.ensures.opens told)
+
+pub returns-clause-any_moment : goal.returns-clause-any_moment
+returns-clause-any_moment g c = λ told. open_leaves (g.D.Disk.moments c.args.disk.now) (g.D.Disk.moments c.from_disk.new.disk) (c.from_disk.ensures.any_moment told)
+
+pub returns-clause-opens : goal.returns-clause-opens
+returns-clause-opens g c = λ told.
+    let old = g.D.Disk.moments c.args.disk.now in
+    open_opens old (g.D.Disk.moments c.from_disk.new.disk) (reads_of old.now) (c.from_disk.ensures.opens told)
+
+pub returns-clause-stands : goal.returns-clause-stands
+returns-clause-stands g c = λ told.
+    record {
+      journal_stands = c.in_ok-journal.ensures.stands told;
+      form = c.in_ok-journal.ensures.form;
+      latest_held = subst (λ (l : List (List ℕ)). HoldsLatest c.in_ok-index.index (records_among l)) (sym (c.in_ok-journal.ensures.held told)) c.in_ok-index.ensures;
+    }

@@ -1,0 +1,12 @@
+//! Records of compiled files on a disk: each is a payload of a journal, and holds the whole view that was compiled.
+#![tactic(auto)]
+
+mod index;
+mod pairs;
+mod store;
+
+pub use pairs::{keep, keep_both};
+pub use store::{PreparedRecord, RecordStore};
+
+#[cfg(test)]
+mod tests;

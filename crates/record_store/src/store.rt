@@ -1,0 +1,128 @@
+ghost use Rattle.std.specs.Prelude.{◌≡◌, ◌↔◌, ◌<◌, ◌≤◌, IsSome, length};
+ghost use Rattle.indexmap.specs.IndexMap.{get};
+ghost use Rattle.vr_base.specs.Names.{is_same_name};
+ghost use Rattle.vr_outside.specs.Records.{IsRecorded};
+ghost use Rattle.vr_outside.specs.declared.records.Need.TheVariants.{Fresh};
+ghost use Rattle.record_store.specs.Stored.{records_in, record_at, StoreStands, IsPrepared};
+ghost use Rattle.record_store.specs.StoreLaws.{store_durable, store_held};
+
+use crate::index::{Index, index_of, make_room, name_of, put, record_of};
+use gate_journal::{Journal, Opened, Ready};
+use record_codec::record_bytes;
+use source_view::{is_view_of, view_of};
+use std::alloc::Global;
+use vr_base::{DiskFailed, FileName, Graph, NoMemory, Text};
+use vr_outside::{Disk, Need, Needs, Record, Records, StoreFault};
+
+/// The form of the payloads of this store.
+const FORM: u8 = 1;
+
+/// Records of whole views, with the latest of each name at hand.
+#[derive(Drop)]
+pub struct RecordStore {
+    journal: Journal,
+    index: Index,
+}
+
+/// A record that is ready to be kept: its payload, and what the index will have of it.
+#[derive(Drop)]
+pub struct PreparedRecord {
+    name: FileName,
+    kept: Record,
+    ready: Ready,
+}
+
+impl RecordStore {
+    /// Whether the latest record of a file has its present view.
+    fn need(&self, graph: &Graph, at: u32) -> Need
+        requires { at < length graph.now }
+        ensures { (result ≡ Fresh) ↔ IsRecorded (record_at self.now.index) graph.now at }
+    {
+        match record_of(&self.index, &graph.get(at as u64).name) {
+            Some(record) if is_view_of(&record.view, graph, at) => Need::Fresh,
+            _ => Need::Stale,
+        }
+    }
+}
+
+impl Records for RecordStore {
+    type Prepared = PreparedRecord;
+
+    ghost records_of = { records_in };
+
+    ghost latest_of = { λ store. record_at store.index };
+
+    ghost stands = { λ store disk. StoreStands store.journal store.index disk };
+
+    ghost broken = { λ store. store.journal.broken };
+
+    ghost record_of = { λ prepared. prepared.kept };
+
+    ghost is_ready = { λ store prepared. IsPrepared prepared.name prepared.kept prepared.ready × IsSome (get is_same_name store.index prepared.name) };
+
+    fn from_disk<D: Disk>(alloc: Global, disk: &mut D) -> Result<RecordStore, StoreFault> {
+        let Opened { journal, payloads } = Journal::from_disk(alloc, disk, FORM)?;
+        let index = index_of(alloc, &payloads)?;
+        Ok(RecordStore { journal, index })
+    }
+
+    fn needs(&self, alloc: Global, graph: &Graph) -> Result<Needs, NoMemory> {
+        let mut needs = Needs::new(alloc);
+        for at in 0..graph.len() as u32 {
+            needs.push(self.need(graph, at))?;
+        }
+        Ok(needs)
+    }
+
+    fn artefact(&self, name: &FileName) -> Option<&[u8]> {
+        match record_of(&self.index, name) {
+            Some(record) => Some(record.artefact.bytes()),
+            None => None,
+        }
+    }
+
+    fn prepare(
+        &mut self,
+        alloc: Global,
+        graph: &Graph,
+        at: u32,
+        artefact: &Text,
+    ) -> Result<PreparedRecord, NoMemory> {
+        let view = view_of(alloc, graph, at)?;
+        let payload = record_bytes(alloc, &view, artefact)?;
+        let ready = self.journal.prepare(alloc, payload.bytes())?;
+        let artefact = artefact.copy(alloc)?;
+        let name = name_of(alloc, &view)?;
+        make_room(alloc, &mut self.index, &name)?;
+        Ok(PreparedRecord {
+            name,
+            kept: Record { view, artefact },
+            ready,
+        })
+    }
+
+    fn commit<D: Disk>(
+        &mut self,
+        disk: &mut D,
+        prepared: PreparedRecord,
+    ) -> Result<(), DiskFailed> {
+        let PreparedRecord { name, kept, ready } = prepared;
+        self.journal.commit(disk, ready)?;
+        put(&mut self.index, name, kept);
+        Ok(())
+    }
+
+    fn reset<D: Disk>(&mut self, disk: &mut D) -> Result<(), DiskFailed> {
+        self.journal.reset(disk)?;
+        self.index.clear();
+        Ok(())
+    }
+
+    fn is_broken(&self) -> bool {
+        self.journal.is_broken()
+    }
+
+    ghost durable = { λ store disk stands. store_durable store.journal store.index disk stands };
+
+    ghost held = { λ store disk name stands. store_held store.journal store.index disk name stands };
+}
