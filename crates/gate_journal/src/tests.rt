@@ -116,6 +116,26 @@ fn a_stop_inside_a_commit_leaves_its_payload_or_none(rt: HostRuntime) -> Result<
 }
 
 #[test]
+fn a_stop_before_the_first_sync_leaves_the_side_as_it_was(rt: HostRuntime) -> Result<(), Fail> {
+    let alloc = rt.alloc();
+    let mut disk = disk(alloc, &[])?;
+    with_ab(alloc, &mut disk)?;
+    for moment in [COMMIT, COMMIT + 1] {
+        for length in [0, LONG] {
+            let image = disk.crash(alloc, moment, length, 37)?;
+            assert!(rt; image.reads(Side::A).starts_with(&EMPTY));
+        }
+    }
+    for (fill, expected) in [(0, 0), (37, 37), (1, 1)] {
+        let image = disk.crash(alloc, COMMIT + 2, LONG, fill)?;
+        let mut bytes = WITH_AB;
+        bytes[18] = expected;
+        assert!(rt; image.reads(Side::A) == bytes.as_slice());
+    }
+    Ok(())
+}
+
+#[test]
 fn a_stop_inside_a_replacement_leaves_either_list(rt: HostRuntime) -> Result<(), Fail> {
     let alloc = rt.alloc();
     let mut disk = disk(alloc, &[])?;
@@ -185,6 +205,32 @@ fn each_disk_call_may_fail(rt: HostRuntime) -> Result<(), Fail> {
     }
     let mut disk = disk(alloc, &[])?;
     assert!(rt; !fails_at(alloc, &mut disk)?);
+    Ok(())
+}
+
+/// Opens, commits `ab` and resets, on a disk that fails in one call; whether that answered the fault.
+fn fails_in_reset(alloc: Global, disk: &mut MemDisk) -> Result<bool, StoreFault> {
+    let mut journal = with_ab(alloc, disk)?;
+    let answer = journal.reset(disk);
+    Ok(answer == Err(DiskFailed) && journal.is_broken())
+}
+
+#[test]
+fn each_disk_call_of_a_reset_may_fail(rt: HostRuntime) -> Result<(), Fail> {
+    let alloc = rt.alloc();
+    let none: &[&[u8]] = &[];
+    let ab: &[&[u8]] = &[b"ab"];
+    for (first, end, with_ones, others) in [
+        (NEXT, NEXT + 2, ab, ab),
+        (NEXT + 2, NEXT + 4, ab, none),
+        (NEXT + 4, NEXT + 12, none, none),
+    ] {
+        for call in first..end {
+            let mut disk = disk(alloc, &[call])?;
+            assert!(rt; fails_in_reset(alloc, &mut disk)?);
+            assert!(rt; leaves(alloc, &disk, call + 1, with_ones, others)?);
+        }
+    }
     Ok(())
 }
 
