@@ -5,7 +5,7 @@ ghost use Rattle.vr_memory.specs.Disks.{moments_of};
 use crate::{Journal, Opened, Payloads};
 use std::alloc::Global;
 use std::test::Fail;
-use vr_base::{DiskFailed, Items, NoMemory, Numbers};
+use vr_base::{Items, NoMemory, Numbers};
 use vr_memory::MemDisk;
 use vr_outside::{Side, StoreFault, write_durably};
 
@@ -52,23 +52,43 @@ fn holds(alloc: Global, disk: &mut MemDisk, expected: &[&[u8]]) -> Result<bool, 
     Ok(true)
 }
 
-/// Whether each image of a moment has these payloads: those whose free bytes are 1, and all others.
-fn leaves(
+/// Whether the images of a moment whose free bytes are all one byte have these payloads.
+fn leaves_filled(
     alloc: Global,
     disk: &MemDisk,
     moment: u64,
-    with_ones: &[&[u8]],
-    others: &[&[u8]],
-) -> Result<bool, Fail> {
+    fill: u8,
+    expected: &[&[u8]],
+) -> Result<bool, StoreFault> {
     for length in [0, LONG] {
-        let mut ones = disk.crash(alloc, moment, length, 1)?;
-        let mut zeros = disk.crash(alloc, moment, length, 0)?;
-        let mut high = disk.crash(alloc, moment, length, 255)?;
-        if !holds(alloc, &mut ones, with_ones)? {
+        let mut image = disk.crash(alloc, moment, length, fill)?;
+        if !holds(alloc, &mut image, expected)? {
             return Ok(false);
         }
-        if !holds(alloc, &mut zeros, others)? || !holds(alloc, &mut high, others)? {
-            return Ok(false);
+    }
+    Ok(true)
+}
+
+/// Moments from the first up to the end, with the payloads of their images: of those whose free bytes are 1, and of
+/// all others.
+type Row = (u64, u64, &'static [&'static [u8]], &'static [&'static [u8]]);
+
+/// Whether each image of a moment has the payloads of a row.
+fn leaves_row(alloc: Global, disk: &MemDisk, moment: u64, row: &Row) -> Result<bool, StoreFault> {
+    Ok(
+        leaves_filled(alloc, disk, moment, 1, row.2)?
+            && leaves_filled(alloc, disk, moment, 0, row.3)?
+            && leaves_filled(alloc, disk, moment, 255, row.3)?,
+    )
+}
+
+/// The same of each moment of each row of a table.
+fn leaves_all(alloc: Global, disk: &MemDisk, table: &[Row]) -> Result<bool, StoreFault> {
+    for row in table {
+        for moment in row.0..row.1 {
+            if !leaves_row(alloc, disk, moment, row)? {
+                return Ok(false);
+            }
         }
     }
     Ok(true)
@@ -86,189 +106,205 @@ fn with_ab(alloc: Global, disk: &mut MemDisk) -> Result<Journal, StoreFault>
     Ok(journal)
 }
 
+/// Puts the payload `cd` in the place of those of a journal.
+fn replace_by_cd(alloc: Global, journal: &mut Journal, disk: &mut MemDisk) -> Result<(), StoreFault>
+    requires whole { journal.old.broken ≡ false }
+    requires form { journal.old.form ≡ 1 }
+    requires stands { Stands journal.old (moments_of disk.old.log).now }
+{
+    if journal.generation() == u64::MAX {
+        return Err(StoreFault::DiskFailed);
+    }
+    let mut payloads = Payloads::new(alloc);
+    payloads.push(alloc, b"cd")?;
+    let side = journal.prepare_side(alloc, 1, &payloads)?;
+    Ok(journal.replace(disk, side)?)
+}
+
+/// A journal with the payload `cd`, which took the place of `ab`.
+fn with_cd(alloc: Global, disk: &mut MemDisk) -> Result<Journal, StoreFault> {
+    let mut journal = with_ab(alloc, disk)?;
+    replace_by_cd(alloc, &mut journal, disk)?;
+    Ok(journal)
+}
+
+/// A journal that was emptied, with `ab` before.
+fn emptied(alloc: Global, disk: &mut MemDisk) -> Result<Journal, StoreFault> {
+    let mut journal = with_ab(alloc, disk)?;
+    journal.reset(disk)?;
+    Ok(journal)
+}
+
 #[test]
-fn a_commit_writes_its_gate_alone(rt: HostRuntime) -> Result<(), Fail> {
-    let alloc = rt.alloc();
-    let mut disk = disk(alloc, &[])?;
-    let Opened { .. } = Journal::from_disk(alloc, &mut disk, 1)?;
-    assert_eq!(rt; disk.reads(Side::A), EMPTY.as_slice());
+fn opening_makes_a_side(rt: HostRuntime) -> Result<(), Fail> {
+    let mut disk = disk(rt.alloc(), &[])?;
+    assert!(rt; holds(rt.alloc(), &mut disk, &[])?);
+    assert!(rt; disk.reads(Side::A) == EMPTY.as_slice());
     assert!(rt; disk.reads(Side::B).is_empty());
-    let journal = with_ab(alloc, &mut disk)?;
-    assert_eq!(rt; disk.reads(Side::A), WITH_AB.as_slice());
-    assert!(rt; !journal.is_broken());
-    assert_eq!(rt; journal.generation(), 1);
-    assert_eq!(rt; journal.length(), 26);
     Ok(())
 }
 
 #[test]
-fn a_stop_inside_a_commit_leaves_its_payload_or_none(rt: HostRuntime) -> Result<(), Fail> {
-    let alloc = rt.alloc();
-    let mut disk = disk(alloc, &[])?;
-    with_ab(alloc, &mut disk)?;
-    for moment in 0..COMMIT + 2 {
-        assert!(rt; leaves(alloc, &disk, moment, &[], &[])?);
-    }
-    assert!(rt; leaves(alloc, &disk, COMMIT + 2, &[b"ab"], &[])?);
-    assert!(rt; leaves(alloc, &disk, COMMIT + 3, &[b"ab"], &[])?);
-    assert!(rt; leaves(alloc, &disk, NEXT, &[b"ab"], &[b"ab"])?);
+fn a_commit_writes_the_payload_and_its_gate(rt: HostRuntime) -> Result<(), Fail> {
+    let mut disk = disk(rt.alloc(), &[])?;
+    let journal = with_ab(rt.alloc(), &mut disk)?;
+    assert!(rt; disk.reads(Side::A) == WITH_AB.as_slice());
+    assert!(rt; journal.generation() == 1 && journal.length() == 26);
     Ok(())
+}
+
+const NONE: &[&[u8]] = &[];
+
+const AB: &[&[u8]] = &[b"ab"];
+
+const CD: &[&[u8]] = &[b"cd"];
+
+static COMMITTING: &[Row] = &[
+    (0, COMMIT + 2, NONE, NONE),
+    (COMMIT + 2, NEXT, AB, NONE),
+    (NEXT, NEXT + 1, AB, AB),
+];
+
+#[test]
+fn a_stop_inside_a_commit_leaves_its_payload_or_none(rt: HostRuntime) -> Result<(), Fail> {
+    let mut disk = disk(rt.alloc(), &[])?;
+    with_ab(rt.alloc(), &mut disk)?;
+    assert!(rt; leaves_all(rt.alloc(), &disk, COMMITTING)?);
+    Ok(())
+}
+
+/// Whether side A of each image of a moment begins with what stood there before the commit.
+fn begins_empty(alloc: Global, disk: &MemDisk, moment: u64) -> Result<bool, NoMemory> {
+    for length in [0, LONG] {
+        let image = disk.crash(alloc, moment, length, 37)?;
+        if !image.reads(Side::A).starts_with(&EMPTY) {
+            return Ok(false);
+        }
+    }
+    Ok(true)
 }
 
 #[test]
 fn a_stop_before_the_first_sync_leaves_the_side_as_it_was(rt: HostRuntime) -> Result<(), Fail> {
-    let alloc = rt.alloc();
-    let mut disk = disk(alloc, &[])?;
-    with_ab(alloc, &mut disk)?;
-    for moment in [COMMIT, COMMIT + 1] {
-        for length in [0, LONG] {
-            let image = disk.crash(alloc, moment, length, 37)?;
-            assert!(rt; image.reads(Side::A).starts_with(&EMPTY));
-        }
-    }
-    for (fill, expected) in [(0, 0), (37, 37), (1, 1)] {
-        let image = disk.crash(alloc, COMMIT + 2, LONG, fill)?;
-        let mut bytes = WITH_AB;
-        bytes[18] = expected;
-        assert!(rt; image.reads(Side::A) == bytes.as_slice());
-    }
+    let mut disk = disk(rt.alloc(), &[])?;
+    with_ab(rt.alloc(), &mut disk)?;
+    assert!(rt; begins_empty(rt.alloc(), &disk, COMMIT)?);
+    assert!(rt; begins_empty(rt.alloc(), &disk, COMMIT + 1)?);
     Ok(())
 }
+
+static REPLACING: &[Row] = &[
+    (NEXT, NEXT + 6, AB, AB),
+    (NEXT + 6, NEXT + 8, CD, AB),
+    (NEXT + 8, NEXT + 9, CD, CD),
+];
 
 #[test]
 fn a_stop_inside_a_replacement_leaves_either_list(rt: HostRuntime) -> Result<(), Fail> {
-    let alloc = rt.alloc();
-    let mut disk = disk(alloc, &[])?;
-    let mut journal = with_ab(alloc, &mut disk)?;
-    let mut payloads = Payloads::new(alloc);
-    payloads.push(alloc, b"cd")?;
-    let side = journal.prepare_side(alloc, 1, &payloads)?;
-    journal.replace(&mut disk, side)?;
-    assert_eq!(rt; disk.reads(Side::A), WITH_AB.as_slice());
-    assert_eq!(rt; disk.reads(Side::B), WITH_CD.as_slice());
-    assert_eq!(rt; journal.generation(), 2);
-    for moment in NEXT..NEXT + 6 {
-        assert!(rt; leaves(alloc, &disk, moment, &[b"ab"], &[b"ab"])?);
-    }
-    assert!(rt; leaves(alloc, &disk, NEXT + 6, &[b"cd"], &[b"ab"])?);
-    assert!(rt; leaves(alloc, &disk, NEXT + 7, &[b"cd"], &[b"ab"])?);
-    assert!(rt; leaves(alloc, &disk, NEXT + 8, &[b"cd"], &[b"cd"])?);
+    let mut disk = disk(rt.alloc(), &[])?;
+    with_cd(rt.alloc(), &mut disk)?;
+    assert!(rt; disk.reads(Side::A) == WITH_AB.as_slice());
+    assert!(rt; disk.reads(Side::B) == WITH_CD.as_slice());
+    assert!(rt; leaves_all(rt.alloc(), &disk, REPLACING)?);
     Ok(())
 }
+
+static RESETTING: &[Row] = &[
+    (NEXT, NEXT + 2, AB, AB),
+    (NEXT + 2, NEXT + 4, AB, NONE),
+    (NEXT + 4, NEXT + 13, NONE, NONE),
+];
 
 #[test]
 fn a_stop_inside_a_reset_leaves_the_list_or_none(rt: HostRuntime) -> Result<(), Fail> {
-    let alloc = rt.alloc();
-    let mut disk = disk(alloc, &[])?;
-    let mut journal = with_ab(alloc, &mut disk)?;
-    journal.reset(&mut disk)?;
-    assert_eq!(rt; disk.reads(Side::B), EMPTY.as_slice());
-    assert_eq!(rt; journal.length(), 19);
-    assert!(rt; leaves(alloc, &disk, NEXT, &[b"ab"], &[b"ab"])?);
-    assert!(rt; leaves(alloc, &disk, NEXT + 1, &[b"ab"], &[b"ab"])?);
-    assert!(rt; leaves(alloc, &disk, NEXT + 2, &[b"ab"], &[])?);
-    assert!(rt; leaves(alloc, &disk, NEXT + 3, &[b"ab"], &[])?);
-    for moment in NEXT + 4..NEXT + 13 {
-        assert!(rt; leaves(alloc, &disk, moment, &[], &[])?);
-    }
+    let mut disk = disk(rt.alloc(), &[])?;
+    emptied(rt.alloc(), &mut disk)?;
+    assert!(rt; disk.reads(Side::B) == EMPTY.as_slice());
+    assert!(rt; leaves_all(rt.alloc(), &disk, RESETTING)?);
     Ok(())
 }
 
-/// Opens, commits `ab` and replaces it by nothing, on a disk that fails in one call; whether that answered the fault.
-fn fails_at(alloc: Global, disk: &mut MemDisk) -> Result<bool, NoMemory> {
-    let mut journal = match with_ab(alloc, disk) {
-        Ok(journal) => journal,
-        Err(StoreFault::DiskFailed) => return Ok(true),
-        Err(StoreFault::NoMemory) => return Err(NoMemory),
-    };
-    let side = journal.prepare_side(alloc, 1, &Payloads::new(alloc))?;
-    let answer = journal.replace(disk, side);
-    Ok(answer == Err(DiskFailed) && journal.is_broken())
+/// Whether a call that fails is answered, and leaves what a stop inside of it does.
+fn replacing_fails(alloc: Global, call: u64, row: &Row) -> Result<bool, StoreFault> {
+    let mut disk = disk(alloc, &[call])?;
+    let answer = with_cd(alloc, &mut disk);
+    let is_fault = matches!(answer, Err(StoreFault::DiskFailed));
+    Ok(is_fault && leaves_row(alloc, &disk, call.saturating_add(1), row)?)
 }
+
+/// The same of emptying.
+fn resetting_fails(alloc: Global, call: u64, row: &Row) -> Result<bool, StoreFault> {
+    let mut disk = disk(alloc, &[call])?;
+    let answer = emptied(alloc, &mut disk);
+    let is_fault = matches!(answer, Err(StoreFault::DiskFailed));
+    Ok(is_fault && leaves_row(alloc, &disk, call.saturating_add(1), row)?)
+}
+
+static FAILING: &[Row] = &[
+    (0, COMMIT + 2, NONE, NONE),
+    (COMMIT + 2, NEXT, AB, NONE),
+    (NEXT, NEXT + 6, AB, AB),
+    (NEXT + 6, NEXT + 8, CD, AB),
+];
 
 #[test]
 fn each_disk_call_may_fail(rt: HostRuntime) -> Result<(), Fail> {
-    let alloc = rt.alloc();
-    let none: &[&[u8]] = &[];
-    let ab: &[&[u8]] = &[b"ab"];
-    for (first, end, with_ones, others) in [
-        (0, COMMIT + 2, none, none),
-        (COMMIT + 2, NEXT, ab, none),
-        (NEXT, NEXT + 6, ab, ab),
-        (NEXT + 6, NEXT + 8, none, ab),
-    ] {
-        for call in first..end {
-            let mut disk = disk(alloc, &[call])?;
-            assert!(rt; fails_at(alloc, &mut disk)?);
-            assert!(rt; leaves(alloc, &disk, call + 1, with_ones, others)?);
+    for row in FAILING {
+        for call in row.0..row.1 {
+            assert!(rt; replacing_fails(rt.alloc(), call, row)?);
         }
     }
-    let mut disk = disk(alloc, &[])?;
-    assert!(rt; !fails_at(alloc, &mut disk)?);
     Ok(())
 }
 
-/// Opens, commits `ab` and resets, on a disk that fails in one call; whether that answered the fault.
-fn fails_in_reset(alloc: Global, disk: &mut MemDisk) -> Result<bool, StoreFault> {
-    let mut journal = with_ab(alloc, disk)?;
-    let answer = journal.reset(disk);
-    Ok(answer == Err(DiskFailed) && journal.is_broken())
-}
+static FAILING_IN_RESET: &[Row] = &[
+    (NEXT, NEXT + 2, AB, AB),
+    (NEXT + 2, NEXT + 4, AB, NONE),
+    (NEXT + 4, NEXT + 12, NONE, NONE),
+];
 
 #[test]
 fn each_disk_call_of_a_reset_may_fail(rt: HostRuntime) -> Result<(), Fail> {
-    let alloc = rt.alloc();
-    let none: &[&[u8]] = &[];
-    let ab: &[&[u8]] = &[b"ab"];
-    for (first, end, with_ones, others) in [
-        (NEXT, NEXT + 2, ab, ab),
-        (NEXT + 2, NEXT + 4, ab, none),
-        (NEXT + 4, NEXT + 12, none, none),
-    ] {
-        for call in first..end {
-            let mut disk = disk(alloc, &[call])?;
-            assert!(rt; fails_in_reset(alloc, &mut disk)?);
-            assert!(rt; leaves(alloc, &disk, call + 1, with_ones, others)?);
+    for row in FAILING_IN_RESET {
+        for call in row.0..row.1 {
+            assert!(rt; resetting_fails(rt.alloc(), call, row)?);
         }
     }
     Ok(())
 }
 
-/// A disk whose side A has these bytes.
-fn disk_of(alloc: Global, bytes: &[u8]) -> Result<MemDisk, Fail> {
+/// Whether a disk whose side A has these bytes, one of them changed, stands for these payloads.
+fn changed_holds(
+    alloc: Global,
+    place: usize,
+    byte: u8,
+    expected: &[&[u8]],
+) -> Result<bool, StoreFault> {
+    let mut bytes = WITH_AB;
+    if place >= bytes.len() {
+        return Ok(false);
+    }
+    bytes[place] = byte;
     let mut disk = disk(alloc, &[])?;
-    write_durably(&mut disk, Side::A, 0, bytes)?;
-    Ok(disk)
+    write_durably(&mut disk, Side::A, 0, &bytes)?;
+    holds(alloc, &mut disk, expected)
 }
+
+/// A place, the byte there, and the payloads: a dead side, another mark, another form, a length past the end, a closed
+/// gate that is 1.
+static CHANGED: &[(usize, u8, &[&[u8]])] = &[
+    (0, 2, NONE),
+    (8, b'X', NONE),
+    (9, 2, NONE),
+    (18, 37, NONE),
+    (19, 3, NONE),
+    (25, 1, AB),
+];
 
 #[test]
 fn any_bytes_stand_for_some_payloads(rt: HostRuntime) -> Result<(), Fail> {
-    let alloc = rt.alloc();
-    let mut foreign = WITH_AB;
-    foreign[8] = b'X';
-    let mut other_form = WITH_AB;
-    other_form[9] = 2;
-    let mut dead = WITH_AB;
-    dead[0] = 2;
-    let mut too_long = WITH_AB;
-    too_long[19] = 3;
-    let ones = [1; 40];
-    for bytes in [
-        &foreign[..],
-        &other_form[..],
-        &dead[..],
-        &too_long[..],
-        &WITH_AB[..18],
-        &WITH_AB[..25],
-        &ones[..],
-    ] {
-        let mut disk = disk_of(alloc, bytes)?;
-        assert!(rt; holds(alloc, &mut disk, &[])?);
+    for row in CHANGED {
+        assert!(rt; changed_holds(rt.alloc(), row.0, row.1, row.2)?);
     }
-    let mut open = WITH_AB;
-    open[25] = 1;
-    let mut disk = disk_of(alloc, &open)?;
-    assert!(rt; holds(alloc, &mut disk, &[b"ab"])?);
-    assert_eq!(rt; disk.reads(Side::A), WITH_AB.as_slice());
     Ok(())
 }

@@ -67,100 +67,137 @@ fn holds(alloc: Global, disk: &mut MemDisk) -> Result<bool, Fail> {
     Ok(is_fresh(alloc, &store, &graph)?)
 }
 
-/// Opens the store of a disk, and keeps the artefact `y` of the file.
+/// Opens the store of a disk, and keeps the artefact `y` of the file, which depends on no other.
 fn with_record(alloc: Global, disk: &mut MemDisk, graph: &Graph) -> Result<RecordStore, StoreFault>
     requires { 0 < length graph.now }
     ensures whole { IfOk result (λ store. store.journal.broken ≡ false) }
     ensures stands { IfOk result (λ store. StoreStands store.journal store.index (moments_of disk.new.log).now) }
 {
     let mut store = RecordStore::from_disk(alloc, disk)?;
+    if !graph.get(0).deps.is_empty() {
+        return Err(StoreFault::NoMemory);
+    }
     let artefact = Text::from_slice(alloc, b"y")?;
     keep(alloc, &mut store, disk, graph, 0, &artefact)?;
     Ok(store)
 }
 
+/// The same of the file with the text `x`.
+fn with_x(alloc: Global, disk: &mut MemDisk) -> Result<RecordStore, Fail>
+    ensures whole { IfOk result (λ store. store.journal.broken ≡ false) }
+    ensures stands { IfOk result (λ store. StoreStands store.journal store.index (moments_of disk.new.log).now) }
+{
+    let graph = graph(alloc, b'x')?;
+    Ok(with_record(alloc, disk, &graph)?)
+}
+
+/// Whether a store has a record of the file with this text.
+fn has(alloc: Global, store: &RecordStore, text: u8) -> Result<bool, Fail> {
+    let graph = graph(alloc, text)?;
+    Ok(is_fresh(alloc, store, &graph)?)
+}
+
 #[test]
 fn a_record_is_kept_and_found_again(rt: HostRuntime) -> Result<(), Fail> {
-    let alloc = rt.alloc();
-    let graph = graph(alloc, b'x')?;
-    let mut disk = disk(alloc, &[])?;
-    assert!(rt; !holds(alloc, &mut disk)?);
-    let store = with_record(alloc, &mut disk, &graph)?;
-    assert!(rt; is_fresh(alloc, &store, &graph)?);
-    assert_eq!(rt; disk.reads(Side::A), SIDE.as_slice());
-    assert!(rt; holds(alloc, &mut disk)?);
+    let mut disk = disk(rt.alloc(), &[])?;
+    let store = with_x(rt.alloc(), &mut disk)?;
+    assert!(rt; has(rt.alloc(), &store, b'x')?);
+    assert!(rt; disk.reads(Side::A) == SIDE.as_slice());
+    assert!(rt; holds(rt.alloc(), &mut disk)?);
     Ok(())
 }
 
 #[test]
 fn another_text_is_stale(rt: HostRuntime) -> Result<(), Fail> {
-    let alloc = rt.alloc();
-    let mut disk = disk_of(alloc, &SIDE)?;
-    let store = RecordStore::from_disk(alloc, &mut disk)?;
-    assert!(rt; is_fresh(alloc, &store, &graph(alloc, b'x')?)?);
-    assert!(rt; !is_fresh(alloc, &store, &graph(alloc, b'z')?)?);
+    let mut disk = disk_of(rt.alloc(), &SIDE)?;
+    let store = RecordStore::from_disk(rt.alloc(), &mut disk)?;
+    assert!(rt; has(rt.alloc(), &store, b'x')?);
+    assert!(rt; !has(rt.alloc(), &store, b'z')?);
     Ok(())
 }
 
+/// Whether a side of the first so many bytes, one of them changed, has the record.
+fn changed_holds(alloc: Global, count: usize, place: usize, byte: u8) -> Result<bool, Fail> {
+    let mut bytes = SIDE;
+    if place >= bytes.len() || count > bytes.len() {
+        return Ok(false);
+    }
+    bytes[place] = byte;
+    let mut disk = disk_of(alloc, &bytes[..count])?;
+    holds(alloc, &mut disk)
+}
+
+/// How many bytes, the place of the changed one, what it is, and whether the record is there: a dead side of 19 bytes,
+/// a dead one with a record, a payload that is no record, a side that is cut off, and all of it.
+static CHANGED: &[(usize, usize, u8, bool)] = &[
+    (19, 0, 2, false),
+    (68, 0, 2, false),
+    (68, 62, 2, false),
+    (67, 0, 1, false),
+    (68, 0, 1, true),
+];
+
 #[test]
-fn a_dead_side_has_no_record(rt: HostRuntime) -> Result<(), Fail> {
-    let alloc = rt.alloc();
-    let mut dead = SIDE;
-    dead[0] = 2;
-    let mut no_record = SIDE;
-    no_record[64] = 2;
-    for bytes in [&dead[..19], &dead[..], &no_record[..], &SIDE[..67]] {
-        let mut disk = disk_of(alloc, bytes)?;
-        assert!(rt; !holds(alloc, &mut disk)?);
+fn any_bytes_stand_for_some_records(rt: HostRuntime) -> Result<(), Fail> {
+    for row in CHANGED {
+        assert!(rt; changed_holds(rt.alloc(), row.0, row.1, row.2)? == row.3);
     }
     Ok(())
 }
+
+/// Whether the images of a moment, whose free bytes are all one byte, have the record.
+fn image_holds(alloc: Global, disk: &MemDisk, moment: u64, fill: u8) -> Result<(bool, bool), Fail> {
+    let mut short = disk.crash(alloc, moment, 0, fill)?;
+    let mut long = disk.crash(alloc, moment, LONG, fill)?;
+    Ok((holds(alloc, &mut short)?, holds(alloc, &mut long)?))
+}
+
+static COMMITTING: &[(u64, u8, bool)] = &[
+    (COMMIT, 1, false),
+    (COMMIT + 1, 1, false),
+    (COMMIT + 2, 0, false),
+    (COMMIT + 2, 1, true),
+    (COMMIT + 2, 255, false),
+    (COMMIT + 3, 1, true),
+    (COMMIT + 4, 0, true),
+];
 
 #[test]
 fn a_stop_inside_a_commit_leaves_the_record_or_none(rt: HostRuntime) -> Result<(), Fail> {
-    let alloc = rt.alloc();
-    let mut disk = disk(alloc, &[])?;
-    let _store = with_record(alloc, &mut disk, &graph(alloc, b'x')?)?;
-    for (moment, fill, expected) in [
-        (COMMIT, 1, false),
-        (COMMIT + 1, 1, false),
-        (COMMIT + 2, 0, false),
-        (COMMIT + 2, 1, true),
-        (COMMIT + 2, 255, false),
-        (COMMIT + 3, 1, true),
-        (COMMIT + 4, 0, true),
-    ] {
-        for length in [0, LONG] {
-            let mut image = disk.crash(alloc, moment, length, fill)?;
-            assert!(rt; holds(alloc, &mut image)? == expected);
-        }
+    let mut disk = disk(rt.alloc(), &[])?;
+    with_x(rt.alloc(), &mut disk)?;
+    for row in COMMITTING {
+        assert!(rt; image_holds(rt.alloc(), &disk, row.0, row.1)? == (row.2, row.2));
     }
     Ok(())
+}
+
+/// Whether a disk call that fails is answered, and the store that is then opened again can keep the record.
+fn fails_once(alloc: Global, call: u64) -> Result<bool, Fail> {
+    let graph = graph(alloc, b'x')?;
+    let mut disk = disk(alloc, &[call])?;
+    let is_fault = matches!(
+        with_record(alloc, &mut disk, &graph),
+        Err(StoreFault::DiskFailed)
+    );
+    let store = with_record(alloc, &mut disk, &graph)?;
+    Ok(is_fault && is_fresh(alloc, &store, &graph)?)
 }
 
 #[test]
 fn each_disk_call_may_fail(rt: HostRuntime) -> Result<(), Fail> {
-    let alloc = rt.alloc();
-    let graph = graph(alloc, b'x')?;
     for call in 0..COMMIT + 4 {
-        let mut disk = disk(alloc, &[call])?;
-        let answer = with_record(alloc, &mut disk, &graph);
-        assert!(rt; matches!(answer, Err(StoreFault::DiskFailed)));
-        let store = with_record(alloc, &mut disk, &graph)?;
-        assert!(rt; is_fresh(alloc, &store, &graph)?);
+        assert!(rt; fails_once(rt.alloc(), call)?);
     }
     Ok(())
 }
 
 #[test]
 fn a_reset_leaves_no_record(rt: HostRuntime) -> Result<(), Fail> {
-    let alloc = rt.alloc();
-    let graph = graph(alloc, b'x')?;
-    let mut disk = disk(alloc, &[])?;
-    let mut store = with_record(alloc, &mut disk, &graph)?;
+    let mut disk = disk(rt.alloc(), &[])?;
+    let mut store = with_x(rt.alloc(), &mut disk)?;
     store.reset(&mut disk)?;
-    assert!(rt; !is_fresh(alloc, &store, &graph)?);
-    assert!(rt; !store.is_broken());
-    assert!(rt; !holds(alloc, &mut disk)?);
+    assert!(rt; !store.is_broken() && !has(rt.alloc(), &store, b'x')?);
+    assert!(rt; !holds(rt.alloc(), &mut disk)?);
     Ok(())
 }
