@@ -2,12 +2,10 @@
 #![tactic(auto)]
 
 mod laws;
-mod names;
 mod reader;
 mod writer;
 
 pub use laws::laws_of_bytes;
-pub use names::fits_name;
 pub use reader::ByteReader;
 pub use writer::ByteWriter;
 

@@ -6,7 +6,7 @@ ghost use Rattle.job_codec.specs.declared.reading.CompileJob.{CompileJob};
 ghost use Rattle.job_codec.specs.Jobs.{IsJob, job_bytes};
 ghost use Rattle.job_codec.specs.Reading.{fitting_name_at, short_text_at, built_at, all_built_at, fields_at, job_at};
 
-use byte_codec::{ByteReader, fits_name};
+use byte_codec::ByteReader;
 use std::alloc::Global;
 use vr_base::{Built, BuiltFile, FileName, NoMemory, Text};
 
@@ -26,7 +26,7 @@ fn fitting_name(alloc: Global, reader: &mut ByteReader<'_>) -> Result<Option<Fil
     let Some(name) = reader.name(alloc)? else {
         return Ok(None);
     };
-    if !fits_name(&name) {
+    if !name.fits() {
         return Ok(None);
     }
     Ok(Some(name))

@@ -3,7 +3,6 @@ ghost use Rattle.std.specs.List.Sorted.{IsStrictlyIncreasing};
 ghost use Rattle.vr_base.specs.Names.{FitsCommand};
 ghost use Rattle.record_codec.specs.Validity.{FitsFile};
 
-use byte_codec::fits_name;
 use vr_base::{Entry, Text, TextList};
 
 fn are_short(words: &[Text]) -> bool
@@ -28,7 +27,7 @@ fn fits_command(command: &TextList) -> bool
 pub fn fits_file(entry: &Entry) -> bool
     ensures { IsTrue result ↔ FitsFile entry.now }
 {
-    fits_name(&entry.name) && fits_command(&entry.command) && entry.text.bytes().len() <= 4_194_304
+    entry.name.fits() && fits_command(&entry.command) && entry.text.bytes().len() <= 4_194_304
 }
 
 /// Whether positions rise and are all below a place.

@@ -7,15 +7,15 @@ ghost use Rattle.vr_base.specs.Names.{is_same_name};
 ghost use Rattle.vr_outside.specs.Records.{last_of, with_record};
 ghost use Rattle.record_store.specs.Stored.{records_among, record_at, HoldsLatest, NotesPayload, IsNameOf};
 
+use crate::kept::KeptRecord;
 use gate_journal::Payloads;
 use indexmap::IndexMap;
 use record_codec::read_record;
 use std::alloc::Global;
 use vr_base::{FileName, Graph, NoMemory};
-use vr_outside::Record;
 
 /// The latest record of each name. A name without a record may stand in it: its record is prepared.
-pub type Index = IndexMap<FileName, Option<Record>>;
+pub type Index = IndexMap<FileName, Option<KeptRecord>>;
 
 /// The name of the file that a view is of.
 pub fn name_of(alloc: Global, view: &Graph) -> Result<FileName, NoMemory>
@@ -26,7 +26,7 @@ pub fn name_of(alloc: Global, view: &Graph) -> Result<FileName, NoMemory>
 }
 
 /// The record of a name.
-pub fn record_of<'a>(index: &'a Index, name: &FileName) -> Option<&'a Record>
+pub fn record_of<'a>(index: &'a Index, name: &FileName) -> Option<&'a KeptRecord>
     ensures { option_map (λ kept. kept.now) result ≡ record_at index.now name.now }
 {
     match index.get(name) {
@@ -36,11 +36,11 @@ pub fn record_of<'a>(index: &'a Index, name: &FileName) -> Option<&'a Record>
 }
 
 /// Takes up a record as the latest of its name.
-fn take_up(alloc: Global, index: &mut Index, kept: Record) -> Result<(), NoMemory>
+fn take_up(alloc: Global, index: &mut Index, kept: KeptRecord) -> Result<(), NoMemory>
     requires { 0 < length kept.view }
     ensures { OnOk result ((other : FileName) → record_at index.new other ≡ with_record kept (record_at index.old) other) }
 {
-    let name = name_of(alloc, &kept.view)?;
+    let name = name_of(alloc, kept.view())?;
     index.insert(name, Some(kept))?;
     Ok(())
 }
@@ -52,7 +52,7 @@ fn note(alloc: Global, index: &mut Index, payload: &[u8]) -> Result<(), NoMemory
     let Some(kept) = read_record(alloc, payload)? else {
         return Ok(());
     };
-    take_up(alloc, index, kept)
+    take_up(alloc, index, KeptRecord::new(kept))
 }
 
 /// The latest records among payloads.
@@ -79,7 +79,7 @@ pub fn make_room(alloc: Global, index: &mut Index, name: &FileName) -> Result<()
 }
 
 /// Puts a record in the room that was made for it. It takes no memory.
-pub fn put(index: &mut Index, name: FileName, kept: Record)
+pub fn put(index: &mut Index, name: FileName, kept: KeptRecord)
     requires room { IsSome (get is_same_name index.old name) }
     requires name { IsNameOf name kept.view }
     ensures { (other : FileName) → record_at index.new other ≡ with_record kept (record_at index.old) other }

@@ -2,6 +2,7 @@
 #![tactic(auto)]
 
 mod index;
+mod kept;
 mod pairs;
 mod store;
 

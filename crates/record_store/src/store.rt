@@ -7,6 +7,7 @@ ghost use Rattle.record_store.specs.Stored.{records_in, record_at, StoreStands, 
 ghost use Rattle.record_store.specs.StoreLaws.{store_durable, store_held};
 
 use crate::index::{Index, index_of, make_room, name_of, put, record_of};
+use crate::kept::KeptRecord;
 use gate_journal::{Journal, Opened, Ready};
 use record_codec::record_bytes;
 use source_view::{is_view_of, view_of};
@@ -28,7 +29,7 @@ pub struct RecordStore {
 #[derive(Drop)]
 pub struct PreparedRecord {
     name: FileName,
-    kept: Record,
+    kept: KeptRecord,
     ready: Ready,
 }
 
@@ -39,7 +40,7 @@ impl RecordStore {
         ensures { (result ≡ Fresh) ↔ IsRecorded (record_at self.now.index) graph.now at }
     {
         match record_of(&self.index, &graph.get(at as u64).name) {
-            Some(record) if is_view_of(&record.view, graph, at) => Need::Fresh,
+            Some(record) if is_view_of(record.view(), graph, at) => Need::Fresh,
             _ => Need::Stale,
         }
     }
@@ -76,7 +77,7 @@ impl Records for RecordStore {
 
     fn artefact(&self, name: &FileName) -> Option<&[u8]> {
         match record_of(&self.index, name) {
-            Some(record) => Some(record.artefact.bytes()),
+            Some(record) => Some(record.artefact()),
             None => None,
         }
     }
@@ -96,7 +97,7 @@ impl Records for RecordStore {
         make_room(alloc, &mut self.index, &name)?;
         Ok(PreparedRecord {
             name,
-            kept: Record { view, artefact },
+            kept: KeptRecord::new(Record { view, artefact }),
             ready,
         })
     }

@@ -43,7 +43,8 @@ impl Hash for FileName {
 }
 
 impl FileName {
-    ghost use Rattle.std.specs.Prelude.{◌≡◌, IfOk};
+    ghost use Rattle.std.specs.Prelude.{◌≡◌, ◌↔◌, IfOk, IsTrue};
+    ghost use Rattle.vr_base.specs.Names.{FitsName};
 
     pub fn copy(&self, alloc: Global) -> Result<FileName, NoMemory>
         ensures { IfOk result (λ name. name ≡ self.now) }
@@ -52,6 +53,15 @@ impl FileName {
             library: self.library.copy(alloc)?,
             path: self.path.copy(alloc)?,
         })
+    }
+
+    /// Whether this names a file of a project: a library of 1 to 64 bytes, and a path of 1 to 1,024.
+    pub fn fits(&self) -> bool
+        ensures { IsTrue result ↔ FitsName self.now }
+    {
+        let library = self.library.bytes().len();
+        let path = self.path.bytes().len();
+        1 <= library && library <= 64 && 1 <= path && path <= 1024
     }
 }
 

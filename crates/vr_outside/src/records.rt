@@ -1,4 +1,4 @@
-ghost use Rattle.std.specs.Prelude.{◌≡◌, ◌<◌, ◌≤◌, ◌++◌, [], ◌∷◌, List, Bool, false, Option, option_map, length, All, IfOk, OnOk, is_err};
+ghost use Rattle.std.specs.Prelude.{◌≡◌, ◌<◌, ◌≤◌, ◌++◌, [], ◌∷◌, List, Bool, false, Option, option_map, length, All, IfOk, IfSome, OnOk, is_err};
 ghost use Rattle.vr_base.specs.View.{view};
 ghost use Rattle.vr_base.specs.declared.file.FileName.{FileName};
 ghost use Rattle.vr_outside.specs.Counts.{DiskCounts, StoreCounts};
@@ -110,7 +110,8 @@ pub trait Records: Sized {
     /// What the compiler gave by the latest record of a name, lent from the store; `None` exactly where the name
     /// has no record. It takes no memory.
     fn artefact(&self, name: &FileName) -> Option<&[u8]>
-        ensures { option_map (λ bytes. bytes.now) result ≡ option_map (λ kept. kept.artefact) (latest_of self.now name.now) };
+        ensures bytes { option_map (λ bytes. bytes.now) result ≡ option_map (λ kept. kept.artefact) (latest_of self.now name.now) }
+        ensures size { IfSome result (λ bytes. length bytes.now ≤ 262144) };
 
     /// Makes a record of the present view of a file ready, with room for it. After `NoMemory` the store stands.
     fn prepare(

@@ -17,4 +17,4 @@ pub returns-in_default : goal.returns-in_default
 returns-in_default c = notes_none c.args.index.now c.args.payload.now (stands_for c.args.payload.now c.in_ok-kept.field-0 c.in_ok-kept.ensures.exact ∙ c.in_default.is)
 
 pub returns : goal.returns
-returns c = on_ok_weaker c.take_up.result (notes_record c.args.index.now c.take_up.new.index c.args.payload.now c.in-Some.kept (stands_for c.args.payload.now c.in_ok-kept.field-0 c.in_ok-kept.ensures.exact ∙ c.in-Some.is)) c.take_up.ensures
+returns c = on_ok_weaker c.take_up.result (notes_record c.args.index.now c.take_up.new.index c.args.payload.now c.new.result (stands_for c.args.payload.now c.in_ok-kept.field-0 c.in_ok-kept.ensures.exact ∙ c.in-Some.is ∙ ap Some (sym c.new.ensures))) c.take_up.ensures
