@@ -153,11 +153,18 @@ Answered answer setting book (Ended ticket exit ∷ events) =
     (option_map (λ run. answer run.request) (run_of ticket book.runs) ≡ Some exit) × Answered answer setting (after setting book (Ended ticket exit)) events
 Answered answer setting book (Gone ticket ∷ events) = Answered answer setting (after setting book (Gone ticket)) events
 
+-- the end of a child was lost
+abbrev pub is_gone : Event → Bool
+is_gone (Started ticket request) = false
+is_gone (Ended ticket exit) = false
+is_gone (Gone ticket) = true
+
 -- the events of a build that ended by itself
 pub record IsWhole (setting : Setting) (events : List Event) : Type 0 where
   pub lawful : Lawful setting empty_book events
   pub greedy : Greedy setting empty_book events
   pub finished : IsFinished setting (after_all setting empty_book events)
+  pub none_lost : list_any is_gone events ≡ false
 
 -- what the journal has since it was old
 abbrev pub since : List Event → List Event → List Event

@@ -1,11 +1,13 @@
 -- The clean build of a graph: each file compiled in order, over the artefacts of the files that it depends on.
-use Rattle.std.specs.Prelude.{ℕ, Bool, ◌==◌, if◌then◌else◌, List, [], ◌∷◌, ◌++◌, slice_get, Option, Some, None, is_some}
+use Rattle.std.specs.Prelude.{◌≡◌, ℕ, Bool, ◌==◌, if◌then◌else◌, List, [], ◌∷◌, ◌++◌, length, slice_get, Option, Some, None, is_some, is_none}
+use Rattle.std.specs.Option.{option_and_then}
 use Rattle.std.specs.List.{list_all, filter_map}
 use Rattle.vr_base.specs.declared.graph.Entry.{Entry}
 use Rattle.vr_base.specs.declared.graph.BuiltFile.{BuiltFile}
 use Rattle.vr_base.specs.declared.child.Request.{Request}
 use Rattle.vr_base.specs.declared.child.Exit.{Exit}
 use Rattle.vr_base.specs.Jobs.{compile_request}
+use Rattle.run_spec.specs.PresentGraph.{below}
 
 -- what becomes of a file: an artefact, a refusal, or a file below it was refused
 pub data Result : Type 0 where
@@ -43,12 +45,21 @@ results_after answer results (entry ∷ entries) = results_after answer (results
 abbrev pub clean_build : (Request → Exit) → List Entry → List Result
 clean_build answer graph = results_after answer [] graph
 
--- what is asked of the compiler for the files that are left, after those
-unfoldable pub requests_after : (Request → Exit) → List Result → List Entry → List Request
-requests_after answer results [] = []
-requests_after answer results (entry ∷ entries) =
-    (if is_free results entry then compile_request entry (built_below results entry) ∷ [] else []) ++ requests_after answer (results ++ next_result answer results entry ∷ []) entries
+-- what a clean build asks of the compiler for the file at a place; nothing where a file below it isn't made
+abbrev pub clean_request : (Request → Exit) → List Entry → ℕ → Option Request
+clean_request answer graph place =
+    option_and_then (λ entry. if is_free (clean_build answer graph) entry then Some (compile_request entry (built_below (clean_build answer graph) entry)) else None) (slice_get graph place)
 
--- what a clean build asks of the compiler, in order
-abbrev pub clean_requests : (Request → Exit) → List Entry → List Request
-clean_requests answer graph = requests_after answer [] graph
+-- what a clean build asks of the compiler for the file at a place, where nothing is recorded of it
+abbrev pub request_unless : (Request → Exit) → List Entry → (ℕ → Option (List ℕ)) → ℕ → Option Request
+request_unless answer graph recorded place = if is_none (recorded place) then clean_request answer graph place else None
+
+-- what a clean build asks of the compiler for the files of which nothing is recorded, in compile order
+abbrev pub stale_requests : (Request → Exit) → List Entry → (ℕ → Option (List ℕ)) → List Request
+stale_requests answer graph recorded = filter_map (request_unless answer graph recorded) (below (length graph))
+
+-- what is recorded of each file is what a clean build makes
+abbrev pub RecordsClean : (Request → Exit) → List Entry → (ℕ → Option (List ℕ)) → Type 0
+RecordsClean answer graph recorded =
+    (place : ℕ) (artefact : List ℕ) (entry : Entry) → recorded place ≡ Some artefact → slice_get graph place ≡ Some entry →
+    slice_get (clean_build answer graph) place ≡ Some (Made (record { name = entry.name; artefact = artefact }))

@@ -5,6 +5,5 @@ pub mod Marks
 pub mod Texts
 pub mod Csv
 pub mod Findings
-pub mod Reading
-pub mod Said
 pub mod Recorded
+pub mod Faithful

@@ -14,6 +14,8 @@ use Rattle.vr_base.specs.declared.outcome.Mark.{Mark}
 use Rattle.vr_base.specs.declared.outcome.Mark.TheVariants.{Fresh, Compiled, Refused, Skipped, Left}
 use Rattle.vr_base.specs.declared.outcome.Refusal.{Refusal}
 use Rattle.vr_base.specs.declared.outcome.Refusal.TheVariants as refusal
+use Rattle.vr_base.specs.declared.outcome.Limit.{Limit}
+use Rattle.vr_base.specs.declared.outcome.Limit.TheVariants as limit
 use Rattle.run_spec.specs.Marks.{is_refused, is_compiled}
 
 -- a line feed where the bytes aren't empty and don't end with one
@@ -108,6 +110,9 @@ lex_words (lex.UnclosedString at) = unclosed_string ++ decimal at
 lex_words (lex.UnclosedExtended at) = unclosed_extended ++ decimal at
 lex_words (lex.UnclosedComment at) = unclosed_comment ++ decimal at
 
+unfoldable pub is_absent : List ℕ
+is_absent = codes " is absent"
+
 unfoldable pub no_unit : List ℕ
 no_unit = codes ": no design unit at "
 
@@ -122,6 +127,7 @@ unit_words (unit.NotEnded at) = not_ended ++ decimal at
 abbrev pub refusal_words : Refusal → List ℕ
 refusal_words refusal.NoProject = no_project
 refusal_words (refusal.Project fault) = fault_words fault
+refusal_words (refusal.AbsentFile file) = file_words file ++ is_absent
 refusal_words (refusal.Lex file fault) = file_words file ++ lex_words fault
 refusal_words (refusal.Units file fault) = file_words file ++ unit_words fault
 refusal_words (refusal.Compiler files) = []
@@ -130,6 +136,22 @@ refusal_words refusal.NotBuilt = not_built
 -- what is put of a refusal that isn't the compiler's
 abbrev pub refusal_text : Refusal → List ℕ
 refusal_text reason = program ++ (refusal_words reason ++ 10 ∷ [])
+
+unfoldable pub over_limit : List ℕ
+over_limit = codes "over limit: "
+
+-- the quantity that is over its limit
+unfoldable pub limit_words : Limit → List ℕ
+limit_words limit.Slots = codes "slots "
+limit_words limit.Names = codes "names "
+limit_words limit.Files = codes "files "
+limit_words limit.TextBytes = codes "text bytes "
+limit_words limit.TotalBytes = codes "total bytes "
+limit_words limit.Tests = codes "tests "
+
+-- what is put where a quantity is over this limit
+unfoldable pub limit_text : Limit → ℕ → List ℕ
+limit_text over number = program ++ (over_limit ++ (limit_words over ++ (decimal number ++ 10 ∷ [])))
 
 -- what is put where the words aren't a command line of the program
 unfoldable pub usage_text : List ℕ

@@ -23,6 +23,8 @@ pub enum Refusal {
     NoProject,
     /// The fault is never want of memory.
     Project { fault: ProjectFault },
+    /// A file of the project isn't there.
+    AbsentFile { file: FileName },
     /// A file has a lexical fault, which is never want of memory.
     Lex { file: FileName, fault: LexFault },
     /// A file has a fault of the unit grammar, which is never want of memory.

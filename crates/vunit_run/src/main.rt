@@ -19,7 +19,8 @@ use std::env;
 use std::io::ErrorKind;
 use std::process::ExitCode;
 use streams::{StdSink, StdSource};
-use vr_base::{NoMemory, Outcome, Text, TextList, Which};
+use vr_base::{NoMemory, Numbers, Outcome, Text, TextList, Which};
+use vr_memory::MemDisk;
 use vunit_top::run_vunit;
 
 fn main(rt: HostRuntime) -> ExitCode {
@@ -67,12 +68,15 @@ fn run_words(rt: HostRuntime, words: &TextList) -> Outcome {
     let Ok(mut procs) = ChildProcs::new(rt.alloc(), rt) else {
         return Outcome::NoMemory;
     };
+    // There is no store on a real disk yet: each run begins with an empty one in memory.
+    let mut disk = MemDisk::new(rt.alloc(), Numbers::new(rt.alloc()));
     let mut out = StdSink::new(rt);
     run_vunit(
         rt.alloc(),
         words,
         &mut input,
         &mut tree,
+        &mut disk,
         &mut procs,
         &mut out,
     )

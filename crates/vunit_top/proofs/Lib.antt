@@ -1,6 +1,3 @@
-pub mod Stands
-pub mod OneChild
-pub mod Builds
 pub mod Utf8Test
 pub mod Splits
 pub mod NewNames
@@ -8,5 +5,6 @@ pub mod CsvProject
 pub mod Texts
 pub mod ReportLoops
 pub mod Tops
-pub mod Cleans
 pub mod Faults
+pub mod OverStore
+pub mod BuildTruths

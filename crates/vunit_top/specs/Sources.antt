@@ -1,23 +1,24 @@
 -- What is read of a tree.
-use Rattle.std.specs.Prelude.{◌≡◌, ℕ, List, Option, Some, None, Result, Ok, Err}
+use Rattle.std.specs.Prelude.{◌≡◌, ℕ, List, Result, Ok, Err}
 use Rattle.vr_base.specs.declared.graph.Entry.{Entry}
-use Rattle.vr_base.specs.declared.outcome.Refusal.TheVariants.{NotBuilt}
 use Rattle.vr_outside.specs.Counts.{Counted}
-use Rattle.run_spec.specs.Reading.{Reading, Stops, Go}
+use Rattle.vunit_top.specs.Reading.{Reading, Stops, Over, Go}
 use Rattle.vunit_top.specs.declared.sources.ReadStop.{ReadStop}
 use Rattle.vunit_top.specs.declared.sources.ReadStop.TheVariants as stop
 
--- the texts that were read are the whole, or the whole has none
-abbrev pub LeadsTexts : Option (List (List ℕ)) → Result (List (List ℕ)) ReadStop → Type 0
-LeadsTexts whole (Ok texts) = whole ≡ Some texts
-LeadsTexts whole (Err (stop.Refused reason)) = (whole ≡ None) × (reason ≡ NotBuilt)
-LeadsTexts whole (Err stop.Failed) = Unit {0}
-LeadsTexts whole (Err stop.NoMemory) = Unit {0}
+-- what was read is what there is to read; after a fault and want of memory nothing is owed
+abbrev pub Gives : {T : Type 0} → Result T Reading → Result T ReadStop → Type 0
+Gives whole (Ok value) = whole ≡ Ok value
+Gives whole (Err (stop.Refused reason)) = whole ≡ Err (Stops reason)
+Gives whole (Err (stop.Over limit number)) = whole ≡ Err (Over limit number)
+Gives whole (Err stop.Failed) = Unit {0}
+Gives whole (Err stop.NoMemory) = Unit {0}
 
--- the reading is what was read: a graph, or a refusal; after a fault and want of memory nothing is owed
+-- the reading is what was read: a graph, a refusal, or a limit that is passed; after a fault and want of memory nothing is owed
 abbrev pub Leads : Reading → Result (List Entry) ReadStop → Type 0
 Leads whole (Ok graph) = whole ≡ Go graph
 Leads whole (Err (stop.Refused reason)) = whole ≡ Stops reason
+Leads whole (Err (stop.Over limit number)) = whole ≡ Over limit number
 Leads whole (Err stop.Failed) = Unit {0}
 Leads whole (Err stop.NoMemory) = Unit {0}
 
@@ -25,12 +26,14 @@ Leads whole (Err stop.NoMemory) = Unit {0}
 abbrev pub ReadCounts : {T : Type 0} → Result T ReadStop → ℕ → ℕ → Type 0
 ReadCounts (Ok value) before now = now ≡ before
 ReadCounts (Err (stop.Refused reason)) before now = now ≡ before
+ReadCounts (Err (stop.Over limit number)) before now = now ≡ before
 ReadCounts (Err stop.Failed) before now = Counted before now
 ReadCounts (Err stop.NoMemory) before now = now ≡ before
 
--- no refusal
+-- no refusal, and no limit that is passed
 abbrev pub IsPlain : {T : Type 0} → Result T ReadStop → Type 0
 IsPlain (Ok value) = Unit {0}
 IsPlain (Err (stop.Refused reason)) = ⊥
+IsPlain (Err (stop.Over limit number)) = ⊥
 IsPlain (Err stop.Failed) = Unit {0}
 IsPlain (Err stop.NoMemory) = Unit {0}

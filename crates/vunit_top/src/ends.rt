@@ -1,12 +1,12 @@
 ghost use Rattle.std.specs.Prelude.{◌≡◌, length};
-ghost use Rattle.run_spec.specs.Said.{Says, IsSaid, said, build_said};
-ghost use Rattle.run_spec.specs.Texts.{refusal_text, usage_text};
-ghost use Rattle.run_spec.specs.Reading.{Bad};
+ghost use Rattle.vunit_top.specs.Said.{Says, IsSaid, said, build_said, build_outcome};
+ghost use Rattle.run_spec.specs.Texts.{refusal_text, limit_text, usage_text};
+ghost use Rattle.vunit_top.specs.Reading.{Bad};
 ghost use Rattle.vunit_top.specs.Ends.{OutCauses};
 
-use crate::report::{build_outcome, build_text, refusal_text};
+use crate::report::{build_outcome, build_text, limit_text, refusal_text};
 use std::alloc::Global;
-use vr_base::{Graph, MarkList, Outcome, Refusal, Which};
+use vr_base::{Graph, Limit, MarkList, Outcome, Refusal, Which};
 use vr_outside::{Sink, SinkFault};
 
 /// What is put where the words aren't a command line of the program.
@@ -16,6 +16,7 @@ static USAGE: [u8; 140] =
 /// Puts a text, and answers.
 pub fn say<O: Sink>(text: &[u8], answer: Outcome, out: &mut O) -> Outcome
     requires { IsSaid answer }
+    ensures answer { IsSaid result → result ≡ answer }
     ensures said { O.tells → Says result (record { outcome = answer; text = text.now }) (O.contents out.old) (O.contents out.new) }
     ensures cause { OutCauses result (O.failed_puts out.old) (O.failed_puts out.new) }
 {
@@ -45,9 +46,21 @@ pub fn say_refusal<O: Sink>(alloc: Global, refusal: Refusal, out: &mut O) -> Out
     }
 }
 
+/// Puts that a quantity is over this limit.
+pub fn say_limit<O: Sink>(alloc: Global, limit: Limit, number: u64, out: &mut O) -> Outcome
+    ensures said { O.tells → Says result (record { outcome = Outcome.OverLimit limit; text = limit_text limit number }) (O.contents out.old) (O.contents out.new) }
+    ensures cause { OutCauses result (O.failed_puts out.old) (O.failed_puts out.new) }
+{
+    match limit_text(alloc, limit, number) {
+        Ok(text) => say(text.bytes(), Outcome::OverLimit(limit), out),
+        Err(_) => Outcome::NoMemory,
+    }
+}
+
 /// Puts the text of a build with these marks.
 pub fn say_build<O: Sink>(alloc: Global, graph: &Graph, marks: &MarkList, out: &mut O) -> Outcome
     requires { length marks.now ≡ length graph.now }
+    ensures answer { IsSaid result → result ≡ build_outcome graph.now marks.now }
     ensures said { O.tells → Says result (build_said graph.now marks.now) (O.contents out.old) (O.contents out.new) }
     ensures cause { OutCauses result (O.failed_puts out.old) (O.failed_puts out.new) }
 {

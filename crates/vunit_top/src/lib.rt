@@ -1,8 +1,7 @@
 //! The top call.
 #![tactic(auto)]
 
-mod build;
-mod children;
+mod building;
 mod csv;
 mod ends;
 mod parts;
@@ -14,5 +13,9 @@ mod words;
 
 pub use top::run_vunit;
 
+#[cfg(test)]
+mod edit_tests;
+#[cfg(test)]
+mod test_parts;
 #[cfg(test)]
 mod tests;

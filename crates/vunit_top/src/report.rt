@@ -2,13 +2,13 @@ ghost use Rattle.std.specs.Prelude.{◌≡◌, ◌≤◌, ◌++◌, length, IfOk
 ghost use Rattle.std.specs.List.{list_any};
 ghost use Rattle.std.specs.Fmt.{decimal};
 ghost use Rattle.run_spec.specs.Marks.{is_refused, is_compiled, refused_files};
-ghost use Rattle.run_spec.specs.Texts.{line_end, shown, shown_bytes, compiling, passed, failed, skipped, file_text, files_text, build_line, build_text, refusal_words, fault_words, refusal_text, bad_line, program, no_project, not_built, file_words, lex_words, unit_words, unclosed_string, unclosed_extended, unclosed_comment, no_unit, not_ended, compile_failed, compile_passed, not_needed};
-ghost use Rattle.run_spec.specs.Said.{build_outcome};
+ghost use Rattle.run_spec.specs.Texts.{line_end, shown, shown_bytes, compiling, passed, failed, skipped, file_text, files_text, build_line, build_text, refusal_words, fault_words, refusal_text, bad_line, program, no_project, not_built, file_words, is_absent, limit_words, over_limit, limit_text, lex_words, unit_words, unclosed_string, unclosed_extended, unclosed_comment, no_unit, not_ended, compile_failed, compile_passed, not_needed};
+ghost use Rattle.vunit_top.specs.Said.{build_outcome};
 
 use std::alloc::Global;
 use vr_base::{
-    Entry, FileList, FileName, Graph, LexFault, Mark, MarkList, NoMemory, Outcome, ProjectFault,
-    Refusal, Text, UnitFault,
+    Entry, FileList, FileName, Graph, LexFault, Limit, Mark, MarkList, NoMemory, Outcome,
+    ProjectFault, Refusal, Text, UnitFault,
 };
 
 /// How much of what a child printed is shown.
@@ -245,13 +245,18 @@ fn put_unit_fault(alloc: Global, out: &mut Vec<u8>, fault: &UnitFault) -> Result
     }
 }
 
-#[tactic(auto, unfolding(run_spec::specs::Texts::no_project, run_spec::specs::Texts::not_built))]
+#[tactic(auto, unfolding(run_spec::specs::Texts::no_project, run_spec::specs::Texts::is_absent, run_spec::specs::Texts::not_built))]
 fn put_refusal(alloc: Global, out: &mut Vec<u8>, refusal: &Refusal) -> Result<(), NoMemory>
     ensures { OnOk result (out.new.items ≡ out.old.items ++ refusal_words refusal.now) }
 {
     match refusal {
         Refusal::NoProject => put(out, b"no vunit.toml and no vunit.csv"),
         Refusal::Project { fault } => put_fault(alloc, out, fault),
+        Refusal::AbsentFile { file } => {
+            put_file_words(out, file)?;
+            put(out, b" is absent")?;
+            Ok(())
+        }
         Refusal::Lex { file, fault } => {
             put_file_words(out, file)?;
             put_lex_fault(alloc, out, fault)?;
@@ -275,6 +280,41 @@ pub fn refusal_text(alloc: Global, refusal: &Refusal) -> Result<Text, NoMemory>
     let mut text = Vec::new(alloc);
     put(&mut text, b"vunit_run: ")?;
     put_refusal(alloc, &mut text, refusal)?;
+    put(&mut text, b"\n")?;
+    Ok(Text::from_vec(text))
+}
+
+/// Puts the quantity that is over its limit.
+#[tactic(auto, unfolding(run_spec::specs::Texts::limit_words))]
+fn put_limit_words(out: &mut Vec<u8>, limit: Limit) -> Result<(), NoMemory>
+    ensures { OnOk result (out.new.items ≡ out.old.items ++ limit_words limit) }
+{
+    match limit {
+        Limit::Slots => put(out, b"slots "),
+        Limit::Names => put(out, b"names "),
+        Limit::Files => put(out, b"files "),
+        Limit::TextBytes => put(out, b"text bytes "),
+        Limit::TotalBytes => put(out, b"total bytes "),
+        Limit::Tests => put(out, b"tests "),
+    }
+}
+
+fn put_number(alloc: Global, out: &mut Vec<u8>, number: u64) -> Result<(), NoMemory>
+    ensures { OnOk result (out.new.items ≡ out.old.items ++ decimal number) }
+{
+    put(out, number.to_string(alloc)?.as_bytes())
+}
+
+/// What is put where a quantity is over this limit.
+#[tactic(auto, unfolding(run_spec::specs::Texts::program, run_spec::specs::Texts::over_limit, run_spec::specs::Texts::limit_text))]
+pub fn limit_text(alloc: Global, limit: Limit, number: u64) -> Result<Text, NoMemory>
+    ensures { IfOk result (λ text. text ≡ limit_text limit number) }
+{
+    let mut text = Vec::new(alloc);
+    put(&mut text, b"vunit_run: ")?;
+    put(&mut text, b"over limit: ")?;
+    put_limit_words(&mut text, limit)?;
+    put_number(alloc, &mut text, number)?;
     put(&mut text, b"\n")?;
     Ok(Text::from_vec(text))
 }

@@ -1,25 +1,29 @@
-ghost use Rattle.std.specs.Prelude.{◌≡◌, ◌≤◌, ◌^◌, ◌<◌, length, codes, Option, List, ℕ, Some, None, IfOk, IfSome};
+ghost use Rattle.std.specs.Prelude.{◌≡◌, ◌+◌, ◌≤◌, length, codes, List, ℕ, IfOk};
 ghost use Rattle.vr_base.specs.Projects.{IsProject};
 ghost use Rattle.vr_outside.specs.Trees.{read_end, IsWithin};
 ghost use Rattle.run_spec.specs.PresentGraph.{listed, IsListed};
 ghost use Rattle.run_spec.specs.Csv.{csv_project};
 ghost use Rattle.run_spec.specs.Findings.{Finding, IsScanner, first_fault};
-ghost use Rattle.run_spec.specs.Reading.{Stops, go_unless, fitting, texts_of, sources_reading, listing_reading, csv_reading, toml_reading, project_reading};
+ghost use Rattle.vunit_top.specs.Reading.{Stops, Over, bounds, text_behind, text_of, texts_of, go_unless, sources_reading, listing_reading, csv_reading, toml_reading, project_reading};
 ghost use Rattle.source_view.specs.Listed.{AreTexts};
-ghost use Rattle.vunit_top.specs.Sources.{LeadsTexts, Leads, ReadCounts, IsPlain};
+ghost use Rattle.vunit_top.specs.Sources.{Gives, Leads, ReadCounts, IsPlain};
 ghost use Rattle.vunit_top.specs.declared.sources.ReadStop.TheVariants.{NoMemory as out_of_memory};
 
 use crate::csv::read_csv_project;
 use crate::scanning::first_fault;
 use source_view::listed_graph;
 use std::alloc::Global;
-use vr_base::{Graph, NoMemory, Project, ProjectFault, ProjectFile, Refusal, Text, TextList};
+use vr_base::{
+    FileName, Graph, Limit, NoMemory, Project, ProjectFault, ProjectFile, Refusal, Text, TextList,
+};
 use vr_outside::{ReadEnd, Tree, TreeFault};
 
 /// Why nothing is compiled.
 #[derive(Drop)]
 pub enum ReadStop {
     Refused(Refusal),
+    /// This quantity is over its limit, which is this number.
+    Over(Limit, u64),
     /// The tree failed.
     Failed,
     NoMemory,
@@ -53,55 +57,74 @@ fn read_file<T: Tree>(
     }
 }
 
-/// The text of a file where it is there and has at most so many bytes.
-fn read_text<T: Tree>(
-    alloc: Global,
-    tree: &mut T,
-    path: &Text,
-    left: u64,
-) -> Result<Option<Text>, ReadStop>
-    ensures size { IfOk result (λ text. IfSome text (λ bytes. length bytes ≤ left)) }
-    ensures text { T.tells → IfOk result (λ text. text ≡ fitting (T.file tree.old path.now) left) }
-    ensures stop { IsPlain result }
-    ensures same { T.file tree.new ≡ T.file tree.old }
-    ensures cause { ReadCounts result (T.failed_reads tree.old) (T.failed_reads tree.new) }
-{
-    match read_file(alloc, tree, path, left)? {
-        ReadEnd::Got(text) => Ok(Some(text)),
-        ReadEnd::Absent => Ok(None),
-        ReadEnd::TooLong => Ok(None),
-    }
-}
+/// The most bytes of a project file, and of each file of a project.
+const MOST_TEXT: u64 = 4194304;
 
-/// The most bytes of a project file, and of all files of a project together.
-const MOST_BYTES: u64 = 2097152;
+/// The most bytes of all files of a project together.
+const MOST_TOTAL: u64 = 2097152;
 
 /// The most files of a project.
 const MOST_FILES: u64 = 128;
 
-/// The texts of the files, where all are there and have at most so many bytes together.
-fn read_texts<T: Tree>(
+/// A text behind texts of so many bytes, where they have no more together than they may.
+fn text_behind(before: u64, text: Text) -> Result<Text, ReadStop>
+    requires { before ≤ 2097152 }
+    ensures text { Gives (text_behind before text) result }
+    ensures size { IfOk result (λ text. before + length text ≤ 2097152) }
+    ensures cause { (count : ℕ) → ReadCounts result count count }
+{
+    if text.bytes().len() as u64 > MOST_TOTAL - before {
+        return Err(ReadStop::Over(Limit::TotalBytes, MOST_TOTAL));
+    }
+    Ok(text)
+}
+
+/// That a file isn't there.
+fn absent_file(alloc: Global, name: &FileName) -> Result<Refusal, NoMemory>
+    ensures { IfOk result (λ reason. reason ≡ Refusal.AbsentFile name.now) }
+{
+    Ok(Refusal::AbsentFile {
+        file: name.copy(alloc)?,
+    })
+}
+
+/// The text of a file, behind texts of so many bytes, or why there is none.
+fn text_of<T: Tree>(
+    alloc: Global,
+    tree: &mut T,
+    name: &FileName,
+    before: u64,
+) -> Result<Text, ReadStop>
+    requires { before ≤ 2097152 }
+    ensures text { T.tells → Gives (text_of name.now before (read_end (T.file tree.old name.now.path) bounds.text)) result }
+    ensures size { IfOk result (λ text. before + length text ≤ 2097152) }
+    ensures same { T.file tree.new ≡ T.file tree.old }
+    ensures cause { ReadCounts result (T.failed_reads tree.old) (T.failed_reads tree.new) }
+{
+    match read_file(alloc, tree, &name.path, MOST_TEXT)? {
+        ReadEnd::Absent => Err(ReadStop::Refused(absent_file(alloc, name)?)),
+        ReadEnd::TooLong => Err(ReadStop::Over(Limit::TextBytes, MOST_TEXT)),
+        ReadEnd::Got(text) => text_behind(before, text),
+    }
+}
+
+/// The texts of the files, or what the first file says that gives none.
+fn texts_of<T: Tree>(
     alloc: Global,
     tree: &mut T,
     files: &[ProjectFile],
-    limit: u64,
 ) -> Result<TextList, ReadStop>
-    requires { limit ≤ 2097152 }
-    ensures texts { T.tells → LeadsTexts (texts_of (T.file tree.old) limit files.now) result }
+    ensures texts { T.tells → Gives (texts_of (T.file tree.old) 0 files.now) result }
     ensures size { IfOk result (AreTexts files.now) }
     ensures same { T.file tree.new ≡ T.file tree.old }
     ensures cause { ReadCounts result (T.failed_reads tree.old) (T.failed_reads tree.new) }
 {
     let mut texts = TextList::new(alloc);
-    let mut left = limit;
+    let mut total = 0;
     for file in files {
-        match read_text(alloc, tree, &file.name.path, left)? {
-            Some(text) => {
-                left -= text.bytes().len() as u64;
-                texts.push(text)?;
-            }
-            None => return Err(ReadStop::Refused(Refusal::NotBuilt)),
-        }
+        let text = text_of(alloc, tree, &file.name, total)?;
+        total += text.bytes().len() as u64;
+        texts.push(text)?;
     }
     Ok(texts)
 }
@@ -130,15 +153,15 @@ fn read_sources<T: Tree>(alloc: Global, tree: &mut T, project: &Project) -> Resu
     ensures cause { ReadCounts result (T.failed_reads tree.old) (T.failed_reads tree.new) }
 {
     if project.files.len() > MOST_FILES {
-        return Err(ReadStop::Refused(Refusal::NotBuilt));
+        return Err(ReadStop::Over(Limit::Files, MOST_FILES));
     }
-    let texts = read_texts(alloc, tree, project.files.as_slice(), MOST_BYTES)?;
+    let texts = texts_of(alloc, tree, project.files.as_slice())?;
     scanned_graph(alloc, project, texts)
 }
 
 /// The graph of the project that the bytes of a project file list.
 fn read_listing<T: Tree>(alloc: Global, tree: &mut T, bytes: &Text) -> Result<Graph, ReadStop>
-    requires { length bytes.now ≤ 2097152 }
+    requires { length bytes.now ≤ 4194304 }
     ensures graph { (scan : List ℕ → Finding) → IsScanner scan → T.tells → Leads (listing_reading scan (T.file tree.old) (csv_project bytes.now)) result }
     ensures listed { IfOk result IsListed }
     ensures same { T.file tree.new ≡ T.file tree.old }
@@ -155,21 +178,21 @@ fn read_listing<T: Tree>(alloc: Global, tree: &mut T, bytes: &Text) -> Result<Gr
 
 /// The graph of the project in a tree that has no `vunit.toml`.
 fn read_csv<T: Tree>(alloc: Global, tree: &mut T) -> Result<Graph, ReadStop>
-    ensures graph { (scan : List ℕ → Finding) → IsScanner scan → T.tells → Leads (csv_reading scan (T.file tree.old) (T.file tree.old (codes "vunit.csv"))) result }
+    ensures graph { (scan : List ℕ → Finding) → IsScanner scan → T.tells → Leads (csv_reading scan (T.file tree.old) (read_end (T.file tree.old (codes "vunit.csv")) bounds.text)) result }
     ensures listed { IfOk result IsListed }
     ensures same { T.file tree.new ≡ T.file tree.old }
     ensures cause { ReadCounts result (T.failed_reads tree.old) (T.failed_reads tree.new) }
 {
     let path = Text::from_slice(alloc, b"vunit.csv")?;
-    match read_file(alloc, tree, &path, MOST_BYTES)? {
-        ReadEnd::Got(bytes) => read_listing(alloc, tree, &bytes),
+    match read_file(alloc, tree, &path, MOST_TEXT)? {
         ReadEnd::Absent => Err(ReadStop::Refused(Refusal::NoProject)),
-        ReadEnd::TooLong => Err(ReadStop::Refused(Refusal::NotBuilt)),
+        ReadEnd::TooLong => Err(ReadStop::Over(Limit::TextBytes, MOST_TEXT)),
+        ReadEnd::Got(bytes) => read_listing(alloc, tree, &bytes),
     }
 }
 
 /// The graph of the project in a tree, or what is wrong with its sources. Each file is read once.
-#[tactic(auto, unfolding(run_spec::specs::Reading::project_reading))]
+#[tactic(auto, unfolding(crate::specs::Reading::project_reading))]
 pub fn read_project<T: Tree>(alloc: Global, tree: &mut T) -> Result<Graph, ReadStop>
     ensures graph { (scan : List ℕ → Finding) → IsScanner scan → T.tells → Leads (project_reading scan (T.file tree.old)) result }
     ensures listed { IfOk result IsListed }

@@ -1,14 +1,11 @@
-use crate::run_vunit;
+use crate::test_parts::{
+    add_answer, add_file, is, numbers, put_short, run_over, script_of, texts, tree_of,
+};
 use std::alloc::Global;
 use std::process::Abort;
 use std::test::Fail;
-use vr_base::{
-    Exit, Items, MaybeText, NamedText, NoMemory, Numbers, Outcome, Positions, Refusal, Request,
-    Text, TextList, Which,
-};
-use vr_memory::{
-    Answer, AnswerList, MemSink, MemSource, MemTree, ScriptProcs, have_paths, have_sizes,
-};
+use vr_base::{Items, Limit, NoMemory, Outcome, Refusal, Text, Which};
+use vr_memory::{MemDisk, MemSink, MemSource, MemTree, ScriptProcs};
 
 /// A file of a tree: its path and its bytes.
 type File<'a> = (&'a [u8], &'a [u8]);
@@ -36,22 +33,6 @@ const BOTH: &[Child] = &[
     ),
 ];
 
-fn is(bytes: &[u8], wanted: &[u8]) -> bool {
-    bytes == wanted
-}
-
-fn texts(alloc: Global, words: &[&[u8]]) -> Result<TextList, NoMemory> {
-    let mut list = Items::new(alloc);
-    for word in words {
-        list.push(Text::from_slice(alloc, word)?)?;
-    }
-    Ok(list)
-}
-
-fn numbers(alloc: Global, calls: &[u64]) -> Result<Numbers, NoMemory> {
-    Ok(Items::from_vec(Vec::from_slice(alloc, calls)?))
-}
-
 fn tree(
     rt: &impl Abort,
     alloc: Global,
@@ -60,21 +41,9 @@ fn tree(
 ) -> Result<MemTree, NoMemory> {
     let mut list = Items::new(alloc);
     for (path, bytes) in files {
-        list.push(NamedText {
-            path: Text::from_slice(alloc, path)?,
-            bytes: Text::from_slice(alloc, bytes)?,
-        })?;
+        add_file(alloc, &mut list, path, bytes)?;
     }
-    assert!(rt; have_paths(&list));
-    Ok(MemTree::new(list, numbers(alloc, failing)?))
-}
-
-/// Writes a text behind its length as four bytes, the low one first; the texts of the tests are short.
-fn put_short(out: &mut Vec<u8>, text: &[u8]) -> Result<(), NoMemory> {
-    out.push((text.len() % 256) as u8)?;
-    out.extend_from_slice(&[0, 0, 0])?;
-    out.extend_from_slice(text)?;
-    Ok(())
+    tree_of(rt, alloc, list, failing)
 }
 
 /// The bytes that a compiler of the package of this name is handed.
@@ -97,39 +66,18 @@ fn input(alloc: Global, name: &[u8], before: &[File]) -> Result<Text, NoMemory> 
     Ok(Text::from_vec(bytes))
 }
 
-fn answer(alloc: Global, child: &Child) -> Result<Answer, NoMemory> {
-    let (name, before, code, output) = child;
-    Ok(Answer {
-        request: Request {
-            command: texts(alloc, &[b"@self", b"child-analyse"])?,
-            input: input(alloc, name, before)?,
-            results: MaybeText::Nothing,
-        },
-        exit: Exit {
-            code: *code,
-            output: Text::from_slice(alloc, output)?,
-            results: MaybeText::Nothing,
-        },
-    })
-}
-
 fn script(
     rt: &impl Abort,
     alloc: Global,
     children: &[Child],
     failing: &[u64],
 ) -> Result<ScriptProcs, NoMemory> {
-    let mut answers: AnswerList = Items::new(alloc);
-    for child in children {
-        answers.push(answer(alloc, child)?)?;
+    let mut answers = Items::new(alloc);
+    for (name, before, code, output) in children {
+        let input = input(alloc, name, before)?;
+        add_answer(alloc, &mut answers, input, *code, output)?;
     }
-    assert!(rt; have_sizes(&answers));
-    Ok(ScriptProcs::new(
-        alloc,
-        answers,
-        Positions::new(alloc),
-        numbers(alloc, failing)?,
-    ))
+    script_of(rt, alloc, answers, failing)
 }
 
 /// What a run answered, what it put, and how many events its journal has.
@@ -140,8 +88,8 @@ struct Ran {
     events: u64,
 }
 
-/// The numbers of the calls of the tree, the children, the source and the sink that are to fail.
-type Failing<'a> = [&'a [u64]; 4];
+/// The numbers of the calls of the tree, the disk, the children, the source and the sink that are to fail.
+type Failing<'a> = [&'a [u64]; 5];
 
 fn run(
     rt: &impl Abort,
@@ -151,14 +99,16 @@ fn run(
     children: &[Child],
     failing: &Failing,
 ) -> Result<Ran, NoMemory> {
-    let [trees, procs, sources, sinks] = failing;
+    let [trees, disks, procs, sources, sinks] = failing;
     let mut tree = tree(rt, alloc, files, trees)?;
+    let mut disk = MemDisk::new(alloc, numbers(alloc, disks)?);
     let mut procs = script(rt, alloc, children, procs)?;
     let mut input = MemSource::new(Text::new(alloc), numbers(alloc, sources)?);
     let mut out = MemSink::new(alloc, numbers(alloc, sinks)?);
     let words = texts(alloc, words)?;
-    assert!(rt; procs.running().is_empty());
-    let outcome = run_vunit(alloc, &words, &mut input, &mut tree, &mut procs, &mut out);
+    let outcome = run_over(
+        rt, alloc, &words, &mut input, &mut tree, &mut disk, &mut procs, &mut out,
+    );
     let events = procs.journal().len();
     Ok(Ran {
         outcome,
@@ -167,7 +117,7 @@ fn run(
     })
 }
 
-const NONE: &Failing = &[&[], &[], &[], &[]];
+const NONE: &Failing = &[&[], &[], &[], &[], &[]];
 
 #[test]
 fn two_packages_are_compiled(rt: HostRuntime) -> Result<(), Fail> {
@@ -235,7 +185,14 @@ fn sources_are_refused(rt: HostRuntime) -> Result<(), Fail> {
             &[(b"vunit.csv", b"lib,a.vhd\n  \n")],
             b"vunit.csv: bad line 2",
         ),
-        (&[(b"vunit.csv", b"lib,a.vhd\n")], b"not built yet"),
+        (&[(b"vunit.csv", b"LIB,a.vhd\n")], b"lib, a.vhd is absent"),
+        (
+            &[
+                (b"vunit.csv", b"lib,a.vhd\nlib,b.vhd\nlib,c.vhd\n"),
+                (b"a.vhd", b"foo"),
+            ],
+            b"lib, b.vhd is absent",
+        ),
         (
             &[(b"vunit.csv", b""), (b"vunit.toml", b"")],
             b"not built yet",
@@ -282,14 +239,132 @@ fn texts_are_refused(rt: HostRuntime) -> Result<(), Fail> {
 }
 
 fn refused(rt: &impl Abort, alloc: Global, files: &[File], words: &[u8]) -> Result<(), Fail> {
+    stopped(rt, alloc, files, None, words)
+}
+
+/// Whether a quantity is over this limit, or the sources are refused where there is none.
+fn is_stopped(outcome: &Outcome, limit: Option<Limit>) -> bool {
+    match outcome {
+        Outcome::OverLimit(over) => matches!(limit, Some(named) if named == *over),
+        Outcome::Refused(_) => limit.is_none(),
+        _ => false,
+    }
+}
+
+fn stopped(
+    rt: &impl Abort,
+    alloc: Global,
+    files: &[File],
+    limit: Option<Limit>,
+    words: &[u8],
+) -> Result<(), Fail> {
     let run = run(rt, alloc, &[b"--compile"], files, &[], NONE)?;
     let mut text = Vec::from_slice(alloc, b"vunit_run: ")?;
     text.extend_from_slice(words)?;
     text.push(b'\n')?;
-    assert!(rt; matches!(run.outcome, Outcome::Refused(_)));
+    assert!(rt; is_stopped(&run.outcome, limit));
     assert!(rt; is(run.out.bytes(), &text));
     assert_eq!(rt; run.events, 0);
     Ok(())
+}
+
+/// How many files a project lists, none of which is there; what its last line is; and what is put of it.
+type Listed<'a> = (usize, &'a [u8], Option<Limit>, &'a [u8]);
+
+#[test]
+fn too_many_files_are_refused(rt: HostRuntime) -> Result<(), Fail> {
+    let table: &[Listed] = &[
+        (128, b"", None, b"lib, a is absent"),
+        (129, b"", Some(Limit::Files), b"over limit: files 128"),
+        (128, b"lib", None, b"vunit.csv: bad line 129"),
+        (129, b"lib", None, b"vunit.csv: bad line 130"),
+    ];
+    for (count, last, limit, words) in table {
+        let csv = list_of(rt.alloc(), *count, last)?;
+        stopped(&rt, rt.alloc(), &[(b"vunit.csv", &csv)], *limit, words)?;
+    }
+    Ok(())
+}
+
+/// The lines of so many files, whose paths are a, aa and so on, and this last line.
+fn list_of(alloc: Global, count: usize, last: &[u8]) -> Result<Vec<u8>, NoMemory> {
+    let mut bytes = Vec::new(alloc);
+    for row in 0..count {
+        bytes.extend_from_slice(b"lib,a")?;
+        for _ in 0..row {
+            bytes.push(b'a')?;
+        }
+        bytes.push(b'\n')?;
+    }
+    bytes.extend_from_slice(last)?;
+    Ok(bytes)
+}
+
+/// A project of three files: how many bytes `vunit.csv`, a.vhd and b.vhd have, the last where it is there; and what
+/// is put of it. The text of c.vhd has three bytes, and is no design unit.
+type Long<'a> = (usize, usize, Option<usize>, Option<Limit>, &'a [u8]);
+
+const TEXT_BYTES: &[u8] = b"over limit: text bytes 4194304";
+
+const TOTAL_BYTES: &[u8] = b"over limit: total bytes 2097152";
+
+const SCANNED: &[u8] = b"lib, c.vhd: no design unit at 0";
+
+#[test]
+fn long_texts_are_refused(rt: HostRuntime) -> Result<(), Fail> {
+    let (text, total) = (Some(Limit::TextBytes), Some(Limit::TotalBytes));
+    let table: &[Long] = &[
+        (4_194_305, 0, Some(0), text, TEXT_BYTES),
+        (4_194_304, 0, Some(0), None, SCANNED),
+        (30, 4_194_305, Some(0), text, TEXT_BYTES),
+        (30, 4_194_305, None, text, TEXT_BYTES),
+        (30, 5_000_000, None, text, TEXT_BYTES),
+        (30, 1_000_000, Some(4_194_305), text, TEXT_BYTES),
+        (30, 4_194_304, None, total, TOTAL_BYTES),
+        (30, 3_000_000, None, total, TOTAL_BYTES),
+        (30, 2_097_153, Some(4_194_305), total, TOTAL_BYTES),
+        (30, 2_097_152, None, None, b"lib, b.vhd is absent"),
+        (30, 2_097_152, Some(0), total, TOTAL_BYTES),
+        (30, 2_097_149, Some(0), None, SCANNED),
+        (30, 0, Some(2_097_149), None, SCANNED),
+        (30, 1_000_000, Some(1_097_149), None, SCANNED),
+        (30, 1_000_000, Some(1_097_150), total, TOTAL_BYTES),
+    ];
+    for (csv, a, b, limit, words) in table {
+        long(&rt, rt.alloc(), [*csv, *a], *b, *limit, words)?;
+    }
+    Ok(())
+}
+
+/// Runs a project whose `vunit.csv` and a.vhd have these sizes, and whose b.vhd has this size where it is there.
+fn long(
+    rt: &impl Abort,
+    alloc: Global,
+    sizes: [usize; 2],
+    size: Option<usize>,
+    limit: Option<Limit>,
+    words: &[u8],
+) -> Result<(), Fail> {
+    let csv = filled(alloc, b"lib,a.vhd\nlib,b.vhd\nlib,c.vhd\n", b'\n', sizes[0])?;
+    let first = filled(alloc, b"", b' ', sizes[1])?;
+    let second = filled(alloc, b"", b' ', size.unwrap_or(0))?;
+    let path: &[u8] = if size.is_some() { b"b.vhd" } else { b"d.vhd" };
+    let files: &[File] = &[
+        (b"vunit.csv", &csv),
+        (b"a.vhd", &first),
+        (path, &second),
+        (b"c.vhd", b"foo"),
+    ];
+    stopped(rt, alloc, files, limit, words)
+}
+
+/// These bytes, and behind them one byte up to a size.
+fn filled(alloc: Global, front: &[u8], byte: u8, size: usize) -> Result<Vec<u8>, NoMemory> {
+    let mut bytes = Vec::from_slice(alloc, front)?;
+    for _ in front.len()..size {
+        bytes.push(byte)?;
+    }
+    Ok(bytes)
 }
 
 #[test]
@@ -315,13 +390,20 @@ type Fault<'a> = (&'a [u8], Failing<'a>, Which, u64);
 #[test]
 fn faults_are_named(rt: HostRuntime) -> Result<(), Fail> {
     let table: &[Fault] = &[
-        (b"--compile", [&[0], &[], &[], &[]], Which::Tree, 0),
-        (b"--compile", [&[3], &[], &[], &[]], Which::Tree, 0),
-        (b"--compile", [&[], &[0], &[], &[]], Which::Start, 0),
-        (b"--compile", [&[], &[1], &[], &[]], Which::Child, 2),
-        (b"--compile", [&[], &[2], &[], &[]], Which::Start, 2),
-        (b"--compile", [&[], &[], &[], &[0]], Which::Out, 4),
-        (b"child-analyse", [&[], &[], &[0], &[]], Which::Input, 0),
+        (b"--compile", [&[0], &[], &[], &[], &[]], Which::Tree, 0),
+        (b"--compile", [&[3], &[], &[], &[], &[]], Which::Tree, 0),
+        (b"--compile", [&[], &[0], &[], &[], &[]], Which::Disk, 0),
+        (b"--compile", [&[], &[14], &[], &[], &[]], Which::Disk, 2),
+        (b"--compile", [&[], &[], &[0], &[], &[]], Which::Start, 0),
+        (b"--compile", [&[], &[], &[1], &[], &[]], Which::Child, 2),
+        (b"--compile", [&[], &[], &[2], &[], &[]], Which::Start, 2),
+        (b"--compile", [&[], &[], &[], &[], &[0]], Which::Out, 4),
+        (
+            b"child-analyse",
+            [&[], &[], &[], &[0], &[]],
+            Which::Input,
+            0,
+        ),
     ];
     for (word, failing, which, events) in table {
         let run = run(&rt, rt.alloc(), &[*word], TWO, BOTH, failing)?;

@@ -1,6 +1,6 @@
 ghost use Rattle.std.specs.Prelude.{◌≡◌, ◌<◌, ◌^◌, length, map, IfOk, IfErr};
 ghost use Rattle.std.specs.Str.{bytes_eq};
-ghost use Rattle.run_spec.specs.Reading.{begins_as_child, is_compile};
+ghost use Rattle.vunit_top.specs.Reading.{begins_as_child, is_compile};
 
 use vr_base::TextList;
 

@@ -1,0 +1,10 @@
+mod OneChild
+mod Keeping
+mod HeldFiles
+mod Progress
+mod Marking
+mod Building
+mod Lists
+mod Added
+mod KeptAtEnd
+pub mod TrueCommits

@@ -1,0 +1,38 @@
+-- What a build keeps of its children are true records, where what is recorded before is what a clean build makes.
+use Rattle.std.proofs.Common.{◌≡◌, eqb, List, [], ◌∷◌, Some, sym, ap, subst, ◌∙◌, inl, inr}
+use Rattle.std.specs.Prelude.{All, slice_get}
+use Rattle.std.proofs.lemmas.Bool.{cases_Bool, cond-true, cond-false}
+use Rattle.std.proofs.lemmas.List.Concat.{flat_map-cons}
+use Rattle.std.proofs.lemmas.List.Elements.{All-nil, All-cons, All-head, All-tail, All-append}
+use Rattle.vr_base.specs.declared.child.Request.{Request}
+use Rattle.vr_base.specs.declared.child.Exit.{Exit}
+use Rattle.vr_base.specs.declared.child.Event.{Event}
+use Rattle.vr_base.specs.Graphs.{IsGraph}
+use Rattle.run_spec.specs.ChildJournal.{Setting, End, Lawful, Answered, empty_book, after_all}
+use Rattle.run_spec.specs.CleanBuild.{Result, Made, Refused, RecordsClean, clean_build}
+use Rattle.run_spec.specs.Faithful.{IsTrueRecord}
+use Rattle.clean_laws.proofs.JournalBooks.{IsCleanEnd, clean_book}
+use Rattle.clean_laws.proofs.TrueRecords.{true_record}
+use Rattle.compile_loop.specs.Commits.{record_at, kept_of, commits_of, commits}
+
+module _ (answer : Request → Exit) (setting : Setting) (is : IsGraph setting.graph) where
+  -- what is kept of one child
+  kept_true : (end : End) → IsCleanEnd answer setting end → All (IsTrueRecord answer) (kept_of setting.graph end)
+  kept_true end clean =
+      elim (cases_Bool (eqb end.exit.code 0)) [
+        | inl made ↦
+            let result : slice_get (clean_build answer setting.graph) end.place ≡ Some (Made (record { name = clean.due.entry.name; artefact = end.exit.output })) =
+            clean.result ∙ ap (λ (r : Result). Some r) (cond-true (eqb end.exit.code 0) (Made (record { name = clean.due.entry.name; artefact = end.exit.output })) (Refused end.exit.code end.exit.output) made) in
+            subst (All (IsTrueRecord answer)) (sym (cond-true (eqb end.exit.code 0) (record_at setting.graph end.place end.exit.output ∷ []) [] made))
+            (All-cons (IsTrueRecord answer) (record_at setting.graph end.place end.exit.output) [] (true_record answer setting.graph is end.place clean.due.entry end.exit.output clean.due.stands clean.due.free result) (All-nil (IsTrueRecord answer)))
+        | inr refused ↦ subst (All (IsTrueRecord answer)) (sym (cond-false (eqb end.exit.code 0) (record_at setting.graph end.place end.exit.output ∷ []) [] refused)) (All-nil (IsTrueRecord answer))
+      ]
+
+  all_kept_true : (ends : List End) → All (IsCleanEnd answer setting) ends → All (IsTrueRecord answer) (commits_of setting.graph ends)
+  all_kept_true [] clean = All-nil (IsTrueRecord answer)
+  all_kept_true (end ∷ ends) clean =
+      subst (All (IsTrueRecord answer)) (sym (flat_map-cons (kept_of setting.graph) end ends))
+      (All-append (IsTrueRecord answer) (kept_of setting.graph end) (commits_of setting.graph ends) (kept_true end (All-head (IsCleanEnd answer setting) end ends clean)) (all_kept_true ends (All-tail (IsCleanEnd answer setting) end ends clean)))
+
+  pub commits_true : RecordsClean answer setting.graph setting.recorded → (events : List Event) → Lawful setting empty_book events → Answered answer setting empty_book events → All (IsTrueRecord answer) (commits setting events)
+  commits_true clean events lawful answered = all_kept_true (after_all setting empty_book events).ends (clean_book answer setting is clean events lawful answered).ends

@@ -1,0 +1,4 @@
+pub mod Commits
+pub mod Children
+pub mod Stands
+pub mod Builds
