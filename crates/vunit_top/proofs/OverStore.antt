@@ -6,6 +6,7 @@ use Rattle.std.specs.List.{AllByRecursion}
 use Rattle.std.specs.Option.{option_map, option_and_then}
 use Rattle.std.proofs.Math.Path.{fun_ext}
 use Rattle.std.proofs.lemmas.Bool.{cases_Bool, cond-true, cond-false, false≢true}
+use Rattle.std.proofs.lemmas.List.{append-nil}
 use Rattle.std.proofs.lemmas.List.Elements.{All-nil, All-cons, All-head, All-tail, All-append}
 use Rattle.std.proofs.lemmas.Option.{slice_get-map, slice_get-get_or}
 use Rattle.vr_base.specs.declared.file.FileName.{FileName}
@@ -36,7 +37,7 @@ use Rattle.compile_loop.specs.Builds.{is_made}
 use Rattle.compile_loop.specs.Children.{is_disk_failed}
 use Rattle.compile_loop.specs.Commits.{setting_of, commits, HasFront}
 use Rattle.compile_loop.proofs.TrueCommits.{commits_true}
-use Rattle.vunit_top.specs.Said.{latest_in, one_at_a_time, book_of, IsKept}
+use Rattle.vunit_top.specs.Said.{latest_in, one_at_a_time, book_of, HasGiven, IsKept}
 use Rattle.vunit_top.specs.Building.{BuildsOver}
 
 sound_last : (past : List DiskState) (now : DiskState) → AllByRecursion IsSound (past ++ now ∷ []) → IsSound now
@@ -60,6 +61,22 @@ front_true answer (kept ∷ front) left all =
 pub opened_faithful : (answer : Request → Exit) (old mid : Moments) → AtAnyMoment old mid (HasRecordsOf records_in old.now) → IsFaithfulDisk answer records_in old.now → AtAnyMoment old mid (IsFaithful answer records_in)
 opened_faithful answer old mid opening faithful =
     weaker_moments old mid (HasRecordsOf records_in old.now) (IsFaithful answer records_in) (λ image has. kept_true answer (records_in has.before) (records_in image) has.kept (faithful has.before has.was)) opening
+
+-- while a store is opened nothing is given
+pub opened_given : (old mid : Moments) (more : List Record) → AtAnyMoment old mid (HasRecordsOf records_in old.now) → AtAnyMoment old mid (HasGiven old.now more)
+opened_given old mid more opening =
+    weaker_moments old mid (HasRecordsOf records_in old.now) (HasGiven old.now more)
+    (λ image has. record {
+      before = has.before;
+      was = has.was;
+      base = records_in image;
+      kept = has.kept;
+      front = [];
+      left = more;
+      all = refl;
+      are = sym (append-nil (records_in image));
+      opened = inl refl;
+    }) opening
 
 same_latest : (name : FileName) (before now : List Record) → IsKeptOf before now → latest name now ≡ latest name before
 same_latest name before now (inl same) = ap (latest name) same
@@ -118,10 +135,11 @@ not_opened answer graph fault old new events none is opening =
       whole = tt;
       marks = tt;
       kept = tt;
+      given = opened_given old new _ opening;
       faithful = opened_faithful answer old new opening;
     })
 
-module _ (answer : Request → Exit) (graph : List Entry) (is : IsGraph graph) (old mid new : Moments) (mid_sound : AreSound mid)
+module _ (answer : Request → Exit) (graph : List Entry) (is : IsGraph graph) (old mid new : Moments) (old_sound : AreSound old) (mid_sound : AreSound mid)
     (opening : AtAnyMoment old mid (HasRecordsOf records_in old.now))
     (kept : IsKeptOf (records_in (reads_of old.now)) (records_in (reads_of mid.now)))
     (before now : FileName → Option Record) (knows : KnowsDisk before mid.now)
@@ -131,6 +149,22 @@ module _ (answer : Request → Exit) (graph : List Entry) (is : IsGraph graph) (
 
   abbrev setting : Setting
   setting = setting_of before graph 1 false
+
+  build_given : AtAnyMoment mid new (λ image. HasFront (records_in (reads_of mid.now)) (commits setting events) (records_in image)) → AtAnyMoment old new (HasGiven old.now (commits setting events))
+  build_given building =
+      joined_moments old mid new (HasGiven old.now (commits setting events)) (opened_given old mid (commits setting events) opening)
+      (weaker_moments mid new (λ image. HasFront (records_in (reads_of mid.now)) (commits setting events) (records_in image)) (HasGiven old.now (commits setting events))
+      (λ image has. record {
+        before = reads_of old.now;
+        was = reads_are_an_image old old_sound;
+        base = records_in (reads_of mid.now);
+        kept = kept;
+        front = has.front;
+        left = has.left;
+        all = has.all;
+        are = has.are;
+        opened = inr refl;
+      }) building)
 
   module _ (lawful : Lawful setting empty_book events) (answered : Answered answer setting empty_book events) where
     build_faithful : AtAnyMoment mid new (λ image. HasFront (records_in (reads_of mid.now)) (commits setting events) (records_in image)) → IsFaithfulDisk answer records_in old.now → AtAnyMoment old new (IsFaithful answer records_in)
@@ -159,6 +193,7 @@ module _ (answer : Request → Exit) (graph : List Entry) (is : IsGraph graph) (
       marks = subst (λ (l : FileName → Option Record). IfOk result (λ end. end.marks ≡ marks_of (one_at_a_time l graph) events)) latest_is marks;
       kept = subst (λ (l : FileName → Option Record). OnOk result ((place : ℕ) → place < length graph → is_some (made (one_at_a_time l graph) (book_of l graph events) place) ≡ true → IsKept new.now graph place)) latest_is
           (kept_at_end graph before now result events new.now marks recorded knows_then);
+      given = subst (λ (l : FileName → Option Record). AtAnyMoment old new (HasGiven old.now (commits (one_at_a_time l graph) events))) latest_is (build_given building);
       faithful = build_faithful building;
     }
 

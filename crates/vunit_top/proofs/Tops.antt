@@ -2,7 +2,7 @@
 use Rattle.std.proofs.Common.{◌≡◌, ℕ, leb, List, [], ◌∷◌, ◌++◌, length, Option, Err, refl, sym, subst, ◌∙◌, arith, inl, inr}
 use Rattle.std.specs.Prelude.{codes}
 use Rattle.std.proofs.lemmas.Bool.{cases_Bool, cond-true, cond-false}
-use Rattle.std.proofs.lemmas.List.{drop_all}
+use Rattle.std.proofs.lemmas.List.{append-nil, drop_all}
 use Rattle.vr_base.specs.declared.child.Request.{Request}
 use Rattle.vr_base.specs.declared.child.Exit.{Exit}
 use Rattle.vr_base.specs.declared.child.Event.{Event}
@@ -25,7 +25,7 @@ use Rattle.vunit_top.specs.Sources.{Leads}
 use Rattle.vunit_top.specs.declared.sources.ReadStop.{ReadStop}
 use Rattle.vunit_top.specs.declared.sources.ReadStop.TheVariants as stops
 use Rattle.vunit_top.specs.Reading.{Reading, Bad, Child, Stops, Over, Go}
-use Rattle.vunit_top.specs.Said.{Says, said, child_said, input_bytes, IsLawful, IsAnswered, IsSaid, AsksCleanly, IsSteady, MakesAll, KeepsMade, LeavesDisk}
+use Rattle.vunit_top.specs.Said.{Says, said, child_said, input_bytes, IsLawful, IsAnswered, IsSaid, AsksCleanly, IsSteady, MakesAll, KeepsMade, LeavesDisk, HasGiven}
 
 -- nothing was added
 pub since_itself : (journal : List Event) → since journal journal ≡ []
@@ -128,3 +128,18 @@ pub said_over : (latest_of : FileName → Option Record) (r : Reading) (stop : R
 said_over latest_of r stop limit number input events answer old new leads is says =
     let reading : r ≡ Over limit number = subst (λ (s : ReadStop). Leads r (Err s)) is leads in
     subst (λ (what : Reading). Says answer (said latest_of what input events) old new) (sym reading) says
+
+-- a stop leaves what it left before
+pub given_at_rest : (moments : Moments) (more : List Record) → AtAnyMoment moments moments (HasGiven moments.now more)
+given_at_rest moments more =
+    started_moments moments (HasGiven moments.now more) (λ image is. record {
+      before = image;
+      was = is;
+      base = records_in image;
+      kept = inl refl;
+      front = [];
+      left = more;
+      all = refl;
+      are = sym (append-nil (records_in image));
+      opened = inl refl;
+    })

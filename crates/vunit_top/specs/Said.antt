@@ -1,5 +1,5 @@
 -- What a run answers and puts, and what each of its answers comes of.
-use Rattle.std.specs.Prelude.{◌≡◌, ℕ, ◌<◌, nat_le, true, false, if◌then◌else◌, List, [], ◌++◌, length, Option, is_some}
+use Rattle.std.specs.Prelude.{◌≡◌, ◌⊎◌, ℕ, ◌<◌, nat_le, true, false, if◌then◌else◌, List, [], ◌++◌, length, Option, is_some}
 use Rattle.std.specs.List.{list_any}
 use Rattle.vr_base.specs.declared.graph.Entry.{Entry}
 use Rattle.vr_base.specs.declared.child.Request.{Request}
@@ -14,15 +14,15 @@ use Rattle.vr_outside.specs.Counts.{Rose}
 use Rattle.vr_outside.specs.Streams.{AddsFront}
 use Rattle.vr_base.specs.declared.file.FileName.{FileName}
 use Rattle.vr_outside.specs.declared.records.Record.{Record}
-use Rattle.vr_outside.specs.Disks.{DiskState, Moments, EachImage, reads_of}
-use Rattle.vr_outside.specs.Records.{latest, IsRecorded}
+use Rattle.vr_outside.specs.Disks.{DiskState, Image, IsImage, Moments, EachImage, reads_of}
+use Rattle.vr_outside.specs.Records.{latest, IsKeptOf, IsRecorded}
 use Rattle.record_store.specs.Stored.{records_in}
 use Rattle.run_spec.specs.ChildJournal.{Setting, Book}
 use Rattle.run_spec.specs.ChildJournal as journal
 use Rattle.run_spec.specs.CleanBuild.{stale_requests}
 use Rattle.run_spec.specs.Recorded.{recorded_at}
 use Rattle.run_spec.specs.Marks.{marks_of, steady_marks, is_refused, refused_files}
-use Rattle.compile_loop.specs.Commits.{setting_of}
+use Rattle.compile_loop.specs.Commits.{setting_of, commits}
 use Rattle.run_spec.specs.Texts.{shown_bytes, build_text, refusal_text, limit_text, usage_text, bad_request}
 use Rattle.vunit_top.specs.Reading.{Reading, Bad, Child, Stops, Over, Go}
 
@@ -140,7 +140,25 @@ MakesAll latest_of (Go graph) outcome.Done events = (place : ℕ) → place < le
 MakesAll latest_of (Go graph) result events = Unit {0}
 MakesAll latest_of reading result events = Unit {0}
 
--- the disk isn't touched where nothing is to be compiled
+-- what the children of a run gave, as records, in order of their ends
+abbrev pub given : (FileName → Option Record) → Reading → List Event → List Record
+given latest_of (Go graph) events = commits (one_at_a_time latest_of graph) events
+given latest_of reading events = []
+
+-- What a stop leaves of a run: the records from before with a front of what was given. They are all the records of an
+-- image from before, or the latest alone, and once something was given those that reads gave before.
+pub record HasGiven (old : DiskState) (more : List Record) (image : Image) : Type 0 where
+  pub before : Image
+  pub was : IsImage old before
+  pub base : List Record
+  pub kept : IsKeptOf (records_in before) base
+  pub front : List Record
+  pub left : List Record
+  pub all : more ≡ front ++ left
+  pub are : records_in image ≡ base ++ front
+  pub opened : (front ≡ []) ⊎ (before ≡ reads_of old)
+
+-- the disk isn't touched where there is no graph to build
 abbrev pub LeavesDisk : Reading → Moments → Moments → Type 0
 LeavesDisk (Go graph) old new = Unit {0}
 LeavesDisk reading old new = new ≡ old

@@ -6,7 +6,7 @@ ghost use Rattle.run_spec.specs.PresentGraph.{IsListed};
 ghost use Rattle.run_spec.specs.ChildJournal.{since, starts_of};
 ghost use Rattle.run_spec.specs.Findings.{Finding, IsScanner};
 ghost use Rattle.vunit_top.specs.Reading.{Go, reading, project_reading};
-ghost use Rattle.vunit_top.specs.Said.{Says, IsSaid, Causes, IsLawful, IsAnswered, AsksCleanly, IsSteady, KeepsMade, MakesAll, LeavesDisk, EndsByItself, latest_in, said, child_said};
+ghost use Rattle.vunit_top.specs.Said.{Says, IsSaid, Causes, IsLawful, IsAnswered, AsksCleanly, IsSteady, KeepsMade, MakesAll, LeavesDisk, EndsByItself, HasGiven, latest_in, given, said, child_said};
 
 use crate::building::build_over;
 use crate::ends::{say, say_build, say_limit, say_refusal, say_usage};
@@ -54,6 +54,7 @@ fn run_build<D: Disk, P: Procs, O: Sink>(
     ensures steady { D.tells → P.tells → IsFaithfulDisk (P.answer procs.old) records_in (D.moments disk.old).now → IsSteady (P.answer procs.old) (latest_in (D.moments disk.old).now) (Go graph.now) result (since (P.journal procs.old) (P.journal procs.new)) }
     ensures made { D.tells → P.tells → IsFaithfulDisk (P.answer procs.old) records_in (D.moments disk.old).now → MakesAll (latest_in (D.moments disk.old).now) (Go graph.now) result (since (P.journal procs.old) (P.journal procs.new)) }
     ensures records { D.tells → P.tells → KeepsMade (latest_in (D.moments disk.old).now) (Go graph.now) result (since (P.journal procs.old) (P.journal procs.new)) (D.moments disk.new).now }
+    ensures given { D.tells → P.tells → AtAnyMoment (D.moments disk.old) (D.moments disk.new) (HasGiven (D.moments disk.old).now (given (latest_in (D.moments disk.old).now) (Go graph.now) (since (P.journal procs.old) (P.journal procs.new)))) }
     ensures faithful { D.tells → P.tells → IsFaithfulDisk (P.answer procs.old) records_in (D.moments disk.old).now → AtAnyMoment (D.moments disk.old) (D.moments disk.new) (IsFaithful (P.answer procs.old) records_in) }
     ensures said { (input : List ℕ) → D.tells → P.tells → O.tells → Says result (said (latest_in (D.moments disk.old).now) (Go graph.now) input (since (P.journal procs.old) (P.journal procs.new))) (O.contents out.old) (O.contents out.new) }
     ensures cause { (tree input : ℕ) → Causes result
@@ -87,6 +88,7 @@ fn run_compile<T: Tree, D: Disk, P: Procs, O: Sink>(
     ensures steady { (scan : List ℕ → Finding) → IsScanner scan → T.tells → D.tells → P.tells → IsFaithfulDisk (P.answer procs.old) records_in (D.moments disk.old).now → IsSteady (P.answer procs.old) (latest_in (D.moments disk.old).now) (project_reading scan (T.file tree.old)) result (since (P.journal procs.old) (P.journal procs.new)) }
     ensures made { (scan : List ℕ → Finding) → IsScanner scan → T.tells → D.tells → P.tells → IsFaithfulDisk (P.answer procs.old) records_in (D.moments disk.old).now → MakesAll (latest_in (D.moments disk.old).now) (project_reading scan (T.file tree.old)) result (since (P.journal procs.old) (P.journal procs.new)) }
     ensures records { (scan : List ℕ → Finding) → IsScanner scan → T.tells → D.tells → P.tells → KeepsMade (latest_in (D.moments disk.old).now) (project_reading scan (T.file tree.old)) result (since (P.journal procs.old) (P.journal procs.new)) (D.moments disk.new).now }
+    ensures given { (scan : List ℕ → Finding) → IsScanner scan → T.tells → D.tells → P.tells → AtAnyMoment (D.moments disk.old) (D.moments disk.new) (HasGiven (D.moments disk.old).now (given (latest_in (D.moments disk.old).now) (project_reading scan (T.file tree.old)) (since (P.journal procs.old) (P.journal procs.new)))) }
     ensures faithful { D.tells → P.tells → IsFaithfulDisk (P.answer procs.old) records_in (D.moments disk.old).now → AtAnyMoment (D.moments disk.old) (D.moments disk.new) (IsFaithful (P.answer procs.old) records_in) }
     ensures untouched { (scan : List ℕ → Finding) → IsScanner scan → T.tells → D.tells → LeavesDisk (project_reading scan (T.file tree.old)) (D.moments disk.old) (D.moments disk.new) }
     ensures said { (input : List ℕ) → (scan : List ℕ → Finding) → IsScanner scan → T.tells → D.tells → P.tells → O.tells → Says result (said (latest_in (D.moments disk.old).now) (project_reading scan (T.file tree.old)) input (since (P.journal procs.old) (P.journal procs.new))) (O.contents out.old) (O.contents out.new) }
@@ -148,10 +150,12 @@ pub fn run_vunit<I: Source, T: Tree, D: Disk, P: Procs, O: Sink>(
     // present view.
     ensures records { (scan : List ℕ → Finding) → IsScanner scan → T.tells → D.tells → P.tells → KeepsMade (latest_in (D.moments disk.old).now) (reading scan words.now (T.file tree.old)) result (since (P.journal procs.old) (P.journal procs.new)) (D.moments disk.new).now }
 
-    // If whatever a stop left before had true records alone, so has whatever a stop leaves at any moment, on every answer.
+    // At any moment, on every answer, a stop leaves the records from before with a front of what the children gave. If
+    // whatever a stop left before had true records alone, so has whatever a stop leaves.
+    ensures given { (scan : List ℕ → Finding) → IsScanner scan → T.tells → D.tells → P.tells → AtAnyMoment (D.moments disk.old) (D.moments disk.new) (HasGiven (D.moments disk.old).now (given (latest_in (D.moments disk.old).now) (reading scan words.now (T.file tree.old)) (since (P.journal procs.old) (P.journal procs.new)))) }
     ensures faithful { D.tells → P.tells → IsFaithfulDisk (P.answer procs.old) records_in (D.moments disk.old).now → AtAnyMoment (D.moments disk.old) (D.moments disk.new) (IsFaithful (P.answer procs.old) records_in) }
 
-    // Where nothing is to be compiled, the disk isn't touched, on every answer.
+    // Where words and sources give no graph, the disk isn't touched, on every answer.
     ensures untouched { (scan : List ℕ → Finding) → IsScanner scan → T.tells → D.tells → LeavesDisk (reading scan words.now (T.file tree.old)) (D.moments disk.old) (D.moments disk.new) }
 
     // The answer and the text that is put are those that words, sources, records, input and journal say.

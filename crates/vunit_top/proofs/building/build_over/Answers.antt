@@ -9,7 +9,7 @@ returns-in-Ok-clause-told g c = λ tells runs.
     let made = c.build.ensures in
     let opening = c.in-Ok.ensures.stands tells in
     opened (g.P.Procs.answer c.args.procs.now) c.args.graph.now c.len.ensures.graph (g.D.Disk.moments c.args.disk.now) (g.D.Disk.moments c.from_disk.new.disk) (g.D.Disk.moments c.build.new.disk)
-    (g.met.D.Disk.sound c.from_disk.new.disk)
+    (g.met.D.Disk.sound c.args.disk.now) (g.met.D.Disk.sound c.from_disk.new.disk)
     (c.from_disk.ensures.any_moment tells) (c.in-Ok.ensures.records tells)
     (record_at c.in-Ok.store.index) (record_at c.build.new.store.index) (record { durable = store_durable _ _ _ opening; held = λ name. store_held _ _ _ name opening })
     c.build.result _

@@ -1,4 +1,4 @@
-use Rattle.vunit_top.proofs.Tops.{lawful_at_rest, answered_at_rest, clean_at_rest, steady_at_rest, made_at_rest, kept_at_rest, left_at_rest, faithful_at_rest, said_over}
+use Rattle.vunit_top.proofs.Tops.{lawful_at_rest, answered_at_rest, clean_at_rest, steady_at_rest, made_at_rest, kept_at_rest, left_at_rest, given_at_rest, faithful_at_rest, said_over}
 use Rattle.vunit_top.specs.Reading.{project_reading}
 use Rattle.vunit_top.proofs.top.run_compile.Goals as goal
 
@@ -62,3 +62,21 @@ returns-in-Err-Failed-clause-faithful g c = λ d p faithful. faithful_at_rest _ 
 
 pub returns-in-Err-NoMemory-clause-faithful : goal.returns-in-Err-NoMemory-clause-faithful
 returns-in-Err-NoMemory-clause-faithful g c = λ d p faithful. faithful_at_rest _ (g.D.Disk.moments c.args.disk.now) faithful
+
+pub returns-in-Err-Refused-clause-given : goal.returns-in-Err-Refused-clause-given
+returns-in-Err-Refused-clause-given g c = λ scan is t d p. given_at_rest (g.D.Disk.moments c.args.disk.now) _
+
+pub returns-in-Err-Over-clause-given : goal.returns-in-Err-Over-clause-given
+returns-in-Err-Over-clause-given g c = λ scan is t d p. given_at_rest (g.D.Disk.moments c.args.disk.now) _
+
+pub returns-in-Err-Failed-clause-given : goal.returns-in-Err-Failed-clause-given
+returns-in-Err-Failed-clause-given g c = λ scan is t d p. given_at_rest (g.D.Disk.moments c.args.disk.now) _
+
+pub returns-in-Err-NoMemory-clause-given : goal.returns-in-Err-NoMemory-clause-given
+returns-in-Err-NoMemory-clause-given g c = λ scan is t d p. given_at_rest (g.D.Disk.moments c.args.disk.now) _
+
+pub returns-in-Ok-clause-given : goal.returns-in-Ok-clause-given
+returns-in-Ok-clause-given g c = λ scan is t d p. rw (c.in-Ok.ensures.graph scan is t) (c.run_build.ensures.given d p)
+
+pub returns-in-Ok-clause-records : goal.returns-in-Ok-clause-records
+returns-in-Ok-clause-records g c = λ scan is t d p. rw (c.in-Ok.ensures.graph scan is t) (c.run_build.ensures.records d p)
