@@ -156,72 +156,70 @@ fn faults(rt: HostRuntime) -> Result<(), Fail> {
     )
 }
 
+static ITEMS: &[(&[u8], &[u8])] = &[
+    (
+        b"package p is function f return b; end;",
+        b"package p 0 0 9|",
+    ),
+    (
+        b"package body p is function f return b is begin return c; end; end;",
+        b"body p 0 0 16|",
+    ),
+    (
+        b"package p is function f is new g; end;",
+        b"package p 0 0 10|",
+    ),
+    (
+        b"package p is procedure q(a : b; c : d); end;",
+        b"package p 0 0 16|",
+    ),
+    (
+        b"package body p is procedure q(a : b; c : d) is begin end; end;",
+        b"body p 0 0 20|",
+    ),
+    (
+        b"package body p is impure function f return b is begin end; end;",
+        b"body p 0 0 14|",
+    ),
+    (
+        b"package body p is function f return b is begin end function f; end package body p;",
+        b"body p 0 0 18|",
+    ),
+    (
+        b"package p is generic (function f return b is g); end;",
+        b"package p 0 0 14|",
+    ),
+    (
+        b"package p is attribute x of f : function is y; end;",
+        b"package p 0 0 13|",
+    ),
+    (
+        b"package p is attribute x of q : package is y; end;",
+        b"package p 0 0 13|",
+    ),
+    (b"package p is package q is end; end;", b"package p 0 0 9|"),
+    (
+        b"package p is package q is new r; end;",
+        b"package p 0 0 10|",
+    ),
+    (
+        b"package p is type t is protected procedure q; end protected; end;",
+        b"package p 0 0 14|",
+    ),
+    (
+        b"package p is type t is record a : b; end record; end;",
+        b"package p 0 0 15|",
+    ),
+    (
+        b"package p is type t is range 0 to 1 units a; end units; end;",
+        b"package p 0 0 17|",
+    ),
+    (b"entity e is ) end;", b"entity e 0 0 5|"),
+];
+
 #[test]
 fn items(rt: HostRuntime) -> Result<(), Fail> {
-    check(
-        &rt,
-        rt.alloc(),
-        &[
-            (
-                b"package p is function f return b; end;",
-                b"package p 0 0 9|",
-            ),
-            (
-                b"package body p is function f return b is begin return c; end; end;",
-                b"body p 0 0 16|",
-            ),
-            (
-                b"package p is function f is new g; end;",
-                b"package p 0 0 10|",
-            ),
-            (
-                b"package p is procedure q(a : b; c : d); end;",
-                b"package p 0 0 16|",
-            ),
-            (
-                b"package body p is procedure q(a : b; c : d) is begin end; end;",
-                b"body p 0 0 20|",
-            ),
-            (
-                b"package body p is impure function f return b is begin end; end;",
-                b"body p 0 0 14|",
-            ),
-            (
-                b"package body p is function f return b is begin end function f; end package body p;",
-                b"body p 0 0 18|",
-            ),
-            (
-                b"package p is generic (function f return b is g); end;",
-                b"package p 0 0 14|",
-            ),
-            (
-                b"package p is attribute x of f : function is y; end;",
-                b"package p 0 0 13|",
-            ),
-            (
-                b"package p is attribute x of q : package is y; end;",
-                b"package p 0 0 13|",
-            ),
-            (b"package p is package q is end; end;", b"package p 0 0 9|"),
-            (
-                b"package p is package q is new r; end;",
-                b"package p 0 0 10|",
-            ),
-            (
-                b"package p is type t is protected procedure q; end protected; end;",
-                b"package p 0 0 14|",
-            ),
-            (
-                b"package p is type t is record a : b; end record; end;",
-                b"package p 0 0 15|",
-            ),
-            (
-                b"package p is type t is range 0 to 1 units a; end units; end;",
-                b"package p 0 0 17|",
-            ),
-            (b"entity e is ) end;", b"entity e 0 0 5|"),
-        ],
-    )
+    check(&rt, rt.alloc(), ITEMS)
 }
 
 #[test]
