@@ -58,11 +58,10 @@ fn exit_of(
     Ok(end.exit)
 }
 
-#[test]
-fn lists_and_reads_the_present_folder(rt: HostRuntime) -> Result<(), Fail> {
-    enter_new_folder(&rt, "tree")?;
+/// Makes folders, and files of the bytes `abc`, in the present folder.
+fn fill_folder(rt: &HostRuntime) -> Result<(), Fail> {
     for folder in ["sub/deep", "vunit_out", ".git", "vunit_outer"] {
-        fs::create_dir_all(&rt, folder)?;
+        fs::create_dir_all(rt, folder)?;
     }
     for file in [
         "b.vhd",
@@ -75,63 +74,71 @@ fn lists_and_reads_the_present_folder(rt: HostRuntime) -> Result<(), Fail> {
         "vunit_outer/e.vhd",
         "sub-1",
     ] {
-        fs::write(&rt, file, "abc")?;
+        fs::write(rt, file, "abc")?;
     }
+    Ok(())
+}
+
+static LISTED: &[&str] = &[
+    "a.vhd",
+    "b.vhd",
+    "sub-1",
+    "sub/c.vhd",
+    "sub/deep/d.vhd",
+    "vunit_outer/e.vhd",
+];
+
+fn are_listed(names: &[Text]) -> bool {
+    names.len() == LISTED.len()
+        && names
+            .iter()
+            .zip(LISTED)
+            .all(|(name, wanted)| name.bytes() == wanted.as_bytes())
+}
+
+/// A path, a limit, and what a read of it gives.
+static READS: &[(&[u8], u64, &str)] = &[
+    (b"a.vhd", 3, "abc"),
+    (b"a.vhd", 2, "too long"),
+    (b"no.vhd", 3, "absent"),
+    (b"a.vhd/b", 3, "absent"),
+    (b"sub", 3, "failed"),
+    (b"\xff", 3, "failed"),
+];
+
+/// Whether a read of a path gives this.
+fn gives<T: Tree>(
+    alloc: Global,
+    tree: &mut T,
+    path: &[u8],
+    limit: u64,
+    wanted: &str,
+) -> Result<bool, NoMemory> {
+    match tree.read(alloc, &text(alloc, path)?, limit) {
+        Ok(ReadEnd::Got(bytes)) => Ok(bytes.bytes() == wanted.as_bytes()),
+        Ok(ReadEnd::TooLong) => Ok(wanted == "too long"),
+        Ok(ReadEnd::Absent) => Ok(wanted == "absent"),
+        Err(TreeFault::Failed) => Ok(wanted == "failed"),
+        Err(TreeFault::NoMemory) => Err(NoMemory),
+    }
+}
+
+#[test]
+fn lists_and_reads_the_present_folder(rt: HostRuntime) -> Result<(), Fail> {
+    enter_new_folder(&rt, "tree")?;
+    fill_folder(&rt)?;
     let mut tree = FileTree::new(rt.alloc(), rt)?;
-    let wanted = [
-        "a.vhd",
-        "b.vhd",
-        "sub-1",
-        "sub/c.vhd",
-        "sub/deep/d.vhd",
-        "vunit_outer/e.vhd",
-    ];
     match tree.names(rt.alloc(), 6)? {
-        NamesEnd::Got(names) => {
-            assert_eq!(rt; names.len(), 6);
-            for (name, wanted) in names.as_slice().iter().zip(wanted) {
-                assert!(rt; name.bytes() == wanted.as_bytes(), "{wanted}");
-            }
-        }
+        NamesEnd::Got(names) => assert!(rt; are_listed(names.as_slice())),
         NamesEnd::TooMany => return Err(Fail::new("too many")),
     }
     assert!(rt; matches!(tree.names(rt.alloc(), 5)?, NamesEnd::TooMany));
-    assert!(rt;
-        matches!(
-            tree.read(rt.alloc(), &text(rt.alloc(), b"a.vhd")?, 3)?,
-            ReadEnd::Got(_)
-        )
-    );
-    assert!(rt;
-        matches!(
-            tree.read(rt.alloc(), &text(rt.alloc(), b"a.vhd")?, 2)?,
-            ReadEnd::TooLong
-        )
-    );
-    assert!(rt;
-        matches!(
-            tree.read(rt.alloc(), &text(rt.alloc(), b"no.vhd")?, 3)?,
-            ReadEnd::Absent
-        )
-    );
-    assert!(rt;
-        matches!(
-            tree.read(rt.alloc(), &text(rt.alloc(), b"a.vhd/b")?, 3)?,
-            ReadEnd::Absent
-        )
-    );
-    assert!(rt;
-        matches!(
-            tree.read(rt.alloc(), &text(rt.alloc(), b"sub")?, 3),
-            Err(TreeFault::Failed)
-        )
-    );
-    assert!(rt;
-        matches!(
-            tree.read(rt.alloc(), &text(rt.alloc(), b"\xff")?, 3),
-            Err(TreeFault::Failed)
-        )
-    );
+    for (path, limit, wanted) in READS {
+        assert!(rt;
+            gives(rt.alloc(), &mut tree, path, *limit, wanted)?,
+            "{wanted}"
+        );
+    }
     Ok(())
 }
 
