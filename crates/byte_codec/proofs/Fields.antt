@@ -46,7 +46,7 @@ some_is x y e = cc
 pub Takes-then : (a x b y c : List ℕ) → Takes a x b → Takes b y c → Takes a (x ++ y) c
 Takes-then a x b y c p q = record { parts = p.parts ∙ ap (λ (t : List ℕ). x ++ t) q.parts ∙ sym (append_assoc x y c); left_are_bytes = q.left_are_bytes }
 
--- where no byte is left, what was read is all that stood there
+-- where no byte remains, what was read is all that was there
 pub ends_there : (bytes spelling left : List ℕ) → Takes bytes spelling left → eqb (length left) 0 ≡ true → bytes ≡ spelling
 ends_there bytes spelling left t e = t.parts ∙ ap (λ (r : List ℕ). spelling ++ r) (nil_from_length left (eqb-true _ _ e)) ∙ append-nil spelling
 
@@ -91,8 +91,8 @@ number_takes w limit wide bytes n left fits e =
     let long : byte_len w ≤ length bytes = ltb-false _ _ g.0 in
     let n-is : from_le_bytes w (take (byte_len w) bytes) ≡ n = ap (λ (p : ℕ × List ℕ). p.0) g.1 in
     let left-is : drop (byte_len w) bytes ≡ left = ap (λ (p : ℕ × List ℕ). p.1) g.1 in
-    let front : to_le_bytes w n ≡ take (byte_len w) bytes = rw (← n-is) (wide.back (take (byte_len w) bytes) (omega (arith, length-take (byte_len w) bytes)) (AreBytes-take (byte_len w) bytes fits)) in
-    (record { parts = rw (front, ← left-is) (sym (take-append-drop (byte_len w) bytes)); left_are_bytes = rw (← left-is) (AreBytes-drop (byte_len w) bytes fits) }, rw (← n-is) (wide.below (take (byte_len w) bytes) (AreBytes-take (byte_len w) bytes fits)))
+    let prefix : to_le_bytes w n ≡ take (byte_len w) bytes = rw (← n-is) (wide.back (take (byte_len w) bytes) (omega (arith, length-take (byte_len w) bytes)) (AreBytes-take (byte_len w) bytes fits)) in
+    (record { parts = rw (prefix, ← left-is) (sym (take-append-drop (byte_len w) bytes)); left_are_bytes = rw (← left-is) (AreBytes-drop (byte_len w) bytes fits) }, rw (← n-is) (wide.below (take (byte_len w) bytes) (AreBytes-take (byte_len w) bytes fits)))
 
 number_again : (w : Width) (limit : ℕ) (wide : IsWide w limit) (n : ℕ) (left : List ℕ) → n < limit → number_at w (to_le_bytes w n ++ left) ≡ Some (n, left)
 number_again w limit wide n left lt =
@@ -116,9 +116,9 @@ pub text_takes : (bytes text left : List ℕ) → AreBytes bytes → text_at byt
 unfolding text_at text_bytes
 text_takes bytes text left fits e =
     let a = bind_some (number_at w32 bytes) (λ n. taken_at n.0 n.1) (text, left) e in
-    let front = u32_takes bytes a.0.0 a.0.1 fits a.1 in
-    let back = taken_takes a.0.0 a.0.1 text left front.0.left_are_bytes a.2 in
-    (subst (λ (n : ℕ). Takes bytes (number_bytes n ++ text) left) (sym back.1) (Takes-then bytes (number_bytes a.0.0) a.0.1 text left front.0 back.0), omega (arith, front.1, back.1))
+    let prefix = u32_takes bytes a.0.0 a.0.1 fits a.1 in
+    let back = taken_takes a.0.0 a.0.1 text left prefix.0.left_are_bytes a.2 in
+    (subst (λ (n : ℕ). Takes bytes (number_bytes n ++ text) left) (sym back.1) (Takes-then bytes (number_bytes a.0.0) a.0.1 text left prefix.0 back.0), omega (arith, prefix.1, back.1))
 
 pub text_again : (text left : List ℕ) → length text < 2 ^ 32 → text_at (text_bytes text ++ left) ≡ Some (text, left)
 unfolding text_at text_bytes

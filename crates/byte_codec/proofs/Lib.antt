@@ -1,3 +1,4 @@
+-- The lemmas.
 pub mod Fields
 pub mod Many
 pub mod NameFields

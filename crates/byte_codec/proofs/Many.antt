@@ -20,24 +20,24 @@ by_place P (x ∷ xs) all zero d l = all.0
 by_place P (x ∷ xs) all (suc k) d l = by_place P xs all.1 k d (omega arith)
 
 -- what was read before, and what is still read
-abbrev pub with_front : {X : Type 0} → List X → Option (List X × List ℕ) → Option (List X × List ℕ)
-with_front front read = read >>= λ x. Some (front ++ x.0, x.1)
+abbrev pub with_prefix : {X : Type 0} → List X → Option (List X × List ℕ) → Option (List X × List ℕ)
+with_prefix prefix read = read >>= λ x. Some (prefix ++ x.0, x.1)
 
-regroup : {X : Type 0} (front : List X) (n : X) (read : Option (List X × List ℕ)) → with_front front (read >>= λ x. Some (n ∷ x.0, x.1)) ≡ with_front (front ++ n ∷ []) read
-regroup {X} front n (Some x) = ap (λ (ns : List X). Some (ns, x.1)) (simp append_assoc)
-regroup front n None = refl
+regroup : {X : Type 0} (prefix : List X) (n : X) (read : Option (List X × List ℕ)) → with_prefix prefix (read >>= λ x. Some (n ∷ x.0, x.1)) ≡ with_prefix (prefix ++ n ∷ []) read
+regroup {X} prefix n (Some x) = ap (λ (ns : List X). Some (ns, x.1)) (simp append_assoc)
+regroup prefix n None = refl
 
-no_front : {X : Type 0} (read : Option (List X × List ℕ)) → with_front [] read ≡ read
-no_front (Some x) = refl
-no_front None = refl
+no_prefix : {X : Type 0} (read : Option (List X × List ℕ)) → with_prefix [] read ≡ read
+no_prefix (Some x) = refl
+no_prefix None = refl
 
 module _ {X : Type 0} (read : List ℕ → Option (X × List ℕ)) where
-  pub begins_many : (bytes : List ℕ) (count : ℕ) → with_front [] (many_at read (count - 0) bytes) ≡ many_at read count bytes
+  pub begins_many : (bytes : List ℕ) (count : ℕ) → with_prefix [] (many_at read (count - 0) bytes) ≡ many_at read count bytes
   begins_many bytes count =
       let k : count - 0 ≡ count = omega arith in
-      no_front (many_at read (count - 0) bytes) ∙ ap (λ (n : ℕ). many_at read n bytes) k
+      no_prefix (many_at read (count - 0) bytes) ∙ ap (λ (n : ℕ). many_at read n bytes) k
 
-  pub begins : (bytes : List ℕ) (count : ℕ) (left : List ℕ) → number_at w32 bytes ≡ Some (count, left) → with_front [] (many_at read (count - 0) left) ≡ counted_at read bytes
+  pub begins : (bytes : List ℕ) (count : ℕ) (left : List ℕ) → number_at w32 bytes ≡ Some (count, left) → with_prefix [] (many_at read (count - 0) left) ≡ counted_at read bytes
   unfolding counted_at
   begins bytes count left h = begins_many left count ∙ rw h refl
 
@@ -45,27 +45,27 @@ module _ {X : Type 0} (read : List ℕ → Option (X × List ℕ)) where
   unfolding counted_at
   no_count bytes h = rw h refl
 
-  pub goes_on : (front : List X) (count i : ℕ) (bytes : List ℕ) (x : X) (left : List ℕ) (total : Option (List X × List ℕ)) → i < count → read bytes ≡ Some (x, left)
-      → with_front front (many_at read (count - i) bytes) ≡ total → with_front (front ++ x ∷ []) (many_at read (count - (i + 1)) left) ≡ total
+  pub goes_on : (prefix : List X) (count i : ℕ) (bytes : List ℕ) (x : X) (left : List ℕ) (total : Option (List X × List ℕ)) → i < count → read bytes ≡ Some (x, left)
+      → with_prefix prefix (many_at read (count - i) bytes) ≡ total → with_prefix (prefix ++ x ∷ []) (many_at read (count - (i + 1)) left) ≡ total
   unfolding many_at
-  goes_on front count i bytes x left total lt h so_far =
+  goes_on prefix count i bytes x left total lt h so_far =
       let k : count - i ≡ suc (count - (i + 1)) = omega arith in
-      let one : with_front front (many_at read (count - i) bytes) ≡ with_front (front ++ x ∷ []) (many_at read (count - (i + 1)) left) = rw (k, h) (regroup front x (many_at read (count - (i + 1)) left)) in
+      let one : with_prefix prefix (many_at read (count - i) bytes) ≡ with_prefix (prefix ++ x ∷ []) (many_at read (count - (i + 1)) left) = rw (k, h) (regroup prefix x (many_at read (count - (i + 1)) left)) in
       sym one ∙ so_far
 
-  pub stops : (front : List X) (count i : ℕ) (bytes : List ℕ) (total : Option (List X × List ℕ)) → i < count → read bytes ≡ None
-      → with_front front (many_at read (count - i) bytes) ≡ total → total ≡ None
+  pub stops : (prefix : List X) (count i : ℕ) (bytes : List ℕ) (total : Option (List X × List ℕ)) → i < count → read bytes ≡ None
+      → with_prefix prefix (many_at read (count - i) bytes) ≡ total → total ≡ None
   unfolding many_at
-  stops front count i bytes total lt h so_far =
+  stops prefix count i bytes total lt h so_far =
       let k : count - i ≡ suc (count - (i + 1)) = omega arith in
-      let one : with_front front (many_at read (count - i) bytes) ≡ None = rw (k, h) refl in
+      let one : with_prefix prefix (many_at read (count - i) bytes) ≡ None = rw (k, h) refl in
       sym so_far ∙ one
 
-  pub is_done : (front : List X) (count i : ℕ) (bytes : List ℕ) (total : Option (List X × List ℕ)) → count ≤ i → with_front front (many_at read (count - i) bytes) ≡ total → total ≡ Some (front, bytes)
+  pub is_done : (prefix : List X) (count i : ℕ) (bytes : List ℕ) (total : Option (List X × List ℕ)) → count ≤ i → with_prefix prefix (many_at read (count - i) bytes) ≡ total → total ≡ Some (prefix, bytes)
   unfolding many_at
-  is_done front count i bytes total le so_far =
+  is_done prefix count i bytes total le so_far =
       let k : count - i ≡ 0 = omega arith in
-      let one : with_front front (many_at read (count - i) bytes) ≡ Some (front, bytes) = rw k (ap (λ (xs : List X). Some (xs, bytes)) (append-nil front)) in
+      let one : with_prefix prefix (many_at read (count - i) bytes) ≡ Some (prefix, bytes) = rw k (ap (λ (xs : List X). Some (xs, bytes)) (append-nil prefix)) in
       sym so_far ∙ one
 
   -- where one thing is read as it is spelled
@@ -96,9 +96,9 @@ module _ {X : Type 0} (read : List ℕ → Option (X × List ℕ)) where
     unfolding counted_at
     counted_take law bytes xs left fits e =
         let a = bind_some (number_at w32 bytes) (λ n. many_at read n.0 n.1) (xs, left) e in
-        let front = u32_takes bytes a.0.0 a.0.1 fits a.1 in
-        let back = many_take law a.0.0 a.0.1 xs left front.0.left_are_bytes a.2 in
-        (subst (λ (n : ℕ). Takes bytes (number_bytes n ++ flat_map spelling xs) left) (sym back.1) (Takes-then bytes (number_bytes a.0.0) a.0.1 (flat_map spelling xs) left front.0 back.0), omega (arith, front.1, back.1), back.2)
+        let prefix = u32_takes bytes a.0.0 a.0.1 fits a.1 in
+        let back = many_take law a.0.0 a.0.1 xs left prefix.0.left_are_bytes a.2 in
+        (subst (λ (n : ℕ). Takes bytes (number_bytes n ++ flat_map spelling xs) left) (sym back.1) (Takes-then bytes (number_bytes a.0.0) a.0.1 (flat_map spelling xs) left prefix.0 back.0), omega (arith, prefix.1, back.1), back.2)
 
     pub counted_again : ((x : X) (left : List ℕ) → Fits x → read (spelling x ++ left) ≡ Some (x, left))
         → (xs : List X) (left : List ℕ) → length xs < 2 ^ 32 → AllByRecursion Fits xs → counted_at read ((number_bytes (length xs) ++ flat_map spelling xs) ++ left) ≡ Some (xs, left)

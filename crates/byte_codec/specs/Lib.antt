@@ -1,2 +1,3 @@
+-- The definitions.
 pub mod Reading
 pub mod Names

@@ -1,4 +1,4 @@
--- Names of files that are read from the front of bytes.
+-- Names of files that are read from the start of bytes.
 use Rattle.std.specs.Prelude.{ℕ, ◌<◌, ◌^◌, List, length, Option, Some}
 use Rattle.vr_base.specs.declared.file.FileName.{FileName}
 use Rattle.byte_codec.specs.Reading.{◌>>=◌, text_at}

@@ -1,4 +1,4 @@
--- Numbers and texts that are read from the front of bytes: what was read, and the bytes behind it.
+-- Numbers and texts that are read from the start of bytes: what was read, and the bytes after it.
 use Rattle.std.specs.Prelude.{◌≡◌, ℕ, zero, suc, ◌<◌, List, [], ◌∷◌, ◌++◌, length, slice_index, take, drop, Option, Some, None, nat_lt, if◌then◌else◌}
 use Rattle.std.specs.Int.{Width, w32, byte_len, from_le_bytes}
 
@@ -30,7 +30,7 @@ Reads view (Some x) left read = read ≡ Some (view x, left)
 abbrev pub AreBytes : List ℕ → Type 0
 AreBytes bytes = (i : ℕ) → slice_index bytes i < 256
 
--- what was read stood at the front, in this spelling
+-- what was read stood at the start, in this spelling
 pub record Takes (bytes spelling left : List ℕ) : Type 0 where
   pub parts : bytes ≡ spelling ++ left
   pub left_are_bytes : AreBytes left

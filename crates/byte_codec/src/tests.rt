@@ -1,3 +1,5 @@
+//! Tests of what no clause says: that writing and reading succeed.
+
 use crate::{ByteReader, ByteWriter};
 use std::test::Fail;
 

@@ -1,3 +1,5 @@
+//! Writing numbers, texts and names as bytes, one after the other.
+
 ghost use Rattle.std.specs.Prelude.{◌≡◌, ◌<◌, ◌^◌, ◌++◌, [], length, OnOk};
 ghost use Rattle.std.specs.Int.{w64, to_le_bytes};
 ghost use Rattle.vr_base.specs.Bytes.{number_bytes, text_bytes};
@@ -7,7 +9,7 @@ use std::alloc::Global;
 use std::marker::Model;
 use vr_base::{FileName, NoMemory, Text};
 
-/// Bytes that are written from front to back. Contracts see their list.
+/// Bytes that are written from start to end. Contracts see their list.
 #[derive(Drop)]
 pub struct ByteWriter {
     bytes: Vec<u8>,

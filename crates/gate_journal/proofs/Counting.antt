@@ -6,7 +6,7 @@ use Rattle.std.proofs.lemmas.List.{take-take}
 use Rattle.std.proofs.lemmas.Slice.Eq.{bytes_eq-Decides}
 use Rattle.vr_outside.specs.declared.disk.Side.{Side}
 use Rattle.vr_outside.specs.declared.disk.Side.TheVariants.{A, B}
-use Rattle.vr_outside.specs.Disks.{Image, bytes_of}
+use Rattle.vr_outside.specs.Disks.{Image, image_side}
 use Rattle.gate_journal.specs.Payloads.{mark, is_live, generation_of, counting, payloads, payloads_in}
 use Rattle.gate_journal.specs.Journals.{other_side}
 use Rattle.gate_journal.proofs.Kept.{SameHeader, generation_still, live_long, live_still, payloads_of_side}
@@ -16,15 +16,15 @@ abbrev pub paired : Side → (one other : List ℕ) → Image
 paired A one other = record { a = one; b = other }
 paired B one other = record { a = other; b = one }
 
-pub paired_again : (side : Side) (image : Image) → image ≡ paired side (bytes_of side image) (bytes_of (other_side side) image)
+pub paired_again : (side : Side) (image : Image) → image ≡ paired side (image_side side image) (image_side (other_side side) image)
 paired_again A image = refl
 paired_again B image = refl
 
-pub paired_one : (side : Side) (one other : List ℕ) → bytes_of side (paired side one other) ≡ one
+pub paired_one : (side : Side) (one other : List ℕ) → image_side side (paired side one other) ≡ one
 paired_one A one other = refl
 paired_one B one other = refl
 
-pub paired_other : (side : Side) (one other : List ℕ) → bytes_of (other_side side) (paired side one other) ≡ other
+pub paired_other : (side : Side) (one other : List ℕ) → image_side (other_side side) (paired side one other) ≡ other
 paired_other A one other = refl
 paired_other B one other = refl
 
@@ -54,9 +54,9 @@ picked_live false true higher B l a b e = b
 picked_live false false higher side l a b e = absurd cc
 
 -- the side that counts is live
-pub counting_live : (form : ℕ) (image : Image) (side : Side) → counting form image ≡ Some side → is_live form (bytes_of side image) ≡ true
+pub counting_live : (form : ℕ) (image : Image) (side : Side) → counting form image ≡ Some side → is_live form (image_side side image) ≡ true
 counting_live form image side counts =
-    picked_live (is_live form image.a) (is_live form image.b) (nat_lt (generation_of image.a) (generation_of image.b)) side (λ (s : Side). is_live form (bytes_of s image)) refl refl (sym (counting_is form image) ∙ counts)
+    picked_live (is_live form image.a) (is_live form image.b) (nat_lt (generation_of image.a) (generation_of image.b)) side (λ (s : Side). is_live form (image_side s image)) refl refl (sym (counting_is form image) ∙ counts)
 
 -- a live side counts where the other isn't live
 pub other_counts : (form : ℕ) (side : Side) (one other : List ℕ) → is_live form one ≡ false → is_live form other ≡ true → counting form (paired side one other) ≡ Some (other_side side)
@@ -107,9 +107,9 @@ pub payloads_none : (form : ℕ) (image : Image) → counting form image ≡ Non
 unfolding payloads
 payloads_none form image none = rw none refl
 
--- a front that is live keeps the header
-front_header : (form k : ℕ) (bytes : List ℕ) → is_live form (take k bytes) ≡ true → SameHeader bytes (take k bytes)
-front_header form k bytes live =
+-- a prefix that is live keeps the header
+prefix_header : (form k : ℕ) (bytes : List ℕ) → is_live form (take k bytes) ≡ true → SameHeader bytes (take k bytes)
+prefix_header form k bytes live =
     let stays = live_long form (take k bytes) live in
     record {
       there = omega (arith, stays, length-take k bytes);
@@ -155,20 +155,20 @@ live_starts form [] live =
     absurd nothing
 live_starts form (first ∷ rest) live = (rest, ap (λ (n : ℕ). n ∷ rest) (live_first form first rest live))
 
--- A side that can be torn without harm: the payloads stay where it becomes a front of itself, or isn't live.
+-- A side that can be torn without harm: the payloads stay where it becomes a prefix of itself, or isn't live.
 pub record Leaves (form : ℕ) (side : Side) (one other : List ℕ) (held : List (List ℕ)) : Type 0 where
-  pub front : (k : ℕ) → payloads form (paired side (take k one) other) ≡ held
+  pub prefix : (k : ℕ) → payloads form (paired side (take k one) other) ≡ held
   pub dead : (bytes : List ℕ) → is_live form bytes ≡ false → payloads form (paired side bytes other) ≡ held
 
 -- the payloads are the other side's where it counts
 payloads_of_other : (form : ℕ) (side : Side) (one other : List ℕ) → counting form (paired side one other) ≡ Some (other_side side) → payloads form (paired side one other) ≡ payloads_in other
 payloads_of_other form side one other counts = payloads_of_side form (other_side side) (paired side one other) counts ∙ ap payloads_in (paired_other side one other)
 
--- a front of a side that doesn't count doesn't count
-front_counts : (form : ℕ) (side : Side) (one other : List ℕ) (k : ℕ) (live : Bool) → is_live form (take k one) ≡ live → is_live form other ≡ true → counting form (paired side one other) ≡ Some (other_side side) → counting form (paired side (take k one) other) ≡ Some (other_side side)
-front_counts form side one other k false is alive counts = other_counts form side (take k one) other is alive
-front_counts form side one other k true is alive counts =
-    let header = front_header form k one is in
+-- a prefix of a side that doesn't count doesn't count
+prefix_counts : (form : ℕ) (side : Side) (one other : List ℕ) (k : ℕ) (live : Bool) → is_live form (take k one) ≡ live → is_live form other ≡ true → counting form (paired side one other) ≡ Some (other_side side) → counting form (paired side (take k one) other) ≡ Some (other_side side)
+prefix_counts form side one other k false is alive counts = other_counts form side (take k one) other is alive
+prefix_counts form side one other k true is alive counts =
+    let header = prefix_header form k one is in
     same_counts form side one (take k one) other (live_still form one (take k one) header) (generation_still one (take k one) header) ∙ counts
 
 -- so it is where the other side counts
@@ -177,20 +177,20 @@ leaves_other form side one other counts =
     let alive : is_live form other ≡ true = ap (is_live form) (sym (paired_other side one other)) ∙ counting_live form (paired side one other) (other_side side) counts in
     let held = payloads_of_other form side one other counts in
     record {
-      front = λ k. payloads_of_other form side (take k one) other (front_counts form side one other k (is_live form (take k one)) refl alive counts) ∙ sym held;
+      prefix = λ k. payloads_of_other form side (take k one) other (prefix_counts form side one other k (is_live form (take k one)) refl alive counts) ∙ sym held;
       dead = λ bytes is. payloads_of_other form side bytes other (other_counts form side bytes other is alive) ∙ sym held;
     }
 
--- a front of a side that isn't live isn't live
-dead_front : (form k : ℕ) (bytes : List ℕ) → is_live form bytes ≡ false → is_live form (take k bytes) ≡ false
-dead_front form k bytes dead = not_true (is_live form (take k bytes)) (λ live.
-    let whole = live_still form bytes (take k bytes) (front_header form k bytes live) in
+-- a prefix of a side that isn't live isn't live
+dead_prefix : (form k : ℕ) (bytes : List ℕ) → is_live form bytes ≡ false → is_live form (take k bytes) ≡ false
+dead_prefix form k bytes dead = not_true (is_live form (take k bytes)) (λ live.
+    let whole = live_still form bytes (take k bytes) (prefix_header form k bytes live) in
     let nothing : ⊥ = cc in
     nothing)
 
 -- and where none counts
 pub leaves_none : (form : ℕ) (side : Side) (one other : List ℕ) → is_live form one ≡ false → is_live form other ≡ false → Leaves form side one other []
 leaves_none form side one other dead gone = record {
-  front = λ k. payloads_none form (paired side (take k one) other) (none_counts form side (take k one) other (dead_front form k one dead) gone);
+  prefix = λ k. payloads_none form (paired side (take k one) other) (none_counts form side (take k one) other (dead_prefix form k one dead) gone);
   dead = λ bytes is. payloads_none form (paired side bytes other) (none_counts form side bytes other is gone);
 }

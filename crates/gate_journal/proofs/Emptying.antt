@@ -5,13 +5,13 @@ use Rattle.std.proofs.lemmas.Bool.{cases_eq}
 use Rattle.std.proofs.lemmas.List.{take_all}
 use Rattle.vr_outside.specs.declared.disk.Side.{Side}
 use Rattle.vr_outside.specs.declared.disk.Side.TheVariants.{A, B}
-use Rattle.vr_outside.specs.Disks.{DiskState, Image, Moments, EachImage, AtAnyMoment, NeverLoses, bytes_of, on_side, reads_of, settled, settled_disk, writing, cutting}
+use Rattle.vr_outside.specs.Disks.{DiskState, Image, Moments, EachImage, AtAnyMoment, NeverLoses, image_side, on_side, reads_of, settled, settled_disk, writing, cutting}
 use Rattle.vr_outside.proofs.ImageLaws.{settled_only}
 use Rattle.gate_journal.specs.Payloads.{is_live, payloads, side_bytes}
-use Rattle.gate_journal.specs.Journals.{Stands, other_side}
-use Rattle.gate_journal.specs.Steps.{Step, Went, making, resetting, write_step, cut_step, then_steps, last_of}
+use Rattle.gate_journal.specs.Journals.{IsInStep, other_side}
+use Rattle.gate_journal.specs.Steps.{Step, Went, making, resetting, write_step, cut_step, then_steps, last_moment}
 use Rattle.gate_journal.proofs.Counting.{Leaves, paired, paired_other, none_counts, payloads_none, leaves_none, first_dead, none_dead, zero_dead}
-use Rattle.gate_journal.proofs.Fresh.{empty_payloads, fresh_journal, fresh_stands}
+use Rattle.gate_journal.proofs.Fresh.{empty_payloads, fresh_journal, fresh_in_step}
 use Rattle.gate_journal.proofs.Made.{HasEither, HasNew, either_same, made_last, made_steps, making_is, making_either, making_hands, handing}
 use Rattle.gate_journal.proofs.SideImages.{states, states_settled, each_of_one, each_of_other, paired_image, cut_image, first_image}
 use Rattle.gate_journal.proofs.Standing.{with_side}
@@ -22,12 +22,12 @@ abbrev pub from_dead : (live other : Side) → List ℕ → DiskState → List S
 from_dead live other bytes emptied = then_steps (write_step live 0 (0 ∷ []) emptied) (making other bytes)
 
 -- the last of its steps are those of making the other side
-resets_last : (live other : Side) (bytes : List ℕ) (disk : DiskState) (dead : DiskState) → dead ≡ (write_step live 0 (0 ∷ []) (cut_step other disk).after).after → last_of disk (resetting live other bytes disk) ≡ last_of dead (making other bytes dead)
-unfolding last_of resetting
+resets_last : (live other : Side) (bytes : List ℕ) (disk : DiskState) (dead : DiskState) → dead ≡ (write_step live 0 (0 ∷ []) (cut_step other disk).after).after → last_moment disk (resetting live other bytes disk) ≡ last_moment dead (making other bytes dead)
+unfolding last_moment resetting
 resets_last live other bytes disk dead is = rw is refl
 
 -- after the last step of emptying the other side is the 1 and the bytes
-pub reset_by : (live other : Side) (bytes : List ℕ) (disk emptied dead new : DiskState) → emptied ≡ (cut_step other disk).after → dead ≡ (write_step live 0 (0 ∷ []) emptied).after → new ≡ on_side other (λ _. settled (1 ∷ bytes)) dead → new ≡ last_of disk (resetting live other bytes disk)
+pub reset_by : (live other : Side) (bytes : List ℕ) (disk emptied dead new : DiskState) → emptied ≡ (cut_step other disk).after → dead ≡ (write_step live 0 (0 ∷ []) emptied).after → new ≡ on_side other (λ _. settled (1 ∷ bytes)) dead → new ≡ last_moment disk (resetting live other bytes disk)
 reset_by live other bytes disk emptied dead new first second made =
     let is : dead ≡ (write_step live 0 (0 ∷ []) (cut_step other disk).after).after = second ∙ ap (λ (d : DiskState). (write_step live 0 (0 ∷ []) d).after) first in
     made ∙ sym (made_last other bytes dead) ∙ sym (resets_last live other bytes disk dead is)
@@ -86,7 +86,7 @@ weaker_steps P Q (step ∷ steps) to all = ((λ image is. to image (all.0 image 
 emptying_either : (form : ℕ) (side : Side) (bytes one rest : List ℕ) (held : List (List ℕ)) → Leaves form side one (1 ∷ rest) held → 1 ∷ bytes ≡ side_bytes form 1 [] → AllByRecursion (λ (step : Step). EachImage (HasEither form held []) step.during) (emptying_steps side bytes one rest)
 emptying_either form side bytes one rest held leaves empty =
     let P = HasEither form held [] in (
-      each_of_one P side (cutting 0 (settled one)) (1 ∷ rest) (λ left is. inl (ap (λ (l : List ℕ). payloads form (paired side l (1 ∷ rest))) (cut_image one left is) ∙ leaves.front (length left))),
+      each_of_one P side (cutting 0 (settled one)) (1 ∷ rest) (λ left is. inl (ap (λ (l : List ℕ). payloads form (paired side l (1 ∷ rest))) (cut_image one left is) ∙ leaves.prefix (length left))),
       (
         each_of_other P side [] (writing 0 1 (settled (1 ∷ rest))) (λ left is.
             let parts = first_image 1 rest left is in
@@ -98,7 +98,7 @@ emptying_either form side bytes one rest held leaves empty =
 
 -- before the first step
 held_now : (form : ℕ) (side : Side) (one rest : List ℕ) (held : List (List ℕ)) → Leaves form side one (1 ∷ rest) held → payloads form (paired side one (1 ∷ rest)) ≡ held
-held_now form side one rest held leaves = ap (λ (l : List ℕ). payloads form (paired side l (1 ∷ rest))) (sym (take_all (length one) one (omega arith))) ∙ leaves.front (length one)
+held_now form side one rest held leaves = ap (λ (l : List ℕ). payloads form (paired side l (1 ∷ rest))) (sym (take_all (length one) one (omega arith))) ∙ leaves.prefix (length one)
 
 -- so each step hands on that there are none
 emptying_hands : (form : ℕ) (side : Side) (bytes one rest : List ℕ) (held : List (List ℕ)) → Leaves form side one (1 ∷ rest) held → 1 ∷ bytes ≡ side_bytes form 1 [] → HandsOn (HasNew form []) (states side (settled one) (settled (1 ∷ rest))) (emptying_steps side bytes one rest)
@@ -131,22 +131,22 @@ emptying_loses form side bytes one rest held old new known went =
     went_loses (resetting (other_side side) side bytes old.now) old new P went (subst (HandsOn P old.now) (sym (steps_are form side bytes one rest held old.now known)) there)
 
 -- what the disk is after the last step
-emptied_disk : (form : ℕ) (side : Side) (bytes one rest : List ℕ) (held : List (List ℕ)) (old new : DiskState) → Empties form old side bytes one rest held → new ≡ last_of old (resetting (other_side side) side bytes old) → new ≡ settled_disk (with_side side (1 ∷ bytes) (paired side [] (0 ∷ rest)))
-unfolding last_of
+emptied_disk : (form : ℕ) (side : Side) (bytes one rest : List ℕ) (held : List (List ℕ)) (old new : DiskState) → Empties form old side bytes one rest held → new ≡ last_moment old (resetting (other_side side) side bytes old) → new ≡ settled_disk (with_side side (1 ∷ bytes) (paired side [] (0 ∷ rest)))
+unfolding last_moment
 emptied_disk form side bytes one rest held old new known made =
-    made ∙ ap (last_of old) (steps_are form side bytes one rest held old known)
+    made ∙ ap (last_moment old) (steps_are form side bytes one rest held old known)
     ∙ states_settled side (1 ∷ bytes) (0 ∷ rest)
     ∙ ap (λ (l : List ℕ). settled_disk (paired side (1 ∷ bytes) l)) (sym (paired_other side [] (0 ∷ rest)))
 
--- then the journal of the made side stands
-pub emptied_stands : (form : ℕ) (broken : Bool) (side : Side) (bytes one rest : List ℕ) (held : List (List ℕ)) (old new : DiskState) → Empties form old side bytes one rest held → new ≡ last_of old (resetting (other_side side) side bytes old) → Stands (fresh_journal form broken side) new
-emptied_stands form broken side bytes one rest held old new known made =
-    let dead : is_live form (bytes_of (other_side side) (paired side [] (0 ∷ rest))) ≡ false = ap (is_live form) (paired_other side [] (0 ∷ rest)) ∙ zero_dead form rest in
-    subst (Stands (fresh_journal form broken side)) (sym (emptied_disk form side bytes one rest held old new known made)) (fresh_stands form broken side (1 ∷ bytes) (paired side [] (0 ∷ rest)) known.empty dead)
+-- then the journal of the made side is in step
+pub emptied_in_step : (form : ℕ) (broken : Bool) (side : Side) (bytes one rest : List ℕ) (held : List (List ℕ)) (old new : DiskState) → Empties form old side bytes one rest held → new ≡ last_moment old (resetting (other_side side) side bytes old) → IsInStep (fresh_journal form broken side) new
+emptied_in_step form broken side bytes one rest held old new known made =
+    let dead : is_live form (image_side (other_side side) (paired side [] (0 ∷ rest))) ≡ false = ap (is_live form) (paired_other side [] (0 ∷ rest)) ∙ zero_dead form rest in
+    subst (IsInStep (fresh_journal form broken side)) (sym (emptied_disk form side bytes one rest held old new known made)) (fresh_in_step form broken side (1 ∷ bytes) (paired side [] (0 ∷ rest)) known.empty dead)
 
 -- and there are no payloads
-pub emptied_payloads : (form : ℕ) (side : Side) (bytes one rest : List ℕ) (held : List (List ℕ)) (old new : DiskState) → Empties form old side bytes one rest held → new ≡ last_of old (resetting (other_side side) side bytes old) → payloads form (reads_of new) ≡ []
+pub emptied_payloads : (form : ℕ) (side : Side) (bytes one rest : List ℕ) (held : List (List ℕ)) (old new : DiskState) → Empties form old side bytes one rest held → new ≡ last_moment old (resetting (other_side side) side bytes old) → payloads form (reads_of new) ≡ []
 emptied_payloads form side bytes one rest held old new known made =
-    let dead : is_live form (bytes_of (other_side side) (paired side [] (0 ∷ rest))) ≡ false = ap (is_live form) (paired_other side [] (0 ∷ rest)) ∙ zero_dead form rest in
+    let dead : is_live form (image_side (other_side side) (paired side [] (0 ∷ rest))) ≡ false = ap (is_live form) (paired_other side [] (0 ∷ rest)) ∙ zero_dead form rest in
     ap (λ (d : DiskState). payloads form (reads_of d)) (emptied_disk form side bytes one rest held old new known made)
     ∙ empty_payloads form side (1 ∷ bytes) (paired side [] (0 ∷ rest)) known.empty dead

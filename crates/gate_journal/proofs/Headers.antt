@@ -9,11 +9,11 @@ use Rattle.std.proofs.lemmas.List.Elements.{All-from_get_or}
 use Rattle.std.proofs.lemmas.Option.{slice_get_within, unwrap_or-slice_get}
 use Rattle.vr_base.specs.Bytes.{text_bytes}
 use Rattle.gate_journal.specs.Payloads.{block, header, payloads_in, side_bytes}
-use Rattle.gate_journal.specs.Journals.{IsClosedAt}
+use Rattle.gate_journal.specs.Journals.{HasClosedGateAt}
 use Rattle.gate_journal.proofs.Spelled.{blocks-cons, closed_ends, spelled_payloads}
 
 -- the bytes of a side end with a closed gate
-pub side_closed : (form generation : ℕ) (payloads : List (List ℕ)) → All (λ payload. length payload < 2 ^ 32) payloads → IsClosedAt (19 + length (flat_map block payloads)) payloads (side_bytes form generation payloads)
+pub side_closed : (form generation : ℕ) (payloads : List (List ℕ)) → All (λ payload. length payload < 2 ^ 32) payloads → HasClosedGateAt (19 + length (flat_map block payloads)) payloads (side_bytes form generation payloads)
 unfolding side_bytes header
 side_closed form generation payloads small = record {
   spelled = record {

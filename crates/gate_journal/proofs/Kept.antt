@@ -7,7 +7,7 @@ use Rattle.std.proofs.lemmas.Bool.Decides.{nat_tests}
 use Rattle.std.proofs.lemmas.List.{drop-take, take-take}
 use Rattle.vr_outside.specs.declared.disk.Side.{Side}
 use Rattle.vr_outside.specs.declared.disk.Side.TheVariants.{A, B}
-use Rattle.vr_outside.specs.Disks.{Image, bytes_of}
+use Rattle.vr_outside.specs.Disks.{Image, image_side}
 use Rattle.gate_journal.specs.Payloads.{counting, generation_of, is_live, payloads, payloads_in}
 use Rattle.gate_journal.specs.Journals.{other_side}
 
@@ -18,7 +18,7 @@ live_long form bytes live =
     let long : nat_le 19 (length bytes) ≡ true = (and_parts _ _ live).0 in
     grind (arith, nat_tests)
 
--- the same header, and a gate behind it
+-- the same header, and a gate after it
 pub record SameHeader (old new : List ℕ) : Type 0 where
   pub there : 19 ≤ length old
   pub stays : 19 ≤ length new
@@ -39,12 +39,12 @@ generation_still old new header =
     ap (from_le_bytes w64) eight
 
 -- the side that counts is the same where the other side stands and this one keeps its header
-pub counting_still : (form : ℕ) (side : Side) (old new : Image) → SameHeader (bytes_of side old) (bytes_of side new) → bytes_of (other_side side) new ≡ bytes_of (other_side side) old → counting form new ≡ counting form old
+pub counting_still : (form : ℕ) (side : Side) (old new : Image) → SameHeader (image_side side old) (image_side side new) → image_side (other_side side) new ≡ image_side (other_side side) old → counting form new ≡ counting form old
 unfolding counting
 counting_still form A old new header other = rw (live_still form old.a new.a header, generation_still old.a new.a header, other) refl
 counting_still form B old new header other = rw (live_still form old.b new.b header, generation_still old.b new.b header, other) refl
 
 -- the payloads of an image are those of its side that counts
-pub payloads_of_side : (form : ℕ) (side : Side) (image : Image) → counting form image ≡ Some side → payloads form image ≡ payloads_in (bytes_of side image)
+pub payloads_of_side : (form : ℕ) (side : Side) (image : Image) → counting form image ≡ Some side → payloads form image ≡ payloads_in (image_side side image)
 unfolding payloads
 payloads_of_side form side image counts = rw counts refl

@@ -1,3 +1,4 @@
+-- The lemmas.
 pub mod Spelled
 pub mod Headers
 pub mod Went

@@ -5,10 +5,9 @@ use Rattle.std.proofs.lemmas.Bool.{cases_eq}
 use Rattle.std.proofs.lemmas.List.{append-nil, drop_all, take_all}
 use Rattle.vr_outside.specs.declared.disk.Side.{Side}
 use Rattle.vr_outside.specs.declared.disk.Side.TheVariants.{A, B}
-use Rattle.vr_outside.specs.Disks.{DiskState, Image, IsImage, EachImage, on_side, settled, overwritten, cutting, writing}
+use Rattle.vr_outside.specs.Disks.{DiskState, Image, IsEither, IsImage, EachImage, on_side, settled, overwritten, cutting, writing}
 use Rattle.gate_journal.specs.Payloads.{payloads}
-use Rattle.gate_journal.specs.Journals.{IsEither}
-use Rattle.gate_journal.specs.Steps.{Step, making, write_step, cut_step, then_steps, last_of}
+use Rattle.gate_journal.specs.Steps.{Step, making, write_step, cut_step, then_steps, last_moment}
 use Rattle.gate_journal.proofs.Counting.{paired, Leaves, first_dead, none_dead, short_dead, zero_dead}
 use Rattle.gate_journal.proofs.SideImages.{states, each_of_one, paired_image, cut_image, byte_image, first_image, dead_image}
 use Rattle.gate_journal.proofs.Went.{HandsOn}
@@ -30,14 +29,14 @@ full_is bytes =
     ap (λ (l : List ℕ). 0 ∷ (bytes ++ l)) none ∙ ap (λ (l : List ℕ). 0 ∷ l) (append-nil bytes)
 
 -- after the last step the side is the 1 and the bytes, whatever it was
-pub made_last : (side : Side) (bytes : List ℕ) (disk : DiskState) → last_of disk (making side bytes disk) ≡ on_side side (λ _. settled (1 ∷ bytes)) disk
-unfolding making last_of
+pub made_last : (side : Side) (bytes : List ℕ) (disk : DiskState) → last_moment disk (making side bytes disk) ≡ on_side side (λ _. settled (1 ∷ bytes)) disk
+unfolding making last_moment
 made_last A bytes disk = ap (λ (l : List ℕ). record { a = settled (overwritten 0 (1 ∷ []) l); b = disk.b }) (full_is bytes)
 made_last B bytes disk = ap (λ (l : List ℕ). record { a = disk.a; b = settled (overwritten 0 (1 ∷ []) l) }) (full_is bytes)
 
 -- the same, step by step
 pub made_by : (side : Side) (bytes : List ℕ) (disk emptied dead full new : DiskState) → emptied ≡ (cut_step side disk).after → dead ≡ (write_step side 0 (0 ∷ []) emptied).after → full ≡ (write_step side 1 bytes dead).after → new ≡ (write_step side 0 (1 ∷ []) full).after → new ≡ on_side side (λ _. settled (1 ∷ bytes)) disk
-unfolding making last_of
+unfolding making last_moment
 made_by side bytes disk emptied dead full new first second third fourth = rw (fourth, third, second, first) (made_last side bytes disk)
 
 -- the steps of making a side, by what it is once all but the first byte are written
@@ -87,7 +86,7 @@ pub making_either : (form : ℕ) (side : Side) (bytes one other : List ℕ) (old
 making_either form side bytes one other old new leaves made =
     let P = HasEither form old new in
     let shown : List ℕ → List (List ℕ) = λ left. payloads form (paired side left other) in (
-      each_of_one P side (cutting 0 (settled one)) other (λ left is. inl (ap shown (cut_image one left is) ∙ leaves.front (length left))),
+      each_of_one P side (cutting 0 (settled one)) other (λ left is. inl (ap shown (cut_image one left is) ∙ leaves.prefix (length left))),
       (
         each_of_one P side (writing 0 1 (settled [])) other (λ left is. inl (leaves.dead left (short_dead form left (byte_image left is)))),
         (
@@ -117,7 +116,7 @@ pub making_hands : (form : ℕ) (side : Side) (bytes one other : List ℕ) (old 
 making_hands form side bytes one other old new leaves made =
     let all = making_either form side bytes one other old new leaves made in
     let dead : (left : List ℕ) → payloads form (paired side (0 ∷ left) other) ≡ old = λ left. leaves.dead (0 ∷ left) (zero_dead form left) in (
-      handing form old new _ _ (paired side one other) (paired_image side one other) (ap (λ (l : List ℕ). payloads form (paired side l other)) (sym (take_all (length one) one (omega arith))) ∙ leaves.front (length one)) all.0,
+      handing form old new _ _ (paired side one other) (paired_image side one other) (ap (λ (l : List ℕ). payloads form (paired side l other)) (sym (take_all (length one) one (omega arith))) ∙ leaves.prefix (length one)) all.0,
       (
         handing form old new _ _ (paired side [] other) (paired_image side [] other) (leaves.dead [] (none_dead form)) all.1.0,
         (

@@ -1,17 +1,17 @@
 -- Putting a made side in the place of the one that counts.
 use Rattle.std.proofs.Common.{◌≡◌, ℕ, ◌+◌, ◌<◌, ◌^◌, Bool, List, ◌∷◌, length, All, Some, sym, ap, subst, ◌∙◌, arith}
 use Rattle.vr_outside.specs.declared.disk.Side.{Side}
-use Rattle.vr_outside.specs.Disks.{DiskState, Moments, AtAnyMoment, NeverLoses, bytes_of, reads_of, on_side, settled}
+use Rattle.vr_outside.specs.Disks.{DiskState, Moments, AtAnyMoment, NeverLoses, image_side, reads_of, on_side, settled}
 use Rattle.gate_journal.specs.Payloads.{counting, generation_of, payloads, side_bytes}
-use Rattle.gate_journal.specs.Journals.{JournalState, SideContent, Stands, other_side}
+use Rattle.gate_journal.specs.Journals.{JournalState, SideContent, IsInStep, other_side}
 use Rattle.gate_journal.specs.Steps.{Went, making}
 use Rattle.gate_journal.proofs.Counting.{other_again}
 use Rattle.gate_journal.proofs.Made.{HasEither, HasNew}
-use Rattle.gate_journal.proofs.Standing.{with_side, leaves_counted, making_moments, making_loses, made_disk, made_payloads, made_stands, replaced_counts}
+use Rattle.gate_journal.proofs.Standing.{with_side, leaves_counted, making_moments, making_loses, made_disk, made_payloads, made_in_step, replaced_counts}
 
 -- what is known when a journal replaces its side
 pub record Replaces (journal : JournalState) (disk : DiskState) (side : Side) (bytes : List ℕ) (content : SideContent) : Type 0 where
-  pub stands : Stands journal disk
+  pub in_step : IsInStep journal disk
   pub other : side ≡ other_side journal.live
   pub form : content.form ≡ journal.form
   pub higher : content.generation ≡ journal.generation + 1
@@ -25,7 +25,7 @@ live_is live side is = sym (other_again live) ∙ ap other_side (sym is)
 
 -- until then the other side counts
 other_is_live : (journal : JournalState) (disk : DiskState) (side : Side) (bytes : List ℕ) (content : SideContent) → Replaces journal disk side bytes content → counting journal.form (reads_of disk) ≡ Some (other_side side)
-other_is_live journal disk side bytes content known = known.stands.counts ∙ ap (λ (s : Side). Some s) (live_is journal.live side known.other)
+other_is_live journal disk side bytes content known = known.in_step.counts ∙ ap (λ (s : Side). Some s) (live_is journal.live side known.other)
 
 -- the bytes are a side's in the journal's form
 bytes_in_form : (journal : JournalState) (disk : DiskState) (side : Side) (bytes : List ℕ) (content : SideContent) → Replaces journal disk side bytes content → 1 ∷ bytes ≡ side_bytes journal.form content.generation content.payloads
@@ -34,7 +34,7 @@ bytes_in_form journal disk side bytes content known = known.bytes_are ∙ ap (λ
 -- once it is made, the side counts
 made_counts : (journal : JournalState) (disk : DiskState) (side : Side) (bytes : List ℕ) (content : SideContent) → Replaces journal disk side bytes content → counting journal.form (with_side side (1 ∷ bytes) (reads_of disk)) ≡ Some side
 made_counts journal disk side bytes content known =
-    let generation : generation_of (bytes_of (other_side side) (reads_of disk)) ≡ journal.generation = ap (λ (s : Side). generation_of (bytes_of s (reads_of disk))) (sym (live_is journal.live side known.other)) ∙ known.stands.generation in
+    let generation : generation_of (image_side (other_side side) (reads_of disk)) ≡ journal.generation = ap (λ (s : Side). generation_of (image_side s (reads_of disk))) (sym (live_is journal.live side known.other)) ∙ known.in_step.generation in
     replaced_counts journal.form content.generation side (1 ∷ bytes) (reads_of disk) content.payloads (bytes_in_form journal disk side bytes content known) known.below
     (other_is_live journal disk side bytes content known) (omega (arith, generation, known.higher))
 
@@ -46,30 +46,30 @@ gives journal disk side bytes content known =
 -- At any moment the payloads are the old ones, or those of the made side.
 pub replacing_moments : (journal : JournalState) (side : Side) (bytes : List ℕ) (content : SideContent) (old new : Moments) → Replaces journal old.now side bytes content → Went (making side bytes old.now) old new → AtAnyMoment old new (HasEither journal.form (payloads journal.form (reads_of old.now)) content.payloads)
 replacing_moments journal side bytes content old new known went =
-    making_moments journal.form side bytes (reads_of old.now) (payloads journal.form (reads_of old.now)) content.payloads old new known.stands.settled
+    making_moments journal.form side bytes (reads_of old.now) (payloads journal.form (reads_of old.now)) content.payloads old new known.in_step.settled
     (leaves_counted journal.form side (reads_of old.now) (other_is_live journal old.now side bytes content known)) (gives journal old.now side bytes content known) went
 
 -- Once each image has those of the made side, each image has them.
 pub replacing_loses : (journal : JournalState) (side : Side) (bytes : List ℕ) (content : SideContent) (old new : Moments) → Replaces journal old.now side bytes content → Went (making side bytes old.now) old new → NeverLoses old new (HasNew journal.form content.payloads)
 replacing_loses journal side bytes content old new known went =
-    making_loses journal.form side bytes (reads_of old.now) (payloads journal.form (reads_of old.now)) content.payloads old new known.stands.settled
+    making_loses journal.form side bytes (reads_of old.now) (payloads journal.form (reads_of old.now)) content.payloads old new known.in_step.settled
     (leaves_counted journal.form side (reads_of old.now) (other_is_live journal old.now side bytes content known)) (gives journal old.now side bytes content known) went
 
 -- after the last step they are those of the made side
 pub replaced_payloads : (journal : JournalState) (side : Side) (bytes : List ℕ) (content : SideContent) (old new : DiskState) → Replaces journal old side bytes content → new ≡ on_side side (λ _. settled (1 ∷ bytes)) old → payloads journal.form (reads_of new) ≡ content.payloads
 replaced_payloads journal side bytes content old new known made =
-    ap (λ (d : DiskState). payloads journal.form (reads_of d)) (made_disk side (1 ∷ bytes) (reads_of old) old new known.stands.settled made) ∙ gives journal old side bytes content known
+    ap (λ (d : DiskState). payloads journal.form (reads_of d)) (made_disk side (1 ∷ bytes) (reads_of old) old new known.in_step.settled made) ∙ gives journal old side bytes content known
 
-stands_after : (journal : JournalState) (side : Side) (bytes : List ℕ) (content : SideContent) (old new : DiskState) (broken : Bool) → Replaces journal old side bytes content → new ≡ on_side side (λ _. settled (1 ∷ bytes)) old
-    → Stands (record { form = journal.form; live = side; generation = content.generation; len = length bytes + 1; broken = broken }) new
-stands_after journal side bytes content old new broken known made =
+in_step_after : (journal : JournalState) (side : Side) (bytes : List ℕ) (content : SideContent) (old new : DiskState) (broken : Bool) → Replaces journal old side bytes content → new ≡ on_side side (λ _. settled (1 ∷ bytes)) old
+    → IsInStep (record { form = journal.form; live = side; generation = content.generation; len = length bytes + 1; broken = broken }) new
+in_step_after journal side bytes content old new broken known made =
     let after : JournalState = record { form = journal.form; live = side; generation = content.generation; len = length bytes + 1; broken = broken } in
-    subst (Stands after) (sym (made_disk side (1 ∷ bytes) (reads_of old) old new known.stands.settled made))
-    (made_stands after (1 ∷ bytes) (reads_of old) content.payloads (bytes_in_form journal old side bytes content known) known.small known.below (omega arith) (made_counts journal old side bytes content known))
+    subst (IsInStep after) (sym (made_disk side (1 ∷ bytes) (reads_of old) old new known.in_step.settled made))
+    (made_in_step after (1 ∷ bytes) (reads_of old) content.payloads (bytes_in_form journal old side bytes content known) known.small known.below (omega arith) (made_counts journal old side bytes content known))
 
--- the journal of the made side stands
-pub replaced_stands : (journal after : JournalState) (side : Side) (bytes : List ℕ) (content : SideContent) (old new : DiskState) → Replaces journal old side bytes content → new ≡ on_side side (λ _. settled (1 ∷ bytes)) old
-    → after.form ≡ journal.form → after.live ≡ side → after.generation ≡ content.generation → after.len ≡ length bytes + 1 → Stands after new
-replaced_stands journal after side bytes content old new known made form live generation len =
+-- the journal of the made side is in step
+pub replaced_in_step : (journal after : JournalState) (side : Side) (bytes : List ℕ) (content : SideContent) (old new : DiskState) → Replaces journal old side bytes content → new ≡ on_side side (λ _. settled (1 ∷ bytes)) old
+    → after.form ≡ journal.form → after.live ≡ side → after.generation ≡ content.generation → after.len ≡ length bytes + 1 → IsInStep after new
+replaced_in_step journal after side bytes content old new known made form live generation len =
     let same : after ≡ record { form = journal.form; live = side; generation = content.generation; len = length bytes + 1; broken = after.broken } = λ i. record { form = form i; live = live i; generation = generation i; len = len i; broken = after.broken } in
-    subst (λ (j : JournalState). Stands j new) (sym same) (stands_after journal side bytes content old new after.broken known made)
+    subst (λ (j : JournalState). IsInStep j new) (sym same) (in_step_after journal side bytes content old new after.broken known made)

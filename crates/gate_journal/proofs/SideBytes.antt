@@ -21,5 +21,5 @@ side_live form generation ps =
 pub side_generation : (form generation : ℕ) (ps : List (List ℕ)) → generation < 2 ^ 64 → generation_of (side_bytes form generation ps) ≡ generation
 unfolding generation_of side_bytes header
 side_generation form generation ps below =
-    let behind : take 8 (drop 10 (side_bytes form generation ps)) ≡ to_le_bytes w64 generation = refl in
-    ap (from_le_bytes w64) behind ∙ from_le_bytes-to_le_bytes_8 generation below
+    let after : take 8 (drop 10 (side_bytes form generation ps)) ≡ to_le_bytes w64 generation = refl in
+    ap (from_le_bytes w64) after ∙ from_le_bytes-to_le_bytes_8 generation below

@@ -1,22 +1,22 @@
--- What a stop leaves of a side that a step changes, where the other side is settled.
+-- What a stop can leave of a side that a step changes, where the other side is settled.
 use Rattle.std.proofs.Common.{◌≡◌, ℕ, ◌≤◌, List, [], ◌∷◌, length, take, refl, sym, ap, subst, ◌∙◌, arith, length-take}
 use Rattle.std.proofs.lemmas.Grind.{same_number_lists}
 use Rattle.std.proofs.lemmas.List.{get_or-take}
 use Rattle.vr_outside.specs.declared.disk.Side.{Side}
 use Rattle.vr_outside.specs.declared.disk.Side.TheVariants.{A, B}
-use Rattle.vr_outside.specs.Disks.{DiskState, SideState, Image, IsSideImage, IsImage, EachImage, bytes_of, settled, settled_disk, writing, cutting}
+use Rattle.vr_outside.specs.Disks.{DiskState, SideState, Image, IsSideImage, IsImage, EachImage, image_side, settled, settled_disk, writing, cutting}
 use Rattle.vr_outside.proofs.ImageLaws.{settled_only}
 use Rattle.gate_journal.specs.Journals.{other_side}
 use Rattle.gate_journal.proofs.Counting.{paired}
 use Rattle.gate_journal.proofs.Settled.{settled_image}
-use Rattle.gate_journal.proofs.Torn.{side_torn, torn_behind}
+use Rattle.gate_journal.proofs.Torn.{side_torn, torn_after}
 
 -- a disk by one of its sides and the other
 abbrev pub states : Side → (one other : SideState) → DiskState
 states A one other = record { a = one; b = other }
 states B one other = record { a = other; b = one }
 
-pub settled_states : (side : Side) (image : Image) → settled_disk image ≡ states side (settled (bytes_of side image)) (settled (bytes_of (other_side side) image))
+pub settled_states : (side : Side) (image : Image) → settled_disk image ≡ states side (settled (image_side side image)) (settled (image_side (other_side side) image))
 settled_states A image = refl
 settled_states B image = refl
 
@@ -38,7 +38,7 @@ each_of_other P B one other each image is = subst (λ (b : List ℕ). P (record 
 pub paired_image : (side : Side) (one other : List ℕ) → IsImage (states side (settled one) (settled other)) (paired side one other)
 paired_image side one other = subst (λ (disk : DiskState). IsImage disk (paired side one other)) (sym (states_settled side one other)) (settled_image (paired side one other))
 
--- a cut leaves a front
+-- a cut leaves a prefix
 pub cut_image : (one bytes : List ℕ) → IsSideImage (cutting 0 (settled one)) bytes → bytes ≡ take (length bytes) one
 cut_image one bytes is =
     let size : length bytes ≤ length one = omega (arith, is.no_longer) in
@@ -49,14 +49,14 @@ cut_image one bytes is =
 pub byte_image : (bytes : List ℕ) → IsSideImage (writing 0 1 (settled [])) bytes → length bytes ≤ 18
 byte_image bytes is = omega (arith, is.no_longer)
 
--- a write of the first byte may leave any first byte, with what stood behind it
+-- a write of the first byte may leave any first byte, with what stood after it
 pub first_image : (first : ℕ) (rest bytes : List ℕ) → IsSideImage (writing 0 1 (settled (first ∷ rest))) bytes → (byte : ℕ) × (bytes ≡ byte ∷ rest)
 first_image first rest [] is = absurd (omega (arith, is.no_shorter))
 first_image first rest (byte ∷ bytes) is =
     let torn = side_torn 0 1 (first ∷ rest) (byte ∷ bytes) is in
-    (byte, ap (λ (l : List ℕ). byte ∷ l) (torn_behind 1 0 1 (first ∷ rest) (byte ∷ bytes) torn (omega arith) (omega arith)))
+    (byte, ap (λ (l : List ℕ). byte ∷ l) (torn_after 1 0 1 (first ∷ rest) (byte ∷ bytes) torn (omega arith) (omega arith)))
 
--- a write behind a 0 leaves the 0 in front
+-- a write after a 0 leaves the 0 before it
 pub dead_image : (count : ℕ) (bytes : List ℕ) → IsSideImage (writing 1 count (settled (0 ∷ []))) bytes → (rest : List ℕ) × (bytes ≡ 0 ∷ rest)
 dead_image count [] is = absurd (omega (arith, (side_torn 1 count (0 ∷ []) [] is).no_shorter))
 dead_image count (byte ∷ rest) is =

@@ -13,12 +13,12 @@ use Rattle.vr_base.specs.Bytes.{text_bytes}
 use Rattle.byte_codec.specs.Reading.{AreBytes, Takes, text_at}
 use Rattle.byte_codec.proofs.Fields.{guard_some, text_again, text_takes}
 use Rattle.gate_journal.specs.Payloads.{block, gated, payload_at, payloads_in, payloads_upto}
-use Rattle.gate_journal.specs.Journals.{EndsAt, IsClosedAt}
+use Rattle.gate_journal.specs.Journals.{EndsAt, HasClosedGateAt}
 
 abbrev Small : List ℕ → Type 0
 Small payload = length payload < 2 ^ 32
 
--- behind a gate that isn't open no payload follows
+-- after a gate that isn't open no payload follows
 pub closed_gate : (gate : ℕ) (rest : List ℕ) → gate ≢ 1 → payload_at (gate ∷ rest) ≡ None
 unfolding payload_at
 closed_gate gate rest closed = grind (arith, nat_tests)
@@ -30,7 +30,7 @@ block_again payload rest small more =
     let long : (length rest == 0) ≡ false = grind (arith, nat_tests) in
     ap (option_and_then gated) (text_again payload rest small) ∙ rw long refl
 
--- the blocks of payloads, and those of the first of them in front of the rest
+-- the blocks of payloads, and those of the first of them before the rest
 pub blocks-cons : (payload : List ℕ) (payloads : List (List ℕ)) (tail : List ℕ) → flat_map block (payload ∷ payloads) ++ tail ≡ block payload ++ (flat_map block payloads ++ tail)
 blocks-cons payload payloads tail = ap (λ (bs : List ℕ). bs ++ tail) (flat_map-cons block payload payloads) ∙ append_assoc (block payload) (flat_map block payloads) tail
 
@@ -42,7 +42,7 @@ blocks_long (payload ∷ payloads) =
     let size : length (flat_map block (payload ∷ payloads)) ≡ length (block payload) + length (flat_map block payloads) = ap length (flat_map-cons block payload payloads) ∙ length-append (block payload) (flat_map block payloads) in
     omega (arith, size, blocks_long payloads)
 
--- what is read of the blocks of payloads behind which none follows
+-- what is read of the blocks of payloads after which none follows
 pub blocks_again : (n : ℕ) (payloads : List (List ℕ)) (tail : List ℕ) → length payloads ≤ n → All Small payloads → 0 < length tail → payload_at tail ≡ None → payloads_upto n (flat_map block payloads ++ tail) ≡ payloads
 unfolding payloads_upto
 blocks_again zero [] tail room small more none = refl
@@ -54,19 +54,19 @@ blocks_again (suc n) (payload ∷ payloads) tail room small more none =
     let others : payloads_upto n rest ≡ payloads = blocks_again n payloads tail (omega arith) (All-tail Small payload payloads small) more none in
     rw (blocks-cons payload payloads tail, first, others) refl
 
-pub closed_ends : (count : ℕ) (ps : List (List ℕ)) (bytes : List ℕ) → IsClosedAt count ps bytes → EndsAt count ps bytes
+pub closed_ends : (count : ℕ) (ps : List (List ℕ)) (bytes : List ℕ) → HasClosedGateAt count ps bytes → EndsAt count ps bytes
 closed_ends count ps bytes closed = record { spelled = closed.spelled; none = closed_gate closed.spelled.gate closed.spelled.rest closed.closed }
 
 pub spelled_payloads : (count : ℕ) (ps : List (List ℕ)) (bytes : List ℕ) → EndsAt count ps bytes → payloads_in bytes ≡ ps
 unfolding payloads_in
 spelled_payloads count ps bytes ends =
     let tail : List ℕ = ends.spelled.gate ∷ ends.spelled.rest in
-    let behind : drop 18 bytes ≡ flat_map block ps ++ tail = ap (drop 18) ends.spelled.parts ∙ drop_at ends.spelled.head (flat_map block ps ++ tail) 18 ends.spelled.header in
+    let after : drop 18 bytes ≡ flat_map block ps ++ tail = ap (drop 18) ends.spelled.parts ∙ drop_at ends.spelled.head (flat_map block ps ++ tail) 18 ends.spelled.header in
     let size : length bytes ≡ length ends.spelled.head + length (flat_map block ps ++ tail) = ap length ends.spelled.parts ∙ length-append ends.spelled.head (flat_map block ps ++ tail) in
     let room : length ps ≤ length bytes = omega (arith, size, length-append (flat_map block ps) tail, blocks_long ps) in
-    ap (payloads_upto (length bytes)) behind ∙ blocks_again (length bytes) ps tail room ends.spelled.small (omega arith) ends.none
+    ap (payloads_upto (length bytes)) after ∙ blocks_again (length bytes) ps tail room ends.spelled.small (omega arith) ends.none
 
--- Payloads that were read so far, behind the header, and what is still to be read.
+-- Payloads that were read so far, after the header, and what is still to be read.
 pub record IsReadTo (payloads : List (List ℕ)) (rest bytes : List ℕ) : Type 0 where
   pub head : List ℕ
   pub parts : bytes ≡ head ++ (flat_map block payloads ++ rest)
@@ -86,15 +86,15 @@ read_begins bytes fits long = record {
   more = omega (arith, length-drop 18 bytes);
 }
 
-AreBytes_behind : (first : ℕ) (rest : List ℕ) → AreBytes (first ∷ rest) → AreBytes rest
-AreBytes_behind first rest fits i = fits (suc i)
+AreBytes_after : (first : ℕ) (rest : List ℕ) → AreBytes (first ∷ rest) → AreBytes rest
+AreBytes_after first rest fits i = fits (suc i)
 
 gated_some : (read taken : List ℕ × List ℕ) → gated read ≡ Some taken → (read ≡ taken) × (0 < length read.1)
 gated_some read taken e =
     let passed = guard_some (length read.1 == 0) read taken e in
     (passed.1, grind (arith, nat_tests))
 
--- a payload that is read stood there as its block
+-- a payload that is read was there as its block
 pub payload_takes : (bytes payload left : List ℕ) → AreBytes bytes → payload_at bytes ≡ Some (payload, left) → Takes bytes (block payload) left × Small payload × (0 < length left)
 unfolding payload_at block
 payload_takes [] payload left fits e = absurd cc
@@ -104,13 +104,13 @@ payload_takes (gate ∷ rest) payload left fits e =
           let read : option_and_then gated (text_at rest) ≡ Some (payload, left) = rw (eq-eqb gate 1 opened) at e in
           option_and_then_some gated (text_at rest) (payload, left) read (λ taken is passes.
           let whole = gated_some taken (payload, left) passes in
-          let text = text_takes rest payload left (AreBytes_behind gate rest fits) (is ∙ ap Some whole.0) in
+          let text = text_takes rest payload left (AreBytes_after gate rest fits) (is ∙ ap Some whole.0) in
           (record { parts = rw opened (ap (λ (bs : List ℕ). 1 ∷ bs) text.0.parts); left_are_bytes = text.0.left_are_bytes }, text.1, omega (arith, whole.1, ap (λ (t : List ℕ × List ℕ). length t.1) whole.0)))
       | inr closed ↦
           let none = closed_gate gate rest closed in absurd cc
     ]
 
--- less is left behind a block
+-- less remains after a block
 pub block_long : (bytes payload left : List ℕ) → Takes bytes (block payload) left → length left < length bytes
 unfolding block
 block_long bytes payload left taken = omega (arith, ap length taken.parts, length-append (1 ∷ text_bytes payload) left)

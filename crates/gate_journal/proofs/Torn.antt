@@ -6,8 +6,8 @@ use Rattle.std.proofs.lemmas.Grind.{same_number_lists}
 use Rattle.std.proofs.lemmas.List.{length-take-le, get_or-take, get_or-drop}
 use Rattle.vr_outside.specs.declared.disk.Side.{Side}
 use Rattle.vr_outside.specs.declared.disk.Side.TheVariants.{A, B}
-use Rattle.vr_outside.specs.Disks.{Image, IsImage, IsSideImage, bytes_of, on_side, overwritten, settled, settled_disk, touching, writing}
-use Rattle.vr_outside.proofs.ImageLaws.{length-overwritten, overwritten_before, overwritten_behind, settled_only}
+use Rattle.vr_outside.specs.Disks.{Image, IsImage, IsSideImage, image_side, on_side, overwritten, settled, settled_disk, touching, writing}
+use Rattle.vr_outside.proofs.ImageLaws.{length-overwritten, overwritten_before, overwritten_after, settled_only}
 use Rattle.gate_journal.specs.Journals.{other_side}
 
 -- bytes that a write may leave of others: none is lost, and they are the same where it doesn't reach
@@ -15,7 +15,7 @@ pub record IsTorn (at count : ℕ) (old new : List ℕ) : Type 0 where
   pub no_shorter : length old ≤ length new
   pub no_longer : length new ≤ max (length old) (at + count)
   pub before : (k : ℕ) → k < at → k < length old → get_or new k 0 ≡ get_or old k 0
-  pub behind : (k : ℕ) → at + count ≤ k → k < length old → get_or new k 0 ≡ get_or old k 0
+  pub after : (k : ℕ) → at + count ≤ k → k < length old → get_or new k 0 ≡ get_or old k 0
 
 untouched : (at count k : ℕ) → (k < at) ⊎ (at + count ≤ k) → ((nat_le at k && nat_lt k (at + count)) || false) ≡ false
 untouched at count k out = grind (arith, nat_tests)
@@ -25,7 +25,7 @@ touching_torn at count old new is = record {
   no_shorter = is.no_shorter;
   no_longer = is.no_longer;
   before = λ k early there. is.kept k (omega (arith, is.no_shorter)) there (untouched at count k (inl early));
-  behind = λ k late there. is.kept k (omega (arith, is.no_shorter)) there (untouched at count k (inr late));
+  after = λ k late there. is.kept k (omega (arith, is.no_shorter)) there (untouched at count k (inr late));
 }
 
 settled_torn : (at count : ℕ) (old new : List ℕ) → IsSideImage (settled old) new → IsTorn at count old new
@@ -33,7 +33,7 @@ settled_torn at count old new is = record {
   no_shorter = is.no_shorter;
   no_longer = omega (arith, is.no_longer);
   before = λ k early there. is.kept k (omega (arith, is.no_shorter)) there refl;
-  behind = λ k late there. is.kept k (omega (arith, is.no_shorter)) there refl;
+  after = λ k late there. is.kept k (omega (arith, is.no_shorter)) there refl;
 }
 
 writing_torn : (test : Bool) (at count : ℕ) (old new : List ℕ) → IsSideImage (cond test (touching at count (settled old)) (settled old)) new → IsTorn at count old new
@@ -46,8 +46,8 @@ side_torn at count old new is = writing_torn (nat_lt (at + count) (2 ^ 63)) at c
 
 -- and of both sides
 pub record IsTornImage (side : Side) (at count : ℕ) (old new : Image) : Type 0 where
-  pub torn : IsTorn at count (bytes_of side old) (bytes_of side new)
-  pub other : bytes_of (other_side side) new ≡ bytes_of (other_side side) old
+  pub torn : IsTorn at count (image_side side old) (image_side side new)
+  pub other : image_side (other_side side) new ≡ image_side (other_side side) old
 
 pub torn_image : (side : Side) (at count : ℕ) (old new : Image) → IsImage (on_side side (writing at count) (settled_disk old)) new → IsTornImage side at count old new
 torn_image A at count old new is = record { torn = side_torn at count old.a new.a is.a; other = settled_only old.b new.b is.b }
@@ -61,12 +61,12 @@ overwritten_torn at bytes old within =
       no_shorter = omega (arith, size);
       no_longer = omega (arith, size);
       before = λ k early there. overwritten_before at bytes old k within early;
-      behind = λ k late there. overwritten_behind at bytes old k within late;
+      after = λ k late there. overwritten_after at bytes old k within late;
     }
 
--- what stands before a torn write is the same
-pub torn_front : (n at count : ℕ) (old new : List ℕ) → IsTorn at count old new → n ≤ at → n ≤ length old → take n new ≡ take n old
-torn_front n at count old new torn before there =
+-- what comes before a torn write is the same
+pub torn_prefix : (n at count : ℕ) (old new : List ℕ) → IsTorn at count old new → n ≤ at → n ≤ length old → take n new ≡ take n old
+torn_prefix n at count old new torn before there =
     let size-new : length (take n new) ≡ n = length-take-le n new (omega (arith, torn.no_shorter)) in
     let size-old : length (take n old) ≡ n = length-take-le n old there in
     same_number_lists (take n new) (take n old) (size-new ∙ sym size-old)
@@ -74,9 +74,9 @@ torn_front n at count old new torn before there =
     let early : k < n = omega (arith, size-new) in
     get_or-take n new k 0 early ∙ torn.before k (omega arith) (omega arith) ∙ sym (get_or-take n old k 0 early))
 
--- what stands behind a torn write that ends within the bytes is the same
-pub torn_behind : (n at count : ℕ) (old new : List ℕ) → IsTorn at count old new → at + count ≤ n → n ≤ length old → drop n new ≡ drop n old
-torn_behind n at count old new torn behind there =
+-- what comes after a torn write that ends within the bytes is the same
+pub torn_after : (n at count : ℕ) (old new : List ℕ) → IsTorn at count old new → at + count ≤ n → n ≤ length old → drop n new ≡ drop n old
+torn_after n at count old new torn after there =
     let size : length new ≡ length old = omega (arith, torn.no_shorter, torn.no_longer) in
     same_number_lists (drop n new) (drop n old) (omega (arith, length-drop n new, length-drop n old))
-    (λ k below. get_or-drop n new k 0 ∙ torn.behind (n + k) (omega arith) (omega (arith, length-drop n new)) ∙ sym (get_or-drop n old k 0))
+    (λ k below. get_or-drop n new k 0 ∙ torn.after (n + k) (omega arith) (omega (arith, length-drop n new)) ∙ sym (get_or-drop n old k 0))

@@ -4,7 +4,7 @@ use Rattle.std.specs.List.{flat_map}
 use Rattle.vr_base.specs.Bytes.{text_bytes}
 use Rattle.vr_outside.specs.declared.disk.Side.{Side}
 use Rattle.vr_outside.specs.declared.disk.Side.TheVariants.{A, B}
-use Rattle.vr_outside.specs.Disks.{DiskState, Image, IsImage, bytes_of, reads_of, settled_disk}
+use Rattle.vr_outside.specs.Disks.{DiskState, Image, IsImage, image_side, reads_of, settled_disk}
 use Rattle.gate_journal.specs.Payloads.{counting, generation_of, block, payload_at, payloads, payloads_in, side_bytes}
 
 -- A journal: its form, the side that counts with its generation, the number of its bytes up to and with the closed
@@ -38,17 +38,17 @@ pub record EndsAt (count : ℕ) (payloads : List (List ℕ)) (bytes : List ℕ) 
   pub none : payload_at (spelled.gate ∷ spelled.rest) ≡ None
 
 -- the gate isn't open
-pub record IsClosedAt (count : ℕ) (payloads : List (List ℕ)) (bytes : List ℕ) : Type 0 where
+pub record HasClosedGateAt (count : ℕ) (payloads : List (List ℕ)) (bytes : List ℕ) : Type 0 where
   pub spelled : IsSpelled count payloads bytes
   pub closed : spelled.gate ≢ 1
 
--- The disk is the one that the journal knows, and only the journal wrote it since: a stop leaves what reads give, the
+-- The disk is the one that the journal knows, and only the journal wrote it since: a stop can leave what reads give, the
 -- side that counts is the journal's, and its closed gate is where the journal writes next.
-pub record Stands (journal : JournalState) (disk : DiskState) : Type 0 where
+pub record IsInStep (journal : JournalState) (disk : DiskState) : Type 0 where
   pub settled : disk ≡ settled_disk (reads_of disk)
   pub counts : counting journal.form (reads_of disk) ≡ Some journal.live
-  pub generation : generation_of (bytes_of journal.live (reads_of disk)) ≡ journal.generation
-  pub closed : IsClosedAt journal.len (payloads journal.form (reads_of disk)) (bytes_of journal.live (reads_of disk))
+  pub generation : generation_of (image_side journal.live (reads_of disk)) ≡ journal.generation
+  pub closed : HasClosedGateAt journal.len (payloads journal.form (reads_of disk)) (image_side journal.live (reads_of disk))
 
 -- an image has the payloads of an image of a disk
 pub record HasPayloadsOf (form : ℕ) (disk : DiskState) (image : Image) : Type 0 where
@@ -56,16 +56,13 @@ pub record HasPayloadsOf (form : ℕ) (disk : DiskState) (image : Image) : Type 
   pub was : IsImage disk before
   pub same : payloads form image ≡ payloads form before
 
-abbrev pub IsEither : List (List ℕ) → List (List ℕ) → List (List ℕ) → Type 0
-IsEither payloads one other = (payloads ≡ one) ⊎ (payloads ≡ other)
-
 -- a side that is ready to be written: its form, its generation and its payloads
 pub record SideContent : Type 0 where
   pub form : ℕ
   pub generation : ℕ
   pub payloads : List (List ℕ)
 
--- the payload between its length and the gate behind it
+-- the payload between its length and the gate after it
 abbrev pub payload_within : List ℕ → List ℕ
 payload_within bytes = take (length bytes - 5) (drop 4 bytes)
 
@@ -74,7 +71,7 @@ pub record IsReady (bytes : List ℕ) : Type 0 where
   pub parts : bytes ≡ text_bytes (payload_within bytes) ++ 0 ∷ []
   pub small : length (payload_within bytes) < 2 ^ 32
 
--- the bytes of a side behind its first
+-- the bytes of a side after its first
 pub record IsReadySide (form generation : ℕ) (bytes : List ℕ) : Type 0 where
   pub parts : 1 ∷ bytes ≡ side_bytes form generation (payloads_in (1 ∷ bytes))
   pub small : All (λ payload. length payload < 2 ^ 32) (payloads_in (1 ∷ bytes))

@@ -1,3 +1,4 @@
+-- The definitions.
 pub mod Payloads
 pub mod Journals
 pub mod Steps

@@ -8,7 +8,7 @@ use Rattle.vr_base.specs.Bytes.{text_bytes}
 use Rattle.byte_codec.specs.Reading.{text_at}
 use Rattle.vr_outside.specs.declared.disk.Side.{Side}
 use Rattle.vr_outside.specs.declared.disk.Side.TheVariants.{A, B}
-use Rattle.vr_outside.specs.Disks.{Image, bytes_of}
+use Rattle.vr_outside.specs.Disks.{Image, image_side}
 
 -- what a live side of a form begins with: a 1, the mark, and the form
 abbrev pub mark : ℕ → List ℕ
@@ -18,7 +18,7 @@ mark form = 1 ∷ (codes "VUNITREC" ++ form ∷ [])
 unfoldable pub is_live : ℕ → List ℕ → Bool
 is_live form bytes = nat_le 19 (length bytes) && bytes_eq (take 10 bytes) (mark form)
 
--- the number behind the form, in eight bytes
+-- the number after the form, in eight bytes
 unfoldable pub generation_of : List ℕ → ℕ
 generation_of bytes = from_le_bytes w64 (take 8 (drop 10 bytes))
 
@@ -27,7 +27,7 @@ abbrev pub gated : List ℕ × List ℕ → Option (List ℕ × List ℕ)
 gated read = if length read.1 == 0 then None else Some read
 
 -- What a gate opens, with what follows from the next gate on: nothing, unless the gate is 1, and a text and one more
--- gate stand behind it.
+-- gate come after it.
 unfoldable pub payload_at : List ℕ → Option (List ℕ × List ℕ)
 payload_at [] = None
 payload_at (gate ∷ rest) = if gate == 1 then option_and_then gated (text_at rest) else None
@@ -49,13 +49,13 @@ counting form image =
 
 -- the payloads of an image, for a form
 unfoldable pub payloads : ℕ → Image → List (List ℕ)
-payloads form image = option_map_or (λ side. payloads_in (bytes_of side image)) (counting form image) []
+payloads form image = option_map_or (λ side. payloads_in (image_side side image)) (counting form image) []
 
--- an open gate, and the payload behind it
+-- an open gate, and the payload after it
 unfoldable pub block : List ℕ → List ℕ
 block payload = 1 ∷ text_bytes payload
 
--- what stands in front of the first gate
+-- what comes before the first gate
 unfoldable pub header : (form generation : ℕ) → List ℕ
 header form generation = mark form ++ to_le_bytes w64 generation
 

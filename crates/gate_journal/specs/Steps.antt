@@ -31,11 +31,11 @@ making side bytes disk =
     then_steps (write_step side 1 bytes dead) (λ full.
     write_step side 0 (1 ∷ []) full ∷ [])))
 
--- A commit: what stands behind the closed gate, and then the gate alone.
+-- A commit: what comes after the closed gate, and then the gate alone.
 unfoldable pub committing : Side → (len : ℕ) → List ℕ → DiskState → List Step
 committing live len bytes disk =
-    then_steps (write_step live len bytes disk) (λ behind.
-    write_step live (len - 1) (1 ∷ []) behind ∷ [])
+    then_steps (write_step live len bytes disk) (λ after.
+    write_step live (len - 1) (1 ∷ []) after ∷ [])
 
 -- Emptying: the other side first, then the live one is made dead, then the other is made.
 unfoldable pub resetting : (live other : Side) → List ℕ → DiskState → List Step
@@ -45,6 +45,6 @@ resetting live other bytes disk =
     making other bytes dead))
 
 -- the disk after the last step
-unfoldable pub last_of : DiskState → List Step → DiskState
-last_of disk [] = disk
-last_of disk (step ∷ steps) = last_of step.after steps
+unfoldable pub last_moment : DiskState → List Step → DiskState
+last_moment disk [] = disk
+last_moment disk (step ∷ steps) = last_moment step.after steps

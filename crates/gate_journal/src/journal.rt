@@ -1,10 +1,12 @@
+//! The journal of payloads: commits, replacements and resets.
+
 ghost use Rattle.std.specs.Prelude.{◌≡◌, ◌≤◌, ◌+◌, ◌-◌, ◌^◌, ◌<◌, ◌++◌, ◌∷◌, [], false, length, IfOk, OnOk, is_err};
 ghost use Rattle.vr_base.specs.Bytes.{text_bytes};
 ghost use Rattle.vr_outside.specs.Counts.{DiskCounts};
-ghost use Rattle.vr_outside.specs.Disks.{reads_of, AtAnyMoment, NeverLoses};
+ghost use Rattle.vr_outside.specs.Disks.{reads_of, IsEither, AtAnyMoment, NeverLoses};
 ghost use Rattle.gate_journal.specs.Payloads.{payloads};
-ghost use Rattle.gate_journal.specs.Journals.{Stands, IsEither, IsWithTwo, other_side};
-ghost use Rattle.gate_journal.specs.Steps.{Went, last_of, committing, resetting};
+ghost use Rattle.gate_journal.specs.Journals.{IsInStep, IsWithTwo, other_side};
+ghost use Rattle.gate_journal.specs.Steps.{Went, last_moment, committing, resetting};
 
 use crate::layout::empty_side;
 use crate::making::make_side;
@@ -39,7 +41,9 @@ impl Journal {
     /// A journal of what an opened disk holds.
     pub(crate) fn of(form: u8, live: Side, generation: u64, len: u64) -> Journal
         requires { 19 ≤ len }
-        ensures { result ≡ record { form = form; live = live; generation = generation; len = len; broken = false } }
+        ensures { result
+            ≡ record
+            { form = form; live = live; generation = generation; len = len; broken = false } }
     {
         Journal {
             form,
@@ -83,17 +87,32 @@ impl Journal {
 
     /// Adds a payload at the end. It takes no memory.
     pub fn commit<D: Disk>(&mut self, disk: &mut D, ready: Ready) -> Result<(), DiskFailed>
-        requires whole { self.old.broken ≡ false }
-        requires stands { D.tells → Stands self.old (D.moments disk.old).now }
-        ensures stands { D.tells → OnOk result (Stands self.new (D.moments disk.new).now) }
-        ensures added { D.tells → OnOk result (payloads self.old.form (reads_of (D.moments disk.new).now) ≡ payloads self.old.form (reads_of (D.moments disk.old).now) ++ ready ∷ []) }
-        // At any moment, after a fault too, a stop leaves the payloads from before, with the new one or without.
-        ensures any_moment { D.tells → AtAnyMoment (D.moments disk.old) (D.moments disk.new) (λ image. IsEither (payloads self.old.form image) (payloads self.old.form (reads_of (D.moments disk.old).now)) (payloads self.old.form (reads_of (D.moments disk.old).now) ++ ready ∷ [])) }
+        requires usable { self.old.broken ≡ false }
+        requires in_step { D.tells → IsInStep self.old (D.moments disk.old).now }
+        ensures in_step { D.tells → OnOk result (IsInStep self.new (D.moments disk.new).now) }
+        ensures added { D.tells →
+            OnOk result
+            (payloads self.old.form (reads_of (D.moments disk.new).now)
+            ≡ payloads self.old.form (reads_of (D.moments disk.old).now) ++ ready ∷ []) }
+        // At any moment, after a fault too, a stop can leave the payloads from before, with the new one or without.
+        ensures any_moment { D.tells →
+            AtAnyMoment (D.moments disk.old) (D.moments disk.new)
+            (λ image.
+            IsEither (payloads self.old.form image)
+            (payloads self.old.form (reads_of (D.moments disk.old).now))
+            (payloads self.old.form (reads_of (D.moments disk.old).now)
+            ++ ready ∷ [])) }
         // Once each image has the new one, each image has it.
-        ensures loses { D.tells → NeverLoses (D.moments disk.old) (D.moments disk.new) (λ image. payloads self.old.form image ≡ payloads self.old.form (reads_of (D.moments disk.old).now) ++ ready ∷ []) }
+        ensures loses { D.tells →
+            NeverLoses (D.moments disk.old) (D.moments disk.new)
+            (λ image.
+            payloads self.old.form image
+            ≡ payloads self.old.form (reads_of (D.moments disk.old).now)
+            ++ ready ∷ []) }
         ensures form { self.new.form ≡ self.old.form }
         ensures broken { self.new.broken ≡ is_err result }
-        ensures cause { DiskCounts result (D.failed_disk_calls disk.old) (D.failed_disk_calls disk.new) }
+        ensures cause { DiskCounts result (D.failed_disk_calls disk.old)
+            (D.failed_disk_calls disk.new) }
     {
         match self.append(disk, ready.bytes()) {
             Ok(()) => {
@@ -107,13 +126,21 @@ impl Journal {
         }
     }
 
-    /// Writes behind the closed gate, and then opens it.
+    /// Writes after the closed gate, and then opens it.
     fn append<D: Disk>(&self, disk: &mut D, bytes: &[u8]) -> Result<(), DiskFailed>
-        requires { D.tells → Stands self.now (D.moments disk.old).now }
+        requires { D.tells → IsInStep self.now (D.moments disk.old).now }
         ensures fits { OnOk result (self.now.len + length bytes.now < 2 ^ 63) }
-        ensures steps { D.tells → Went (committing self.now.live self.now.len bytes.now (D.moments disk.old).now) (D.moments disk.old) (D.moments disk.new) }
-        ensures appended { D.tells → OnOk result ((D.moments disk.new).now ≡ last_of (D.moments disk.old).now (committing self.now.live self.now.len bytes.now (D.moments disk.old).now)) }
-        ensures cause { DiskCounts result (D.failed_disk_calls disk.old) (D.failed_disk_calls disk.new) }
+        ensures steps { D.tells →
+            Went (committing self.now.live self.now.len bytes.now (D.moments disk.old).now)
+            (D.moments disk.old) (D.moments disk.new) }
+        ensures appended { D.tells →
+            OnOk result
+            ((D.moments disk.new).now
+            ≡ last_moment (D.moments disk.old).now
+            (committing self.now.live self.now.len bytes.now
+            (D.moments disk.old).now)) }
+        ensures cause { DiskCounts result (D.failed_disk_calls disk.old)
+            (D.failed_disk_calls disk.new) }
     {
         write_durably(disk, self.live, self.len, bytes)?;
         write_durably(disk, self.live, self.len - 1, &[1])
@@ -128,24 +155,41 @@ impl Journal {
     ) -> Result<ReadySide, NoMemory>
         requires form { form ≡ self.now.form }
         requires generation { self.now.generation + 1 < 2 ^ 64 }
-        ensures { IfOk result (λ side. side ≡ record { form = form; generation = self.now.generation + 1; payloads = payloads.now }) }
+        ensures { IfOk result
+            (λ side.
+            side
+            ≡ record {
+              form = form;
+              generation = self.now.generation + 1;
+              payloads = payloads.now;
+            }) }
     {
         ReadySide::new(alloc, form, self.generation + 1, payloads)
     }
 
     /// Puts a prepared side in the place of the one that counts. It takes no memory.
     pub fn replace<D: Disk>(&mut self, disk: &mut D, side: ReadySide) -> Result<(), DiskFailed>
-        requires whole { self.old.broken ≡ false }
+        requires usable { self.old.broken ≡ false }
         requires form { side.form ≡ self.old.form }
         requires generation { side.generation ≡ self.old.generation + 1 }
-        requires stands { D.tells → Stands self.old (D.moments disk.old).now }
-        ensures stands { D.tells → OnOk result (Stands self.new (D.moments disk.new).now) }
-        ensures replaced { D.tells → OnOk result (payloads self.old.form (reads_of (D.moments disk.new).now) ≡ side.payloads) }
-        ensures any_moment { D.tells → AtAnyMoment (D.moments disk.old) (D.moments disk.new) (λ image. IsEither (payloads self.old.form image) (payloads self.old.form (reads_of (D.moments disk.old).now)) side.payloads) }
-        ensures loses { D.tells → NeverLoses (D.moments disk.old) (D.moments disk.new) (λ image. payloads self.old.form image ≡ side.payloads) }
+        requires in_step { D.tells → IsInStep self.old (D.moments disk.old).now }
+        ensures in_step { D.tells → OnOk result (IsInStep self.new (D.moments disk.new).now) }
+        ensures replaced { D.tells →
+            OnOk result
+            (payloads self.old.form (reads_of (D.moments disk.new).now) ≡ side.payloads) }
+        ensures any_moment { D.tells →
+            AtAnyMoment (D.moments disk.old) (D.moments disk.new)
+            (λ image.
+            IsEither (payloads self.old.form image)
+            (payloads self.old.form (reads_of (D.moments disk.old).now))
+            side.payloads) }
+        ensures loses { D.tells →
+            NeverLoses (D.moments disk.old) (D.moments disk.new)
+            (λ image. payloads self.old.form image ≡ side.payloads) }
         ensures form { self.new.form ≡ self.old.form }
         ensures broken { self.new.broken ≡ is_err result }
-        ensures cause { DiskCounts result (D.failed_disk_calls disk.old) (D.failed_disk_calls disk.new) }
+        ensures cause { DiskCounts result (D.failed_disk_calls disk.old)
+            (D.failed_disk_calls disk.new) }
     {
         let other = other(self.live);
         let generation = side.generation();
@@ -166,15 +210,23 @@ impl Journal {
 
     /// Leaves no payload, by a side of generation 1. It takes no memory.
     pub fn reset<D: Disk>(&mut self, disk: &mut D) -> Result<(), DiskFailed>
-        requires whole { self.old.broken ≡ false }
-        requires stands { D.tells → Stands self.old (D.moments disk.old).now }
-        ensures stands { D.tells → OnOk result (Stands self.new (D.moments disk.new).now) }
-        ensures emptied { D.tells → OnOk result (payloads self.old.form (reads_of (D.moments disk.new).now) ≡ []) }
-        ensures any_moment { D.tells → AtAnyMoment (D.moments disk.old) (D.moments disk.new) (λ image. IsEither (payloads self.old.form image) (payloads self.old.form (reads_of (D.moments disk.old).now)) []) }
-        ensures loses { D.tells → NeverLoses (D.moments disk.old) (D.moments disk.new) (λ image. payloads self.old.form image ≡ []) }
+        requires usable { self.old.broken ≡ false }
+        requires in_step { D.tells → IsInStep self.old (D.moments disk.old).now }
+        ensures in_step { D.tells → OnOk result (IsInStep self.new (D.moments disk.new).now) }
+        ensures emptied { D.tells →
+            OnOk result (payloads self.old.form (reads_of (D.moments disk.new).now) ≡ []) }
+        ensures any_moment { D.tells →
+            AtAnyMoment (D.moments disk.old) (D.moments disk.new)
+            (λ image.
+            IsEither (payloads self.old.form image)
+            (payloads self.old.form (reads_of (D.moments disk.old).now)) []) }
+        ensures loses { D.tells →
+            NeverLoses (D.moments disk.old) (D.moments disk.new)
+            (λ image. payloads self.old.form image ≡ []) }
         ensures form { self.new.form ≡ self.old.form }
         ensures broken { self.new.broken ≡ is_err result }
-        ensures cause { DiskCounts result (D.failed_disk_calls disk.old) (D.failed_disk_calls disk.new) }
+        ensures cause { DiskCounts result (D.failed_disk_calls disk.old)
+            (D.failed_disk_calls disk.new) }
     {
         let other = other(self.live);
         match clear_sides(disk, self.live, other, &empty_side(self.form)) {
@@ -208,16 +260,23 @@ fn clear_sides<D: Disk>(
     other: Side,
     bytes: &[u8],
 ) -> Result<(), DiskFailed>
-    ensures steps { D.tells → Went (resetting live other bytes.now (D.moments disk.old).now) (D.moments disk.old) (D.moments disk.new) }
-    ensures made { D.tells → OnOk result ((D.moments disk.new).now ≡ last_of (D.moments disk.old).now (resetting live other bytes.now (D.moments disk.old).now)) }
-    ensures cause { DiskCounts result (D.failed_disk_calls disk.old) (D.failed_disk_calls disk.new) }
+    ensures steps { D.tells →
+        Went (resetting live other bytes.now (D.moments disk.old).now) (D.moments disk.old)
+        (D.moments disk.new) }
+    ensures made { D.tells →
+        OnOk result
+        ((D.moments disk.new).now
+        ≡ last_moment (D.moments disk.old).now
+        (resetting live other bytes.now (D.moments disk.old).now)) }
+    ensures cause { DiskCounts result (D.failed_disk_calls disk.old)
+        (D.failed_disk_calls disk.new) }
 {
     cut_durably(disk, other, 0)?;
     write_durably(disk, live, 0, &[0])?;
     make_side(disk, other, bytes)
 }
 
-/// Commits two payloads, one after the other. At any moment a stop leaves the payloads from before, with the first
+/// Commits two payloads, one after the other. At any moment a stop can leave the payloads from before, with the first
 /// one, with both, or with none.
 pub fn commit_both<D: Disk>(
     journal: &mut Journal,
@@ -225,14 +284,23 @@ pub fn commit_both<D: Disk>(
     first: Ready,
     second: Ready,
 ) -> Result<(), DiskFailed>
-    requires whole { journal.old.broken ≡ false }
-    requires stands { D.tells → Stands journal.old (D.moments disk.old).now }
-    ensures stands { D.tells → OnOk result (Stands journal.new (D.moments disk.new).now) }
-    ensures added { D.tells → OnOk result (payloads journal.old.form (reads_of (D.moments disk.new).now) ≡ payloads journal.old.form (reads_of (D.moments disk.old).now) ++ (first ∷ second ∷ [])) }
-    ensures any_moment { D.tells → AtAnyMoment (D.moments disk.old) (D.moments disk.new) (λ image. IsWithTwo (payloads journal.old.form image) (payloads journal.old.form (reads_of (D.moments disk.old).now)) first second) }
+    requires usable { journal.old.broken ≡ false }
+    requires in_step { D.tells → IsInStep journal.old (D.moments disk.old).now }
+    ensures in_step { D.tells → OnOk result (IsInStep journal.new (D.moments disk.new).now) }
+    ensures added { D.tells →
+        OnOk result
+        (payloads journal.old.form (reads_of (D.moments disk.new).now)
+        ≡ payloads journal.old.form (reads_of (D.moments disk.old).now)
+        ++ (first ∷ second ∷ [])) }
+    ensures any_moment { D.tells →
+        AtAnyMoment (D.moments disk.old) (D.moments disk.new)
+        (λ image.
+        IsWithTwo (payloads journal.old.form image)
+        (payloads journal.old.form (reads_of (D.moments disk.old).now)) first second) }
     ensures form { journal.new.form ≡ journal.old.form }
     ensures broken { journal.new.broken ≡ is_err result }
-    ensures cause { DiskCounts result (D.failed_disk_calls disk.old) (D.failed_disk_calls disk.new) }
+    ensures cause { DiskCounts result (D.failed_disk_calls disk.old)
+        (D.failed_disk_calls disk.new) }
 {
     journal.commit(disk, first)?;
     journal.commit(disk, second)

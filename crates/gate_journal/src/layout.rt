@@ -1,7 +1,7 @@
 // How a side begins: a byte that says whether it is live, the mark, the form, the generation, and the first gate.
 ghost use Rattle.std.specs.Prelude.{◌≡◌, ◌^◌, ◌<◌, ◌∷◌, [], length, All, Some, None, true, IfOk, IfSome, if◌then◌else◌};
 ghost use Rattle.std.specs.Option.{option_map};
-ghost use Rattle.vr_outside.specs.Disks.{bytes_of};
+ghost use Rattle.vr_outside.specs.Disks.{image_side};
 ghost use Rattle.gate_journal.specs.Payloads.{mark, is_live, generation_of, counting, side_bytes};
 
 use crate::Payloads;
@@ -43,9 +43,14 @@ fn live_generation(form: u8, bytes: &[u8]) -> Option<u64>
 /// The side that counts: the live one of the higher generation, and A where both have the same.
 #[tactic(auto, unfolding(crate::specs::Payloads::counting))]
 pub fn counting(form: u8, a: &[u8], b: &[u8]) -> Option<Live>
-    ensures side { option_map (λ live. live.side) result ≡ counting form (record { a = a.now; b = b.now }) }
-    ensures generation { IfSome result (λ live. live.generation ≡ generation_of (bytes_of live.side (record { a = a.now; b = b.now }))) }
-    ensures live { IfSome result (λ live. is_live form (bytes_of live.side (record { a = a.now; b = b.now })) ≡ true) }
+    ensures side { option_map (λ live. live.side) result
+        ≡ counting form (record { a = a.now; b = b.now }) }
+    ensures generation { IfSome result
+        (λ live.
+        live.generation
+        ≡ generation_of (image_side live.side (record { a = a.now; b = b.now }))) }
+    ensures live { IfSome result
+        (λ live. is_live form (image_side live.side (record { a = a.now; b = b.now })) ≡ true) }
 {
     match (live_generation(form, a), live_generation(form, b)) {
         (Some(first), Some(second)) if first < second => Some(Live {

@@ -1,5 +1,5 @@
-//! A list of payloads on the two sides of a disk that may lose power at any moment. A payload counts once the gate in
-//! front of it is open, and that is written alone, after all that stands behind it.
+//! A list of payloads on the two sides of a disk that may lose power at any moment. A payload counts once the gate
+//! before it is open, and that is written alone, after all that comes after it.
 #![tactic(auto)]
 
 mod journal;

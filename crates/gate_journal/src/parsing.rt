@@ -1,3 +1,5 @@
+//! Finding the payloads of a side that was read.
+
 ghost use Rattle.std.specs.Prelude.{◌≡◌, ℕ, ◌≤◌, length, IfOk};
 ghost use Rattle.std.specs.Option.{option_map};
 ghost use Rattle.gate_journal.specs.Payloads.{payload_at, payloads_in};
@@ -9,14 +11,14 @@ use byte_codec::ByteReader;
 use std::alloc::Global;
 use vr_base::NoMemory;
 
-/// The payloads of a side, and the number of its bytes up to and with the gate behind which none follows.
+/// The payloads of a side, and the number of its bytes up to and with the gate after which none follows.
 #[derive(Drop)]
 pub struct Found {
     pub payloads: Payloads,
     pub len: usize,
 }
 
-/// The payload that the gate at the front opens, and the bytes from the next gate on.
+/// The payload that the gate at the start opens, and the bytes from the next gate on.
 #[tactic(auto, unfolding(crate::specs::Payloads::payload_at))]
 fn next_payload(bytes: &[u8]) -> Option<(&[u8], &[u8])>
     ensures { option_map (λ read. (read.0.now, read.1.now)) result ≡ payload_at bytes.now }

@@ -1,3 +1,5 @@
+//! The list of payloads.
+
 ghost use Rattle.std.specs.Prelude.{◌≡◌, ◌^◌, ◌<◌, ◌++◌, ◌==◌, [], ◌∷◌, length, All, slice_get, Some, option_map, OnOk, OnErr};
 
 use std::alloc::Global;
@@ -52,7 +54,7 @@ impl Payloads {
         self.list.get(i).bytes()
     }
 
-    /// Adds a payload at the end. After `NoMemory` the list stands.
+    /// Adds a payload at the end. After `NoMemory` the list is unchanged.
     pub fn push(&mut self, alloc: Global, payload: &[u8]) -> Result<(), NoMemory>
         requires { length payload.now < 2 ^ 32 }
         ensures ok { OnOk result (self.new ≡ self.old ++ payload.now ∷ []) }

@@ -1,3 +1,5 @@
+//! A payload and a side that are ready to be written, so that writing them takes no memory.
+
 ghost use Rattle.std.specs.Prelude.{◌≡◌, ◌^◌, ◌<◌, ◌++◌, ◌∷◌, [], length, All, IfOk};
 ghost use Rattle.vr_base.specs.Bytes.{text_bytes};
 ghost use Rattle.gate_journal.specs.Payloads.{side_bytes};
@@ -27,7 +29,7 @@ impl Model for Ready {
 }
 
 impl Ready {
-    /// A copy of the payload, with its length in front and a closed gate behind.
+    /// A copy of the payload, with its length first and a closed gate after.
     pub(crate) fn new(alloc: Global, payload: &[u8]) -> Result<Ready, NoMemory>
         requires { length payload.now < 2 ^ 32 }
         ensures { IfOk result (λ ready. ready ≡ payload.now) }
@@ -40,7 +42,7 @@ impl Ready {
         })
     }
 
-    /// What is written behind the closed gate.
+    /// What is written after the closed gate.
     pub(crate) fn bytes(&self) -> &[u8]
         ensures bytes { result.now ≡ text_bytes self.now ++ 0 ∷ [] }
         ensures small { length self.now < 2 ^ 32 }
@@ -77,7 +79,10 @@ impl ReadySide {
         generation: u64,
         payloads: &Payloads,
     ) -> Result<ReadySide, NoMemory>
-        ensures { IfOk result (λ side. side ≡ record { form = form; generation = generation; payloads = payloads.now }) }
+        ensures { IfOk result
+            (λ side.
+            side
+            ≡ record { form = form; generation = generation; payloads = payloads.now }) }
     {
         Ok(ReadySide {
             form,
@@ -94,7 +99,8 @@ impl ReadySide {
 
     /// The bytes of the side, but for the first, which is 1.
     pub(crate) fn bytes(&self) -> &[u8]
-        ensures bytes { 1 ∷ result.now ≡ side_bytes self.now.form self.now.generation self.now.payloads }
+        ensures bytes { 1 ∷ result.now
+            ≡ side_bytes self.now.form self.now.generation self.now.payloads }
         ensures small { All (λ payload. length payload < 2 ^ 32) self.now.payloads }
     {
         self.bytes.bytes()

@@ -1,5 +1,7 @@
+//! Tests of a journal over a disk in memory: its bytes, stops inside its calls, and calls that fail.
+
 ghost use Rattle.std.specs.Prelude.{◌≡◌, false, IfOk};
-ghost use Rattle.gate_journal.specs.Journals.{Stands};
+ghost use Rattle.gate_journal.specs.Journals.{IsInStep};
 ghost use Rattle.vr_memory.specs.Disks.{moments_of};
 
 use crate::{Journal, Opened, Payloads};
@@ -96,9 +98,9 @@ fn leaves_all(alloc: Global, disk: &MemDisk, table: &[Row]) -> Result<bool, Stor
 
 /// A journal with the payload `ab`.
 fn with_ab(alloc: Global, disk: &mut MemDisk) -> Result<Journal, StoreFault>
-    ensures whole { IfOk result (λ journal. journal.broken ≡ false) }
+    ensures usable { IfOk result (λ journal. journal.broken ≡ false) }
     ensures form { IfOk result (λ journal. journal.form ≡ 1) }
-    ensures stands { IfOk result (λ journal. Stands journal (moments_of disk.new.log).now) }
+    ensures in_step { IfOk result (λ journal. IsInStep journal (moments_of disk.new.log).now) }
 {
     let Opened { mut journal, .. } = Journal::from_disk(alloc, disk, 1)?;
     let ready = journal.prepare(alloc, b"ab")?;
@@ -108,9 +110,9 @@ fn with_ab(alloc: Global, disk: &mut MemDisk) -> Result<Journal, StoreFault>
 
 /// Puts the payload `cd` in the place of those of a journal.
 fn replace_by_cd(alloc: Global, journal: &mut Journal, disk: &mut MemDisk) -> Result<(), StoreFault>
-    requires whole { journal.old.broken ≡ false }
+    requires usable { journal.old.broken ≡ false }
     requires form { journal.old.form ≡ 1 }
-    requires stands { Stands journal.old (moments_of disk.old.log).now }
+    requires in_step { IsInStep journal.old (moments_of disk.old.log).now }
 {
     if journal.generation() == u64::MAX {
         return Err(StoreFault::DiskFailed);
@@ -173,7 +175,7 @@ fn a_stop_inside_a_commit_leaves_its_payload_or_none(rt: HostRuntime) -> Result<
     Ok(())
 }
 
-/// Whether side A of each image of a moment begins with what stood there before the commit.
+/// Whether side A of each image of a moment begins with what was there before the commit.
 fn begins_empty(alloc: Global, disk: &MemDisk, moment: u64) -> Result<bool, NoMemory> {
     for length in [0, LONG] {
         let image = disk.crash(alloc, moment, length, 37)?;
@@ -224,7 +226,7 @@ fn a_stop_inside_a_reset_leaves_the_list_or_none(rt: HostRuntime) -> Result<(), 
     Ok(())
 }
 
-/// Whether a call that fails is answered, and leaves what a stop inside of it does.
+/// Whether a call that fails is answered, and leaves what a stop inside of it can.
 fn replacing_fails(alloc: Global, call: u64, row: &Row) -> Result<bool, StoreFault> {
     let mut disk = disk(alloc, &[call])?;
     let answer = with_cd(alloc, &mut disk);
@@ -273,7 +275,7 @@ fn each_disk_call_of_a_reset_may_fail(rt: HostRuntime) -> Result<(), Fail> {
     Ok(())
 }
 
-/// Whether a disk whose side A has these bytes, one of them changed, stands for these payloads.
+/// Whether a disk whose side A has these bytes, one of them changed, denotes these payloads.
 fn changed_holds(
     alloc: Global,
     place: usize,

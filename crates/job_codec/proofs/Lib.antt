@@ -1,2 +1,3 @@
+-- The lemmas.
 pub mod Tested
 pub mod Jobs

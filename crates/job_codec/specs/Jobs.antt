@@ -4,11 +4,12 @@ use Rattle.vr_base.specs.Names.{FitsName}
 use Rattle.vr_base.specs.Graphs.{IsBuilt}
 use Rattle.vr_base.specs.Jobs.{compile_input}
 use Rattle.job_codec.specs.declared.reading.CompileJob.{CompileJob}
+use Rattle.vr_base.specs.declared.limits.TheConstants.{TEXT_LIMIT}
 
 -- its name fits, its text has at most 4,194,304 bytes, and the files that it depends on were built
 pub record IsJob (job : CompileJob) : Type 0 where
   pub name : FitsName job.name
-  pub text : length job.text ≤ 4194304
+  pub text : length job.text ≤ TEXT_LIMIT
   pub deps : IsBuilt job.deps
 
 -- the input of its compiler

@@ -1,2 +1,3 @@
+-- The definitions.
 pub mod Jobs
 pub mod Reading

@@ -1,3 +1,5 @@
+//! Reading what a compiler is asked.
+
 ghost use Rattle.std.specs.Prelude.{◌≡◌, ◌≤◌, length, IfOk, IfSome, IsSome};
 ghost use Rattle.vr_base.specs.Names.{FitsName};
 ghost use Rattle.vr_base.specs.Graphs.{IsBuiltFile};
@@ -8,7 +10,7 @@ ghost use Rattle.job_codec.specs.Reading.{fitting_name_at, short_text_at, built_
 
 use byte_codec::ByteReader;
 use std::alloc::Global;
-use vr_base::{Built, BuiltFile, FileName, NoMemory, Text};
+use vr_base::{ARTEFACT_LIMIT, Built, BuiltFile, FILE_LIMIT, FileName, NoMemory, TEXT_LIMIT, Text};
 
 /// What a compiler is asked: a file, its text, and the files that it depends on, in compile order.
 #[derive(Drop)]
@@ -20,7 +22,8 @@ pub struct CompileJob {
 
 /// A name of the sizes of one.
 fn fitting_name(alloc: Global, reader: &mut ByteReader<'_>) -> Result<Option<FileName>, NoMemory>
-    ensures read { IfOk result (λ name. Reads (λ same. same) name reader.new (fitting_name_at reader.old)) }
+    ensures read { IfOk result
+        (λ name. Reads (λ same. same) name reader.new (fitting_name_at reader.old)) }
     ensures fits { IfOk result (λ name. IfSome name FitsName) }
 {
     let Some(name) = reader.name(alloc)? else {
@@ -38,7 +41,8 @@ fn short_text(
     limit: usize,
     reader: &mut ByteReader<'_>,
 ) -> Result<Option<Text>, NoMemory>
-    ensures read { IfOk result (λ text. Reads (λ bytes. bytes) text reader.new (short_text_at limit reader.old)) }
+    ensures read { IfOk result
+        (λ text. Reads (λ bytes. bytes) text reader.new (short_text_at limit reader.old)) }
     ensures short { IfOk result (λ text. IfSome text (λ bytes. length bytes ≤ limit)) }
 {
     let Some(bytes) = reader.text() else {
@@ -52,13 +56,14 @@ fn short_text(
 
 #[tactic(auto, unfolding(crate::specs::Reading::built_at))]
 fn built_file(alloc: Global, reader: &mut ByteReader<'_>) -> Result<Option<BuiltFile>, NoMemory>
-    ensures read { IfOk result (λ file. Reads (λ same. same) file reader.new (built_at reader.old)) }
+    ensures read { IfOk result
+        (λ file. Reads (λ same. same) file reader.new (built_at reader.old)) }
     ensures built { IfOk result (λ file. IfSome file IsBuiltFile) }
 {
     let Some(name) = fitting_name(alloc, reader)? else {
         return Ok(None);
     };
-    let Some(artefact) = short_text(alloc, 262_144, reader)? else {
+    let Some(artefact) = short_text(alloc, ARTEFACT_LIMIT, reader)? else {
         return Ok(None);
     };
     Ok(Some(BuiltFile { name, artefact }))
@@ -69,8 +74,9 @@ fn built_files(
     count: u32,
     reader: &mut ByteReader<'_>,
 ) -> Result<Option<Built>, NoMemory>
-    requires { count ≤ 4096 }
-    ensures { IfOk result (λ files. Reads (λ same. same) files reader.new (many_at built_at count reader.old)) }
+    requires { count ≤ FILE_LIMIT }
+    ensures { IfOk result
+        (λ files. Reads (λ same. same) files reader.new (many_at built_at count reader.old)) }
 {
     let mut files = Built::new(alloc);
     for _ in 0..count {
@@ -82,21 +88,22 @@ fn built_files(
     Ok(Some(files))
 }
 
-/// The files that were built, behind their number.
+/// The files that were built, after their number.
 #[tactic(auto, unfolding(crate::specs::Reading::all_built_at))]
 fn all_built(alloc: Global, reader: &mut ByteReader<'_>) -> Result<Option<Built>, NoMemory>
-    ensures { IfOk result (λ files. Reads (λ same. same) files reader.new (all_built_at reader.old)) }
+    ensures { IfOk result
+        (λ files. Reads (λ same. same) files reader.new (all_built_at reader.old)) }
 {
     let Some(count) = reader.u32() else {
         return Ok(None);
     };
-    if count > 4096 {
+    if count as usize > FILE_LIMIT {
         return Ok(None);
     }
     built_files(alloc, count, reader)
 }
 
-/// What stands behind the mark of a request, to its end.
+/// What comes after the mark of a request, to its end.
 #[tactic(auto, unfolding(crate::specs::Reading::fields_at))]
 fn fields(alloc: Global, reader: &mut ByteReader<'_>) -> Result<Option<CompileJob>, NoMemory>
     ensures { IfOk result (λ job. ReadsAll (λ same. same) job (fields_at reader.old)) }
@@ -104,7 +111,7 @@ fn fields(alloc: Global, reader: &mut ByteReader<'_>) -> Result<Option<CompileJo
     let Some(name) = fitting_name(alloc, reader)? else {
         return Ok(None);
     };
-    let Some(text) = short_text(alloc, 4_194_304, reader)? else {
+    let Some(text) = short_text(alloc, TEXT_LIMIT, reader)? else {
         return Ok(None);
     };
     let Some(deps) = all_built(alloc, reader)? else {
@@ -134,10 +141,13 @@ fn job_of(alloc: Global, bytes: &[u8]) -> Result<Option<CompileJob>, NoMemory>
 /// The job whose request has these bytes as its input; `None` exactly where no job has these bytes.
 pub fn read_compile_request(alloc: Global, bytes: &[u8]) -> Result<Option<CompileJob>, NoMemory>
     // What is given is a job with these bytes,
-    ensures found { IfOk result (λ given. IfSome given (λ job. IsJob job × (bytes.now ≡ job_bytes job))) }
+    ensures found { IfOk result
+        (λ given. IfSome given (λ job. IsJob job × (bytes.now ≡ job_bytes job))) }
     // and where a job has these bytes, there is an answer, and it is that one.
-    ensures some { (job : CompileJob) → IsJob job → bytes.now ≡ job_bytes job → IfOk result (λ given. IsSome given) }
-    ensures only { (job : CompileJob) → IsJob job → bytes.now ≡ job_bytes job → IfOk result (λ given. IfSome given (λ other. other ≡ job)) }
+    ensures some { (job : CompileJob) → IsJob job → bytes.now ≡ job_bytes job →
+        IfOk result (λ given. IsSome given) }
+    ensures only { (job : CompileJob) → IsJob job → bytes.now ≡ job_bytes job →
+        IfOk result (λ given. IfSome given (λ other. other ≡ job)) }
 {
     job_of(alloc, bytes)
 }

@@ -1,3 +1,5 @@
+//! Tests of the bytes of requests, byte for byte.
+
 use crate::{CompileJob, compile_request, read_compile_request};
 use std::alloc::Global;
 use std::test::Fail;
@@ -22,10 +24,10 @@ const ONE: [u8; 27] = [
     2, 0, 0, 0, b'y', b'z',
 ];
 
-fn request(alloc: Global, deps: &[u8], behind: &[u8]) -> Result<Vec<u8>, NoMemory> {
+fn request(alloc: Global, deps: &[u8], after: &[u8]) -> Result<Vec<u8>, NoMemory> {
     let mut bytes = Vec::from_slice(alloc, &FRONT)?;
     bytes.extend_from_slice(deps)?;
-    bytes.extend_from_slice(behind)?;
+    bytes.extend_from_slice(after)?;
     Ok(bytes)
 }
 
@@ -81,8 +83,8 @@ fn other_bytes_are_no_job(rt: HostRuntime) -> Result<(), Fail> {
         (&ONE[..26], b""),
         (&ONE, b"\0"),
     ];
-    for (deps, behind) in table {
-        let bytes = request(rt.alloc(), deps, behind)?;
+    for (deps, after) in table {
+        let bytes = request(rt.alloc(), deps, after)?;
         assert!(rt; read_compile_request(rt.alloc(), &bytes)?.is_none());
     }
     Ok(())

@@ -1,3 +1,5 @@
+//! Writing what a compiler is asked.
+
 ghost use Rattle.std.specs.Prelude.{◌≡◌, ◌≤◌, ◌++◌, length, IfOk, OnOk};
 ghost use Rattle.vr_base.specs.Names.{FitsName};
 ghost use Rattle.vr_base.specs.Graphs.{IsBuiltFile};
@@ -5,7 +7,7 @@ ghost use Rattle.vr_base.specs.Jobs.{built_bytes, all_built_bytes, compile_input
 
 use byte_codec::ByteWriter;
 use std::alloc::Global;
-use vr_base::{Built, BuiltFile, Entry, MaybeText, NoMemory, Request, Text};
+use vr_base::{Built, BuiltFile, Entry, MaybeText, NoMemory, Request, TEXT_LIMIT, Text};
 
 #[tactic(auto, unfolding(vr_base::specs::Jobs::built_bytes))]
 fn put_built(out: &mut ByteWriter, file: &BuiltFile) -> Result<(), NoMemory>
@@ -32,7 +34,7 @@ fn put_all_built(out: &mut ByteWriter, built: &Built) -> Result<(), NoMemory>
 #[tactic(auto, unfolding(vr_base::specs::Jobs::compile_input))]
 fn compile_input(alloc: Global, entry: &Entry, deps: &Built) -> Result<Text, NoMemory>
     requires name { FitsName entry.now.name }
-    requires text { length entry.now.text ≤ 4194304 }
+    requires text { length entry.now.text ≤ TEXT_LIMIT }
     ensures { IfOk result (λ input. input ≡ compile_input entry.now.name entry.now.text deps.now) }
 {
     let mut out = ByteWriter::new(alloc);
@@ -46,7 +48,7 @@ fn compile_input(alloc: Global, entry: &Entry, deps: &Built) -> Result<Text, NoM
 /// What a compiler is started with for a file over the files that it depends on, in compile order.
 pub fn compile_request(alloc: Global, entry: &Entry, deps: &Built) -> Result<Request, NoMemory>
     requires name { FitsName entry.now.name }
-    requires text { length entry.now.text ≤ 4194304 }
+    requires text { length entry.now.text ≤ TEXT_LIMIT }
     ensures { IfOk result (λ request. request ≡ compile_request entry.now deps.now) }
 {
     Ok(Request {

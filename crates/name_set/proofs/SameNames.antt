@@ -4,8 +4,8 @@ use Rattle.std.proofs.lemmas.Bool.{cases_Bool, and_parts, and_from, both_ways, f
 use Rattle.std.proofs.lemmas.List.Folds.{list_any-append}
 use Rattle.std.proofs.lemmas.Slice.Eq.{bytes_eq-Decides}
 use Rattle.vr_base.specs.declared.file.FileName.{FileName}
-use Rattle.name_set.specs.Names.{has_name, Holds}
-use Rattle.vr_base.specs.Names.{is_same_name}
+use Rattle.name_set.specs.Names.{Holds}
+use Rattle.vr_base.specs.Names.{is_same_name, has_name}
 
 pub same_names : (a b : FileName) → a ≡ b → is_same_name a b ≡ true
 same_names a b e = and_from _ _ ((bytes_eq-Decides a.library b.library).1 (ap (λ (n : FileName). n.library) e)) ((bytes_eq-Decides a.path b.path).1 (ap (λ (n : FileName). n.path) e))

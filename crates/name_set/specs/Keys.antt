@@ -5,8 +5,8 @@ use Rattle.std.specs.declared.cmp.Ordering.{Ordering}
 use Rattle.vr_base.specs.declared.file.FileName.{FileName}
 use Rattle.name_set.specs.declared.names.Key.{Key}
 
-abbrev pub name_of : Key → FileName
-name_of key = record { library = key.library.items; path = key.path.items }
+abbrev pub name_of_key : Key → FileName
+name_of_key key = record { library = key.library.items; path = key.path.items }
 
 -- by library, and then by path
 abbrev pub key_cmp : Key → Key → Ordering

@@ -1,6 +1,9 @@
+//! A set of names of files, by a tree of their bytes.
+
 ghost use Rattle.std.specs.Prelude.{◌≡◌, ◌++◌, [], ◌∷◌, not, IfOk, OnOk, OnErr};
-ghost use Rattle.name_set.specs.Names.{Holds, has_name};
-ghost use Rattle.name_set.specs.Keys.{name_of};
+ghost use Rattle.name_set.specs.Names.{Holds};
+ghost use Rattle.name_set.specs.Keys.{name_of_key};
+ghost use Rattle.vr_base.specs.Names.{has_name};
 
 use std::alloc::Global;
 use std::collections::BTreeSet;
@@ -24,15 +27,15 @@ pub struct NameSet {
 impl Model for NameSet {
     ghost use Rattle.std.specs.Prelude.{List, map};
     ghost use Rattle.vr_base.specs.declared.file.FileName.{FileName};
-    ghost use Rattle.name_set.specs.Keys.{name_of};
+    ghost use Rattle.name_set.specs.Keys.{name_of_key};
 
     ghost Value = { List FileName };
 
-    ghost view = { λ a. map name_of a.set.keys };
+    ghost view = { λ a. map name_of_key a.set.keys };
 }
 
 fn key_of(alloc: Global, name: &FileName) -> Result<Key, NoMemory>
-    ensures { IfOk result (λ key. name_of key ≡ name.now) }
+    ensures { IfOk result (λ key. name_of_key key ≡ name.now) }
 {
     Ok(Key {
         library: Vec::from_slice(alloc, name.library.bytes())?,
@@ -52,7 +55,7 @@ impl NameSet {
     }
 
     /// Adds a name, and says whether it is new. It takes about as many comparisons as the number of names has binary
-    /// digits. After `NoMemory` the set stands.
+    /// digits. After `NoMemory` the set is unchanged.
     pub fn add(&mut self, name: &FileName) -> Result<bool, NoMemory>
         ensures is_new { IfOk result (λ is_new. is_new ≡ not (has_name self.old name.now)) }
         ensures ok { OnOk result (Holds self.new (self.old ++ name.now ∷ [])) }

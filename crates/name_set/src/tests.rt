@@ -1,3 +1,5 @@
+//! Names that are added once and twice.
+
 use crate::NameSet;
 use std::alloc::Global;
 use std::test::Fail;

@@ -4,9 +4,9 @@ use Rattle.std.specs.Prelude.{All, Contains, slice_index}
 use Rattle.std.proofs.lemmas.Bool.{cases_lt}
 use Rattle.std.proofs.lemmas.List.{get_or_default}
 use Rattle.vr_base.specs.declared.graph.Entry.{Entry}
-use Rattle.record_codec.specs.Validity.{Covers, IsMarked, IsClosedAt, HoldsAll}
+use Rattle.record_codec.specs.Validity.{Covers, IsSeen, HasClosedDeps, HoldsAll}
 
--- a mark of 2 stands for a place among the dependencies of a file that was looked at
+-- a mark of 2 denotes a place among the dependencies of a file that was looked at
 pub record Seen (entries : List Entry) (deps : List ℕ) (from position : ℕ) : Type 0 where
   pub place : ℕ
   pub low : from ≤ place
@@ -22,7 +22,7 @@ pub record Goes (entries : List Entry) (deps old state : List ℕ) (from : ℕ) 
   pub seen : (position : ℕ) → slice_index state position ≡ 2 → Seen entries deps from position
   pub held : (k : ℕ) (other : Entry) → from ≤ k → k < length deps → All (Contains deps) (get_or entries (get_or deps k 0) other).deps
 
-pub starts : (entries : List Entry) (deps state : List ℕ) → IsMarked deps (length state) state (length deps) → Goes entries deps state state (length deps)
+pub starts : (entries : List Entry) (deps state : List ℕ) → IsSeen deps (length state) state (length deps) → Goes entries deps state state (length deps)
 starts entries deps state m = record {
   count = refl;
   low = omega arith;
@@ -43,7 +43,7 @@ starts entries deps state m = record {
 }
 
 -- a file that is passed over: its dependencies are those of one that was looked at
-pub passes : (entries : List Entry) (deps old state : List ℕ) (k : ℕ) → ((j : ℕ) → j < length old → IsClosedAt entries j) → All (λ dep. dep < length old) deps → k + 1 ≤ length deps → Goes entries deps old state (k + 1) → slice_index state (get_or deps k 0) ≢ 1 → Goes entries deps old state k
+pub passes : (entries : List Entry) (deps old state : List ℕ) (k : ℕ) → ((j : ℕ) → j < length old → HasClosedDeps entries j) → All (λ dep. dep < length old) deps → k + 1 ≤ length deps → Goes entries deps old state (k + 1) → slice_index state (get_or deps k 0) ≢ 1 → Goes entries deps old state k
 passes entries deps old state k closed within lt g not_one =
     let two : slice_index state (get_or deps k 0) ≡ 2 = elim (g.kinds (get_or deps k 0)) [
       | inl none ↦ absurd (g.marked k (omega arith) none)

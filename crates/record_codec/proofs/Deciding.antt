@@ -1,4 +1,4 @@
--- The tests of files decide what they stand for.
+-- The tests of files decide what they denote.
 use Rattle.std.proofs.Common.{◌≡◌, ◌≢◌, ◌<◌, ◌≤◌, ◌+◌, ◌-◌, ◌∙◌, ℕ, suc, Bool, true, not, ◌&&◌, ◌==◌, List, [], ◌∷◌, length, get_or, refl, sym, ap, subst, arith}
 use Rattle.std.specs.Prelude.{All, AllPairs, Contains, sum_by, nat_le, nat_lt}
 use Rattle.std.specs.Bool.{Decides}
@@ -16,7 +16,8 @@ use Rattle.vr_base.specs.declared.graph.Entry.{Entry}
 use Rattle.vr_base.specs.Names.{is_same_name, IsBetween, FitsName, FitsCommand}
 use Rattle.vr_base.specs.Graphs.{IsEntryAt, IsGraph}
 use Rattle.vr_base.specs.View.{IsView}
-use Rattle.record_codec.specs.Found.{all_pairs, is_between, fits_name, fits_command, holds_all, deps_at, fit_deps, stands, is_graph, is_whole, is_view}
+use Rattle.record_codec.specs.Found.{all_pairs, is_between, fits_name, fits_command, holds_all, found_deps, fit_deps, stands, is_graph, is_whole, is_view}
+use Rattle.vr_base.specs.declared.limits.TheConstants.{COMMAND_LIMIT, FILE_LIMIT, GRAPH_TEXT_LIMIT, LIBRARY_LIMIT, PATH_LIMIT, TEXT_LIMIT, WORD_LIMIT}
 
 nat_le-Decides : (a b : ℕ) → Decides (nat_le a b) (a ≤ b)
 nat_le-Decides a b = (leb-true a b, le-leb a b)
@@ -45,12 +46,12 @@ is_between-Decides low high n =
 
 fits_name-Decides : (name : FileName) → Decides (fits_name name) (FitsName name)
 fits_name-Decides name =
-    Decides-like (fits_name name) (λ h. record { library = h.0; path = h.1 }) (λ fits. (fits.library, fits.path)) (Decides-and _ _ (is_between-Decides 1 64 (length name.library)) (is_between-Decides 1 1024 (length name.path)))
+    Decides-like (fits_name name) (λ h. record { library = h.0; path = h.1 }) (λ fits. (fits.library, fits.path)) (Decides-and _ _ (is_between-Decides 1 LIBRARY_LIMIT (length name.library)) (is_between-Decides 1 PATH_LIMIT (length name.path)))
 
 fits_command-Decides : (command : List (List ℕ)) → Decides (fits_command command) (FitsCommand command)
 fits_command-Decides command =
     Decides-like (fits_command command) (λ h. record { count = h.0; words = h.1 }) (λ fits. (fits.count, fits.words))
-    (Decides-and _ _ (is_between-Decides 1 64 (length command)) (list_all-Decides (λ word. nat_le (length word) 1024) (λ word. length word ≤ 1024) (λ word. nat_le-Decides (length word) 1024) command))
+    (Decides-and _ _ (is_between-Decides 1 COMMAND_LIMIT (length command)) (list_all-Decides (λ word. nat_le (length word) WORD_LIMIT) (λ word. length word ≤ WORD_LIMIT) (λ word. nat_le-Decides (length word) WORD_LIMIT) command))
 
 contains-Decides : (deps : List ℕ) (position : ℕ) → Decides (list_any (λ dep. dep == position) deps) (Contains deps position)
 contains-Decides deps position =
@@ -65,18 +66,18 @@ rising-Decides deps =
     Decides-like (all_pairs nat_lt deps) (λ pairs k l. pairs k (k + 1) 0 (omega arith) l) (AllPairs-from_increasing deps) (all_pairs-Decides nat_lt (λ a b. a < b) Decides-ltb deps)
 
 -- the dependencies of a file that is there
-deps_there : (files : List Entry) (place : ℕ) (other : Entry) → place < length files → deps_at files place ≡ (get_or files place other).deps
+deps_there : (files : List Entry) (place : ℕ) (other : Entry) → place < length files → found_deps files place ≡ (get_or files place other).deps
 deps_there files place other lt = rw (slice_get-get_or files place other lt) refl
 
 abbrev FitDeps : List Entry → ℕ → List ℕ → Type 0
-FitDeps files place deps = IsStrictlyIncreasing deps × (All (λ dep. dep < place) deps × All (λ dep. All (Contains deps) (deps_at files dep)) deps)
+FitDeps files place deps = IsStrictlyIncreasing deps × (All (λ dep. dep < place) deps × All (λ dep. All (Contains deps) (found_deps files dep)) deps)
 
 fit_deps-Decides : (files : List Entry) (place : ℕ) (deps : List ℕ) → Decides (fit_deps files place deps) (FitDeps files place deps)
 unfolding fit_deps
 fit_deps-Decides files place deps =
     Decides-and _ _ (rising-Decides deps)
     (Decides-and _ _ (list_all-Decides (λ dep. nat_lt dep place) (λ dep. dep < place) (λ dep. Decides-ltb dep place) deps)
-    (list_all-Decides (λ dep. holds_all deps (deps_at files dep)) (λ dep. All (Contains deps) (deps_at files dep)) (λ dep. holds_all-Decides deps (deps_at files dep)) deps))
+    (list_all-Decides (λ dep. holds_all deps (found_deps files dep)) (λ dep. All (Contains deps) (found_deps files dep)) (λ dep. holds_all-Decides deps (found_deps files dep)) deps))
 
 stands-Decides : (files : List Entry) (place : ℕ) (entry : Entry) → place < length files → Decides (stands files place entry) (IsEntryAt files place entry)
 unfolding stands
@@ -94,7 +95,7 @@ stands-Decides files place entry lt =
       (at.rising, (at.before, λ k d l. subst (All (Contains entry.deps)) (sym (deps_there files (get_or entry.deps k d) entry (omega (arith, at.before k d l, lt)))) (at.closed k d l entry))),
       (at.name, (at.command, at.text)),
     ))
-    (Decides-and _ _ (fit_deps-Decides files place entry.deps) (Decides-and _ _ (fits_name-Decides entry.name) (Decides-and _ _ (fits_command-Decides entry.command) (nat_le-Decides (length entry.text) 4194304))))
+    (Decides-and _ _ (fit_deps-Decides files place entry.deps) (Decides-and _ _ (fits_name-Decides entry.name) (Decides-and _ _ (fits_command-Decides entry.command) (nat_le-Decides (length entry.text) TEXT_LIMIT))))
 
 -- a file with its place
 placed_at : (files : List Entry) (place : ℕ) (d : ℕ × Entry) → place < length files → get_or (enumerate_from 0 files) place d ≡ (place, get_or files place d.1)
@@ -120,10 +121,10 @@ is_graph-Decides files =
     Decides-like (is_graph files)
     (λ h. record { few = h.0; distinct = h.1.0; each = h.1.1.0; small = h.1.1.1 })
     (λ valid. (valid.few, (valid.distinct, (valid.each, valid.small))))
-    (Decides-and _ _ (nat_le-Decides (length files) 4096)
+    (Decides-and _ _ (nat_le-Decides (length files) FILE_LIMIT)
     (Decides-and _ _
     (all_pairs-Decides (λ entry other. not (is_same_name entry.name other.name)) (λ entry other. entry.name ≢ other.name) (λ entry other. Decides-not _ (is_same_name-Decides entry.name other.name)) files)
-    (Decides-and _ _ (all_stand-Decides files) (nat_le-Decides (sum_by (λ entry. length entry.text) files) 67108864))))
+    (Decides-and _ _ (all_stand-Decides files) (nat_le-Decides (sum_by (λ entry. length entry.text) files) GRAPH_TEXT_LIMIT))))
 
 -- what a place past the end reads
 no_file : Entry
@@ -139,10 +140,10 @@ is_whole-Decides files =
       whole = λ n place other e lt.
           let same : last ≡ n = omega (arith, e) in
           let low : place < last = omega (arith, same) in
-          let at : Contains (deps_at files last) (get_or (range_with_len 0 last) place 0) = h.1 place 0 (omega (arith, length-range_with_len 0 last)) in
+          let at : Contains (found_deps files last) (get_or (range_with_len 0 last) place 0) = h.1 place 0 (omega (arith, length-range_with_len 0 last)) in
           let value : get_or (range_with_len 0 last) place 0 ≡ place = omega (arith, get_or-range_with_len 0 last place 0 low) in
           subst (λ (m : ℕ). Contains (get_or files m other).deps place) same
-          (subst (λ (deps : List ℕ). Contains deps place) (deps_there files last other (omega (arith, h.0))) (subst (Contains (deps_at files last)) value at));
+          (subst (λ (deps : List ℕ). Contains deps place) (deps_there files last other (omega (arith, h.0))) (subst (Contains (found_deps files last)) value at));
     })
     (λ view. (
       view.some,
@@ -150,9 +151,9 @@ is_whole-Decides files =
           let low : place < last = omega (arith, length-range_with_len 0 last) in
           let value : get_or (range_with_len 0 last) place d ≡ place = omega (arith, get_or-range_with_len 0 last place d low) in
           let at : Contains (get_or files last no_file).deps place = view.whole last place no_file (omega (arith, view.some)) low in
-          subst (Contains (deps_at files last)) (sym value) (subst (λ (deps : List ℕ). Contains deps place) (sym (deps_there files last no_file (omega (arith, view.some)))) at),
+          subst (Contains (found_deps files last)) (sym value) (subst (λ (deps : List ℕ). Contains deps place) (sym (deps_there files last no_file (omega (arith, view.some)))) at),
     ))
-    (Decides-and _ _ (Decides-ltb 0 (length files)) (holds_all-Decides (deps_at files last) (range_with_len 0 last)))
+    (Decides-and _ _ (Decides-ltb 0 (length files)) (holds_all-Decides (found_deps files last) (range_with_len 0 last)))
 
 -- files are a view exactly where they pass the test
 pub is_view-Decides : (files : List Entry) → Decides (is_view files) (IsGraph files × IsView files)

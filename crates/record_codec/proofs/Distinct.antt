@@ -6,8 +6,7 @@ use Rattle.std.proofs.lemmas.List.{take_more, length-map, length-take, get_or-ma
 use Rattle.std.proofs.lemmas.List.Quantifiers.{all_pairs_push}
 use Rattle.std.proofs.lemmas.List.Folds.{list_any_at, list_any_none}
 use Rattle.vr_base.specs.declared.graph.Entry.{Entry}
-use Rattle.name_set.specs.Names.{has_name}
-use Rattle.vr_base.specs.Names.{is_same_name}
+use Rattle.vr_base.specs.Names.{is_same_name, has_name}
 use Rattle.name_set.proofs.SameNames.{same_names, names_same}
 
 abbrev pub Distinct : List Entry → Type 0

@@ -12,6 +12,7 @@ use Rattle.vr_base.specs.Jobs.{name_bytes}
 use Rattle.vr_base.specs.Names.{FitsName, FitsCommand}
 use Rattle.source_view.proofs.Rising.{few}
 use Rattle.record_codec.specs.Spelling.{words_bytes, positions_bytes, entry_bytes, record_bytes}
+use Rattle.vr_base.specs.declared.limits.TheConstants.{ARTEFACT_LIMIT, FILE_LIMIT}
 
 length-number_bytes : (n : ℕ) → length (number_bytes n) ≡ 4
 length-number_bytes n = refl
@@ -37,7 +38,7 @@ words_small words fits =
       fits.count.at_most,
     )
 
-positions_small : (positions : List ℕ) → length positions ≤ 4096 → length (positions_bytes positions) ≤ 16388
+positions_small : (positions : List ℕ) → length positions ≤ FILE_LIMIT → length (positions_bytes positions) ≤ 16388
 unfolding positions_bytes
 positions_small positions count =
     omega (
@@ -50,7 +51,7 @@ positions_small positions count =
     )
 
 -- besides its text, a file has at most 83,284 bytes
-entry_small : (graph : List Entry) (i : ℕ) (entry : Entry) → IsEntryAt graph i entry → i ≤ 4096 → length (entry_bytes entry) ≤ 83284 + length entry.text
+entry_small : (graph : List Entry) (i : ℕ) (entry : Entry) → IsEntryAt graph i entry → i ≤ FILE_LIMIT → length (entry_bytes entry) ≤ 83284 + length entry.text
 unfolding entry_bytes
 entry_small graph i entry at low =
     omega (
@@ -70,7 +71,7 @@ sum_by-le-sum_by f g more [] each = omega arith
 sum_by-le-sum_by f g more (x ∷ xs) each =
     omega (arith, sum_by-cons f x xs, sum_by-cons g x xs, each 0 x (omega arith), sum_by-le-sum_by f g more xs (λ k d l. each (suc k) d (omega arith)))
 
-pub record_small : (view : List Entry) (artefact : List ℕ) → IsGraph view → length artefact ≤ 262144 → length (record_bytes view artefact) < 2 ^ 32
+pub record_small : (view : List Entry) (artefact : List ℕ) → IsGraph view → length artefact ≤ ARTEFACT_LIMIT → length (record_bytes view artefact) < 2 ^ 32
 unfolding record_bytes
 record_small view artefact valid small =
     let each : All (λ entry. length (entry_bytes entry) ≤ 83284 + length entry.text) view = λ k d l. entry_small view k (get_or view k d) (valid.each k d l) (omega (arith, valid.few)) in

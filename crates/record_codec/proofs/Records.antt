@@ -12,7 +12,7 @@ use Rattle.byte_codec.proofs.Fields.{bind_some, guard_ended, some_is, Takes-then
 use Rattle.byte_codec.proofs.Many.{by_recursion, by_place, counted_take, counted_again}
 use Rattle.byte_codec.proofs.NameFields.{name_takes, name_again}
 use Rattle.record_codec.specs.Spelling.{words_bytes, positions_bytes, entry_bytes, record_bytes, HasSpelling, IsRecord}
-use Rattle.record_codec.specs.Reading.{entry_at, record_at}
+use Rattle.record_codec.specs.Reading.{entry_at, record_read_at}
 use Rattle.record_codec.proofs.Spelled.{has_spelling}
 
 abbrev TextFits : List ℕ → Type 0
@@ -56,8 +56,8 @@ entry_again entry left fits =
       counted_again (number_at w32) number_bytes NumberFits u32_again entry.deps left fits.few (by_recursion NumberFits entry.deps fits.deps),
     ) refl
 
-pub record_takes : (bytes : List ℕ) (view : List Entry) (artefact : List ℕ) → AreBytes bytes → record_at bytes ≡ Some (view, artefact) → bytes ≡ record_bytes view artefact
-unfolding record_at record_bytes
+pub record_takes : (bytes : List ℕ) (view : List Entry) (artefact : List ℕ) → AreBytes bytes → record_read_at bytes ≡ Some (view, artefact) → bytes ≡ record_bytes view artefact
+unfolding record_read_at record_bytes
 record_takes bytes view artefact fits e =
     let a = bind_some (counted_at entry_at bytes) (λ view. text_at view.1 >>= λ artefact. cond (eqb (length artefact.1) 0) (Some (view.0, artefact.0)) None) (view, artefact) e in
     let b = bind_some (text_at a.0.1) (λ artefact. cond (eqb (length artefact.1) 0) (Some (a.0.0, artefact.0)) None) (view, artefact) a.2 in
@@ -69,28 +69,28 @@ record_takes bytes view artefact fits e =
     ends_there bytes ((number_bytes (length a.0.0) ++ flat_map entry_bytes a.0.0) ++ text_bytes b.0.0) b.0.1 both g.0 ∙ append_assoc (number_bytes (length a.0.0)) (flat_map entry_bytes a.0.0) (text_bytes b.0.0) in
     subst (λ (r : List Entry × List ℕ). bytes ≡ record_bytes r.0 r.1) g.1 whole
 
-pub record_again : (view : List Entry) (artefact : List ℕ) → IsRecord view artefact → record_at (record_bytes view artefact) ≡ Some (view, artefact)
-unfolding record_at record_bytes
+pub record_again : (view : List Entry) (artefact : List ℕ) → IsRecord view artefact → record_read_at (record_bytes view artefact) ≡ Some (view, artefact)
+unfolding record_read_at record_bytes
 record_again view artefact is =
     let spelled : AllByRecursion HasSpelling view = by_recursion HasSpelling view (λ k d l. has_spelling view k d is.graph l) in
     let last : text_at (text_bytes artefact) ≡ Some (artefact, []) = ap text_at (sym (append-nil (text_bytes artefact))) ∙ text_again artefact [] (omega (arith, is.small)) in
-    ap record_at (sym (append_assoc (number_bytes (length view)) (flat_map entry_bytes view) (text_bytes artefact)))
+    ap record_read_at (sym (append_assoc (number_bytes (length view)) (flat_map entry_bytes view) (text_bytes artefact)))
     ∙ rw (counted_again entry_at entry_bytes HasSpelling entry_again view (text_bytes artefact) (omega (arith, is.graph.few)) spelled, last) refl
 
 -- two records never have the same bytes
-pub same_record : (view other : List Entry) (artefact gift : List ℕ) → IsRecord view artefact → IsRecord other gift → record_bytes view artefact ≡ record_bytes other gift → (view ≡ other) × (artefact ≡ gift)
-same_record view other artefact gift is is_other e =
-    let p = some_is (view, artefact) (other, gift) (sym (record_again view artefact is) ∙ ap record_at e ∙ record_again other gift is_other) in
+pub same_record : (view other : List Entry) (artefact other_artefact : List ℕ) → IsRecord view artefact → IsRecord other other_artefact → record_bytes view artefact ≡ record_bytes other other_artefact → (view ≡ other) × (artefact ≡ other_artefact)
+same_record view other artefact other_artefact is is_other e =
+    let p = some_is (view, artefact) (other, other_artefact) (sym (record_again view artefact is) ∙ ap record_read_at e ∙ record_again other other_artefact is_other) in
     (ap (λ (r : List Entry × List ℕ). r.0) p, ap (λ (r : List Entry × List ℕ). r.1) p)
 
 -- bytes of a record are read as that record
-pub is_read : (bytes : List ℕ) (view : List Entry) (artefact : List ℕ) → IsRecord view artefact → bytes ≡ record_bytes view artefact → record_at bytes ≡ Some (view, artefact)
-is_read bytes view artefact is e = ap record_at e ∙ record_again view artefact is
+pub is_read : (bytes : List ℕ) (view : List Entry) (artefact : List ℕ) → IsRecord view artefact → bytes ≡ record_bytes view artefact → record_read_at bytes ≡ Some (view, artefact)
+is_read bytes view artefact is e = ap record_read_at e ∙ record_again view artefact is
 
-pub not_read : (bytes : List ℕ) (view : List Entry) (artefact : List ℕ) → record_at bytes ≡ None → IsRecord view artefact → bytes ≡ record_bytes view artefact → ⊥
+pub not_read : (bytes : List ℕ) (view : List Entry) (artefact : List ℕ) → record_read_at bytes ≡ None → IsRecord view artefact → bytes ≡ record_bytes view artefact → ⊥
 not_read bytes view artefact none is e = let both = sym none ∙ is_read bytes view artefact is e in cc
 
-pub is_that : (bytes : List ℕ) (entries : List Entry) (gift : List ℕ) (view : List Entry) (artefact : List ℕ) → record_at bytes ≡ Some (entries, gift) → IsRecord view artefact → bytes ≡ record_bytes view artefact → (entries ≡ view) × (gift ≡ artefact)
-is_that bytes entries gift view artefact read is e =
-    let p = some_is (entries, gift) (view, artefact) (sym read ∙ is_read bytes view artefact is e) in
+pub is_that : (bytes : List ℕ) (entries : List Entry) (other_artefact : List ℕ) (view : List Entry) (artefact : List ℕ) → record_read_at bytes ≡ Some (entries, other_artefact) → IsRecord view artefact → bytes ≡ record_bytes view artefact → (entries ≡ view) × (other_artefact ≡ artefact)
+is_that bytes entries other_artefact view artefact read is e =
+    let p = some_is (entries, other_artefact) (view, artefact) (sym read ∙ is_read bytes view artefact is e) in
     (ap (λ (r : List Entry × List ℕ). r.0) p, ap (λ (r : List Entry × List ℕ). r.1) p)

@@ -9,7 +9,7 @@ use Rattle.vr_base.specs.declared.graph.Entry.{Entry}
 use Rattle.vr_base.specs.Graphs.{IsEntryAt}
 use Rattle.vr_base.specs.View.{IsView}
 use Rattle.source_view.proofs.Rising.{before_later, place_le, few}
-use Rattle.record_codec.specs.Validity.{FitsFile, IsClosedAt, IsBefore, StandsAt, StandBelow}
+use Rattle.record_codec.specs.Validity.{FitsFile, HasClosedDeps, IsBefore, StandsAt, StandBelow}
 
 abbrev pub text_size : Entry → ℕ
 text_size entry = length entry.text
@@ -21,7 +21,7 @@ sum_more entries i entry lt is =
     ∙ ap (λ (e : Entry). sum_by text_size (take i entries) + length e.text) (sym is)
 
 -- a file that passes each test stands where it is
-pub stands : (entries : List Entry) (place : ℕ) (entry : Entry) → place < length entries → entry ≡ get_or entries place entry → FitsFile entry → IsStrictlyIncreasing entry.deps → All (λ dep. dep < place) entry.deps → IsClosedAt entries place → StandsAt entries place
+pub stands : (entries : List Entry) (place : ℕ) (entry : Entry) → place < length entries → entry ≡ get_or entries place entry → FitsFile entry → IsStrictlyIncreasing entry.deps → All (λ dep. dep < place) entry.deps → HasClosedDeps entries place → StandsAt entries place
 stands entries place entry lt is fits rising before closed other =
     let same : (e : Entry) → get_or entries place e ≡ entry = λ e. get_or_default entries place e entry lt ∙ sym is in
     subst (IsEntryAt entries place) (sym (same other)) (record {
@@ -33,14 +33,14 @@ stands entries place entry lt is fits rising before closed other =
       text = fits.text;
     })
 
-pub is_closed : (entries : List Entry) (place : ℕ) → StandsAt entries place → IsClosedAt entries place
+pub is_closed : (entries : List Entry) (place : ℕ) → StandsAt entries place → HasClosedDeps entries place
 is_closed entries place at entry other k d l = (at entry).closed k d l other
 
 pub is_before : (entries : List Entry) (place : ℕ) → StandsAt entries place → IsBefore entries place
 is_before entries place at entry = (at entry).before
 
 module _ (deps : List ℕ) (rising : IsStrictlyIncreasing deps) (last : ℕ) (below : All (λ dep. dep < last) deps) where
-  -- rising from behind
+  -- rising from after
   from_top : (j k : ℕ) → k + j + 1 ≡ length deps → get_or deps k 0 + j < last
   from_top zero k e = omega (arith, below k 0 (omega (arith, e)))
   from_top (suc j) k e = omega (arith, from_top j (k + 1) (omega (arith, e)), before_later deps rising k (k + 1) (omega arith) (omega (arith, e)))

@@ -1,4 +1,4 @@
--- Reading a record from front to back: the files and the artefact, whether or not they are a view.
+-- Reading a record from start to end: the files and the artefact, whether or not they are a view.
 use Rattle.std.specs.Prelude.{ℕ, List, ◌==◌, length, Option, Some, None, if◌then◌else◌}
 use Rattle.std.specs.Int.{w32}
 use Rattle.vr_base.specs.declared.graph.Entry.{Entry}
@@ -14,8 +14,8 @@ entry_at bytes = do
   Some (record { name = name.0; command = command.0; text = text.0; deps = deps.0 }, deps.1)
 
 -- all of the bytes
-unfoldable pub record_at : List ℕ → Option (List Entry × List ℕ)
-record_at bytes = do
+unfoldable pub record_read_at : List ℕ → Option (List Entry × List ℕ)
+record_read_at bytes = do
   view ← counted_at entry_at bytes
   artefact ← text_at view.1
   if length artefact.1 == 0 then Some (view.0, artefact.0) else None

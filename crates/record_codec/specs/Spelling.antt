@@ -6,12 +6,13 @@ use Rattle.vr_base.specs.Bytes.{number_bytes, text_bytes}
 use Rattle.vr_base.specs.Graphs.{IsGraph}
 use Rattle.vr_base.specs.View.{IsView}
 use Rattle.vr_base.specs.Jobs.{name_bytes}
+use Rattle.vr_base.specs.declared.limits.TheConstants.{ARTEFACT_LIMIT}
 
--- words, with their number in front
+-- words, after their number
 unfoldable pub words_bytes : List (List ℕ) → List ℕ
 words_bytes words = number_bytes (length words) ++ flat_map text_bytes words
 
--- positions, with their number in front
+-- positions, after their number
 unfoldable pub positions_bytes : List ℕ → List ℕ
 positions_bytes positions = number_bytes (length positions) ++ flat_map number_bytes positions
 
@@ -19,7 +20,7 @@ positions_bytes positions = number_bytes (length positions) ++ flat_map number_b
 unfoldable pub entry_bytes : Entry → List ℕ
 entry_bytes entry = name_bytes entry.name ++ (words_bytes entry.command ++ (text_bytes entry.text ++ positions_bytes entry.deps))
 
--- the files of the view, with their number in front, and then the artefact
+-- the files of the view, after their number, and then the artefact
 unfoldable pub record_bytes : List Entry → List ℕ → List ℕ
 record_bytes view artefact = number_bytes (length view) ++ (flat_map entry_bytes view ++ text_bytes artefact)
 
@@ -27,7 +28,7 @@ record_bytes view artefact = number_bytes (length view) ++ (flat_map entry_bytes
 pub record IsRecord (view : List Entry) (artefact : List ℕ) : Type 0 where
   pub graph : IsGraph view
   pub whole : IsView view
-  pub small : length artefact ≤ 262144
+  pub small : length artefact ≤ ARTEFACT_LIMIT
 
 -- what has a spelling
 pub record HasSpelling (entry : Entry) : Type 0 where

@@ -3,15 +3,16 @@ use Rattle.std.specs.Prelude.{◌≡◌, ◌≢◌, ◌⊎◌, ℕ, ◌<◌, ◌
 use Rattle.vr_base.specs.declared.graph.Entry.{Entry}
 use Rattle.vr_base.specs.Names.{FitsName, FitsCommand}
 use Rattle.vr_base.specs.Graphs.{IsEntryAt}
+use Rattle.vr_base.specs.declared.limits.TheConstants.{TEXT_LIMIT}
 
 -- a file with the sizes of a graph
 pub record FitsFile (entry : Entry) : Type 0 where
   pub name : FitsName entry.name
   pub command : FitsCommand entry.command
-  pub text : length entry.text ≤ 4194304
+  pub text : length entry.text ≤ TEXT_LIMIT
 
 -- the first positions are marked by 1, and no other
-pub record IsMarked (deps : List ℕ) (count : ℕ) (state : List ℕ) (done : ℕ) : Type 0 where
+pub record IsSeen (deps : List ℕ) (count : ℕ) (state : List ℕ) (done : ℕ) : Type 0 where
   pub count_is : length state ≡ count
   pub held : (k : ℕ) → k < done → slice_index state (slice_index deps k) ≡ 1
   pub only : (position : ℕ) → (slice_index state position ≡ 0) ⊎ ((slice_index state position ≡ 1) × Contains deps position)
@@ -25,14 +26,14 @@ abbrev pub HoldsAll : List Entry → List ℕ → Type 0
 HoldsAll entries deps = (other : Entry) → All (λ dep. All (Contains deps) (slice_index_or entries dep other).deps) deps
 
 -- the file at a place holds the dependencies of its dependencies
-abbrev pub IsClosedAt : List Entry → ℕ → Type 0
-IsClosedAt entries place = (entry : Entry) → HoldsAll entries (slice_index_or entries place entry).deps
+abbrev pub HasClosedDeps : List Entry → ℕ → Type 0
+HasClosedDeps entries place = (entry : Entry) → HoldsAll entries (slice_index_or entries place entry).deps
 
--- its dependencies stand before it
+-- its dependencies come before it
 abbrev pub IsBefore : List Entry → ℕ → Type 0
 IsBefore entries place = (entry : Entry) → All (λ dep. dep < place) (slice_index_or entries place entry).deps
 
--- whatever file is at a place, it stands there in a graph
+-- whatever file is at a place, it is there in a graph
 abbrev pub StandsAt : List Entry → ℕ → Type 0
 StandsAt entries place = (other : Entry) → IsEntryAt entries place (slice_index_or entries place other)
 

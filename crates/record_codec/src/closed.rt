@@ -1,5 +1,7 @@
+//! Whether the dependencies of each file hold their own, by marks.
+
 ghost use Rattle.std.specs.Prelude.{◌≡◌, ◌≢◌, ◌↔◌, ℕ, ◌<◌, ◌≤◌, length, All, slice_index, IsTrue, IfOk, IfSome};
-ghost use Rattle.record_codec.specs.Validity.{Covers, IsMarked, IsClosedAt, IsBefore, HoldsAll};
+ghost use Rattle.record_codec.specs.Validity.{Covers, IsSeen, HasClosedDeps, IsBefore, HoldsAll};
 
 use std::alloc::Global;
 use vr_base::{Entry, NoMemory};
@@ -7,7 +9,7 @@ use vr_base::{Entry, NoMemory};
 /// A mark 1 at each of the positions, and 0 at all others.
 fn marked(alloc: Global, count: usize, deps: &[u32]) -> Result<Vec<u8>, NoMemory>
     requires { All (λ dep. dep < count) deps.now }
-    ensures { IfOk result (λ state. IsMarked deps.now count state.items (length deps.now)) }
+    ensures { IfOk result (λ state. IsSeen deps.now count state.items (length deps.now)) }
 {
     let mut state = vec![in alloc; 0; count]?;
     for dep in deps {
@@ -39,8 +41,8 @@ fn all_cover(state: &mut [u8], entries: &[Entry], deps: &[u32]) -> bool
     requires within { All (λ dep. dep < length state.old) deps.now }
     requires few { length state.old ≤ length entries.now }
     requires before { (k : ℕ) → k < length state.old → IsBefore entries.now k }
-    requires closed { (k : ℕ) → k < length state.old → IsClosedAt entries.now k }
-    requires marked { IsMarked deps.now (length state.old) state.old (length deps.now) }
+    requires closed { (k : ℕ) → k < length state.old → HasClosedDeps entries.now k }
+    requires marked { IsSeen deps.now (length state.old) state.old (length deps.now) }
     ensures { IsTrue result ↔ HoldsAll entries.now deps.now }
 {
     let mut k = deps.len();
@@ -58,8 +60,8 @@ fn all_cover(state: &mut [u8], entries: &[Entry], deps: &[u32]) -> bool
 pub fn is_closed(alloc: Global, entries: &[Entry], place: usize) -> Result<bool, NoMemory>
     requires place { place < length entries.now }
     requires before { (k : ℕ) → k ≤ place → IsBefore entries.now k }
-    requires closed { (k : ℕ) → k < place → IsClosedAt entries.now k }
-    ensures { IfOk result (λ is. IsTrue is ↔ IsClosedAt entries.now place) }
+    requires closed { (k : ℕ) → k < place → HasClosedDeps entries.now k }
+    ensures { IfOk result (λ is. IsTrue is ↔ HasClosedDeps entries.now place) }
 {
     let deps = entries[place].deps.as_slice();
     let mut state = marked(alloc, place, deps)?;

@@ -1,3 +1,5 @@
+//! Whether the files of a record have names of their own.
+
 ghost use Rattle.std.specs.Prelude.{◌≢◌, ◌↔◌, AllPairs, IsTrue, IfOk};
 
 use name_set::NameSet;
@@ -6,7 +8,8 @@ use vr_base::{Entry, NoMemory};
 
 /// Whether no two files have one name.
 pub fn are_distinct(alloc: Global, entries: &[Entry]) -> Result<bool, NoMemory>
-    ensures { IfOk result (λ are. IsTrue are ↔ AllPairs (λ entry other. entry.name ≢ other.name) entries.now) }
+    ensures { IfOk result
+        (λ are. IsTrue are ↔ AllPairs (λ entry other. entry.name ≢ other.name) entries.now) }
 {
     let mut seen = NameSet::new(alloc);
     for entry in entries {

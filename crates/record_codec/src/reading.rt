@@ -1,17 +1,19 @@
+//! Reading a record: its files and its artefact, and then whether they are a view.
+
 ghost use Rattle.std.specs.Prelude.{◌≡◌, ◌↔◌, ℕ, List, IsTrue, IfOk, IfSome, IsSome};
 ghost use Rattle.std.specs.Int.{w32};
 ghost use Rattle.std.specs.Option.{option_map};
 ghost use Rattle.vr_base.specs.declared.graph.Entry.{Entry};
 ghost use Rattle.vr_base.specs.Graphs.{IsGraph};
 ghost use Rattle.byte_codec.specs.Reading.{Reads, ReadsAll, number_at, text_at, counted_at};
-ghost use Rattle.record_codec.specs.Reading.{entry_at, record_at};
+ghost use Rattle.record_codec.specs.Reading.{entry_at, record_read_at};
 ghost use Rattle.record_codec.specs.Spelling.{record_bytes, IsRecord};
 ghost use Rattle.record_codec.specs.Found.{record_in};
 
 use crate::views::is_view;
 use byte_codec::ByteReader;
 use std::alloc::Global;
-use vr_base::{Entry, Graph, Items, NoMemory, Positions, Text, TextList};
+use vr_base::{ARTEFACT_LIMIT, Entry, Graph, Items, NoMemory, Positions, Text, TextList};
 use vr_outside::Record;
 
 /// The files and the artefact that some bytes spell. The files may be no view.
@@ -22,7 +24,8 @@ struct Parts {
 }
 
 fn words_of(alloc: Global, reader: &mut ByteReader<'_>) -> Result<Option<TextList>, NoMemory>
-    ensures { IfOk result (λ words. Reads (λ same. same) words reader.new (counted_at text_at reader.old)) }
+    ensures { IfOk result
+        (λ words. Reads (λ same. same) words reader.new (counted_at text_at reader.old)) }
 {
     let Some(count) = reader.u32() else {
         return Ok(None);
@@ -38,7 +41,10 @@ fn words_of(alloc: Global, reader: &mut ByteReader<'_>) -> Result<Option<TextLis
 }
 
 fn positions_of(alloc: Global, reader: &mut ByteReader<'_>) -> Result<Option<Positions>, NoMemory>
-    ensures { IfOk result (λ positions. Reads (λ same. same) positions reader.new (counted_at (number_at w32) reader.old)) }
+    ensures { IfOk result
+        (λ positions.
+        Reads (λ same. same) positions reader.new
+        (counted_at (number_at w32) reader.old)) }
 {
     let Some(count) = reader.u32() else {
         return Ok(None);
@@ -78,7 +84,8 @@ fn entry_of(alloc: Global, reader: &mut ByteReader<'_>) -> Result<Option<Entry>,
 }
 
 fn entries_of(alloc: Global, reader: &mut ByteReader<'_>) -> Result<Option<Items<Entry>>, NoMemory>
-    ensures { IfOk result (λ entries. Reads (λ same. same) entries reader.new (counted_at entry_at reader.old)) }
+    ensures { IfOk result
+        (λ entries. Reads (λ same. same) entries reader.new (counted_at entry_at reader.old)) }
 {
     let Some(count) = reader.u32() else {
         return Ok(None);
@@ -94,9 +101,10 @@ fn entries_of(alloc: Global, reader: &mut ByteReader<'_>) -> Result<Option<Items
 }
 
 /// The files and the artefact that all of the bytes spell, if they do.
-#[tactic(auto, unfolding(crate::specs::Reading::record_at))]
+#[tactic(auto, unfolding(crate::specs::Reading::record_read_at))]
 fn parts_of(alloc: Global, bytes: &[u8]) -> Result<Option<Parts>, NoMemory>
-    ensures { IfOk result (λ parts. ReadsAll (λ p. (p.entries, p.artefact)) parts (record_at bytes.now)) }
+    ensures { IfOk result
+        (λ parts. ReadsAll (λ p. (p.entries, p.artefact)) parts (record_read_at bytes.now)) }
 {
     let mut reader = ByteReader::new(bytes);
     let Some(entries) = entries_of(alloc, &mut reader)? else {
@@ -115,7 +123,7 @@ fn parts_of(alloc: Global, bytes: &[u8]) -> Result<Option<Parts>, NoMemory>
 fn is_record(alloc: Global, parts: &Parts) -> Result<bool, NoMemory>
     ensures { IfOk result (λ is. IsTrue is ↔ IsRecord parts.now.entries parts.now.artefact) }
 {
-    if parts.artefact.bytes().len() > 262_144 {
+    if parts.artefact.bytes().len() > ARTEFACT_LIMIT {
         return Ok(false);
     }
     Ok(is_view(alloc, parts.entries.as_slice())?)
@@ -135,12 +143,22 @@ fn graph_of(alloc: Global, entries: Items<Entry>) -> Result<Graph, NoMemory>
 /// The record whose bytes these are; `None` exactly where no record has these bytes.
 pub fn read_record(alloc: Global, bytes: &[u8]) -> Result<Option<Record>, NoMemory>
     // What is given is a record with these bytes,
-    ensures found { IfOk result (λ given. IfSome given (λ r. IsRecord r.view r.artefact × (bytes.now ≡ record_bytes r.view r.artefact))) }
+    ensures found { IfOk result
+        (λ given.
+        IfSome given
+        (λ r.
+        IsRecord r.view r.artefact
+        × (bytes.now ≡ record_bytes r.view r.artefact))) }
     // and where a record has these bytes, there is an answer, and it is that one.
-    ensures some { (view : List Entry) (artefact : List ℕ) → IsRecord view artefact → bytes.now ≡ record_bytes view artefact → IfOk result (λ given. IsSome given) }
-    ensures only { (view : List Entry) (artefact : List ℕ) → IsRecord view artefact → bytes.now ≡ record_bytes view artefact → IfOk result (λ given. IfSome given (λ r. (r.view ≡ view) × (r.artefact ≡ artefact))) }
+    ensures some { (view : List Entry) (artefact : List ℕ) → IsRecord view artefact →
+        bytes.now ≡ record_bytes view artefact →
+        IfOk result (λ given. IsSome given) }
+    ensures only { (view : List Entry) (artefact : List ℕ) → IsRecord view artefact →
+        bytes.now ≡ record_bytes view artefact →
+        IfOk result (λ given. IfSome given (λ r. (r.view ≡ view) × (r.artefact ≡ artefact))) }
     // As a function of the bytes, it is this:
-    ensures exact { IfOk result (λ given. option_map (λ r. (r.view, r.artefact)) given ≡ record_in bytes.now) }
+    ensures exact { IfOk result
+        (λ given. option_map (λ r. (r.view, r.artefact)) given ≡ record_in bytes.now) }
 {
     let Some(parts) = parts_of(alloc, bytes)? else {
         return Ok(None);

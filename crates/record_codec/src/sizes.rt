@@ -1,15 +1,17 @@
+//! Whether names, commands, texts and dependencies have the sizes of a graph.
+
 ghost use Rattle.std.specs.Prelude.{◌≡◌, ◌↔◌, ◌<◌, ◌≤◌, length, All, IsTrue};
 ghost use Rattle.std.specs.List.Sorted.{IsStrictlyIncreasing};
 ghost use Rattle.vr_base.specs.Names.{FitsCommand};
 ghost use Rattle.record_codec.specs.Validity.{FitsFile};
 
-use vr_base::{Entry, Text, TextList};
+use vr_base::{COMMAND_LIMIT, Entry, TEXT_LIMIT, Text, TextList, WORD_LIMIT};
 
 fn are_short(words: &[Text]) -> bool
-    ensures { IsTrue result ↔ All (λ word. length word ≤ 1024) words.now }
+    ensures { IsTrue result ↔ All (λ word. length word ≤ WORD_LIMIT) words.now }
 {
     for word in words {
-        if word.bytes().len() > 1024 {
+        if word.bytes().len() > WORD_LIMIT {
             return false;
         }
     }
@@ -20,21 +22,23 @@ fn fits_command(command: &TextList) -> bool
     ensures { IsTrue result ↔ FitsCommand command.now }
 {
     let words = command.as_slice();
-    1 <= words.len() && words.len() <= 64 && are_short(words)
+    1 <= words.len() && words.len() <= COMMAND_LIMIT && are_short(words)
 }
 
 /// Whether the name, the words and the text of a file are of the sizes of a graph.
 pub fn fits_file(entry: &Entry) -> bool
     ensures { IsTrue result ↔ FitsFile entry.now }
 {
-    entry.name.fits() && fits_command(&entry.command) && entry.text.bytes().len() <= 4_194_304
+    entry.name.fits() && fits_command(&entry.command) && entry.text.bytes().len() <= TEXT_LIMIT
 }
 
 /// Whether positions rise and are all below a place.
 pub fn rise_below(place: u32, positions: &[u32]) -> bool
     ensures rising { IsTrue result → IsStrictlyIncreasing positions.now }
     ensures below { IsTrue result → All (λ position. position < place) positions.now }
-    ensures only { IsStrictlyIncreasing positions.now → All (λ position. position < place) positions.now → IsTrue result }
+    ensures only { IsStrictlyIncreasing positions.now →
+        All (λ position. position < place) positions.now →
+        IsTrue result }
 {
     for i in 0..positions.len() {
         if positions[i] >= place {

@@ -1,3 +1,5 @@
+//! Tests of the bytes of a record, byte for byte.
+
 use crate::{read_record, record_bytes};
 use std::test::Fail;
 

@@ -1,3 +1,5 @@
+//! Whether files that were read are a graph, and a view.
+
 ghost use Rattle.std.specs.Prelude.{◌≡◌, ◌↔◌, ◌<◌, ◌≤◌, length, sum_by, IsTrue, IfOk};
 ghost use Rattle.vr_base.specs.Graphs.{IsGraph};
 ghost use Rattle.vr_base.specs.View.{IsView};
@@ -7,11 +9,11 @@ use crate::closed::is_closed;
 use crate::names::are_distinct;
 use crate::sizes::{fits_file, rise_below};
 use std::alloc::Global;
-use vr_base::{Entry, NoMemory};
+use vr_base::{Entry, FILE_LIMIT, GRAPH_TEXT_LIMIT, NoMemory};
 
 /// Whether the texts of files have at most 67,108,864 bytes together.
 fn are_small(entries: &[Entry]) -> bool
-    ensures { IsTrue result ↔ (sum_by (λ entry. length entry.text) entries.now ≤ 67108864) }
+    ensures { IsTrue result ↔ (sum_by (λ entry. length entry.text) entries.now ≤ GRAPH_TEXT_LIMIT) }
 {
     let mut left: usize = 67_108_864;
     for entry in entries {
@@ -24,10 +26,10 @@ fn are_small(entries: &[Entry]) -> bool
     true
 }
 
-/// Whether the file at a place stands there in a graph, where all files before it do.
+/// Whether the file at a place is there in a graph, where all files before it do.
 fn stands_at(alloc: Global, entries: &[Entry], place: usize) -> Result<bool, NoMemory>
     requires place { place < length entries.now }
-    requires few { length entries.now ≤ 4096 }
+    requires few { length entries.now ≤ FILE_LIMIT }
     requires before { StandBelow entries.now place }
     ensures { IfOk result (λ stands. IsTrue stands ↔ StandsAt entries.now place) }
 {
@@ -41,9 +43,9 @@ fn stands_at(alloc: Global, entries: &[Entry], place: usize) -> Result<bool, NoM
     is_closed(alloc, entries, place)
 }
 
-/// Whether each file stands in a graph where it is.
+/// Whether each file is in a graph where it is.
 fn all_stand(alloc: Global, entries: &[Entry]) -> Result<bool, NoMemory>
-    requires { length entries.now ≤ 4096 }
+    requires { length entries.now ≤ FILE_LIMIT }
     ensures { IfOk result (λ all. IsTrue all ↔ StandBelow entries.now (length entries.now)) }
 {
     for place in 0..entries.len() {
@@ -54,7 +56,7 @@ fn all_stand(alloc: Global, entries: &[Entry]) -> Result<bool, NoMemory>
     Ok(true)
 }
 
-/// Whether the last file depends on all others. Its dependencies rise and stand before it, so their number tells.
+/// Whether the last file depends on all others. Its dependencies rise and come before it, so their number tells.
 fn is_whole(entries: &[Entry]) -> bool
     requires some { 0 < length entries.now }
     requires stand { StandBelow entries.now (length entries.now) }
@@ -68,7 +70,7 @@ fn is_whole(entries: &[Entry]) -> bool
 pub fn is_view(alloc: Global, entries: &[Entry]) -> Result<bool, NoMemory>
     ensures { IfOk result (λ is. IsTrue is ↔ (IsGraph entries.now × IsView entries.now)) }
 {
-    if entries.is_empty() || entries.len() > 4096 {
+    if entries.is_empty() || entries.len() > FILE_LIMIT {
         return Ok(false);
     }
     if !are_small(entries) {

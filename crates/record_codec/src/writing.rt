@@ -1,10 +1,12 @@
+//! Writing a record.
+
 ghost use Rattle.std.specs.Prelude.{◌≡◌, ◌<◌, ◌≤◌, ◌^◌, ◌++◌, length, All, IfOk, OnOk};
 ghost use Rattle.vr_base.specs.View.{IsView};
 ghost use Rattle.record_codec.specs.Spelling.{words_bytes, positions_bytes, entry_bytes, record_bytes, HasSpelling};
 
 use byte_codec::ByteWriter;
 use std::alloc::Global;
-use vr_base::{Entry, Graph, NoMemory, Text, TextList};
+use vr_base::{ARTEFACT_LIMIT, Entry, Graph, NoMemory, Text, TextList};
 
 #[tactic(auto, unfolding(crate::specs::Spelling::words_bytes))]
 fn put_words(out: &mut ByteWriter, words: &TextList) -> Result<(), NoMemory>
@@ -48,9 +50,9 @@ fn put_entry(out: &mut ByteWriter, entry: &Entry) -> Result<(), NoMemory>
 #[tactic(auto, unfolding(crate::specs::Spelling::record_bytes))]
 pub fn record_bytes(alloc: Global, view: &Graph, artefact: &Text) -> Result<Text, NoMemory>
     requires whole { IsView view.now }
-    requires artefact { length artefact.now ≤ 262144 }
+    requires artefact { length artefact.now ≤ ARTEFACT_LIMIT }
     ensures bytes { IfOk result (λ bytes. bytes ≡ record_bytes view.now artefact.now) }
-    // Its length fits the four bytes in front of a payload.
+    // Its length fits the four bytes before a payload.
     ensures small { IfOk result (λ bytes. length bytes < 2 ^ 32) }
 {
     let mut out = ByteWriter::new(alloc);

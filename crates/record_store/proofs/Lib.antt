@@ -1,2 +1,3 @@
+-- The lemmas.
 pub mod RecordLists
 pub mod StoreMoments

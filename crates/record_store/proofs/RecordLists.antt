@@ -1,4 +1,4 @@
--- The records that payloads stand for, and the latest of each name.
+-- The records that payloads denote, and the latest of each name.
 use Rattle.std.proofs.Common.{◌≡◌, ℕ, ◌+◌, Bool, true, false, cond, List, [], ◌∷◌, ◌++◌, length, Option, Some, None, refl, sym, ap, subst, ◌∙◌, arith, length-append}
 use Rattle.std.specs.List.{filter_map}
 use Rattle.std.specs.Map.{lookup}
@@ -13,7 +13,7 @@ use Rattle.vr_outside.specs.declared.records.Record.{Record}
 use Rattle.vr_outside.specs.Records.{is_of, latest, with_record}
 use Rattle.record_codec.specs.Found.{record_in}
 use Rattle.record_codec.proofs.FoundRecords.{record_in-record_bytes}
-use Rattle.record_store.specs.Stored.{record_of, records_among, record_at, HoldsLatest, NotesPayload, IsPrepared}
+use Rattle.record_store.specs.Stored.{record_of, records_among, record_of_payload, HoldsLatest, NotesPayload, IsPrepared}
 
 -- one payload more
 pub records_among-push : (payloads : List (List ℕ)) (payload : List ℕ) → records_among (payloads ++ payload ∷ []) ≡ records_among payloads ++ option_to_list (record_of payload)
@@ -35,7 +35,7 @@ latest-push name (first ∷ rest) kept =
     ap (λ (found : Option Record). option_or found next) (latest-push name rest kept)
     ∙ either_or (is_of name kept) kept (latest name rest) next
 
--- a payload that stands for a record adds it
+-- a payload that denotes a record adds it
 pub among-record : (payloads : List (List ℕ)) (payload : List ℕ) (kept : Record) → record_of payload ≡ Some kept → records_among (payloads ++ payload ∷ []) ≡ records_among payloads ++ kept ∷ []
 among-record payloads payload kept is = records_among-push payloads payload ∙ ap (λ (found : Option Record). records_among payloads ++ option_to_list found) is
 
@@ -43,24 +43,24 @@ among-record payloads payload kept is = records_among-push payloads payload ∙ 
 pub among-none : (payloads : List (List ℕ)) (payload : List ℕ) → record_of payload ≡ None → records_among (payloads ++ payload ∷ []) ≡ records_among payloads
 among-none payloads payload is = records_among-push payloads payload ∙ ap (λ (found : Option Record). records_among payloads ++ option_to_list found) is ∙ append-nil (records_among payloads)
 
--- a prepared payload stands for its record
+-- a prepared payload denotes its record
 pub prepared_is : (name : FileName) (kept : Record) (payload : List ℕ) → IsPrepared name kept payload → record_of payload ≡ Some kept
 prepared_is name kept payload prepared =
     ap (λ (found : Option (List Entry × List ℕ)). option_map (λ (read : List Entry × List ℕ). record { view = read.0; artefact = read.1 }) found)
     (ap record_in prepared.spelled ∙ record_in-record_bytes kept.view kept.artefact prepared.valid)
 
 -- an index of the latest records, with one record more
-pub holds-push : {S : Type 0} (old new : IndexMap FileName (Option Record) S) (records : List Record) (kept : Record) → HoldsLatest old records → ((other : FileName) → record_at new other ≡ with_record kept (record_at old) other) → HoldsLatest new (records ++ kept ∷ [])
+pub holds-push : {S : Type 0} (old new : IndexMap FileName (Option Record) S) (records : List Record) (kept : Record) → HoldsLatest old records → ((other : FileName) → record_of_payload new other ≡ with_record kept (record_of_payload old) other) → HoldsLatest new (records ++ kept ∷ [])
 holds-push old new records kept holds put name =
     put name
     ∙ ap (λ (found : Option Record). cond (is_of name kept) (Some kept) found) (holds name)
     ∙ sym (latest-push name records kept)
 
 -- taking up the record of a payload
-pub notes_record : {S : Type 0} (old new : IndexMap FileName (Option Record) S) (payload : List ℕ) (kept : Record) → record_of payload ≡ Some kept → ((other : FileName) → record_at new other ≡ with_record kept (record_at old) other) → NotesPayload old new payload
+pub notes_record : {S : Type 0} (old new : IndexMap FileName (Option Record) S) (payload : List ℕ) (kept : Record) → record_of payload ≡ Some kept → ((other : FileName) → record_of_payload new other ≡ with_record kept (record_of_payload old) other) → NotesPayload old new payload
 notes_record old new payload kept is put before holds = subst (HoldsLatest new) (sym (among-record before payload kept is)) (holds-push old new (records_among before) kept holds put)
 
--- passing over a payload that stands for none
+-- passing over a payload that denotes none
 pub notes_none : {S : Type 0} (index : IndexMap FileName (Option Record) S) (payload : List ℕ) → record_of payload ≡ None → NotesPayload index index payload
 notes_none index payload is before holds = subst (HoldsLatest index) (sym (among-none before payload is)) holds
 

@@ -1,17 +1,16 @@
--- What stops leave of a store, from what they leave of its journal.
+-- What stops can leave of a store, from what they leave of its journal.
 use Rattle.std.proofs.Common.{◌≡◌, ℕ, List, [], ◌∷◌, ◌++◌, Some, sym, ap, ◌∙◌, inl, inr}
 use Rattle.std.specs.List.{AllByRecursion}
 use Rattle.vr_outside.specs.declared.records.Record.{Record}
-use Rattle.vr_outside.specs.Disks.{DiskState, Image, Moments, EachImage, AtAnyMoment, Keeps, NeverLoses, Opens, added_since}
-use Rattle.vr_outside.specs.Records.{IsEither, IsKeptOf, HasRecordsOf}
+use Rattle.vr_outside.specs.Disks.{DiskState, Image, IsEither, Moments, EachImage, AtAnyMoment, StaysTrue, NeverLoses, OpensWith, added_since}
+use Rattle.vr_outside.specs.Records.{IsAllOrLatest, HasRecordsOf}
 use Rattle.vr_outside.proofs.MomentLaws.{weaker_moments}
 use Rattle.gate_journal.specs.Payloads.{payloads}
 use Rattle.gate_journal.specs.Journals.{HasPayloadsOf}
-use Rattle.gate_journal.specs.Journals as journal
 use Rattle.record_store.specs.Stored.{record_of, records_among, records_in}
 use Rattle.record_store.proofs.RecordLists.{among-record, no_longer}
 
-keeps_as : (Q P R : Image → Type 0) → ((image : Image) → Q image → R image → P image) → ((image : Image) → Q image → P image → R image) → (disk : DiskState) (states : List DiskState) → AllByRecursion (EachImage Q) (disk ∷ states) → Keeps P disk states → Keeps R disk states
+keeps_as : (Q P R : Image → Type 0) → ((image : Image) → Q image → R image → P image) → ((image : Image) → Q image → P image → R image) → (disk : DiskState) (states : List DiskState) → AllByRecursion (EachImage Q) (disk ∷ states) → StaysTrue P disk states → StaysTrue R disk states
 keeps_as Q P R to from disk [] all keeps = tt
 keeps_as Q P R to from disk (next ∷ later) all keeps =
     ((λ each image is. from image (all.1.0 image is) (keeps.0 (λ other there. to other (all.0 other there) (each other there)) image is)), keeps_as Q P R to from next later all.1 keeps.1)
@@ -20,7 +19,7 @@ keeps_as Q P R to from disk (next ∷ later) all keeps =
 pub losses_as : (old new : Moments) (Q P R : Image → Type 0) → ((image : Image) → Q image → R image → P image) → ((image : Image) → Q image → P image → R image) → AtAnyMoment old new Q → NeverLoses old new P → NeverLoses old new R
 losses_as old new Q P R to from moments never = record { follows = never.follows; keeps = keeps_as Q P R to from old.now (added_since old new) moments.each never.keeps }
 
-always_keeps : (P : Image → Type 0) (disk : DiskState) (states : List DiskState) → AllByRecursion (EachImage P) states → Keeps P disk states
+always_keeps : (P : Image → Type 0) (disk : DiskState) (states : List DiskState) → AllByRecursion (EachImage P) states → StaysTrue P disk states
 always_keeps P disk [] all = tt
 always_keeps P disk (next ∷ later) all = ((λ each. all.0), always_keeps P next later all.1)
 
@@ -29,9 +28,9 @@ pub always_had : (old new : Moments) (P : Image → Type 0) → AtAnyMoment old 
 always_had old new P moments = record { follows = moments.follows; keeps = always_keeps P old.now (added_since old new) moments.each.1 }
 
 module _ (old new : Moments) (reads : Image) where
-  -- what a stop leaves of the journal, from these payloads to those
+  -- what a stop can leave of the journal, from these payloads to those
   abbrev pub Left : ℕ → List (List ℕ) → Image → Type 0
-  Left form after image = journal.IsEither (payloads form image) (payloads form reads) after
+  Left form after image = IsEither (payloads form image) (payloads form reads) after
 
   -- the records from before, with the new one or without
   pub commit_leaves : (payload : List ℕ) (kept : Record) → record_of payload ≡ Some kept → AtAnyMoment old new (Left 1 (payloads 1 reads ++ payload ∷ []))
@@ -81,7 +80,7 @@ pub open_leaves : (old new : Moments) → AtAnyMoment old new (HasPayloadsOf 1 o
 open_leaves old new moments = weaker_moments old new (HasPayloadsOf 1 old.now) (HasRecordsOf records_in old.now) (λ image has. record { before = has.before; was = has.was; kept = inl (ap records_among has.same) }) moments
 
 -- and once both sides are synced those of what reads gave
-pub open_opens : (old new : Moments) (reads : Image) → Opens old new (λ image. payloads 1 image ≡ payloads 1 reads) → Opens old new (λ image. IsKeptOf (records_in reads) (records_in image))
+pub open_opens : (old new : Moments) (reads : Image) → OpensWith old new (λ image. payloads 1 image ≡ payloads 1 reads) → OpensWith old new (λ image. IsAllOrLatest (records_in reads) (records_in image))
 open_opens old new reads (inl goes) = inl goes
 open_opens old new reads (inr later) =
-    inr (later.0, later.1, weaker_moments later.0 new (λ image. payloads 1 image ≡ payloads 1 reads) (λ image. IsKeptOf (records_in reads) (records_in image)) (λ image same. inl (ap records_among same)) later.2)
+    inr (later.0, later.1, weaker_moments later.0 new (λ image. payloads 1 image ≡ payloads 1 reads) (λ image. IsAllOrLatest (records_in reads) (records_in image)) (λ image same. inl (ap records_among same)) later.2)

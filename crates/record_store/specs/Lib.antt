@@ -1,3 +1,4 @@
+-- The definitions.
 pub mod Pairs
 pub mod Stored
 pub mod StoreLaws

@@ -1,8 +1,8 @@
 //! Records of compiled files on a disk: each is a payload of a journal, and holds the whole view that was compiled.
 #![tactic(auto)]
 
+mod bounded;
 mod index;
-mod kept;
 mod pairs;
 mod store;
 

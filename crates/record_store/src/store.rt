@@ -1,13 +1,15 @@
+//! The store of records over a journal.
+
 ghost use Rattle.std.specs.Prelude.{◌≡◌, ◌↔◌, ◌<◌, ◌≤◌, IsSome, length};
 ghost use Rattle.indexmap.specs.IndexMap.{get};
 ghost use Rattle.vr_base.specs.Names.{is_same_name};
 ghost use Rattle.vr_outside.specs.Records.{IsRecorded};
 ghost use Rattle.vr_outside.specs.declared.records.Need.TheVariants.{Fresh};
-ghost use Rattle.record_store.specs.Stored.{records_in, record_at, StoreStands, IsPrepared};
+ghost use Rattle.record_store.specs.Stored.{records_in, record_of_payload, IsStoreInStep, IsPrepared};
 ghost use Rattle.record_store.specs.StoreLaws.{store_durable, store_held};
 
+use crate::bounded::BoundedRecord;
 use crate::index::{Index, index_of, make_room, name_of, put, record_of};
-use crate::kept::KeptRecord;
 use gate_journal::{Journal, Opened, Ready};
 use record_codec::record_bytes;
 use source_view::{is_view_of, view_of};
@@ -25,11 +27,11 @@ pub struct RecordStore {
     index: Index,
 }
 
-/// A record that is ready to be kept: its payload, and what the index will have of it.
+/// A record that is ready to be committed: its payload, and what the index will have of it.
 #[derive(Drop)]
 pub struct PreparedRecord {
     name: FileName,
-    kept: KeptRecord,
+    kept: BoundedRecord,
     ready: Ready,
 }
 
@@ -37,7 +39,7 @@ impl RecordStore {
     /// Whether the latest record of a file has its present view.
     fn need(&self, graph: &Graph, at: u32) -> Need
         requires { at < length graph.now }
-        ensures { (result ≡ Fresh) ↔ IsRecorded (record_at self.now.index) graph.now at }
+        ensures { (result ≡ Fresh) ↔ IsRecorded (record_of_payload self.now.index) graph.now at }
     {
         match record_of(&self.index, &graph.get(at as u64).name) {
             Some(record) if is_view_of(record.view(), graph, at) => Need::Fresh,
@@ -51,9 +53,9 @@ impl Records for RecordStore {
 
     ghost records_of = { records_in };
 
-    ghost latest_of = { λ store. record_at store.index };
+    ghost latest_of = { λ store. record_of_payload store.index };
 
-    ghost stands = { λ store disk. StoreStands store.journal store.index disk };
+    ghost in_step = { λ store disk. IsStoreInStep store.journal store.index disk };
 
     ghost broken = { λ store. store.journal.broken };
 
@@ -97,7 +99,7 @@ impl Records for RecordStore {
         make_room(alloc, &mut self.index, &name)?;
         Ok(PreparedRecord {
             name,
-            kept: KeptRecord::new(Record { view, artefact }),
+            kept: BoundedRecord::new(Record { view, artefact }),
             ready,
         })
     }
@@ -123,7 +125,7 @@ impl Records for RecordStore {
         self.journal.is_broken()
     }
 
-    ghost durable = { λ store disk stands. store_durable store.journal store.index disk stands };
+    ghost durable = { λ store disk in_step. store_durable store.journal store.index disk in_step };
 
-    ghost held = { λ store disk name stands. store_held store.journal store.index disk name stands };
+    ghost held = { λ store disk name in_step. store_held store.journal store.index disk name in_step };
 }

@@ -1,6 +1,8 @@
+//! Tests of a store over a disk in memory: its bytes, stops inside its calls, and calls that fail.
+
 ghost use Rattle.std.specs.Prelude.{◌≡◌, ◌<◌, false, length, IfOk, OnOk};
 ghost use Rattle.vr_memory.specs.Disks.{moments_of};
-ghost use Rattle.record_store.specs.Stored.{StoreStands};
+ghost use Rattle.record_store.specs.Stored.{IsStoreInStep};
 
 use crate::{RecordStore, keep};
 use record_codec::read_record;
@@ -70,8 +72,9 @@ fn holds(alloc: Global, disk: &mut MemDisk) -> Result<bool, Fail> {
 /// Opens the store of a disk, and keeps the artefact `y` of the file, which depends on no other.
 fn with_record(alloc: Global, disk: &mut MemDisk, graph: &Graph) -> Result<RecordStore, StoreFault>
     requires { 0 < length graph.now }
-    ensures whole { IfOk result (λ store. store.journal.broken ≡ false) }
-    ensures stands { IfOk result (λ store. StoreStands store.journal store.index (moments_of disk.new.log).now) }
+    ensures usable { IfOk result (λ store. store.journal.broken ≡ false) }
+    ensures in_step { IfOk result
+        (λ store. IsStoreInStep store.journal store.index (moments_of disk.new.log).now) }
 {
     let mut store = RecordStore::from_disk(alloc, disk)?;
     if !graph.get(0).deps.is_empty() {
@@ -84,8 +87,9 @@ fn with_record(alloc: Global, disk: &mut MemDisk, graph: &Graph) -> Result<Recor
 
 /// The same of the file with the text `x`.
 fn with_x(alloc: Global, disk: &mut MemDisk) -> Result<RecordStore, Fail>
-    ensures whole { IfOk result (λ store. store.journal.broken ≡ false) }
-    ensures stands { IfOk result (λ store. StoreStands store.journal store.index (moments_of disk.new.log).now) }
+    ensures usable { IfOk result (λ store. store.journal.broken ≡ false) }
+    ensures in_step { IfOk result
+        (λ store. IsStoreInStep store.journal store.index (moments_of disk.new.log).now) }
 {
     let graph = graph(alloc, b'x')?;
     Ok(with_record(alloc, disk, &graph)?)

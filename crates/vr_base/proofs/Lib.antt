@@ -1,1 +1,3 @@
-pub mod GraphFronts
+-- The lemmas.
+pub mod GraphPrefixes
+pub mod Below

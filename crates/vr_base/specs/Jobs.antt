@@ -16,7 +16,7 @@ name_bytes name = text_bytes name.library ++ text_bytes name.path
 unfoldable pub built_bytes : BuiltFile → List ℕ
 built_bytes file = name_bytes file.name ++ text_bytes file.artefact
 
--- the files that were built, with their number in front
+-- the files that were built, after their number
 unfoldable pub all_built_bytes : List BuiltFile → List ℕ
 all_built_bytes files = number_bytes (length files) ++ flat_map built_bytes files
 

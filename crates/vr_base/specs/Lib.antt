@@ -1,3 +1,4 @@
+-- The definitions.
 pub mod Bytes
 pub mod Names
 pub mod Graphs
@@ -5,3 +6,4 @@ pub mod Projects
 pub mod Jobs
 pub mod Rooms
 pub mod View
+pub mod PresentGraph

@@ -2,6 +2,7 @@
 use Rattle.std.specs.Prelude.{◌≢◌, ℕ, List, length, All, AllPairs}
 use Rattle.vr_base.specs.declared.project.ProjectFile.{ProjectFile}
 use Rattle.vr_base.specs.declared.project.Project.{Project}
+use Rattle.vr_base.specs.declared.limits.TheConstants.{SIMULATOR_LIMIT, WORD_LIMIT}
 use Rattle.vr_base.specs.Names.{IsBetween, FitsName, FitsCommand}
 
 pub record IsProjectFile (file : ProjectFile) : Type 0 where
@@ -10,8 +11,8 @@ pub record IsProjectFile (file : ProjectFile) : Type 0 where
 
 -- 1 to 32 words of 1 to 1,024 bytes each
 pub record FitsSimulator (words : List (List ℕ)) : Type 0 where
-  pub count : IsBetween 1 32 (length words)
-  pub each : All (λ word. IsBetween 1 1024 (length word)) words
+  pub count : IsBetween 1 SIMULATOR_LIMIT (length words)
+  pub each : All (λ word. IsBetween 1 WORD_LIMIT (length word)) words
 
 pub record IsProject (project : Project) : Type 0 where
   pub distinct : AllPairs (λ file other. file.name ≢ other.name) project.files

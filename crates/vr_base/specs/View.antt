@@ -4,7 +4,7 @@ use Rattle.std.specs.List.{filter_map, position_or_len}
 use Rattle.std.specs.Option.{option_map_or}
 use Rattle.vr_base.specs.declared.graph.Entry.{Entry}
 
--- where the files of a view stand in the graph: those that the file depends on, and the file itself
+-- where the files of a view are in the graph: those that the file depends on, and the file itself
 unfoldable pub viewed : List Entry → ℕ → List ℕ
 viewed graph at = option_map_or (λ entry. entry.deps ++ at ∷ []) (slice_get graph at) []
 

@@ -1,3 +1,5 @@
+//! Children: requests, exits, and the events of a journal.
+
 ghost use Rattle.std.specs.Prelude.{◌≡◌, IfOk};
 
 use crate::{NoMemory, RoomItems, Text, TextList};

@@ -1,3 +1,5 @@
+//! What design files are made of: units, the roles of tokens, scans, and faults of the unit grammar.
+
 ghost use Rattle.std.specs.Prelude.{◌≡◌};
 ghost use Rattle.vr_base.specs.declared.design.UnitFault.TheVariants.{NoMemory as OutOfMemory};
 
@@ -17,8 +19,8 @@ pub enum UnitKind {
     Context,
 }
 
-/// What a token is to the grammar of design units (IEEE Std 1076-2008, clause 13): a reserved word that the grammar
-/// names, a delimiter, a name, or another token.
+/// What a token is to those who read units, references and benches (IEEE Std 1076-2008, clauses 13 and 15): a reserved
+/// word or a delimiter that one of them names, a name, or another token.
 #[derive(Clone, Copy, Debug, PartialEq, Eq)]
 pub enum Role {
     Library,
@@ -41,17 +43,24 @@ pub enum Role {
     Case,
     Elsif,
     Else,
-    /// A word, other than `if`, `case` and `for`, that says behind `end` what ends within a unit.
+    Component,
+    /// A word, other than `if`, `case`, `for` and `component`, that says after `end` what ends within a unit.
     Inner,
+    All,
+    Generic,
     Opening,
     Closing,
     Semicolon,
     Colon,
     Dot,
+    Comma,
     /// An identifier.
     Name,
     Other,
 }
+
+/// The roles of tokens, in order.
+pub type RoleList = Items<Role>;
 
 /// What begins at file level, as far as its first four tokens tell.
 #[derive(Clone, Copy, Debug, PartialEq, Eq)]
@@ -88,7 +97,7 @@ pub struct Scan {
 
 pub type Scans = Items<Scan>;
 
-/// Why tokens are no design file. `at` is the byte at which the token stands.
+/// Why tokens are no design file. `at` is the byte at which the token begins.
 #[derive(Clone, Copy, Debug, PartialEq, Eq, Error)]
 pub enum UnitFault {
     #[error("out of memory")]

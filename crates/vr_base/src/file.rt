@@ -1,9 +1,11 @@
+//! Names of files, and files by name.
+
 ghost use Rattle.std.specs.Prelude.{[], ◌∷◌};
 ghost use Rattle.std.specs.Cmp.Rules.{comparing, hashing};
 ghost use Rattle.std.proofs.Common.{rules};
 ghost use Rattle.vr_base.specs.Names.{is_same_name};
 
-use crate::{Items, NoMemory, Text};
+use crate::{Items, LIBRARY_LIMIT, NoMemory, PATH_LIMIT, Text};
 use std::alloc::Global;
 use std::hash::{Hash, Hasher};
 
@@ -61,7 +63,7 @@ impl FileName {
     {
         let library = self.library.bytes().len();
         let path = self.path.bytes().len();
-        1 <= library && library <= 64 && 1 <= path && path <= 1024
+        1 <= library && library <= LIBRARY_LIMIT && 1 <= path && path <= PATH_LIMIT
     }
 }
 

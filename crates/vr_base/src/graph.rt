@@ -1,7 +1,9 @@
+//! Graphs of files in compile order, and the files that were built.
+
 ghost use Rattle.std.specs.Prelude.{◌≡◌, ◌<◌, ◌++◌, ◌==◌, [], ◌∷◌, length, slice_get, Some, OnOk, OnErr};
 ghost use Rattle.vr_base.specs.Graphs.{IsGraph, IsBuilt, IsBuiltFile};
 
-use crate::{FileName, NoMemory, Positions, Text, TextList};
+use crate::{FILE_LIMIT, FileName, NoMemory, Positions, Text, TextList};
 use std::alloc::Global;
 use std::marker::Model;
 
@@ -74,7 +76,7 @@ impl Graph {
         self.entries.as_slice()
     }
 
-    /// Adds a file at the end. After `NoMemory` the graph stands.
+    /// Adds a file at the end. After `NoMemory` the graph is unchanged.
     pub fn push(&mut self, entry: Entry) -> Result<(), NoMemory>
         requires { IsGraph (self.old ++ entry ∷ []) }
         ensures ok { OnOk result (self.new ≡ self.old ++ entry ∷ []) }
@@ -151,10 +153,10 @@ impl Built {
         self.files.as_slice()
     }
 
-    /// Adds a file at the end. After `NoMemory` the list stands.
+    /// Adds a file at the end. After `NoMemory` the list is unchanged.
     pub fn push(&mut self, file: BuiltFile) -> Result<(), NoMemory>
         requires file { IsBuiltFile file }
-        requires room { length self.old < 4096 }
+        requires room { length self.old < FILE_LIMIT }
         ensures ok { OnOk result (self.new ≡ self.old ++ file ∷ []) }
         ensures err { OnErr result (self.new ≡ self.old) }
     {

@@ -1,3 +1,5 @@
+//! Tokens, their spans, and the faults of a scan.
+
 ghost use Rattle.std.specs.Prelude.{◌≡◌};
 ghost use Rattle.vr_base.specs.declared.lexical.LexFault.TheVariants.{NoMemory as OutOfMemory};
 

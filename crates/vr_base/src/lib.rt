@@ -7,6 +7,7 @@ mod file;
 mod graph;
 mod items;
 mod lexical;
+mod limits;
 mod memory;
 mod outcome;
 mod project;
@@ -14,11 +15,15 @@ mod rooms;
 mod text;
 
 pub use child::{Event, EventList, Exit, MaybeText, Request};
-pub use design::{Beginning, Role, Scan, Scans, Unit, UnitFault, UnitKind, UnitList};
+pub use design::{Beginning, Role, RoleList, Scan, Scans, Unit, UnitFault, UnitKind, UnitList};
 pub use file::{FileList, FileName, NamedText, NamedTextList};
 pub use graph::{Built, BuiltFile, Entry, Graph};
 pub use items::{Items, Numbers, Positions};
 pub use lexical::{LexFault, Span, SpanList, Token, TokenKind, TokenList, Tokens};
+pub use limits::{
+    ARTEFACT_LIMIT, COMMAND_LIMIT, FILE_LIMIT, GRAPH_TEXT_LIMIT, LIBRARY_LIMIT, PATH_LIMIT,
+    PROJECT_FILE_LIMIT, PROJECT_TEXT_LIMIT, RESULTS_LIMIT, SIMULATOR_LIMIT, TEXT_LIMIT, WORD_LIMIT,
+};
 pub use memory::{DiskFailed, NoMemory};
 pub use outcome::{Limit, Mark, MarkList, Outcome, Refusal, Which};
 pub use project::{Pair, PairList, Project, ProjectFault, ProjectFile, ProjectFileList};

@@ -1,3 +1,5 @@
+//! Out of memory, and a failed disk, as values.
+
 ghost use Rattle.std.specs.Prelude.{◌≡◌};
 ghost use Rattle.vr_base.specs.declared.memory.NoMemory.{NoMemory};
 

@@ -1,3 +1,5 @@
+//! What a run can answer: marks, refusals, limits and outcomes.
+
 use crate::{FileList, FileName, Items, LexFault, ProjectFault, Text, UnitFault};
 
 /// What became of a file in a build.
@@ -21,13 +23,13 @@ pub type MarkList = Items<Mark>;
 pub enum Refusal {
     /// There is no project file.
     NoProject,
-    /// The fault is never want of memory.
+    /// The fault is never out of memory.
     Project { fault: ProjectFault },
     /// A file of the project isn't there.
     AbsentFile { file: FileName },
-    /// A file has a lexical fault, which is never want of memory.
+    /// A file has a lexical fault, which is never out of memory.
     Lex { file: FileName, fault: LexFault },
-    /// A file has a fault of the unit grammar, which is never want of memory.
+    /// A file has a fault of the unit grammar, which is never out of memory.
     Units { file: FileName, fault: UnitFault },
     /// The compiler refused these files, in compile order.
     Compiler { files: FileList },

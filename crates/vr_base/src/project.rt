@@ -1,3 +1,5 @@
+//! Projects, and what is wrong with a project file.
+
 ghost use Rattle.std.specs.Prelude.{◌≡◌};
 ghost use Rattle.vr_base.specs.declared.project.ProjectFault.TheVariants.{NoMemory as out_of_memory};
 

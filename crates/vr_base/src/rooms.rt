@@ -1,3 +1,5 @@
+//! A list with room that was made before.
+
 ghost use Rattle.std.specs.Prelude.{◌≡◌, ◌+◌, ◌≤◌, ◌<◌, ◌++◌, [], ◌∷◌, length, slice_get, Some, OnOk, OnErr};
 
 use crate::NoMemory;
@@ -51,7 +53,7 @@ impl<T> RoomItems<T> {
         &self.list[i as usize]
     }
 
-    /// Makes room for so many more items. After `NoMemory` the list stands.
+    /// Makes room for so many more items. After `NoMemory` the list is unchanged.
     pub fn reserve(&mut self, more: usize) -> Result<(), NoMemory>
         ensures items { self.new.items ≡ self.old.items }
         ensures room { OnOk result (length self.old.items + more ≤ self.new.room) }
@@ -74,7 +76,7 @@ impl<T: Drop> RoomItems<T> {
         };
     }
 
-    /// Adds an item at the end. After `NoMemory` the list stands.
+    /// Adds an item at the end. After `NoMemory` the list is unchanged.
     pub fn push(&mut self, item: T) -> Result<(), NoMemory>
         ensures ok { OnOk result (self.new.items ≡ self.old.items ++ item ∷ []) }
         ensures err { OnErr result (self.new.items ≡ self.old.items) }

@@ -1,3 +1,5 @@
+//! Texts: lists of bytes.
+
 ghost use Rattle.std.specs.Prelude.{◌≡◌, ◌↔◌, [], IsTrue, IfOk};
 
 use crate::{Items, NoMemory};

@@ -1,9 +1,9 @@
 use Rattle.std.proofs.Common.{◌≡◌, ℕ, List, [], ◌∷◌, ◌++◌, append_assoc, ap, inl, inr, subst, ◌∙◌}
 use Rattle.std.proofs.lemmas.Result.{on_ok_weaker}
-use Rattle.vr_outside.specs.Disks.{AtAnyMoment, Image, reads_of}
+use Rattle.vr_outside.specs.Disks.{AtAnyMoment, Image, IsEither, reads_of}
 use Rattle.vr_outside.proofs.MomentLaws.{joined_moments, weaker_moments}
 use Rattle.gate_journal.specs.Payloads.{payloads}
-use Rattle.gate_journal.specs.Journals.{IsEither, IsWithTwo}
+use Rattle.gate_journal.specs.Journals.{IsWithTwo}
 use Rattle.gate_journal.proofs.journal.commit_both.Goals as goal
 
 -- inside of the first commit

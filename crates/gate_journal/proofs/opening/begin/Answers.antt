@@ -1,7 +1,7 @@
 use Rattle.std.proofs.Common.{sym, ◌∙◌}
 use Rattle.vr_outside.specs.Disks.{reads_of}
 use Rattle.gate_journal.proofs.Counting.{payloads_none}
-use Rattle.gate_journal.proofs.Fresh.{begun_moments, begun_stands}
+use Rattle.gate_journal.proofs.Fresh.{begun_moments, begun_in_step}
 use Rattle.gate_journal.proofs.opening.begin.Goals as goal
 
 pub returns-in_err-make_side-clause-any_moment : goal.returns-in_err-make_side-clause-any_moment
@@ -14,10 +14,10 @@ returns-clause-any_moment g c = λ told.
     let moments = g.D.Disk.moments in
     begun_moments c.args.form c.empty_side.result (moments c.args.disk.now) (moments c.make_side.new.disk) (c.requires.settled told) (c.requires.none told) c.empty_side.ensures (c.make_side.ensures.steps told)
 
-pub returns-clause-stands : goal.returns-clause-stands
-returns-clause-stands g c = λ told.
+pub returns-clause-in_step : goal.returns-clause-in_step
+returns-clause-in_step g c = λ told.
     let moments = g.D.Disk.moments in
-    begun_stands c.args.form c.of.result c.empty_side.result (moments c.args.disk.now).now (moments c.make_side.new.disk).now c.of.ensures (c.requires.settled told) (c.requires.none told) c.empty_side.ensures (c.in_ok-make_side.ensures.made told)
+    begun_in_step c.args.form c.of.result c.empty_side.result (moments c.args.disk.now).now (moments c.make_side.new.disk).now c.of.ensures (c.requires.settled told) (c.requires.none told) c.empty_side.ensures (c.in_ok-make_side.ensures.made told)
 
 pub returns-clause-payloads : goal.returns-clause-payloads
 returns-clause-payloads g c = λ told.

@@ -1,4 +1,4 @@
 use Rattle.gate_journal.proofs.tests.with_ab.Goals as goal
 
-pub returns-clause-stands : goal.returns-clause-stands
-returns-clause-stands c = c.in_ok-commit.ensures.stands tt
+pub returns-clause-in_step : goal.returns-clause-in_step
+returns-clause-in_step c = c.in_ok-commit.ensures.in_step tt

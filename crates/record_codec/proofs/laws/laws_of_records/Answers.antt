@@ -12,7 +12,7 @@ pub returns-clause-read : goal.returns-clause-read
 returns-clause-read c = record_in-record_bytes
 
 pub returns-clause-view : goal.returns-clause-view
-returns-clause-view c = λ view other artefact gift is is_other e. (same_record view other artefact gift is is_other e).0
+returns-clause-view c = λ view other artefact other_artefact is is_other e. (same_record view other artefact other_artefact is is_other e).0
 
 pub returns-clause-artefact : goal.returns-clause-artefact
-returns-clause-artefact c = λ view other artefact gift is is_other e. (same_record view other artefact gift is is_other e).1
+returns-clause-artefact c = λ view other artefact other_artefact is is_other e. (same_record view other artefact other_artefact is is_other e).1

@@ -2,7 +2,7 @@ use Rattle.std.proofs.Common.{◌≡◌, ◌∙◌, List, [], ◌∷◌, ◌++�
 use Rattle.std.specs.Vec.Iter.{into_iter_items}
 use Rattle.vr_base.specs.declared.graph.Entry.{Entry}
 use Rattle.vr_base.specs.Graphs.{IsGraph}
-use Rattle.vr_base.proofs.GraphFronts.{IsGraph-front}
+use Rattle.vr_base.proofs.GraphPrefixes.{IsGraph-prefix}
 use Rattle.record_codec.proofs.reading.graph_of.Goals as goal
 
 pub push-requires : goal.push-requires
@@ -10,4 +10,4 @@ push-requires c =
     let whole : c.loop-entry.yielded ++ (c.in-Some.entry ∷ into_iter_items c.next.new.self) ≡ c.args.entries = ap (λ (rest : List Entry). c.loop-entry.yielded ++ rest) (sym c.in-Some.ensures.steps.0) ∙ c.loop-entry.invariant.rest in
     let parts : (c.loop-entry.yielded ++ c.in-Some.entry ∷ []) ++ into_iter_items c.next.new.self ≡ c.args.entries = append_assoc c.loop-entry.yielded (c.in-Some.entry ∷ []) (into_iter_items c.next.new.self) ∙ whole in
     subst (λ (g : List Entry). IsGraph (g ++ c.in-Some.entry ∷ [])) (sym c.loop-entry.invariant.graph)
-    (IsGraph-front (c.loop-entry.yielded ++ c.in-Some.entry ∷ []) (into_iter_items c.next.new.self) (subst IsGraph (sym parts) c.requires))
+    (IsGraph-prefix (c.loop-entry.yielded ++ c.in-Some.entry ∷ []) (into_iter_items c.next.new.self) (subst IsGraph (sym parts) c.requires))

@@ -10,7 +10,7 @@ loop-word-preserved c = λ k d l.
       | inr high ↦
           let same : k ≡ c.loop-word.word-index = omega arith in
           let here : get_or c.args.words.now k d ≡ c.bytes.result.now = ap (λ (n : ℕ). get_or c.args.words.now n d) same ∙ get_or_default c.args.words.now c.loop-word.word-index d c.word-item.result c.loop-word-test.true ∙ sym c.word-item.is ∙ sym c.bytes.ensures in
-          omega (arith, ap length here, c.if-bytes-gt1024.false)
+          omega (arith, ap length here, c.if-bytes-gt-WORD_LIMIT.false)
     ]
 
 pub returns : goal.returns

@@ -1,7 +1,6 @@
 use Rattle.std.proofs.Common.{[], ◌∷◌, ◌++◌, subst}
 use Rattle.vr_outside.specs.declared.records.Record.{Record}
-use Rattle.vr_outside.specs.Disks.{AtAnyMoment, reads_of}
-use Rattle.vr_outside.specs.Records.{IsEither}
+use Rattle.vr_outside.specs.Disks.{AtAnyMoment, IsEither, reads_of}
 use Rattle.record_store.proofs.pairs.keep.Goals as goal
 
 pub returns-in_err-commit-clause-any_moment : goal.returns-in_err-commit-clause-any_moment

@@ -1,8 +1,7 @@
 use Rattle.std.proofs.Common.{◌≡◌, List, [], ◌∷◌, ◌++◌, append_assoc, ap, inl, inr, ◌∙◌}
 use Rattle.std.proofs.lemmas.Result.{on_ok_weaker}
 use Rattle.vr_outside.specs.declared.records.Record.{Record}
-use Rattle.vr_outside.specs.Disks.{Image, reads_of}
-use Rattle.vr_outside.specs.Records.{IsEither}
+use Rattle.vr_outside.specs.Disks.{Image, IsEither, reads_of}
 use Rattle.vr_outside.proofs.MomentLaws.{joined_moments, weaker_moments}
 use Rattle.record_store.specs.Pairs.{HasUpToTwo, present_record}
 use Rattle.record_store.proofs.pairs.keep_both.Goals as goal

@@ -1,7 +1,7 @@
 use Rattle.std.proofs.Common.{◌≡◌, inl, inr, sym, ◌∙◌}
 use Rattle.vr_outside.specs.Disks.{reads_of}
 use Rattle.gate_journal.specs.Payloads.{payloads}
-use Rattle.gate_journal.specs.Journals.{Stands}
+use Rattle.gate_journal.specs.Journals.{IsInStep}
 use Rattle.gate_journal.proofs.Readings.{ok_both, present_has, read_has, then_all, then_has}
 use Rattle.gate_journal.proofs.journal.Journal.from_disk.Goals as goal
 
@@ -26,6 +26,6 @@ returns-clause-held g c = λ told.
     let middle = g.D.Disk.moments c.read_sides.new.disk in
     let new = g.D.Disk.moments c.open_sides.new.disk in
     let list = payloads c.args.form (reads_of middle.now) in
-    ok_both c.open_sides.result (λ opened. Stands opened.journal new.now) (λ opened. opened.payloads ≡ list) (λ opened. payloads c.args.form (reads_of new.now) ≡ opened.payloads)
-    (λ opened stands is. present_has c.args.form middle new list (c.open_sides.ensures.any_moment told) stands.settled ∙ sym is)
-    (c.open_sides.ensures.stands told) (c.open_sides.ensures.payloads told)
+    ok_both c.open_sides.result (λ opened. IsInStep opened.journal new.now) (λ opened. opened.payloads ≡ list) (λ opened. payloads c.args.form (reads_of new.now) ≡ opened.payloads)
+    (λ opened in_step is. present_has c.args.form middle new list (c.open_sides.ensures.any_moment told) in_step.settled ∙ sym is)
+    (c.open_sides.ensures.in_step told) (c.open_sides.ensures.payloads told)

@@ -1,6 +1,6 @@
 use Rattle.std.proofs.Common.{length, refl, ap, ◌∙◌, arith}
 use Rattle.gate_journal.specs.Journals.{JournalState, other_side}
-use Rattle.gate_journal.proofs.Replacing.{Replaces, replacing_moments, replacing_loses, replaced_payloads, replaced_stands}
+use Rattle.gate_journal.proofs.Replacing.{Replaces, replacing_moments, replacing_loses, replaced_payloads, replaced_in_step}
 use Rattle.gate_journal.proofs.SideBytes.{side_length}
 use Rattle.gate_journal.proofs.journal.Journal.replace.Given as given
 use Rattle.gate_journal.proofs.journal.Journal.replace.Goals as goal
@@ -12,7 +12,7 @@ invariant_of-self g c =
 
 known : (g : given.Over) (c : goal.After-drop-side-inside g) → g.D.Disk.tells → Replaces c.args.self.now (g.D.Disk.moments c.args.disk.now).now c.other-other.result c.bytes-bytes.result.now c.args.side
 known g c told = record {
-  stands = c.requires.stands told;
+  in_step = c.requires.in_step told;
   other = c.other-other.ensures ∙ ap (λ (j : JournalState). other_side j.live) c.self.view_is;
   form = c.requires.form;
   higher = c.requires.generation;
@@ -21,11 +21,11 @@ known g c told = record {
   small = c.bytes-bytes.ensures.small;
 }
 
-pub returns-in-Ok-clause-stands : goal.returns-in-Ok-clause-stands
-returns-in-Ok-clause-stands g c = λ told.
+pub returns-in-Ok-clause-in_step : goal.returns-in-Ok-clause-in_step
+returns-in-Ok-clause-in_step g c = λ told.
     let moments = g.D.Disk.moments in
     let old = moments c.args.disk.now in
-    replaced_stands c.args.self.now _ c.other-other.result c.bytes-bytes.result.now c.args.side old.now (moments c.make_side.new.disk).now (known g c told) (c.in-Ok.ensures.made told)
+    replaced_in_step c.args.self.now _ c.other-other.result c.bytes-bytes.result.now c.args.side old.now (moments c.make_side.new.disk).now (known g c told) (c.in-Ok.ensures.made told)
     (ap (λ (j : JournalState). j.form) c.self.view_is) refl c.generation-generation.ensures refl
 
 pub returns-in-Ok-clause-replaced : goal.returns-in-Ok-clause-replaced
@@ -48,7 +48,7 @@ returns-in-Ok-clause-loses g c = λ told.
 
 known_after_fault : (g : given.Over) (c : goal.After-drop-side-inside-2 g) → g.D.Disk.tells → Replaces c.args.self.now (g.D.Disk.moments c.args.disk.now).now c.other-other.result c.bytes-bytes.result.now c.args.side
 known_after_fault g c told = record {
-  stands = c.requires.stands told;
+  in_step = c.requires.in_step told;
   other = c.other-other.ensures ∙ ap (λ (j : JournalState). other_side j.live) c.self.view_is;
   form = c.requires.form;
   higher = c.requires.generation;

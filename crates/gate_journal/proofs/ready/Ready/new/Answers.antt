@@ -9,9 +9,9 @@ within : (payload : List ℕ) → payload_within (text_bytes payload ++ 0 ∷ []
 unfolding text_bytes
 within payload =
     let size : length ((number_bytes (length payload) ++ payload) ++ 0 ∷ []) - 5 ≡ length payload = omega (arith, length-append (number_bytes (length payload) ++ payload) (0 ∷ []), length-append (number_bytes (length payload)) payload) in
-    let behind : drop 4 ((number_bytes (length payload) ++ payload) ++ 0 ∷ []) ≡ payload ++ 0 ∷ [] =
+    let after : drop 4 ((number_bytes (length payload) ++ payload) ++ 0 ∷ []) ≡ payload ++ 0 ∷ [] =
     ap (drop 4) (append_assoc (number_bytes (length payload)) payload (0 ∷ [])) ∙ drop_at (number_bytes (length payload)) (payload ++ 0 ∷ []) 4 refl in
-    ap (λ (n : ℕ). take n (drop 4 ((number_bytes (length payload) ++ payload) ++ 0 ∷ []))) size ∙ ap (take (length payload)) behind ∙ take_at payload (0 ∷ []) (length payload) refl
+    ap (λ (n : ℕ). take n (drop 4 ((number_bytes (length payload) ++ payload) ++ 0 ∷ []))) size ∙ ap (take (length payload)) after ∙ take_at payload (0 ∷ []) (length payload) refl
 
 ready : (payload : List ℕ) → length payload < 2 ^ 32 → IsReady (text_bytes payload ++ 0 ∷ [])
 ready payload small = record {

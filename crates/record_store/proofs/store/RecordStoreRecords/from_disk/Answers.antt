@@ -28,10 +28,10 @@ returns-clause-opens g c = λ told.
     let old = g.D.Disk.moments c.args.disk.now in
     open_opens old (g.D.Disk.moments c.from_disk.new.disk) (reads_of old.now) (c.from_disk.ensures.opens told)
 
-pub returns-clause-stands : goal.returns-clause-stands
-returns-clause-stands g c = λ told.
+pub returns-clause-in_step : goal.returns-clause-in_step
+returns-clause-in_step g c = λ told.
     record {
-      journal_stands = c.in_ok-journal.ensures.stands told;
+      journal_in_step = c.in_ok-journal.ensures.in_step told;
       form = c.in_ok-journal.ensures.form;
       latest_held = subst (λ (l : List (List ℕ)). HoldsLatest c.in_ok-index.index (records_among l)) (sym (c.in_ok-journal.ensures.held told)) c.in_ok-index.ensures;
     }
