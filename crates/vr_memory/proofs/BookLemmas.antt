@@ -35,7 +35,7 @@ all_started : (n : ℕ) (xs : List ℕ) → AllByRecursion (λ x. x < n) xs → 
 all_started n [] all = (omega arith, tt)
 all_started n (x ∷ xs) all = let below : x < n = all.0 in (omega arith, all_started n xs all.1)
 
--- what stood in a journal stands in a longer one
+-- what is in a journal is in a longer one
 get_longer : (xs ys : List Event) (k : ℕ) (x : Event) → slice_get xs k ≡ Some x → slice_get (xs ++ ys) k ≡ Some x
 get_longer [] ys k x is = absurd (none-some x is)
 get_longer (y ∷ xs) ys zero x is = is
@@ -88,7 +88,7 @@ none_after ticket other request rest zero here false same is none later =
     subst (λ e. started_with ticket (e ∷ []) ≡ None) (some_same is) alone
 none_after ticket other request rest (suc k) here false same is none later = later k here is none
 
--- a ticket's event, where its start stands elsewhere or nowhere
+-- a ticket's event, where its start is elsewhere or nowhere
 none_at : (ticket : ℕ) (journal : List Event) (k : ℕ) (here : Event) → slice_get journal k ≡ Some here → started_with ticket journal ≡ None → started_with ticket (here ∷ []) ≡ None
 none_at ticket [] k here is none = absurd (none-some here is)
 none_at ticket (event.Started other request ∷ rest) k here is none = none_after ticket other request rest k here (other == ticket) refl is none (none_at ticket rest)

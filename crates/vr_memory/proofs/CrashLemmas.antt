@@ -4,7 +4,7 @@ use Rattle.std.specs.Prelude.{Contains, ◌&&◌, not, nat_lt, ◌==◌}
 use Rattle.std.proofs.lemmas.Bool.{lt-ltb}
 use Rattle.std.proofs.lemmas.List.Elements.{Contains-append_right, Contains-get_or}
 use Rattle.vr_outside.specs.Disks.{SideState, DiskState, Image, IsSideImage, IsSoundSide, IsSound, IsImage, is_touched}
-use Rattle.vr_memory.specs.declared.kept.Kept.{Kept}
+use Rattle.vr_memory.specs.declared.logged.LoggedCall.{LoggedCall}
 use Rattle.vr_memory.specs.Disks.{Log, disk_inside, disk_after, past_of, now_of, state_at, start_of, moment_of, filled_byte, IsFilled, AreFilled}
 use Rattle.vr_memory.specs.DiskLaws.{disk_inside_sound, disk_after_sound, start_sound}
 
@@ -16,7 +16,7 @@ one_of_two true one other all here there = here
 one_of_two false one other all here there = there
 
 -- the state at a moment is one of the moments
-pub state_at_is : (kept : List Kept) (moment : ℕ) (disk : DiskState) → Contains (past_of kept disk ++ now_of kept disk ∷ []) (state_at kept moment disk)
+pub state_at_is : (kept : List LoggedCall) (moment : ℕ) (disk : DiskState) → Contains (past_of kept disk ++ now_of kept disk ∷ []) (state_at kept moment disk)
 state_at_is [] moment disk = first_of disk []
 state_at_is (call ∷ kept) moment disk =
     let rest = past_of kept (disk_after call disk) ++ now_of kept (disk_after call disk) ∷ [] in
@@ -30,7 +30,7 @@ one_sound : (test : Bool) (one other : DiskState) → IsSound one → IsSound ot
 one_sound true one other here there = here
 one_sound false one other here there = there
 
-state_at_sound : (kept : List Kept) (moment : ℕ) (disk : DiskState) → IsSound disk → IsSound (state_at kept moment disk)
+state_at_sound : (kept : List LoggedCall) (moment : ℕ) (disk : DiskState) → IsSound disk → IsSound (state_at kept moment disk)
 state_at_sound [] moment disk sound = sound
 state_at_sound (call ∷ kept) moment disk sound =
     one_sound (nat_lt call.number moment) _ _ (state_at_sound kept moment (disk_after call disk) (disk_after_sound call disk sound))

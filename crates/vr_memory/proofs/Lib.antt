@@ -1,3 +1,4 @@
+-- The lemmas.
 mod ListingLemmas
 mod BookLemmas
 mod TableLemmas

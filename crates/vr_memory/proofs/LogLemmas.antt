@@ -8,17 +8,17 @@ use Rattle.vr_outside.specs.declared.disk.Side.{Side}
 use Rattle.vr_outside.specs.declared.disk.Side.TheVariants.{A, B}
 use Rattle.vr_outside.specs.Disks.{SideState, DiskState, Image, Moments, all_of, on_side, writing, IsSideImage, IsSoundSide, IsSound, IsImage, IsWithin, Goes}
 use Rattle.vr_outside.proofs.ImageLaws.{within_touching, within_written, within_cutting, within_shortened, within_synced}
-use Rattle.vr_memory.specs.declared.kept.Act.{Act}
-use Rattle.vr_memory.specs.declared.kept.Act.TheVariants as act
-use Rattle.vr_memory.specs.declared.kept.Kept.{Kept}
+use Rattle.vr_memory.specs.declared.logged.Act.{Act}
+use Rattle.vr_memory.specs.declared.logged.Act.TheVariants as act
+use Rattle.vr_memory.specs.declared.logged.LoggedCall.{LoggedCall}
 use Rattle.vr_memory.specs.Disks.{Log, is_allowed, write_inside, write_after, side_inside, side_after, disk_inside, disk_after, past_of, now_of, state_at, start_of, moments_of}
 use Rattle.vr_memory.specs.DiskLaws.{disk_inside_sound, disk_after_sound, now_sound}
 
-pub now_of-push : (kept : List Kept) (call : Kept) (disk : DiskState) → now_of (kept ++ call ∷ []) disk ≡ disk_after call (now_of kept disk)
+pub now_of-push : (kept : List LoggedCall) (call : LoggedCall) (disk : DiskState) → now_of (kept ++ call ∷ []) disk ≡ disk_after call (now_of kept disk)
 now_of-push [] call disk = refl
 now_of-push (first ∷ kept) call disk = now_of-push kept call (disk_after first disk)
 
-all_of-push : (kept : List Kept) (call : Kept) (disk : DiskState) → past_of (kept ++ call ∷ []) disk ++ now_of (kept ++ call ∷ []) disk ∷ [] ≡ (past_of kept disk ++ now_of kept disk ∷ []) ++ (disk_inside call (now_of kept disk) ∷ disk_after call (now_of kept disk) ∷ [])
+all_of-push : (kept : List LoggedCall) (call : LoggedCall) (disk : DiskState) → past_of (kept ++ call ∷ []) disk ++ now_of (kept ++ call ∷ []) disk ∷ [] ≡ (past_of kept disk ++ now_of kept disk ∷ []) ++ (disk_inside call (now_of kept disk) ∷ disk_after call (now_of kept disk) ∷ [])
 all_of-push [] call disk = refl
 all_of-push (first ∷ kept) call disk = ap (λ (l : List DiskState). disk ∷ disk_inside first disk ∷ l) (all_of-push kept call (disk_after first disk))
 
@@ -42,14 +42,14 @@ on_side_within : (side : Side) (more less : SideState → SideState) (disk : Dis
 on_side_within A more less disk within sound image is = record { a = within disk.a image.a sound.a is.a; b = is.b }
 on_side_within B more less disk within sound image is = record { a = is.a; b = within disk.b image.b sound.b is.b }
 
-pub disk_within : (kept : Kept) (disk : DiskState) → IsSound disk → IsWithin (disk_inside kept disk) (disk_after kept disk)
+pub disk_within : (kept : LoggedCall) (disk : DiskState) → IsSound disk → IsWithin (disk_inside kept disk) (disk_after kept disk)
 disk_within kept disk sound = on_side_within kept.side (side_inside kept.act) (side_after kept.done kept.act) disk (side_within kept.done kept.act) sound
 
 reads_image : (disk : DiskState) → IsSound disk → IsImage disk (record { a = disk.a.reads; b = disk.b.reads })
 reads_image disk sound = record { a = sound.a.image; b = sound.b.image }
 
 -- a log with one call more goes through it
-goes_through : (first : Image) (kept : List Kept) (call : Kept) → Goes (disk_inside call (now_of kept (start_of first))) (moments_of (record { first = first; kept = kept })) (moments_of (record { first = first; kept = kept ++ call ∷ [] }))
+goes_through : (first : Image) (kept : List LoggedCall) (call : LoggedCall) → Goes (disk_inside call (now_of kept (start_of first))) (moments_of (record { first = first; kept = kept })) (moments_of (record { first = first; kept = kept ++ call ∷ [] }))
 goes_through first kept call =
     let now = now_of kept (start_of first) in
     let sound : IsSound now = now_sound (record { first = first; kept = kept }) in
@@ -61,55 +61,55 @@ goes_through first kept call =
       within = subst (IsWithin (disk_inside call now)) (sym (now_of-push kept call (start_of first))) fewer;
     }
 
-pub kept_goes : (old new : Log) (call : Kept) → new.first ≡ old.first → new.kept ≡ old.kept ++ call ∷ [] → Goes (disk_inside call (moments_of old).now) (moments_of old) (moments_of new)
+pub kept_goes : (old new : Log) (call : LoggedCall) → new.first ≡ old.first → new.kept ≡ old.kept ++ call ∷ [] → Goes (disk_inside call (moments_of old).now) (moments_of old) (moments_of new)
 kept_goes old new call first kept =
     let same : record { first = old.first; kept = old.kept ++ call ∷ [] } ≡ new = λ i. record { first = sym first i; kept = sym kept i } in
     subst (λ (log : Log). Goes (disk_inside call (moments_of old).now) (moments_of old) (moments_of log)) same (goes_through old.first old.kept call)
 
--- a log that stands went through a call of which nothing was done
-pub standing_goes : (during : DiskState) (moments : Moments) → IsWithin during moments.now → Goes during moments moments
-standing_goes during moments within = record { inside = []; added = sym (append-nil (all_of moments)); shrinks = tt; within = within }
+-- an unchanged log went through a call of which nothing was done
+pub unchanged_goes : (during : DiskState) (moments : Moments) → IsWithin during moments.now → Goes during moments moments
+unchanged_goes during moments within = record { inside = []; added = sym (append-nil (all_of moments)); shrinks = tt; within = within }
 
--- what is left of a log's calls, past one before the moment
-pub next_state : (kept : List Kept) (i : ℕ) (call : Kept) (moment : ℕ) (disk : DiskState) → i < length kept → call ≡ get_or kept i call → call.number < moment → state_at (drop i kept) moment disk ≡ state_at (drop (i + 1) kept) moment (disk_after call disk)
+-- what remains of a log's calls, past one before the moment
+pub next_state : (kept : List LoggedCall) (i : ℕ) (call : LoggedCall) (moment : ℕ) (disk : DiskState) → i < length kept → call ≡ get_or kept i call → call.number < moment → state_at (drop i kept) moment disk ≡ state_at (drop (i + 1) kept) moment (disk_after call disk)
 next_state kept i call moment disk below is before =
-    let left : drop i kept ≡ call ∷ drop (i + 1) kept = drop_more kept i call below ∙ ap (λ (k : Kept). k ∷ drop (i + 1) kept) (sym is) in
+    let left : drop i kept ≡ call ∷ drop (i + 1) kept = drop_more kept i call below ∙ ap (λ (k : LoggedCall). k ∷ drop (i + 1) kept) (sym is) in
     let step : state_at (call ∷ drop (i + 1) kept) moment disk ≡ state_at (drop (i + 1) kept) moment (disk_after call disk) = ap (λ (b : Bool). cond b (state_at (drop (i + 1) kept) moment (disk_after call disk)) (cond (call.number == moment) (disk_inside call disk) disk)) (lt-ltb call.number moment before) in
-    ap (λ (l : List Kept). state_at l moment disk) left ∙ step
+    ap (λ (l : List LoggedCall). state_at l moment disk) left ∙ step
 
 -- and at the moment
-pub state_here : (kept : List Kept) (i : ℕ) (call : Kept) (moment : ℕ) (disk : DiskState) → i < length kept → call ≡ get_or kept i call → call.number ≡ moment → state_at (drop i kept) moment disk ≡ disk_inside call disk
+pub state_here : (kept : List LoggedCall) (i : ℕ) (call : LoggedCall) (moment : ℕ) (disk : DiskState) → i < length kept → call ≡ get_or kept i call → call.number ≡ moment → state_at (drop i kept) moment disk ≡ disk_inside call disk
 state_here kept i call moment disk below is here =
-    let left : drop i kept ≡ call ∷ drop (i + 1) kept = drop_more kept i call below ∙ ap (λ (k : Kept). k ∷ drop (i + 1) kept) (sym is) in
+    let left : drop i kept ≡ call ∷ drop (i + 1) kept = drop_more kept i call below ∙ ap (λ (k : LoggedCall). k ∷ drop (i + 1) kept) (sym is) in
     let later : nat_lt call.number moment ≡ false = grind (arith, nat_tests) in
     let same : (call.number == moment) ≡ true = eq-eqb call.number moment here in
-    ap (λ (l : List Kept). state_at l moment disk) left
+    ap (λ (l : List LoggedCall). state_at l moment disk) left
     ∙ ap (λ (b : Bool). cond b (state_at (drop (i + 1) kept) moment (disk_after call disk)) (cond (call.number == moment) (disk_inside call disk) disk)) later
     ∙ ap (λ (b : Bool). cond b (disk_inside call disk) disk) same
 
-either_stands : (test : Bool) (more side : SideState) (image : List ℕ) → (IsSideImage side image → IsSideImage more image) → IsSideImage side image → IsSideImage (cond test more side) image
-either_stands true more side image within is = within is
-either_stands false more side image within is = is
+either_is_unchanged : (test : Bool) (more side : SideState) (image : List ℕ) → (IsSideImage side image → IsSideImage more image) → IsSideImage side image → IsSideImage (cond test more side) image
+either_is_unchanged true more side image within is = within is
+either_is_unchanged false more side image within is = is
 
--- what stood may still stand inside a call
-side_stands : (call : Act) (side : SideState) (image : List ℕ) → IsSideImage side image → IsSideImage (side_inside call side) image
-side_stands (act.Write at bytes) side image is = either_stands (is_allowed at (length bytes) side.reads) _ side image (within_touching at (length bytes) side image) is
-side_stands (act.Cut len) side image is = within_cutting len side image is
-side_stands act.Sync side image is = is
+-- an image before a call is one inside it
+side_is_unchanged : (call : Act) (side : SideState) (image : List ℕ) → IsSideImage side image → IsSideImage (side_inside call side) image
+side_is_unchanged (act.Write at bytes) side image is = either_is_unchanged (is_allowed at (length bytes) side.reads) _ side image (within_touching at (length bytes) side image) is
+side_is_unchanged (act.Cut len) side image is = within_cutting len side image is
+side_is_unchanged act.Sync side image is = is
 
-on_side_stands : (side : Side) (more : SideState → SideState) (disk : DiskState) → ((s : SideState) (image : List ℕ) → IsSideImage s image → IsSideImage (more s) image) → IsWithin (on_side side more disk) disk
-on_side_stands A more disk stands image is = record { a = stands disk.a image.a is.a; b = is.b }
-on_side_stands B more disk stands image is = record { a = is.a; b = stands disk.b image.b is.b }
+on_side_is_unchanged : (side : Side) (more : SideState → SideState) (disk : DiskState) → ((s : SideState) (image : List ℕ) → IsSideImage s image → IsSideImage (more s) image) → IsWithin (on_side side more disk) disk
+on_side_is_unchanged A more disk in_step image is = record { a = in_step disk.a image.a is.a; b = is.b }
+on_side_is_unchanged B more disk in_step image is = record { a = is.a; b = in_step disk.b image.b is.b }
 
 -- a log that no call was added to
-pub kept_stands : (old new : Log) (call : Kept) → new ≡ old → Goes (disk_inside call (moments_of old).now) (moments_of old) (moments_of new)
-kept_stands old new call same =
+pub kept_is_unchanged : (old new : Log) (call : LoggedCall) → new ≡ old → Goes (disk_inside call (moments_of old).now) (moments_of old) (moments_of new)
+kept_is_unchanged old new call same =
     subst (λ (log : Log). Goes (disk_inside call (moments_of old).now) (moments_of old) (moments_of log)) (sym same)
-    (standing_goes (disk_inside call (moments_of old).now) (moments_of old) (on_side_stands call.side (side_inside call.act) (moments_of old).now (side_stands call.act)))
+    (unchanged_goes (disk_inside call (moments_of old).now) (moments_of old) (on_side_is_unchanged call.side (side_inside call.act) (moments_of old).now (side_is_unchanged call.act)))
 
 -- the same of a write that found no memory
-pub write_stands : (side : Side) (at count : ℕ) (old new : Log) → new ≡ old → Goes (on_side side (writing at count) (moments_of old).now) (moments_of old) (moments_of new)
-write_stands side at count old new same =
+pub write_is_unchanged : (side : Side) (at count : ℕ) (old new : Log) → new ≡ old → Goes (on_side side (writing at count) (moments_of old).now) (moments_of old) (moments_of new)
+write_is_unchanged side at count old new same =
     subst (λ (log : Log). Goes (on_side side (writing at count) (moments_of old).now) (moments_of old) (moments_of log)) (sym same)
-    (standing_goes (on_side side (writing at count) (moments_of old).now) (moments_of old)
-    (on_side_stands side (writing at count) (moments_of old).now (λ s image is. either_stands (nat_lt (at + count) (2 ^ 63)) _ s image (within_touching at count s image) is)))
+    (unchanged_goes (on_side side (writing at count) (moments_of old).now) (moments_of old)
+    (on_side_is_unchanged side (writing at count) (moments_of old).now (λ s image is. either_is_unchanged (nat_lt (at + count) (2 ^ 63)) _ s image (within_touching at count s image) is)))

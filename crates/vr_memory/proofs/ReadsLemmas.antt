@@ -3,9 +3,9 @@ use Rattle.std.proofs.Common.{◌≡◌, ℕ, Bool, true, false, cond, List, len
 use Rattle.vr_outside.specs.declared.disk.Side.{Side}
 use Rattle.vr_outside.specs.declared.disk.Side.TheVariants.{A, B}
 use Rattle.vr_outside.specs.Disks.{SideState, DiskState, on_side, reads_of, touching, written}
-use Rattle.vr_memory.specs.declared.kept.Act.{Act}
-use Rattle.vr_memory.specs.declared.kept.Act.TheVariants as act
-use Rattle.vr_memory.specs.declared.kept.Kept.{Kept}
+use Rattle.vr_memory.specs.declared.logged.Act.{Act}
+use Rattle.vr_memory.specs.declared.logged.Act.TheVariants as act
+use Rattle.vr_memory.specs.declared.logged.LoggedCall.{LoggedCall}
 use Rattle.vr_memory.specs.Disks.{is_allowed, side_after, disk_after, reads_after, on_bytes}
 
 either_reads : (test : Bool) (one other : SideState) → (cond test one other).reads ≡ cond test one.reads other.reads
@@ -29,5 +29,5 @@ on_side_reads : (side : Side) (change : SideState → SideState) (less : List �
 on_side_reads A change less disk same = ap (λ (l : List ℕ). record { a = l; b = disk.b.reads }) (same disk.a)
 on_side_reads B change less disk same = ap (λ (l : List ℕ). record { a = disk.a.reads; b = l }) (same disk.b)
 
-pub disk_reads_after : (kept : Kept) (disk : DiskState) → reads_of (disk_after kept disk) ≡ on_bytes kept.side (reads_after kept.done kept.act) (reads_of disk)
+pub disk_reads_after : (kept : LoggedCall) (disk : DiskState) → reads_of (disk_after kept disk) ≡ on_bytes kept.side (reads_after kept.done kept.act) (reads_of disk)
 disk_reads_after kept disk = on_side_reads kept.side (side_after kept.done kept.act) (reads_after kept.done kept.act) disk (side_reads_after kept.done kept.act)

@@ -7,19 +7,22 @@ use Rattle.vr_base.specs.declared.child.Event.{Event}
 use Rattle.vr_base.specs.declared.child.Event.TheVariants as event
 use Rattle.vr_outside.specs.Children.{started_with, without}
 use Rattle.vr_outside.specs.Counts.{Counted}
-use Rattle.vr_memory.specs.Failing.{next_call}
+use Rattle.vr_memory.specs.declared.failing.Calls.{Calls}
+use Rattle.vr_memory.specs.Failing.{next_call, no_calls, MakesCall}
 
--- a book: the running tickets in order of start, the journal, the picks and the number of waits so far,
--- the calls so far, those that are to fail, and the counts of faults
-pub record Book : Type 0 where
+-- a book: the running tickets in order of start, the journal, the picks and the number of waits so far, its calls,
+-- whose faults are failed starts, and how many children were lost
+pub record HeldBook : Type 0 where
   pub running : List ℕ
   pub journal : List Event
   pub picks : List ℕ
   pub waits : ℕ
-  pub failing : List ℕ
-  pub calls : ℕ
-  pub failed_starts : ℕ
+  pub calls : Calls
   pub lost_children : ℕ
+
+-- a book of no children
+abbrev pub no_children : (picks failing : List ℕ) → HeldBook
+no_children picks failing = record { running = []; journal = []; picks = picks; waits = 0; calls = no_calls failing; lost_children = 0 }
 
 -- The place of the ticket that a wait takes among so many running ones: the pick of the wait's number, modulo how
 -- many run; past the end of the picks the oldest.
@@ -27,7 +30,7 @@ abbrev pub pick : List ℕ → (wait running : ℕ) → ℕ
 pick picks wait running = if nat_lt wait (length picks) then slice_index picks wait % running else 0
 
 -- the ticket that the next wait takes
-abbrev pub picked : Book → ℕ
+abbrev pub picked : HeldBook → ℕ
 picked book = slice_index book.running (pick book.picks book.waits (length book.running))
 
 -- the ticket of a start is the place of its event
@@ -47,23 +50,21 @@ IsEnd (event.Ended ticket exit) = Unit {0}
 IsEnd (event.Gone ticket) = Unit {0}
 
 -- a wait ended a child with an event
-pub record EndsChild (ticket : ℕ) (end : Event) (old new : Book) : Type 0 where
+pub record EndsChild (ticket : ℕ) (end : Event) (old new : HeldBook) : Type 0 where
   pub running : new.running ≡ without ticket old.running
   pub journal : new.journal ≡ old.journal ++ end ∷ []
   pub picks : new.picks ≡ old.picks
   pub waits : new.waits ≡ next_call old.waits
-  pub failing : new.failing ≡ old.failing
-  pub calls : new.calls ≡ next_call old.calls
-  pub starts : new.failed_starts ≡ old.failed_starts
+  pub calls : MakesCall old.calls new.calls
+  pub starts : new.calls.failed ≡ old.calls.failed
   pub children : new.lost_children ≡ old.lost_children
 
 -- the same of a wait that lost the child
-pub record LosesChild (ticket : ℕ) (old new : Book) : Type 0 where
+pub record LosesChild (ticket : ℕ) (old new : HeldBook) : Type 0 where
   pub running : new.running ≡ without ticket old.running
   pub journal : new.journal ≡ old.journal ++ event.Gone ticket ∷ []
   pub picks : new.picks ≡ old.picks
   pub waits : new.waits ≡ next_call old.waits
-  pub failing : new.failing ≡ old.failing
-  pub calls : new.calls ≡ next_call old.calls
-  pub starts : new.failed_starts ≡ old.failed_starts
+  pub calls : MakesCall old.calls new.calls
+  pub starts : new.calls.failed ≡ old.calls.failed
   pub children : Counted old.lost_children new.lost_children

@@ -7,9 +7,9 @@ use Rattle.vr_outside.specs.declared.disk.Side.{Side}
 use Rattle.vr_outside.specs.declared.disk.Side.TheVariants.{A, B}
 use Rattle.vr_outside.specs.Disks.{SideState, DiskState, Image, on_side, settled, synced, IsSoundSide, IsSound, AreSound}
 use Rattle.vr_outside.proofs.ImageLaws.{touching_sound, written_sound, cutting_sound, shortened_sound, settled_sound}
-use Rattle.vr_memory.specs.declared.kept.Act.{Act}
-use Rattle.vr_memory.specs.declared.kept.Act.TheVariants as act
-use Rattle.vr_memory.specs.declared.kept.Kept.{Kept}
+use Rattle.vr_memory.specs.declared.logged.Act.{Act}
+use Rattle.vr_memory.specs.declared.logged.Act.TheVariants as act
+use Rattle.vr_memory.specs.declared.logged.LoggedCall.{LoggedCall}
 use Rattle.vr_memory.specs.Disks.{Log, is_allowed, write_inside, write_after, side_inside, side_after, disk_inside, disk_after, past_of, now_of, beginning, start_of, moments_of}
 
 -- one of two sides
@@ -49,10 +49,10 @@ on_side_sound : (side : Side) (change : SideState → SideState) (disk : DiskSta
 on_side_sound A change disk keeps sound = record { a = keeps disk.a sound.a; b = sound.b }
 on_side_sound B change disk keeps sound = record { a = sound.a; b = keeps disk.b sound.b }
 
-pub disk_inside_sound : (kept : Kept) (disk : DiskState) → IsSound disk → IsSound (disk_inside kept disk)
+pub disk_inside_sound : (kept : LoggedCall) (disk : DiskState) → IsSound disk → IsSound (disk_inside kept disk)
 disk_inside_sound kept disk sound = on_side_sound kept.side (side_inside kept.act) disk (side_inside_sound kept.act) sound
 
-pub disk_after_sound : (kept : Kept) (disk : DiskState) → IsSound disk → IsSound (disk_after kept disk)
+pub disk_after_sound : (kept : LoggedCall) (disk : DiskState) → IsSound disk → IsSound (disk_after kept disk)
 disk_after_sound kept disk sound = on_side_sound kept.side (side_after kept.done kept.act) disk (side_after_sound kept.done kept.act) sound
 
 beginning_sound : (bytes : List ℕ) → IsSoundSide (beginning bytes)
@@ -61,7 +61,7 @@ beginning_sound bytes = either_sound (nat_lt (length bytes) (2 ^ 63)) (settled b
 pub start_sound : (first : Image) → IsSound (start_of first)
 start_sound first = record { a = beginning_sound first.a; b = beginning_sound first.b }
 
-all_sound : (kept : List Kept) (disk : DiskState) → IsSound disk → AllByRecursion IsSound (past_of kept disk ++ now_of kept disk ∷ [])
+all_sound : (kept : List LoggedCall) (disk : DiskState) → IsSound disk → AllByRecursion IsSound (past_of kept disk ++ now_of kept disk ∷ [])
 all_sound [] disk sound = (sound, tt)
 all_sound (call ∷ kept) disk sound = (sound, (disk_inside_sound call disk sound, all_sound kept (disk_after call disk) (disk_after_sound call disk sound)))
 
@@ -69,7 +69,7 @@ all_sound (call ∷ kept) disk sound = (sound, (disk_inside_sound call disk soun
 pub log_sound : (log : Log) → AreSound (moments_of log)
 log_sound log = all_sound log.kept (start_of log.first) (start_sound log.first)
 
-now_sound_from : (kept : List Kept) (disk : DiskState) → IsSound disk → IsSound (now_of kept disk)
+now_sound_from : (kept : List LoggedCall) (disk : DiskState) → IsSound disk → IsSound (now_of kept disk)
 now_sound_from [] disk sound = sound
 now_sound_from (call ∷ kept) disk sound = now_sound_from kept (disk_after call disk) (disk_after_sound call disk sound)
 

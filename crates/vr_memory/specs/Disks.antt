@@ -1,11 +1,14 @@
 -- What a disk over memory holds: the bytes that it began with, and the calls since then that may have changed it.
-use Rattle.std.specs.Prelude.{◌≡◌, ℕ, ◌+◌, ◌^◌, ◌<◌, nat_le, nat_lt, ◌==◌, min, max, Bool, true, false, not, ◌&&◌, List, [], ◌∷◌, length, take, slice_index, if◌then◌else◌}
+use Rattle.std.specs.Prelude.{◌≡◌, ◌⊎◌, ℕ, ◌+◌, ◌^◌, ◌<◌, nat_le, nat_lt, ◌==◌, min, max, Bool, true, false, not, ◌&&◌, List, [], ◌∷◌, ◌++◌, length, take, slice_index, Result, Ok, Err, if◌then◌else◌}
 use Rattle.vr_outside.specs.declared.disk.Side.{Side}
 use Rattle.vr_outside.specs.declared.disk.Side.TheVariants.{A, B}
 use Rattle.vr_outside.specs.Disks.{SideState, DiskState, Image, Moments, on_side, is_touched, overwritten, touching, written, cutting, shortened, settled, synced}
-use Rattle.vr_memory.specs.declared.kept.Act.{Act}
-use Rattle.vr_memory.specs.declared.kept.Act.TheVariants as act
-use Rattle.vr_memory.specs.declared.kept.Kept.{Kept}
+use Rattle.vr_base.specs.declared.memory.DiskFailed.{DiskFailed}
+use Rattle.vr_memory.specs.declared.failing.Calls.{Calls}
+use Rattle.vr_memory.specs.declared.logged.Act.{Act}
+use Rattle.vr_memory.specs.declared.logged.Act.TheVariants as act
+use Rattle.vr_memory.specs.declared.logged.LoggedCall.{LoggedCall}
+use Rattle.vr_memory.specs.Failing.{fails_next}
 
 -- whether a write begins at or before the end of what reads give, and ends below 2^63
 abbrev pub is_allowed : (at count : ℕ) → List ℕ → Bool
@@ -44,32 +47,32 @@ abbrev pub on_bytes : Side → (List ℕ → List ℕ) → Image → Image
 on_bytes A change image = record { a = change image.a; b = image.b }
 on_bytes B change image = record { a = image.a; b = change image.b }
 
-abbrev pub disk_inside : Kept → DiskState → DiskState
+abbrev pub disk_inside : LoggedCall → DiskState → DiskState
 disk_inside kept disk = on_side kept.side (side_inside kept.act) disk
 
-abbrev pub disk_after : Kept → DiskState → DiskState
+abbrev pub disk_after : LoggedCall → DiskState → DiskState
 disk_after kept disk = on_side kept.side (side_after kept.done kept.act) disk
 
 -- the moments before the last call ended: between two calls, and inside of each
-abbrev pub past_of : List Kept → DiskState → List DiskState
+abbrev pub past_of : List LoggedCall → DiskState → List DiskState
 past_of [] disk = []
 past_of (kept ∷ rest) disk = disk ∷ disk_inside kept disk ∷ past_of rest (disk_after kept disk)
 
 -- the disk after calls
-abbrev pub now_of : List Kept → DiskState → DiskState
+abbrev pub now_of : List LoggedCall → DiskState → DiskState
 now_of [] disk = disk
 now_of (kept ∷ rest) disk = now_of rest (disk_after kept disk)
 
 -- The disk inside the call of a number, where it may have changed the disk; otherwise the disk after the calls
 -- before that number.
-abbrev pub state_at : List Kept → ℕ → DiskState → DiskState
+abbrev pub state_at : List LoggedCall → ℕ → DiskState → DiskState
 state_at [] moment disk = disk
 state_at (kept ∷ rest) moment disk = if nat_lt kept.number moment then state_at rest moment (disk_after kept disk) else (if kept.number == moment then disk_inside kept disk else disk)
 
 -- the bytes at first, and the calls since then, in order
 pub record Log : Type 0 where
   pub first : Image
-  pub kept : List Kept
+  pub kept : List LoggedCall
 
 -- a side that begins with these bytes: one of 2^63 bytes is none
 abbrev pub beginning : List ℕ → SideState
@@ -86,12 +89,29 @@ moments_of log = record { past = past_of log.kept (start_of log.first); now = no
 abbrev pub moment_of : Log → ℕ → DiskState
 moment_of log moment = state_at log.kept moment (start_of log.first)
 
--- a disk: its log, the number of its next call, the numbers of those that are to fail, and how many failed
+-- a disk: its log and its calls
 pub record HeldDisk : Type 0 where
   pub log : Log
-  pub failing : List ℕ
-  pub calls : ℕ
-  pub failed : ℕ
+  pub calls : Calls
+
+-- the call of this number that a disk goes through next: it is done unless it is to fail
+abbrev pub next_kept : HeldDisk → Side → Act → LoggedCall
+next_kept disk side act = record { number = disk.calls.made; side = side; act = act; done = not (fails_next disk.calls) }
+
+-- a log with one call more
+abbrev pub with_call : LoggedCall → Log → Log
+with_call call log = record { first = log.first; kept = log.kept ++ call ∷ [] }
+
+-- What a call that failed leaves. One that was to be done found no memory, or would end at 2^63 or above: the log is
+-- unchanged. One that was to fail is in the log and counts in what a stop can leave, unless it was so too.
+abbrev pub LogsFault : (done : Bool) → LoggedCall → Log → Log → Type 0
+LogsFault true call old new = new ≡ old
+LogsFault false call old new = (new ≡ with_call call old) ⊎ (new ≡ old)
+
+-- the log after a call that may change the disk: after Ok it has the call, with its number
+abbrev pub LogsCall : {T : Type 0} → Result T DiskFailed → LoggedCall → Log → Log → Type 0
+LogsCall (Ok value) call old new = new ≡ with_call call old
+LogsCall (Err fault) call old new = LogsFault call.done call old new
 
 -- the length nearest to one that is asked for
 abbrev pub nearest : SideState → ℕ → ℕ

@@ -13,50 +13,60 @@ use Rattle.vr_outside.specs.declared.streams.SourceFault.{SourceFault}
 use Rattle.vr_outside.specs.declared.streams.SourceFault.TheVariants as source
 use Rattle.vr_outside.specs.declared.streams.SinkFault.{SinkFault}
 use Rattle.vr_outside.specs.declared.streams.SinkFault.TheVariants as sink
+use Rattle.vr_memory.specs.declared.failing.Calls.{Calls}
 
 -- the number of the call after a call
 abbrev pub next_call : ℕ → ℕ
 next_call call = min (call + 1) (2 ^ 64 - 1)
 
--- whether a call is listed
-abbrev pub fails : List ℕ → ℕ → Bool
-fails failing call = list_any (λ n. n == call) failing
+-- whether the next call is one of those that are to fail
+abbrev pub fails_next : Calls → Bool
+fails_next calls = list_any (λ n. n == calls.made) calls.failing
 
--- A call of a tree that is listed fails, and any other finds no fault but want of memory.
-abbrev pub TreeFails : {T : Type 0} → Result T TreeFault → List ℕ → ℕ → Type 0
-TreeFails (Ok value) failing call = fails failing call ≡ false
-TreeFails (Err tree.NoMemory) failing call = fails failing call ≡ false
-TreeFails (Err tree.Failed) failing call = fails failing call ≡ true
+-- no call was made
+abbrev pub no_calls : List ℕ → Calls
+no_calls failing = record { failing = failing; made = 0; failed = 0 }
+
+-- one call more was made, and the count of faults may have changed
+pub record MakesCall (old new : Calls) : Type 0 where
+  pub failing : new.failing ≡ old.failing
+  pub made : new.made ≡ next_call old.made
+
+-- A call of a tree that is listed fails, and any other finds no fault but out of memory.
+abbrev pub TreeFails : {T : Type 0} → Result T TreeFault → Calls → Type 0
+TreeFails (Ok value) calls = fails_next calls ≡ false
+TreeFails (Err tree.NoMemory) calls = fails_next calls ≡ false
+TreeFails (Err tree.Failed) calls = fails_next calls ≡ true
 
 -- the same of a start
-abbrev pub StartFails : {T : Type 0} → Result T StartFault → List ℕ → ℕ → Type 0
-StartFails (Ok value) failing call = fails failing call ≡ false
-StartFails (Err start.NoMemory) failing call = fails failing call ≡ false
-StartFails (Err start.Failed) failing call = fails failing call ≡ true
+abbrev pub StartFails : {T : Type 0} → Result T StartFault → Calls → Type 0
+StartFails (Ok value) calls = fails_next calls ≡ false
+StartFails (Err start.NoMemory) calls = fails_next calls ≡ false
+StartFails (Err start.Failed) calls = fails_next calls ≡ true
 
 -- the same of a wait
-abbrev pub WaitFails : {T : Type 0} → Result T WaitFault → List ℕ → ℕ → Type 0
-WaitFails (Ok value) failing call = fails failing call ≡ false
-WaitFails (Err (wait.NoMemory ticket)) failing call = fails failing call ≡ false
-WaitFails (Err (wait.Lost ticket)) failing call = fails failing call ≡ true
+abbrev pub WaitFails : {T : Type 0} → Result T WaitFault → Calls → Type 0
+WaitFails (Ok value) calls = fails_next calls ≡ false
+WaitFails (Err (wait.NoMemory ticket)) calls = fails_next calls ≡ false
+WaitFails (Err (wait.Lost ticket)) calls = fails_next calls ≡ true
 
 -- A take that is listed fails, and any other is answered: it takes no memory.
-abbrev pub SourceFails : {T : Type 0} → Result T SourceFault → List ℕ → ℕ → Type 0
-SourceFails (Ok value) failing call = fails failing call ≡ false
-SourceFails (Err source.NoMemory) failing call = ⊥
-SourceFails (Err source.Failed) failing call = fails failing call ≡ true
+abbrev pub SourceFails : {T : Type 0} → Result T SourceFault → Calls → Type 0
+SourceFails (Ok value) calls = fails_next calls ≡ false
+SourceFails (Err source.NoMemory) calls = ⊥
+SourceFails (Err source.Failed) calls = fails_next calls ≡ true
 
--- A put that is listed fails, and any other fails only where the bytes have no room, for want of memory.
-abbrev pub SinkFails : {T : Type 0} → Result T SinkFault → List ℕ → ℕ → (room wanted : ℕ) → Type 0
-SinkFails (Ok value) failing call room wanted = fails failing call ≡ false
-SinkFails (Err sink.Failed) failing call room wanted = (fails failing call ≡ true) ⊎ (room < wanted)
+-- A put that is listed fails, and any other fails only where the bytes have no room, for lack of memory.
+abbrev pub SinkFails : {T : Type 0} → Result T SinkFault → Calls → (room wanted : ℕ) → Type 0
+SinkFails (Ok value) calls room wanted = fails_next calls ≡ false
+SinkFails (Err sink.Failed) calls room wanted = (fails_next calls ≡ true) ⊎ (room < wanted)
 
 -- A call of a disk that only asks fails where it is listed, and nowhere else.
-abbrev pub AskFails : {T : Type 0} → Result T DiskFailed → List ℕ → ℕ → Type 0
-AskFails (Ok value) failing call = fails failing call ≡ false
-AskFails (Err fault) failing call = fails failing call ≡ true
+abbrev pub AskFails : {T : Type 0} → Result T DiskFailed → Calls → Type 0
+AskFails (Ok value) calls = fails_next calls ≡ false
+AskFails (Err fault) calls = fails_next calls ≡ true
 
 -- A call of a disk that is listed fails. Any other may find no memory.
-abbrev pub DiskFails : {T : Type 0} → Result T DiskFailed → List ℕ → ℕ → Type 0
-DiskFails (Ok value) failing call = fails failing call ≡ false
-DiskFails (Err fault) failing call = Unit {0}
+abbrev pub DiskFails : {T : Type 0} → Result T DiskFailed → Calls → Type 0
+DiskFails (Ok value) calls = fails_next calls ≡ false
+DiskFails (Err fault) calls = Unit {0}

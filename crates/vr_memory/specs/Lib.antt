@@ -1,6 +1,8 @@
+-- The definitions.
 pub mod Failing
 pub mod Streams
 pub mod Trees
+pub mod TreeLaws
 pub mod Books
 pub mod Scripts
 pub mod Disks

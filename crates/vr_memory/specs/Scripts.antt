@@ -6,14 +6,14 @@ use Rattle.vr_base.specs.declared.child.Request.{Request}
 use Rattle.vr_base.specs.declared.child.Exit.{Exit}
 use Rattle.vr_base.specs.declared.child.MaybeText.{MaybeText}
 use Rattle.vr_base.specs.declared.child.MaybeText.TheVariants.{Nothing, Given}
-use Rattle.vr_outside.specs.Children.{FitsExit}
+use Rattle.vr_outside.specs.Children.{FitsExit, AnswersPath}
 use Rattle.vr_memory.specs.declared.answer.Answer.{Answer}
-use Rattle.vr_memory.specs.Books.{Book}
+use Rattle.vr_memory.specs.Books.{HeldBook}
 
 -- a table of answers, and a book
 pub record Script : Type 0 where
   pub answers : List Answer
-  pub book : Book
+  pub book : HeldBook
 
 -- the exit of a child whose request the table doesn't have
 abbrev pub unknown_exit : Exit
@@ -39,6 +39,11 @@ abbrev pub answer_of : List Answer → Request → Exit
 answer_of [] request = unknown_exit
 answer_of (answer ∷ rest) request = if same_request answer.request request then answer.exit else answer_of rest request
 
--- each exit of a table has its size
-abbrev pub HaveSizes : List Answer → Type 0
-HaveSizes answers = AllByRecursion (λ answer. FitsExit answer.exit) answers
+-- an answer that a child can give: its exit has its size, and results only where the request names a path for them
+pub record CanBeGiven (answer : Answer) : Type 0 where
+  pub sizes : FitsExit answer.exit
+  pub results : AnswersPath answer.request.results answer.exit.results
+
+-- each answer of a table can be given
+abbrev pub CanAnswer : List Answer → Type 0
+CanAnswer answers = AllByRecursion CanBeGiven answers

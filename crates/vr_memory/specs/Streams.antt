@@ -1,17 +1,14 @@
 -- What a source and a sink over memory hold.
 use Rattle.std.specs.Prelude.{ℕ, List}
+use Rattle.vr_memory.specs.declared.failing.Calls.{Calls}
 
--- a source: its bytes that are left, its calls so far, those that are to fail and those that failed
+-- a source: its bytes that remain, and its calls
 pub record HeldSource : Type 0 where
   pub left : List ℕ
-  pub failing : List ℕ
-  pub calls : ℕ
-  pub failed : ℕ
+  pub calls : Calls
 
--- a sink: what was put, how many bytes it holds before it takes memory again, and the same of its calls
+-- a sink: what was put, how many bytes it holds before it takes memory again, and its calls
 pub record HeldSink : Type 0 where
   pub contents : List ℕ
   pub room : ℕ
-  pub failing : List ℕ
-  pub calls : ℕ
-  pub failed : ℕ
+  pub calls : Calls

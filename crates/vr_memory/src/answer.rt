@@ -1,3 +1,4 @@
+//! The answers of a table.
 use vr_base::{Exit, Items, Request};
 
 /// The exit that a child ends with, by its request.

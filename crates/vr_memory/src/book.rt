@@ -1,11 +1,12 @@
+//! Children that are started and ended, with their journal.
 ghost use Rattle.std.specs.Prelude.{◌≡◌, ◌<◌, [], ◌∷◌, length, IfOk, Contains, option_copied};
 ghost use Rattle.vr_base.specs.declared.child.Event.TheVariants as event;
 ghost use Rattle.vr_outside.specs.Counts.{StartCounts};
 ghost use Rattle.vr_outside.specs.Children.{IsFresh, AddsTicket, AddsStart, started_with};
-ghost use Rattle.vr_memory.specs.Failing.{next_call, fails as fails_at, StartFails};
-ghost use Rattle.vr_memory.specs.Books.{picked as picked_of, IsEnd, EndsChild, LosesChild};
+ghost use Rattle.vr_memory.specs.Failing.{fails_next, MakesCall, StartFails};
+ghost use Rattle.vr_memory.specs.Books.{no_children, picked as picked_of, IsEnd, EndsChild, LosesChild};
 
-use crate::failing::{call_after, is_failing};
+use crate::failing::{Calls, call_after};
 use crate::tickets::{leave, pick};
 use std::alloc::Global;
 use std::marker::Model;
@@ -20,18 +21,17 @@ pub struct ChildBook {
     journal: EventList,
     picks: Positions,
     waits: u64,
-    failing: Numbers,
-    calls: u64,
-    failed_starts: u64,
+    // the faults that these count are failed starts
+    calls: Calls,
     lost_children: u64,
 }
 
 impl Model for ChildBook {
-    ghost use Rattle.vr_memory.specs.Books.{Book, IsBook};
+    ghost use Rattle.vr_memory.specs.Books.{HeldBook, IsBook};
 
-    ghost Value = { Book };
+    ghost Value = { HeldBook };
 
-    ghost view = { λ a. record { running = a.running.items; journal = a.journal.items; picks = a.picks; waits = a.waits; failing = a.failing; calls = a.calls; failed_starts = a.failed_starts; lost_children = a.lost_children } };
+    ghost view = { λ a. record { running = a.running.items; journal = a.journal.items; picks = a.picks; waits = a.waits; calls = a.calls; lost_children = a.lost_children } };
 
     ghost invariant = { λ a. IsBook a.running.items a.journal };
 }
@@ -41,16 +41,14 @@ impl ChildBook {
     /// modulo how many run; past the end of the picks it takes the oldest. The calls of the numbers in `failing`,
     /// counted from 0 over starts and waits, are to fail.
     pub fn new(alloc: Global, picks: Positions, failing: Numbers) -> ChildBook
-        ensures { result ≡ record { running = []; journal = []; picks = picks; waits = 0; failing = failing; calls = 0; failed_starts = 0; lost_children = 0 } }
+        ensures { result ≡ no_children picks failing }
     {
         ChildBook {
             running: Vec::new(alloc),
             journal: EventList::new(alloc),
             picks,
             waits: 0,
-            failing,
-            calls: 0,
-            failed_starts: 0,
+            calls: Calls::new(failing),
             lost_children: 0,
         }
     }
@@ -71,9 +69,9 @@ impl ChildBook {
 
     /// Whether the next call is to fail.
     pub fn fails(&self) -> bool
-        ensures { result ≡ fails_at self.now.failing self.now.calls }
+        ensures { result ≡ fails_next self.now.calls }
     {
-        is_failing(self.failing.as_slice(), self.calls)
+        self.calls.fails()
     }
 
     /// The ticket that the next wait takes.
@@ -101,18 +99,15 @@ impl ChildBook {
         ensures running { AddsTicket result self.old.running self.new.running }
         ensures fresh { IfOk result (IsFresh self.old.journal) }
         ensures journal { AddsStart request.now result self.old.journal self.new.journal }
-        ensures cause { StartCounts result self.old.failed_starts self.new.failed_starts }
-        ensures fails { StartFails result self.old.failing self.old.calls }
-        ensures calls { self.new.calls ≡ next_call self.old.calls }
+        ensures cause { StartCounts result self.old.calls.failed self.new.calls.failed }
+        ensures fails { StartFails result self.old.calls }
+        ensures calls { MakesCall self.old.calls self.new.calls }
         ensures picks { self.new.picks ≡ self.old.picks }
         ensures waits { self.new.waits ≡ self.old.waits }
-        ensures failing { self.new.failing ≡ self.old.failing }
         ensures children { self.new.lost_children ≡ self.old.lost_children }
     {
-        let call = self.calls;
-        self.calls = call_after(call);
-        if is_failing(self.failing.as_slice(), call) {
-            self.failed_starts = counted(self.failed_starts);
+        if self.calls.begin() {
+            self.calls.fail();
             return Err(StartFault::Failed);
         }
         let Ok(request) = request.copy(alloc) else {
@@ -137,7 +132,7 @@ impl ChildBook {
         self.close(ticket, Event::Ended { ticket, exit });
     }
 
-    /// A wait that ends for want of memory.
+    /// A wait that ends for lack of memory.
     pub fn forget(&mut self, ticket: u64)
         requires { Contains self.old.running ticket }
         ensures { EndsChild ticket (event.Gone ticket) self.old self.new }
@@ -162,7 +157,7 @@ impl ChildBook {
         requires end { IsEnd end }
         ensures { EndsChild ticket end self.old self.new }
     {
-        self.calls = call_after(self.calls);
+        let _ = self.calls.begin();
         self.waits = call_after(self.waits);
         leave(&mut self.running, ticket);
         self.journal.push_within(end);

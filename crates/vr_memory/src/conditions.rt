@@ -1,11 +1,12 @@
+//! What objects over memory ask of what they are made from, as tests.
 ghost use Rattle.std.specs.Prelude.{◌↔◌, IsTrue};
-ghost use Rattle.vr_outside.specs.Children.{IsShort, FitsExit};
+ghost use Rattle.vr_outside.specs.Children.{IsShort, FitsExit, AnswersPath};
 ghost use Rattle.vr_memory.specs.Trees.{IsPath, HavePaths};
-ghost use Rattle.vr_memory.specs.Scripts.{HaveSizes};
+ghost use Rattle.vr_memory.specs.Scripts.{CanBeGiven, CanAnswer};
 
-use crate::AnswerList;
+use crate::{Answer, AnswerList};
 use std::str;
-use vr_base::{Exit, MaybeText, NamedTextList};
+use vr_base::{ARTEFACT_LIMIT, Exit, MaybeText, NamedTextList, RESULTS_LIMIT};
 
 /// Whether each path of the files is a text and not empty, as a tree asks.
 pub fn have_paths(files: &NamedTextList) -> bool
@@ -25,22 +26,38 @@ fn is_path(path: &[u8]) -> bool
     !path.is_empty() && str::from_utf8(path).is_ok()
 }
 
-/// Whether each exit of a table has its size, as children that answer by it ask.
-pub fn have_sizes(answers: &AnswerList) -> bool
-    ensures { IsTrue result ↔ HaveSizes answers.now }
+/// Whether each exit of a table has its size, and results only where its request names a path for them, as children
+/// that answer by it ask.
+pub fn can_answer(answers: &AnswerList) -> bool
+    ensures { IsTrue result ↔ CanAnswer answers.now }
 {
     for answer in answers.as_slice() {
-        if !fits(&answer.exit) {
+        if !can_be_given(answer) {
             return false;
         }
     }
     true
 }
 
+fn can_be_given(answer: &Answer) -> bool
+    ensures { IsTrue result ↔ CanBeGiven answer.now }
+{
+    fits(&answer.exit) && answers_path(&answer.request.results, &answer.exit.results)
+}
+
+fn answers_path(path: &MaybeText, results: &MaybeText) -> bool
+    ensures { IsTrue result ↔ AnswersPath path.now results.now }
+{
+    match (path, results) {
+        (MaybeText::Nothing, MaybeText::Given(_)) => false,
+        _ => true,
+    }
+}
+
 fn fits(exit: &Exit) -> bool
     ensures { IsTrue result ↔ FitsExit exit.now }
 {
-    exit.output.bytes().len() <= 262_144 && is_short(1_048_576, &exit.results)
+    exit.output.bytes().len() <= ARTEFACT_LIMIT && is_short(RESULTS_LIMIT, &exit.results)
 }
 
 fn is_short(limit: usize, maybe: &MaybeText) -> bool

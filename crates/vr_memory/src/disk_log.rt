@@ -1,3 +1,4 @@
+//! The calls that may have changed a disk.
 ghost use Rattle.std.specs.Prelude.{◌≡◌, ◌^◌, ◌<◌, ◌++◌, [], ◌∷◌, length, OnOk, OnErr, IfOk};
 ghost use Rattle.vr_outside.specs.Disks.{side_of, Goes};
 ghost use Rattle.vr_memory.specs.Disks.{moments_of, moment_of, beginning, disk_after, disk_inside};
@@ -5,7 +6,7 @@ ghost use Rattle.vr_memory.specs.Disks.{moments_of, moment_of, beginning, disk_a
 use crate::disk_reads::DiskReads;
 use crate::disk_sides::DiskSides;
 use crate::images::fits;
-use crate::kept::{Kept, KeptList};
+use crate::logged::{LoggedCall, LoggedCalls};
 use crate::side_book::SideBook;
 use std::alloc::Global;
 use std::marker::Model;
@@ -17,7 +18,7 @@ use vr_outside::Side;
 pub struct DiskLog {
     first_a: Text,
     first_b: Text,
-    kept: KeptList,
+    kept: LoggedCalls,
     reads: DiskReads,
 }
 
@@ -41,7 +42,7 @@ impl DiskLog {
         DiskLog {
             first_a: Text::new(alloc),
             first_b: Text::new(alloc),
-            kept: KeptList::new(alloc),
+            kept: LoggedCalls::new(alloc),
             reads: DiskReads::new(Vec::new(alloc), Vec::new(alloc)),
         }
     }
@@ -50,7 +51,8 @@ impl DiskLog {
     pub fn of(alloc: Global, a: Vec<u8>, b: Vec<u8>) -> Result<DiskLog, NoMemory>
         requires a { length a.items < 2 ^ 63 }
         requires b { length b.items < 2 ^ 63 }
-        ensures { IfOk result (λ log. log ≡ record { first = record { a = a.items; b = b.items }; kept = [] }) }
+        ensures { IfOk result (λ log.
+            log ≡ record { first = record { a = a.items; b = b.items }; kept = [] }) }
     {
         let reads = DiskReads::new(
             Vec::from_slice(alloc, a.as_slice())?,
@@ -59,7 +61,7 @@ impl DiskLog {
         Ok(DiskLog {
             first_a: Text::from_vec(a),
             first_b: Text::from_vec(b),
-            kept: KeptList::new(alloc),
+            kept: LoggedCalls::new(alloc),
             reads,
         })
     }
@@ -72,13 +74,15 @@ impl DiskLog {
         self.reads.side(side)
     }
 
-    /// Goes through a call. After `NoMemory` the log stands.
-    pub fn keep(&mut self, kept: Kept) -> Result<(), NoMemory>
+    /// Goes through a call. After `NoMemory` the log is unchanged.
+    pub fn keep(&mut self, kept: LoggedCall) -> Result<(), NoMemory>
         ensures first { self.new.first ≡ self.old.first }
         ensures ok { OnOk result (self.new.kept ≡ self.old.kept ++ kept ∷ []) }
         ensures err { OnErr result (self.new ≡ self.old) }
-        ensures after { OnOk result ((moments_of self.new).now ≡ disk_after kept (moments_of self.old).now) }
-        ensures goes { Goes (disk_inside kept (moments_of self.old).now) (moments_of self.old) (moments_of self.new) }
+        ensures after { let before = (moments_of self.old).now in
+            OnOk result ((moments_of self.new).now ≡ disk_after kept before) }
+        ensures goes { let before = moments_of self.old in
+            Goes (disk_inside kept before.now) before (moments_of self.new) }
     {
         self.kept.reserve(1)?;
         self.reads.apply(kept.side, &kept.act, kept.done)?;

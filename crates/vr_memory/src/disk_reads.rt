@@ -1,10 +1,11 @@
+//! What reads of both sides of a disk give.
 ghost use Rattle.std.specs.Prelude.{◌≡◌, true, OnOk, OnErr};
-ghost use Rattle.vr_outside.specs.Disks.{bytes_of};
-ghost use Rattle.vr_memory.specs.declared.kept.Act.TheVariants.{Write};
+ghost use Rattle.vr_outside.specs.Disks.{image_side};
+ghost use Rattle.vr_memory.specs.declared.logged.Act.TheVariants.{Write};
 ghost use Rattle.vr_memory.specs.Disks.{reads_after, on_bytes};
 
 use crate::images::{is_allowed, overwrite};
-use crate::kept::Act;
+use crate::logged::Act;
 use std::marker::Model;
 use vr_base::NoMemory;
 use vr_outside::Side;
@@ -34,7 +35,7 @@ impl DiskReads {
 
     /// The bytes of one side.
     pub fn side(&self, side: Side) -> &[u8]
-        ensures { result.now ≡ bytes_of side self.now }
+        ensures { result.now ≡ image_side side self.now }
     {
         match side {
             Side::A => self.a.as_slice(),
@@ -42,7 +43,7 @@ impl DiskReads {
         }
     }
 
-    /// Goes through a call that was done, or that failed inside. After `NoMemory` both sides stand.
+    /// Goes through a call that was done, or that failed inside. After `NoMemory` both sides are unchanged.
     pub fn apply(&mut self, side: Side, act: &Act, done: bool) -> Result<(), NoMemory>
         ensures ok { OnOk result (self.new ≡ on_bytes side (reads_after done act.now) self.old) }
         ensures err { OnErr result (self.new ≡ self.old) }
@@ -74,7 +75,8 @@ fn apply_to(bytes: &mut Vec<u8>, act: &Act, done: bool) -> Result<(), NoMemory>
 
 /// Goes through a write that was done, unless it isn't allowed.
 fn go_through_write(bytes: &mut Vec<u8>, at: u64, new: &[u8]) -> Result<(), NoMemory>
-    ensures ok { OnOk result (bytes.new.items ≡ reads_after true (Write at new.now) bytes.old.items) }
+    ensures ok { let after = reads_after true (Write at new.now) bytes.old.items in
+        OnOk result (bytes.new.items ≡ after) }
     ensures err { OnErr result (bytes.new.items ≡ bytes.old.items) }
 {
     if is_allowed(at, new.len(), bytes.as_slice()) {

@@ -1,8 +1,9 @@
+//! Both sides of a disk at a moment.
 ghost use Rattle.std.specs.Prelude.{◌≡◌, ◌==◌, OnOk, OnErr, IfOk};
 ghost use Rattle.vr_outside.specs.Disks.{Image, on_side, side_of, settled as settled_side};
 ghost use Rattle.vr_memory.specs.Disks.{side_after};
 
-use crate::kept::Act;
+use crate::logged::Act;
 use crate::side_book::SideBook;
 use std::alloc::Global;
 use std::marker::Model;
@@ -41,7 +42,7 @@ impl DiskSides {
         }
     }
 
-    /// Goes through a call that was done, or that failed inside. After `NoMemory` both sides stand.
+    /// Goes through a call that was done, or that failed inside. After `NoMemory` both sides are unchanged.
     pub fn apply(
         &mut self,
         alloc: Global,

@@ -1,20 +1,99 @@
+//! Tests of the disk over memory: what a stop can leave.
 use crate::MemDisk;
 use std::alloc::Global;
 use std::test::Fail;
 use vr_base::{DiskFailed, Items, NoMemory, Numbers};
-use vr_outside::{Disk, Side, write_durably};
+use vr_outside::{Disk, Side};
 
 const LONG: u64 = (1 << 63) - 1;
 
 /// A moment, a length, a fill, and the bytes that side A of that image has.
 type Row = (u64, u64, u8, &'static [u8]);
 
-/// A disk whose side A has the bytes `abcd`, written by call 0 and synced by call 1.
-fn abcd(alloc: Global, failing: &[u64]) -> Result<MemDisk, Fail> {
+/// What is done to side A, and whether it fails: `w` writes bytes at an offset, `c` cuts to a length, `s` syncs.
+type Step = (u8, u64, &'static [u8], bool);
+
+/// A write of `abcd` and a sync, which are the calls 0 and 1; then a write of `XYZ` over the third byte, and a sync.
+static TORN: &[Step] = &[
+    (b'w', 0, b"abcd", false),
+    (b's', 0, b"", false),
+    (b'w', 2, b"XYZ", false),
+    (b's', 0, b"", false),
+];
+
+/// Inside of the first call, inside of the write over the third byte, inside of the sync after it, and after that.
+static TORN_IMAGES: &[Row] = &[
+    (0, LONG, 7, &[7, 7, 7, 7]),
+    (2, 0, 0, &[97, 98, 0, 0]),
+    (2, LONG, 0, &[97, 98, 0, 0, 0]),
+    (2, 5, 1, &[97, 98, 1, 1, 1]),
+    (2, LONG, 255, &[97, 98, 255, 255, 255]),
+    (3, 0, 1, &[97, 98, 1, 1]),
+    (4, 0, 1, b"abXYZ"),
+    (4, LONG, 1, b"abXYZ"),
+];
+
+/// After the same two calls a cut to one byte, a write of one byte after it, and a sync.
+static CUT: &[Step] = &[
+    (b'w', 0, b"abcd", false),
+    (b's', 0, b"", false),
+    (b'c', 1, b"", false),
+    (b'w', 1, b"Z", false),
+    (b's', 0, b"", false),
+];
+
+/// Inside of the cut, inside of the sync after the write, and after that: what was cut may be there until then.
+static CUT_IMAGES: &[Row] = &[
+    (2, 0, 1, b"a"),
+    (2, 3, 1, b"abc"),
+    (2, LONG, 1, b"abcd"),
+    (4, LONG, 255, &[97, 255, 99, 100]),
+    (5, LONG, 255, b"aZ"),
+];
+
+/// After the same two calls a write, a cut and a sync that fail, and a sync that doesn't.
+static FAILED: &[Step] = &[
+    (b'w', 0, b"abcd", false),
+    (b's', 0, b"", false),
+    (b'w', 3, b"XY", true),
+    (b'c', 2, b"", true),
+    (b's', 0, b"", true),
+    (b's', 0, b"", false),
+];
+
+/// Inside of the last sync, where each failed call counts, and after it.
+static FAILED_IMAGES: &[Row] = &[
+    (5, 0, 0, b"ab"),
+    (5, LONG, 0, &[97, 98, 99, 0, 0]),
+    (6, LONG, 0, b"abcd"),
+];
+
+/// Whether a step fails. A write past the end isn't made.
+fn fails(disk: &mut MemDisk, step: &Step) -> bool {
+    match step.0 {
+        b'w' => write_at(disk, step.1, step.2).is_err(),
+        b'c' => disk.cut(Side::A, step.1).is_err(),
+        _ => disk.sync(Side::A).is_err(),
+    }
+}
+
+fn write_at(disk: &mut MemDisk, at: u64, bytes: &[u8]) -> Result<(), DiskFailed> {
+    if (disk.reads(Side::A).len() as u64) < at {
+        return Err(DiskFailed);
+    }
+    disk.write(Side::A, at, bytes)
+}
+
+/// A disk whose calls of these numbers are to fail, after steps; nothing where one of them fails unforeseen.
+fn disk_after(alloc: Global, failing: &[u64], steps: &[Step]) -> Result<Option<MemDisk>, NoMemory> {
     let failing: Numbers = Items::from_vec(Vec::from_slice(alloc, failing)?);
     let mut disk = MemDisk::new(alloc, failing);
-    write_durably(&mut disk, Side::A, 0, b"abcd")?;
-    Ok(disk)
+    for step in steps {
+        if fails(&mut disk, step) != step.3 {
+            return Ok(None);
+        }
+    }
+    Ok(Some(disk))
 }
 
 /// Whether side A of the image of a moment has these bytes, and side B none.
@@ -23,100 +102,29 @@ fn leaves(alloc: Global, disk: &MemDisk, row: &Row) -> Result<bool, NoMemory> {
     Ok(image.reads(Side::A) == row.3 && image.reads(Side::B).is_empty())
 }
 
-fn leaves_all(alloc: Global, disk: &MemDisk, table: &[Row]) -> Result<bool, NoMemory> {
-    for row in table {
-        if !leaves(alloc, disk, row)? {
+/// Whether each image remains after the steps.
+fn leaves_all(
+    alloc: Global,
+    failing: &[u64],
+    steps: &[Step],
+    images: &[Row],
+) -> Result<bool, NoMemory> {
+    let Some(disk) = disk_after(alloc, failing, steps)? else {
+        return Ok(false);
+    };
+    for row in images {
+        if !leaves(alloc, &disk, row)? {
             return Ok(false);
         }
     }
     Ok(true)
 }
 
-/// Writes over a part and past the end, unless the side is too short for it.
-fn write_at(disk: &mut MemDisk, at: u64, bytes: &[u8]) -> Result<(), DiskFailed> {
-    if (disk.reads(Side::A).len() as u64) < at {
-        return Err(DiskFailed);
-    }
-    disk.write(Side::A, at, bytes)
-}
-
-/// Inside a write of `XYZ` over the third byte, and after it.
-static TORN: &[Row] = &[
-    (2, 0, 0, &[97, 98, 0, 0]),
-    (2, LONG, 0, &[97, 98, 0, 0, 0]),
-    (2, 5, 1, &[97, 98, 1, 1, 1]),
-    (2, LONG, 255, &[97, 98, 255, 255, 255]),
-    (9, LONG, 255, &[97, 98, 255, 255, 255]),
-];
-
-/// Inside of the sync behind it, and after that.
-static SYNCED: &[Row] = &[
-    (3, 0, 1, &[97, 98, 1, 1]),
-    (4, 0, 1, b"abXYZ"),
-    (4, LONG, 1, b"abXYZ"),
-];
-
 #[test]
-fn a_torn_write_leaves_any_bytes_in_its_range(rt: HostRuntime) -> Result<(), Fail> {
-    let mut disk = abcd(rt.alloc(), &[])?;
-    write_at(&mut disk, 2, b"XYZ")?;
-    assert!(rt; leaves_all(rt.alloc(), &disk, TORN)?);
-    disk.sync(Side::A)?;
-    assert!(rt; leaves_all(rt.alloc(), &disk, SYNCED)?);
-    Ok(())
-}
-
-/// Inside a cut to one byte, inside the sync behind it, and after that.
-static CUT: &[Row] = &[
-    (2, 0, 1, b"a"),
-    (2, 3, 1, b"abc"),
-    (2, LONG, 1, b"abcd"),
-    (3, 0, 1, b"a"),
-    (4, LONG, 1, b"a"),
-];
-
-#[test]
-fn a_cut_leaves_a_length_between(rt: HostRuntime) -> Result<(), Fail> {
-    let mut disk = abcd(rt.alloc(), &[])?;
-    disk.cut(Side::A, 1)?;
-    disk.sync(Side::A)?;
-    assert!(rt; leaves_all(rt.alloc(), &disk, CUT)?);
-    Ok(())
-}
-
-/// Behind a cut to one byte that isn't synced, a write of one byte.
-static CUT_AND_WRITTEN: &[Row] = &[(4, LONG, 255, &[97, 255, 99, 100]), (5, LONG, 255, b"aZ")];
-
-#[test]
-fn a_write_behind_a_cut_may_leave_what_was_cut(rt: HostRuntime) -> Result<(), Fail> {
-    let mut disk = abcd(rt.alloc(), &[])?;
-    disk.cut(Side::A, 1)?;
-    write_at(&mut disk, 1, b"Z")?;
-    disk.sync(Side::A)?;
-    assert!(rt; leaves_all(rt.alloc(), &disk, CUT_AND_WRITTEN)?);
-    Ok(())
-}
-
-/// After a write, a cut and a sync that failed, and after a sync that didn't.
-static FAILED: &[Row] = &[
-    (5, 0, 0, b"ab"),
-    (5, LONG, 0, &[97, 98, 99, 0, 0]),
-    (6, LONG, 0, b"abcd"),
-];
-
-/// Whether a write, a cut and a sync fail.
-fn all_fail(disk: &mut MemDisk) -> bool {
-    write_at(disk, 3, b"XY").is_err()
-        && disk.cut(Side::A, 2).is_err()
-        && disk.sync(Side::A).is_err()
-}
-
-#[test]
-fn a_listed_call_fails_inside(rt: HostRuntime) -> Result<(), Fail> {
-    let mut disk = abcd(rt.alloc(), &[2, 3, 4])?;
-    assert!(rt; all_fail(&mut disk));
-    disk.sync(Side::A)?;
-    assert!(rt; leaves_all(rt.alloc(), &disk, FAILED)?);
+fn a_stop_leaves_what_the_calls_say(rt: HostRuntime) -> Result<(), Fail> {
+    assert!(rt; leaves_all(rt.alloc(), &[], TORN, TORN_IMAGES)?);
+    assert!(rt; leaves_all(rt.alloc(), &[], CUT, CUT_IMAGES)?);
+    assert!(rt; leaves_all(rt.alloc(), &[2, 3, 4], FAILED, FAILED_IMAGES)?);
     Ok(())
 }
 
@@ -132,16 +140,11 @@ fn second_and_third(disk: &mut MemDisk) -> Result<[u8; 2], DiskFailed> {
 
 #[test]
 fn a_listed_read_fails(rt: HostRuntime) -> Result<(), Fail> {
-    let mut disk = abcd(rt.alloc(), &[2, 4])?;
+    let Some(mut disk) = disk_after(rt.alloc(), &[4, 6], TORN)? else {
+        return Err(Fail::from("a step that failed"));
+    };
     assert!(rt; second_and_third(&mut disk).is_err());
-    assert!(rt; second_and_third(&mut disk) == Ok(*b"bc"));
+    assert!(rt; second_and_third(&mut disk) == Ok(*b"bX"));
     assert!(rt; disk.len(Side::A).is_err());
-    Ok(())
-}
-
-#[test]
-fn a_stop_inside_the_first_call_leaves_what_it_reached(rt: HostRuntime) -> Result<(), Fail> {
-    let disk = abcd(rt.alloc(), &[])?;
-    assert!(rt; leaves(rt.alloc(), &disk, &(0, LONG, 7, &[7, 7, 7, 7]))?);
     Ok(())
 }

@@ -1,6 +1,7 @@
+//! One file of a tree, read up to a limit.
 ghost use Rattle.std.specs.Prelude.{◌≡◌, Some, IfOk};
-ghost use Rattle.vr_outside.specs.Trees.{read_end, IsWithin};
-ghost use Rattle.vr_memory.specs.Trees.{file_of};
+ghost use Rattle.vr_outside.specs.Trees.{read_end, FitsReadLimit};
+ghost use Rattle.vr_memory.specs.Trees.{file_at};
 
 use std::alloc::Global;
 use vr_base::{NamedText, NoMemory, Text};
@@ -13,8 +14,8 @@ pub fn read_file(
     path: &Text,
     limit: u64,
 ) -> Result<ReadEnd, NoMemory>
-    ensures size { IfOk result (IsWithin limit) }
-    ensures bytes { IfOk result (λ end. end ≡ read_end (file_of files.now path.now) limit) }
+    ensures size { IfOk result (FitsReadLimit limit) }
+    ensures bytes { IfOk result (λ end. end ≡ read_end (file_at files.now path.now) limit) }
 {
     for file in files {
         if file.path.bytes() == path.bytes() {
@@ -26,7 +27,7 @@ pub fn read_file(
 
 /// A text, up to a limit.
 fn read_text(alloc: Global, text: &Text, limit: u64) -> Result<ReadEnd, NoMemory>
-    ensures size { IfOk result (IsWithin limit) }
+    ensures size { IfOk result (FitsReadLimit limit) }
     ensures bytes { IfOk result (λ end. end ≡ read_end (Some text.now) limit) }
 {
     if text.bytes().len() as u64 <= limit {

@@ -1,3 +1,4 @@
+//! Bytes of a side: which writes are allowed, and what they overwrite.
 ghost use Rattle.std.specs.Prelude.{◌≡◌, ℕ, ◌+◌, ◌^◌, ◌≤◌, ◌<◌, nat_lt, length, OnOk, OnErr};
 ghost use Rattle.vr_outside.specs.Disks.{is_touched as is_touched_by, overwritten};
 ghost use Rattle.vr_memory.specs.Disks.{is_allowed as is_allowed_by};
@@ -20,7 +21,7 @@ pub fn is_allowed(at: u64, count: usize, reads: &[u8]) -> bool
     at <= reads.len() as u64 && fits(at, count)
 }
 
-/// Writes over bytes in place, and past their end. After `NoMemory` they stand.
+/// Writes over bytes in place, and past their end. After `NoMemory` they are unchanged.
 pub fn overwrite(bytes: &mut Vec<u8>, at: usize, new: &[u8]) -> Result<(), NoMemory>
     requires { at ≤ length bytes.old.items }
     ensures ok { OnOk result (bytes.new.items ≡ overwritten at new.now bytes.old.items) }

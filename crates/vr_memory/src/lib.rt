@@ -11,8 +11,8 @@ mod disk_sides;
 mod failing;
 mod files;
 mod images;
-mod kept;
 mod listing;
+mod logged;
 mod mem_disk;
 mod mem_sink;
 mod mem_source;
@@ -24,7 +24,7 @@ mod tickets;
 
 pub use answer::{Answer, AnswerList};
 pub use book::ChildBook;
-pub use conditions::{have_paths, have_sizes};
+pub use conditions::{can_answer, have_paths};
 pub use mem_disk::MemDisk;
 pub use mem_sink::MemSink;
 pub use mem_source::MemSource;

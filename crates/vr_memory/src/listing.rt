@@ -1,19 +1,20 @@
+//! What a tree over memory lists.
 ghost use Rattle.std.specs.Prelude.{◌≡◌, ◌==◌, nat_eq, IfOk, filter, IsPermutation, IsSorted};
 ghost use Rattle.std.specs.List.{dedup, list_all, slice_split};
 ghost use Rattle.std.specs.Ordering.{nat_cmp};
 ghost use Rattle.std.specs.Cmp.Lexicographic.{pointwise, slice_cmp};
-ghost use Rattle.vr_outside.specs.Trees.{IsListing, Names, is_listed as listed, is_shown};
-ghost use Rattle.vr_memory.specs.Trees.{file_of, HavePaths, paths_of};
+ghost use Rattle.vr_outside.specs.Trees.{IsListing, names_end, is_listed as listed, is_shown};
+ghost use Rattle.vr_memory.specs.Trees.{HavePaths, paths_of, listed_of};
 
 use std::alloc::Global;
-use vr_base::{Items, NamedText, NoMemory, Text};
+use vr_base::{Items, NamedText, NoMemory, PATH_LIMIT, Text};
 use vr_outside::NamesEnd;
 
 /// What a tree of these files lists.
 pub fn listing(alloc: Global, files: &[NamedText], limit: u64) -> Result<NamesEnd, NoMemory>
     requires { HavePaths files.now }
     ensures form { IfOk result (IsListing limit) }
-    ensures names { IfOk result (Names (file_of files.now) limit) }
+    ensures names { IfOk result (λ end. end ≡ names_end (listed_of files.now) limit) }
 {
     let mut paths = listed_paths(alloc, files)?;
     sort_paths(&mut paths);
@@ -41,7 +42,7 @@ fn listed_paths(alloc: Global, files: &[NamedText]) -> Result<Vec<Text>, NoMemor
 fn is_listed(path: &[u8]) -> bool
     ensures { result ≡ listed path.now }
 {
-    path.len() <= 1024 && !path.starts_with(b"vunit_out/") && has_no_dot(path)
+    path.len() <= PATH_LIMIT && !path.starts_with(b"vunit_out/") && has_no_dot(path)
 }
 
 /// Whether no component of a path begins with a dot.

@@ -1,27 +1,28 @@
-ghost use Rattle.std.specs.Prelude.{◌≡◌, ℕ, ◌+◌, ◌^◌, ◌≤◌, ◌<◌, true, not, [], length, Contains, IfOk, OnOk};
+//! A disk in memory.
+ghost use Rattle.std.specs.Prelude.{◌≡◌, ◌+◌, ◌^◌, ◌≤◌, ◌<◌, true, [], length, Contains, IfOk, OnOk};
 ghost use Rattle.vr_outside.specs.Counts.{DiskCounts};
 ghost use Rattle.vr_outside.specs.Disks.{side_of, on_side, bytes_at, writing, written, cutting, shortened, synced, settled, settled_disk, reads_of, all_of, IsImage, Goes};
-ghost use Rattle.vr_memory.specs.Failing.{fails, next_call, AskFails, DiskFails};
-ghost use Rattle.vr_memory.specs.Disks.{moments_of, moment_of, disk_inside, disk_after, AreFilled};
+ghost use Rattle.vr_memory.specs.Failing.{no_calls, MakesCall, AskFails, DiskFails};
+ghost use Rattle.vr_memory.specs.Disks.{moments_of, moment_of, disk_inside, disk_after, next_kept, LogsCall, AreFilled};
 ghost use Rattle.vr_memory.specs.DiskLaws.{log_sound};
+ghost use Rattle.vr_memory.specs.declared.logged.Act.TheVariants as act;
 
 use crate::disk_log::DiskLog;
-use crate::failing::{call_after, is_failing};
+use crate::failing::Calls;
 use crate::images::fits;
-use crate::kept::{Act, Kept};
+use crate::logged::{Act, LoggedCall};
 use std::alloc::Global;
 use std::marker::Model;
 use vr_base::{DiskFailed, NoMemory, Numbers, Text};
-use vr_outside::{Disk, Side, counted};
+use vr_outside::{Disk, Side};
 
-/// A disk that is kept in memory, with the calls that may have changed it.
+/// A disk in memory, with the calls that may have changed it. A write, cut or sync that is to fail counts in what a
+/// stop can leave like one that was cut off inside.
 #[derive(Drop)]
 pub struct MemDisk {
     alloc: Global,
     log: DiskLog,
-    failing: Numbers,
-    calls: u64,
-    failed: u64,
+    calls: Calls,
 }
 
 impl Model for MemDisk {
@@ -29,7 +30,7 @@ impl Model for MemDisk {
 
     ghost Value = { HeldDisk };
 
-    ghost view = { λ d. record { log = d.log; failing = d.failing; calls = d.calls; failed = d.failed } };
+    ghost view = { λ d. record { log = d.log; calls = d.calls } };
 }
 
 impl MemDisk {
@@ -37,17 +38,14 @@ impl MemDisk {
     /// fail.
     pub fn new(alloc: Global, failing: Numbers) -> MemDisk
         ensures log { result.log ≡ record { first = record { a = []; b = [] }; kept = [] } }
-        ensures moments { moments_of result.log ≡ record { past = []; now = record { a = settled []; b = settled [] } } }
-        ensures failing { result.failing ≡ failing }
-        ensures calls { result.calls ≡ 0 }
-        ensures failed { result.failed ≡ 0 }
+        ensures moments { moments_of result.log
+            ≡ record { past = []; now = record { a = settled []; b = settled [] } } }
+        ensures calls { result.calls ≡ no_calls failing }
     {
         MemDisk {
             alloc,
             log: DiskLog::new(alloc),
-            failing,
-            calls: 0,
-            failed: 0,
+            calls: Calls::new(failing),
         }
     }
 
@@ -58,7 +56,7 @@ impl MemDisk {
         self.log.reads(side)
     }
 
-    /// What a stop inside call number `moment` may have left, as a new disk; a number that no call has stands for
+    /// What a stop inside call number `moment` may have left, as a new disk; a number that no call has means
     /// the present. The bytes that may be any are all `fill`, and each side is as near to `length` as it may be.
     pub fn crash(
         &self,
@@ -67,13 +65,17 @@ impl MemDisk {
         length: u64,
         fill: u8,
     ) -> Result<MemDisk, NoMemory>
-        ensures moment { OnOk result (Contains (all_of (moments_of self.now.log)) (moment_of self.now.log moment)) }
-        ensures image { IfOk result (λ disk. IsImage (moment_of self.now.log moment) (reads_of (moments_of disk.log).now)) }
-        ensures filled { IfOk result (λ disk. AreFilled (moment_of self.now.log moment) length fill (reads_of (moments_of disk.log).now)) }
-        ensures settled { IfOk result (λ disk. moments_of disk.log ≡ record { past = []; now = settled_disk (reads_of (moments_of disk.log).now) }) }
-        ensures failing { IfOk result (λ disk. disk.failing ≡ []) }
-        ensures calls { IfOk result (λ disk. disk.calls ≡ 0) }
-        ensures failed { IfOk result (λ disk. disk.failed ≡ 0) }
+        ensures moment { let inside = moment_of self.now.log moment in
+            OnOk result (Contains (all_of (moments_of self.now.log)) inside) }
+        ensures image { IfOk result (λ disk.
+            IsImage (moment_of self.now.log moment) (reads_of (moments_of disk.log).now)) }
+        ensures filled { let inside = moment_of self.now.log moment in
+            IfOk result (λ disk.
+            AreFilled inside length fill (reads_of (moments_of disk.log).now)) }
+        ensures settled { IfOk result (λ disk.
+            let image = reads_of (moments_of disk.log).now in
+            moments_of disk.log ≡ record { past = []; now = settled_disk image }) }
+        ensures calls { IfOk result (λ disk. disk.calls ≡ no_calls []) }
     {
         let sides = self.log.sides_at(alloc, moment)?;
         let a = sides.side(Side::A).image(alloc, length, fill)?;
@@ -81,39 +83,29 @@ impl MemDisk {
         Ok(MemDisk {
             alloc,
             log: DiskLog::of(alloc, a, b)?,
-            failing: Numbers::new(alloc),
-            calls: 0,
-            failed: 0,
+            calls: Calls::new(Numbers::new(alloc)),
         })
     }
 
-    /// The number of a call that begins, and whether it is to be done.
-    fn begin(&mut self) -> (u64, bool)
-        ensures number { result.0 ≡ self.old.calls }
-        ensures done { result.1 ≡ not (fails self.old.failing self.old.calls) }
-        ensures held { self.new ≡ record self.old { calls = next_call self.old.calls } }
-    {
-        let call = self.calls;
-        self.calls = call_after(call);
-        (call, !is_failing(self.failing.as_slice(), call))
-    }
-
     /// Goes through a call that has begun.
-    fn go_through(&mut self, kept: Kept) -> Result<(), DiskFailed>
+    fn go_through(&mut self, kept: LoggedCall) -> Result<(), DiskFailed>
         ensures done { OnOk result (kept.done ≡ true) }
-        ensures after { OnOk result ((moments_of self.new.log).now ≡ disk_after kept (moments_of self.old.log).now) }
-        ensures goes { Goes (disk_inside kept (moments_of self.old.log).now) (moments_of self.old.log) (moments_of self.new.log) }
-        ensures cause { DiskCounts result self.old.failed self.new.failed }
-        ensures calls { self.new.calls ≡ self.old.calls }
-        ensures failing { self.new.failing ≡ self.old.failing }
+        ensures after { let before = (moments_of self.old.log).now in
+            OnOk result ((moments_of self.new.log).now ≡ disk_after kept before) }
+        ensures goes { let during = disk_inside kept (moments_of self.old.log).now in
+            Goes during (moments_of self.old.log) (moments_of self.new.log) }
+        ensures cause { DiskCounts result self.old.calls.failed self.new.calls.failed }
+        ensures log { LogsCall result kept self.old.log self.new.log }
+        ensures failing { self.new.calls.failing ≡ self.old.calls.failing }
+        ensures made { self.new.calls.made ≡ self.old.calls.made }
     {
         let done = kept.done;
         let Ok(()) = self.log.keep(kept) else {
-            self.failed = counted(self.failed);
+            self.calls.fail();
             return Err(DiskFailed);
         };
         if !done {
-            self.failed = counted(self.failed);
+            self.calls.fail();
             return Err(DiskFailed);
         }
         Ok(())
@@ -125,39 +117,38 @@ impl Disk for MemDisk {
 
     ghost moments = { λ d. moments_of d.log };
 
-    ghost failed_disk_calls = { λ d. d.failed };
+    ghost failed_disk_calls = { λ d. d.calls.failed };
 
     ghost sound = { λ d. log_sound d.log };
 
     fn len(&mut self, side: Side) -> Result<u64, DiskFailed>
         ensures short { IfOk result (λ len. len < 2 ^ 63) }
-        ensures length { IfOk result (λ len. len ≡ length (side_of side (moments_of self.old.log).now).reads) }
+        ensures length { IfOk result (λ len.
+            len ≡ length (side_of side (moments_of self.old.log).now).reads) }
         ensures log { self.new.log ≡ self.old.log }
-        ensures cause { DiskCounts result self.old.failed self.new.failed }
-        ensures fails { AskFails result self.old.failing self.old.calls }
-        ensures calls { self.new.calls ≡ next_call self.old.calls }
-        ensures failing { self.new.failing ≡ self.old.failing }
+        ensures cause { DiskCounts result self.old.calls.failed self.new.calls.failed }
+        ensures fails { AskFails result self.old.calls }
+        ensures calls { MakesCall self.old.calls self.new.calls }
     {
-        let (_, done) = self.begin();
-        if !done {
-            self.failed = counted(self.failed);
+        if self.calls.begin() {
+            self.calls.fail();
             return Err(DiskFailed);
         }
         Ok(self.log.reads(side).len() as u64)
     }
 
     fn read(&mut self, side: Side, at: u64, into: &mut [u8]) -> Result<(), DiskFailed>
-        requires { at + length into.old ≤ length (side_of side (moments_of self.old.log).now).reads }
-        ensures bytes { OnOk result (into.new ≡ bytes_at at (length into.old) (side_of side (moments_of self.old.log).now).reads) }
+        requires { let reads = (side_of side (moments_of self.old.log).now).reads in
+            at + length into.old ≤ length reads }
+        ensures bytes { let reads = (side_of side (moments_of self.old.log).now).reads in
+            OnOk result (into.new ≡ bytes_at at (length into.old) reads) }
         ensures log { self.new.log ≡ self.old.log }
-        ensures cause { DiskCounts result self.old.failed self.new.failed }
-        ensures fails { AskFails result self.old.failing self.old.calls }
-        ensures calls { self.new.calls ≡ next_call self.old.calls }
-        ensures failing { self.new.failing ≡ self.old.failing }
+        ensures cause { DiskCounts result self.old.calls.failed self.new.calls.failed }
+        ensures fails { AskFails result self.old.calls }
+        ensures calls { MakesCall self.old.calls self.new.calls }
     {
-        let (_, done) = self.begin();
-        if !done {
-            self.failed = counted(self.failed);
+        if self.calls.begin() {
+            self.calls.fail();
             return Err(DiskFailed);
         }
         let start = at as usize;
@@ -169,23 +160,29 @@ impl Disk for MemDisk {
     fn write(&mut self, side: Side, at: u64, bytes: &[u8]) -> Result<(), DiskFailed>
         requires { at ≤ length (side_of side (moments_of self.old.log).now).reads }
         ensures fits { OnOk result (at + length bytes.now < 2 ^ 63) }
-        ensures written { OnOk result ((moments_of self.new.log).now ≡ on_side side (written at bytes.now) (moments_of self.old.log).now) }
-        ensures moments { Goes (on_side side (writing at (length bytes.now)) (moments_of self.old.log).now) (moments_of self.old.log) (moments_of self.new.log) }
-        ensures cause { DiskCounts result self.old.failed self.new.failed }
-        ensures fails { DiskFails result self.old.failing self.old.calls }
-        ensures calls { self.new.calls ≡ next_call self.old.calls }
-        ensures failing { self.new.failing ≡ self.old.failing }
+        ensures written { let before = (moments_of self.old.log).now in
+            OnOk result
+            ((moments_of self.new.log).now ≡ on_side side (written at bytes.now) before) }
+        ensures moments { let before = moments_of self.old.log in
+            Goes (on_side side (writing at (length bytes.now)) before.now) before
+            (moments_of self.new.log) }
+        ensures log { let call = next_kept self.old side (act.Write at bytes.now) in
+            LogsCall result call self.old.log self.new.log }
+        ensures cause { DiskCounts result self.old.calls.failed self.new.calls.failed }
+        ensures fails { DiskFails result self.old.calls }
+        ensures calls { MakesCall self.old.calls self.new.calls }
     {
-        let (number, done) = self.begin();
+        let number = self.calls.made;
+        let done = !self.calls.begin();
         if !fits(at, bytes.len()) {
-            self.failed = counted(self.failed);
+            self.calls.fail();
             return Err(DiskFailed);
         }
         let Ok(bytes) = Text::from_slice(self.alloc, bytes) else {
-            self.failed = counted(self.failed);
+            self.calls.fail();
             return Err(DiskFailed);
         };
-        self.go_through(Kept {
+        self.go_through(LoggedCall {
             number,
             side,
             act: Act::Write { at, bytes },
@@ -194,15 +191,19 @@ impl Disk for MemDisk {
     }
 
     fn cut(&mut self, side: Side, len: u64) -> Result<(), DiskFailed>
-        ensures shortened { OnOk result ((moments_of self.new.log).now ≡ on_side side (shortened len) (moments_of self.old.log).now) }
-        ensures moments { Goes (on_side side (cutting len) (moments_of self.old.log).now) (moments_of self.old.log) (moments_of self.new.log) }
-        ensures cause { DiskCounts result self.old.failed self.new.failed }
-        ensures fails { DiskFails result self.old.failing self.old.calls }
-        ensures calls { self.new.calls ≡ next_call self.old.calls }
-        ensures failing { self.new.failing ≡ self.old.failing }
+        ensures shortened { let before = (moments_of self.old.log).now in
+            OnOk result ((moments_of self.new.log).now ≡ on_side side (shortened len) before) }
+        ensures moments { let before = moments_of self.old.log in
+            Goes (on_side side (cutting len) before.now) before (moments_of self.new.log) }
+        ensures log { let call = next_kept self.old side (act.Cut len) in
+            LogsCall result call self.old.log self.new.log }
+        ensures cause { DiskCounts result self.old.calls.failed self.new.calls.failed }
+        ensures fails { DiskFails result self.old.calls }
+        ensures calls { MakesCall self.old.calls self.new.calls }
     {
-        let (number, done) = self.begin();
-        self.go_through(Kept {
+        let number = self.calls.made;
+        let done = !self.calls.begin();
+        self.go_through(LoggedCall {
             number,
             side,
             act: Act::Cut { len },
@@ -211,15 +212,19 @@ impl Disk for MemDisk {
     }
 
     fn sync(&mut self, side: Side) -> Result<(), DiskFailed>
-        ensures synced { OnOk result ((moments_of self.new.log).now ≡ on_side side synced (moments_of self.old.log).now) }
-        ensures moments { Goes (moments_of self.old.log).now (moments_of self.old.log) (moments_of self.new.log) }
-        ensures cause { DiskCounts result self.old.failed self.new.failed }
-        ensures fails { DiskFails result self.old.failing self.old.calls }
-        ensures calls { self.new.calls ≡ next_call self.old.calls }
-        ensures failing { self.new.failing ≡ self.old.failing }
+        ensures synced { let before = (moments_of self.old.log).now in
+            OnOk result ((moments_of self.new.log).now ≡ on_side side synced before) }
+        ensures moments { let before = moments_of self.old.log in
+            Goes before.now before (moments_of self.new.log) }
+        ensures log { let call = next_kept self.old side act.Sync in
+            LogsCall result call self.old.log self.new.log }
+        ensures cause { DiskCounts result self.old.calls.failed self.new.calls.failed }
+        ensures fails { DiskFails result self.old.calls }
+        ensures calls { MakesCall self.old.calls self.new.calls }
     {
-        let (number, done) = self.begin();
-        self.go_through(Kept {
+        let number = self.calls.made;
+        let done = !self.calls.begin();
+        self.go_through(LoggedCall {
             number,
             side,
             act: Act::Sync,

@@ -1,21 +1,20 @@
+//! An output in memory.
 ghost use Rattle.std.specs.Prelude.{◌≡◌, ◌+◌, [], length, OnErr};
 ghost use Rattle.vr_outside.specs.Counts.{SinkCounts};
 ghost use Rattle.vr_outside.specs.Streams.{Puts};
-ghost use Rattle.vr_memory.specs.Failing.{next_call, SinkFails};
+ghost use Rattle.vr_memory.specs.Failing.{no_calls, MakesCall, SinkFails};
 
-use crate::failing::{call_after, is_failing};
+use crate::failing::Calls;
 use std::alloc::Global;
 use std::marker::Model;
 use vr_base::Numbers;
-use vr_outside::{Sink, SinkFault, counted};
+use vr_outside::{Sink, SinkFault};
 
-/// An output that is kept in memory.
+/// An output in memory.
 #[derive(Drop)]
 pub struct MemSink {
     bytes: Vec<u8>,
-    failing: Numbers,
-    calls: u64,
-    failed: u64,
+    calls: Calls,
 }
 
 impl Model for MemSink {
@@ -24,22 +23,18 @@ impl Model for MemSink {
 
     ghost Value = { HeldSink };
 
-    ghost view = { λ a. record { contents = a.bytes.items; room = vec_capacity a.bytes; failing = a.failing; calls = a.calls; failed = a.failed } };
+    ghost view = { λ a. record { contents = a.bytes.items; room = vec_capacity a.bytes; calls = a.calls } };
 }
 
 impl MemSink {
     /// An empty sink, which takes no memory. The calls of these numbers, counted from 0, are to fail.
     pub fn new(alloc: Global, failing: Numbers) -> MemSink
         ensures contents { result.contents ≡ [] }
-        ensures failing { result.failing ≡ failing }
-        ensures calls { result.calls ≡ 0 }
-        ensures failed { result.failed ≡ 0 }
+        ensures calls { result.calls ≡ no_calls failing }
     {
         MemSink {
             bytes: Vec::new(alloc),
-            failing,
-            calls: 0,
-            failed: 0,
+            calls: Calls::new(failing),
         }
     }
 
@@ -56,24 +51,22 @@ impl Sink for MemSink {
 
     ghost contents = { λ s. s.contents };
 
-    ghost failed_puts = { λ s. s.failed };
+    ghost failed_puts = { λ s. s.calls.failed };
 
     fn put(&mut self, bytes: &[u8]) -> Result<(), SinkFault>
         ensures contents { Puts result bytes.now self.old.contents self.new.contents }
-        ensures stands { OnErr result (self.new.contents ≡ self.old.contents) }
-        ensures cause { SinkCounts result self.old.failed self.new.failed }
-        ensures fails { SinkFails result self.old.failing self.old.calls self.old.room (length self.old.contents + length bytes.now) }
-        ensures calls { self.new.calls ≡ next_call self.old.calls }
-        ensures failing { self.new.failing ≡ self.old.failing }
+        ensures unchanged { OnErr result (self.new.contents ≡ self.old.contents) }
+        ensures cause { SinkCounts result self.old.calls.failed self.new.calls.failed }
+        ensures fails { let wanted = length self.old.contents + length bytes.now in
+            SinkFails result self.old.calls self.old.room wanted }
+        ensures calls { MakesCall self.old.calls self.new.calls }
     {
-        let call = self.calls;
-        self.calls = call_after(call);
-        if is_failing(self.failing.as_slice(), call) {
-            self.failed = counted(self.failed);
+        if self.calls.begin() {
+            self.calls.fail();
             return Err(SinkFault::Failed);
         }
         let Ok(()) = self.bytes.extend_from_slice(bytes) else {
-            self.failed = counted(self.failed);
+            self.calls.fail();
             return Err(SinkFault::Failed);
         };
         Ok(())

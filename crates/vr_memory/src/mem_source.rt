@@ -1,22 +1,21 @@
+//! An input in memory.
 ghost use Rattle.std.specs.Prelude.{◌≡◌, [], IfOk, OnOk, OnErr};
 ghost use Rattle.vr_outside.specs.Counts.{SourceCounts};
 ghost use Rattle.vr_outside.specs.Streams.{take_end, IsTaken};
-ghost use Rattle.vr_memory.specs.Failing.{next_call, SourceFails};
+ghost use Rattle.vr_memory.specs.Failing.{no_calls, MakesCall, SourceFails};
 
-use crate::failing::{call_after, is_failing};
+use crate::failing::Calls;
 use std::alloc::Global;
 use std::marker::Model;
 use std::mem;
 use vr_base::{Numbers, Text};
-use vr_outside::{Source, SourceFault, TakeEnd, counted};
+use vr_outside::{Source, SourceFault, TakeEnd};
 
-/// An input that stands in memory.
+/// An input in memory.
 #[derive(Drop)]
 pub struct MemSource {
     bytes: Text,
-    failing: Numbers,
-    calls: u64,
-    failed: u64,
+    calls: Calls,
 }
 
 impl Model for MemSource {
@@ -24,19 +23,17 @@ impl Model for MemSource {
 
     ghost Value = { HeldSource };
 
-    ghost view = { λ a. record { left = a.bytes; failing = a.failing; calls = a.calls; failed = a.failed } };
+    ghost view = { λ a. record { left = a.bytes; calls = a.calls } };
 }
 
 impl MemSource {
     /// A source of these bytes. The calls of these numbers, counted from 0, are to fail.
     pub fn new(bytes: Text, failing: Numbers) -> MemSource
-        ensures { result ≡ record { left = bytes; failing = failing; calls = 0; failed = 0 } }
+        ensures { result ≡ record { left = bytes; calls = no_calls failing } }
     {
         MemSource {
             bytes,
-            failing,
-            calls: 0,
-            failed: 0,
+            calls: Calls::new(failing),
         }
     }
 }
@@ -46,22 +43,19 @@ impl Source for MemSource {
 
     ghost left = { λ s. s.left };
 
-    ghost failed_takes = { λ s. s.failed };
+    ghost failed_takes = { λ s. s.calls.failed };
 
     fn take(&mut self, alloc: Global, limit: u64) -> Result<TakeEnd, SourceFault>
         ensures size { IfOk result (IsTaken limit) }
         ensures input { IfOk result (λ end. end ≡ take_end self.old.left limit) }
         ensures taken { OnOk result (self.new.left ≡ []) }
-        ensures stands { OnErr result (self.new.left ≡ self.old.left) }
-        ensures cause { SourceCounts result self.old.failed self.new.failed }
-        ensures fails { SourceFails result self.old.failing self.old.calls }
-        ensures calls { self.new.calls ≡ next_call self.old.calls }
-        ensures failing { self.new.failing ≡ self.old.failing }
+        ensures unchanged { OnErr result (self.new.left ≡ self.old.left) }
+        ensures cause { SourceCounts result self.old.calls.failed self.new.calls.failed }
+        ensures fails { SourceFails result self.old.calls }
+        ensures calls { MakesCall self.old.calls self.new.calls }
     {
-        let call = self.calls;
-        self.calls = call_after(call);
-        if is_failing(self.failing.as_slice(), call) {
-            self.failed = counted(self.failed);
+        if self.calls.begin() {
+            self.calls.fail();
             return Err(SourceFault::Failed);
         }
         let bytes = mem::replace(&mut self.bytes, Text::new(alloc));

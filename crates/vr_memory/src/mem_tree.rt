@@ -1,24 +1,25 @@
-ghost use Rattle.std.specs.Prelude.{◌≡◌, IfOk};
+//! A tree of files in memory.
+ghost use Rattle.std.specs.Prelude.{◌≡◌, ◌⊎◌, [], ◌∷◌, ◌++◌, IfOk, OnOk};
 ghost use Rattle.vr_outside.specs.Counts.{TreeCounts};
-ghost use Rattle.vr_outside.specs.Trees.{IsListing, Names, read_end, IsWithin};
-ghost use Rattle.vr_memory.specs.Failing.{next_call, TreeFails};
-ghost use Rattle.vr_memory.specs.Trees.{file_of, HavePaths};
+ghost use Rattle.vr_outside.specs.Trees.{IsListing, names_end, read_end, FitsReadLimit, Asks};
+ghost use Rattle.vr_memory.specs.Failing.{no_calls, MakesCall, TreeFails};
+ghost use Rattle.vr_memory.specs.Trees.{file_at, listed_of, HavePaths};
+ghost use Rattle.vr_memory.specs.TreeLaws.{lists_of_files};
 
-use crate::failing::{call_after, is_failing};
+use crate::failing::Calls;
 use crate::files::read_file;
 use crate::listing::listing;
 use std::alloc::Global;
 use std::marker::Model;
-use vr_base::{NamedTextList, Numbers, Text};
-use vr_outside::{NamesEnd, ReadEnd, Tree, TreeFault, counted};
+use vr_base::{NamedTextList, NoMemory, Numbers, Text, TextList};
+use vr_outside::{NamesEnd, ReadEnd, Tree, TreeFault};
 
 /// A tree of files in memory.
 #[derive(Drop)]
 pub struct MemTree {
     files: NamedTextList,
-    failing: Numbers,
-    calls: u64,
-    failed: u64,
+    asked: TextList,
+    calls: Calls,
 }
 
 impl Model for MemTree {
@@ -26,47 +27,61 @@ impl Model for MemTree {
 
     ghost Value = { HeldTree };
 
-    ghost view = { λ a. record { files = a.files; failing = a.failing; calls = a.calls; failed = a.failed } };
+    ghost view = { λ a. record { files = a.files; asked = a.asked; calls = a.calls } };
 
     ghost invariant = { λ a. HavePaths a.files };
 }
 
 impl MemTree {
-    /// A tree of these files. Of two files of one path the first counts. The calls of these numbers, counted from 0,
-    /// are to fail.
-    pub fn new(files: NamedTextList, failing: Numbers) -> MemTree
+    /// A tree of these files, which takes no memory. Of two files of one path the first counts. The calls of these
+    /// numbers, counted from 0, are to fail.
+    pub fn new(alloc: Global, files: NamedTextList, failing: Numbers) -> MemTree
         requires { HavePaths files }
-        ensures { result ≡ record { files = files; failing = failing; calls = 0; failed = 0 } }
+        ensures { result ≡ record { files = files; asked = []; calls = no_calls failing } }
     {
         MemTree {
             files,
-            failing,
-            calls: 0,
-            failed: 0,
+            asked: TextList::new(alloc),
+            calls: Calls::new(failing),
         }
+    }
+
+    /// Puts a path at the end of what was asked for.
+    fn note(&mut self, alloc: Global, path: &Text) -> Result<(), NoMemory>
+        ensures files { self.new.files ≡ self.old.files }
+        ensures asked { OnOk result (self.new.asked ≡ self.old.asked ++ path.now ∷ []) }
+        ensures either { (self.new.asked ≡ self.old.asked)
+            ⊎ (self.new.asked ≡ self.old.asked ++ path.now ∷ []) }
+        ensures calls { self.new.calls ≡ self.old.calls }
+    {
+        self.asked.push(path.copy(alloc)?)
     }
 }
 
 impl Tree for MemTree {
     ghost tells = { Unit {0} };
 
-    ghost file = { λ t. file_of t.files };
+    ghost file = { λ t. file_at t.files };
 
-    ghost failed_reads = { λ t. t.failed };
+    ghost listed = { λ t. listed_of t.files };
+
+    ghost asked = { λ t. t.asked };
+
+    ghost failed_reads = { λ t. t.calls.failed };
+
+    ghost lists = { λ t. lists_of_files t.files };
 
     fn names(&mut self, alloc: Global, limit: u64) -> Result<NamesEnd, TreeFault>
         ensures form { IfOk result (IsListing limit) }
-        ensures names { IfOk result (Names (file_of self.old.files) limit) }
+        ensures names { IfOk result (λ end. end ≡ names_end (listed_of self.old.files) limit) }
         ensures same { self.new.files ≡ self.old.files }
-        ensures cause { TreeCounts result self.old.failed self.new.failed }
-        ensures fails { TreeFails result self.old.failing self.old.calls }
-        ensures calls { self.new.calls ≡ next_call self.old.calls }
-        ensures failing { self.new.failing ≡ self.old.failing }
+        ensures asked { self.new.asked ≡ self.old.asked }
+        ensures cause { TreeCounts result self.old.calls.failed self.new.calls.failed }
+        ensures fails { TreeFails result self.old.calls }
+        ensures calls { MakesCall self.old.calls self.new.calls }
     {
-        let call = self.calls;
-        self.calls = call_after(call);
-        if is_failing(self.failing.as_slice(), call) {
-            self.failed = counted(self.failed);
+        if self.calls.begin() {
+            self.calls.fail();
             return Err(TreeFault::Failed);
         }
         match listing(alloc, self.files.as_slice(), limit) {
@@ -76,20 +91,24 @@ impl Tree for MemTree {
     }
 
     fn read(&mut self, alloc: Global, path: &Text, limit: u64) -> Result<ReadEnd, TreeFault>
-        ensures size { IfOk result (IsWithin limit) }
-        ensures bytes { IfOk result (λ end. end ≡ read_end (file_of self.old.files path.now) limit) }
+        ensures size { IfOk result (FitsReadLimit limit) }
+        ensures bytes { IfOk result (λ end.
+            end ≡ read_end (file_at self.old.files path.now) limit) }
         ensures same { self.new.files ≡ self.old.files }
-        ensures cause { TreeCounts result self.old.failed self.new.failed }
-        ensures fails { TreeFails result self.old.failing self.old.calls }
-        ensures calls { self.new.calls ≡ next_call self.old.calls }
-        ensures failing { self.new.failing ≡ self.old.failing }
+        ensures asked { Asks result path.now self.old.asked self.new.asked }
+        ensures cause { TreeCounts result self.old.calls.failed self.new.calls.failed }
+        ensures fails { TreeFails result self.old.calls }
+        ensures calls { MakesCall self.old.calls self.new.calls }
     {
-        let call = self.calls;
-        self.calls = call_after(call);
-        if is_failing(self.failing.as_slice(), call) {
-            self.failed = counted(self.failed);
+        let fails = self.calls.begin();
+        let noted = self.note(alloc, path);
+        if fails {
+            self.calls.fail();
             return Err(TreeFault::Failed);
         }
+        let Ok(()) = noted else {
+            return Err(TreeFault::NoMemory);
+        };
         match read_file(alloc, self.files.as_slice(), path, limit) {
             Ok(end) => Ok(end),
             Err(_) => Err(TreeFault::NoMemory),

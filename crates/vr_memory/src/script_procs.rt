@@ -1,9 +1,10 @@
+//! Children that answer by a table.
 ghost use Rattle.std.specs.Prelude.{◌≡◌, ◌<◌, ◌++◌, [], ◌∷◌, length, IfOk, IfSome, Contains, option_copied};
 ghost use Rattle.vr_outside.specs.Counts.{StartCounts, ChildCounts};
-ghost use Rattle.vr_outside.specs.Children.{IsFresh, AddsTicket, AddsStart, ended_ticket, without, end_event, AnswersStarted, FitsExit};
-ghost use Rattle.vr_memory.specs.Failing.{next_call, StartFails, WaitFails};
-ghost use Rattle.vr_memory.specs.Books.{picked};
-ghost use Rattle.vr_memory.specs.Scripts.{answer_of, HaveSizes};
+ghost use Rattle.vr_outside.specs.Children.{IsFresh, AddsTicket, AddsStart, ended_ticket, without, end_event, AnswersStarted, AnswersPath, AnswersStartedPath, FitsExit};
+ghost use Rattle.vr_memory.specs.Failing.{next_call, MakesCall, StartFails, WaitFails};
+ghost use Rattle.vr_memory.specs.Books.{no_children, picked};
+ghost use Rattle.vr_memory.specs.Scripts.{answer_of, CanAnswer};
 
 use crate::table::{exit_of, unknown};
 use crate::{Answer, AnswerList, ChildBook};
@@ -20,13 +21,13 @@ pub struct ScriptProcs {
 }
 
 impl Model for ScriptProcs {
-    ghost use Rattle.vr_memory.specs.Scripts.{Script, HaveSizes};
+    ghost use Rattle.vr_memory.specs.Scripts.{Script, CanAnswer};
 
     ghost Value = { Script };
 
     ghost view = { λ a. record { answers = a.answers; book = a.book } };
 
-    ghost invariant = { λ a. HaveSizes a.answers };
+    ghost invariant = { λ a. CanAnswer a.answers };
 }
 
 impl ScriptProcs {
@@ -40,9 +41,9 @@ impl ScriptProcs {
         picks: Positions,
         failing: Numbers,
     ) -> ScriptProcs
-        requires { HaveSizes answers }
+        requires { CanAnswer answers }
         ensures answers { result.answers ≡ answers }
-        ensures book { result.book ≡ record { running = []; journal = []; picks = picks; waits = 0; failing = failing; calls = 0; failed_starts = 0; lost_children = 0 } }
+        ensures book { result.book ≡ no_children picks failing }
     {
         ScriptProcs {
             answers,
@@ -74,7 +75,7 @@ impl Procs for ScriptProcs {
 
     ghost answer = { λ p. answer_of p.answers };
 
-    ghost failed_starts = { λ p. p.book.failed_starts };
+    ghost failed_starts = { λ p. p.book.calls.failed };
 
     ghost lost_children = { λ p. p.book.lost_children };
 
@@ -83,13 +84,12 @@ impl Procs for ScriptProcs {
         ensures fresh { IfOk result (IsFresh self.old.book.journal) }
         ensures journal { AddsStart request.now result self.old.book.journal self.new.book.journal }
         ensures same { self.new.answers ≡ self.old.answers }
-        ensures cause { StartCounts result self.old.book.failed_starts self.new.book.failed_starts }
+        ensures cause { StartCounts result self.old.book.calls.failed self.new.book.calls.failed }
         ensures children { self.new.book.lost_children ≡ self.old.book.lost_children }
-        ensures fails { StartFails result self.old.book.failing self.old.book.calls }
-        ensures calls { self.new.book.calls ≡ next_call self.old.book.calls }
+        ensures fails { StartFails result self.old.book.calls }
+        ensures calls { MakesCall self.old.book.calls self.new.book.calls }
         ensures picks { self.new.book.picks ≡ self.old.book.picks }
         ensures waits { self.new.book.waits ≡ self.old.book.waits }
-        ensures failing { self.new.book.failing ≡ self.old.book.failing }
     {
         self.book.start(alloc, request)
     }
@@ -97,19 +97,21 @@ impl Procs for ScriptProcs {
     fn wait_any(&mut self, alloc: Global) -> Result<Ended, WaitFault>
         requires { 0 < length self.old.book.running }
         ensures picks { Contains self.old.book.running (ended_ticket result) }
-        ensures running { self.new.book.running ≡ without (ended_ticket result) self.old.book.running }
+        ensures running { let before = self.old.book.running in
+            self.new.book.running ≡ without (ended_ticket result) before }
         ensures sizes { IfOk result (λ end. FitsExit end.exit) }
         ensures journal { self.new.book.journal ≡ self.old.book.journal ++ end_event result ∷ [] }
-        ensures exit { IfOk result (AnswersStarted (answer_of self.old.answers) self.old.book.journal) }
+        ensures exit { let answer = answer_of self.old.answers in
+            IfOk result (AnswersStarted answer self.old.book.journal) }
+        ensures results { IfOk result (AnswersStartedPath self.old.book.journal) }
         ensures same { self.new.answers ≡ self.old.answers }
         ensures cause { ChildCounts result self.old.book.lost_children self.new.book.lost_children }
-        ensures starts { self.new.book.failed_starts ≡ self.old.book.failed_starts }
+        ensures starts { self.new.book.calls.failed ≡ self.old.book.calls.failed }
         ensures picked { ended_ticket result ≡ picked self.old.book }
-        ensures fails { WaitFails result self.old.book.failing self.old.book.calls }
-        ensures calls { self.new.book.calls ≡ next_call self.old.book.calls }
+        ensures fails { WaitFails result self.old.book.calls }
+        ensures calls { MakesCall self.old.book.calls self.new.book.calls }
         ensures list { self.new.book.picks ≡ self.old.book.picks }
         ensures waits { self.new.book.waits ≡ next_call self.old.book.waits }
-        ensures failing { self.new.book.failing ≡ self.old.book.failing }
     {
         let ticket = self.book.picked();
         if self.book.fails() {
@@ -136,10 +138,13 @@ fn two_exits(
     answers: &[Answer],
     request: Option<&Request>,
 ) -> Result<(Exit, Exit), NoMemory>
-    requires { HaveSizes answers.now }
+    requires { CanAnswer answers.now }
     ensures same { IfOk result (λ exits. exits.1 ≡ exits.0) }
     ensures sizes { IfOk result (λ exits. FitsExit exits.0) }
-    ensures exit { IfOk result (λ exits. IfSome (option_copied request.entry) (λ r. exits.0 ≡ answer_of answers.now r)) }
+    ensures exit { IfOk result (λ exits.
+        IfSome (option_copied request.entry) (λ r. exits.0 ≡ answer_of answers.now r)) }
+    ensures results { IfOk result (λ exits.
+        IfSome (option_copied request.entry) (λ r. AnswersPath r.results exits.0.results)) }
 {
     match request {
         Some(request) => {

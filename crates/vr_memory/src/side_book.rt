@@ -1,14 +1,15 @@
+//! One side of a disk at a moment.
 ghost use Rattle.std.specs.Prelude.{◌≡◌, ℕ, ◌+◌, ◌^◌, ◌≤◌, ◌<◌, [], length, IfOk, OnOk, OnErr, if◌then◌else◌};
 ghost use Rattle.vr_outside.specs.Disks.{SideState, settled as settled_side, touching, written, cutting, shortened, synced};
 ghost use Rattle.vr_memory.specs.Disks.{write_after, side_after, IsFilled};
 
 use crate::images::{is_allowed, is_touched, overwrite};
-use crate::kept::Act;
+use crate::logged::Act;
 use std::alloc::Global;
 use std::marker::Model;
 use vr_base::NoMemory;
 
-/// A side of a disk, with what decides what a stop may leave of it.
+/// A side of a disk, with what decides what a stop can leave of it.
 #[derive(Drop)]
 pub struct SideBook {
     reads: Vec<u8>,
@@ -54,7 +55,7 @@ impl SideBook {
         })
     }
 
-    /// Goes through a call that was done, or that failed inside. After `NoMemory` the side stands.
+    /// Goes through a call that was done, or that failed inside. After `NoMemory` the side is unchanged.
     pub fn apply(&mut self, alloc: Global, act: &Act, done: bool) -> Result<(), NoMemory>
         ensures ok { OnOk result (self.new ≡ side_after done act.now self.old) }
         ensures err { OnErr result (self.new ≡ self.old) }

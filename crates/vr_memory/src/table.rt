@@ -1,3 +1,4 @@
+//! A table of answers to requests.
 ghost use Rattle.std.specs.Prelude.{◌≡◌, IfOk};
 ghost use Rattle.vr_memory.specs.Scripts.{same_maybe as same_maybe_of, same_request as same_request_of, same_texts as same_texts_of, answer_of, unknown_exit};
 

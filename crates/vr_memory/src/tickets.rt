@@ -1,3 +1,4 @@
+//! Running tickets: which one a wait takes, and how it leaves.
 ghost use Rattle.std.specs.Prelude.{◌≡◌, ◌<◌};
 ghost use Rattle.vr_outside.specs.Children.{without};
 ghost use Rattle.vr_memory.specs.Books.{pick as place_of};

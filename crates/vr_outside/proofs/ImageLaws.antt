@@ -5,26 +5,24 @@ use Rattle.std.proofs.lemmas.Bool.{or_parts}
 use Rattle.std.proofs.lemmas.Bool.Decides.{nat_tests}
 use Rattle.std.proofs.lemmas.Grind.{same_number_lists}
 use Rattle.std.proofs.lemmas.List.{length-take, length-take-le, get_or-take, get_or-drop, get_or_append_left, get_or-append_right}
-use Rattle.vr_outside.specs.declared.disk.Side.{Side}
-use Rattle.vr_outside.specs.declared.disk.Side.TheVariants.{A, B}
-use Rattle.vr_outside.specs.Disks.{Image, DiskState, on_side, IsWithin, writing, IsDurable, settled_disk, SideState, IsSideImage, IsSoundSide, overwritten, touching, written, cutting, shortened, settled, synced}
+use Rattle.vr_outside.specs.Disks.{Image, IsDurable, settled_disk, SideState, IsSideImage, IsSoundSide, overwritten, touching, written, cutting, shortened, settled, synced}
 
 pub length-overwritten : (at : ℕ) (bytes old : List ℕ) → at ≤ length old → length (overwritten at bytes old) ≡ max (length old) (at + length bytes)
 length-overwritten at bytes old within = simp (length-append, length-take, length-drop) (omega arith)
 
--- a position that a write doesn't reach stands before it or behind it
+-- a position that a write doesn't reach is before it or after it
 pub outside : (at count k : ℕ) → (nat_le at k && nat_lt k (at + count)) ≡ false → (k < at) ⊎ (at + count ≤ k)
 outside at count k out = grind (arith, nat_tests)
 
 -- before its range a write changes nothing
 pub overwritten_before : (at : ℕ) (bytes old : List ℕ) (k : ℕ) → at ≤ length old → k < at → get_or (overwritten at bytes old) k 0 ≡ get_or old k 0
 overwritten_before at bytes old k within before =
-    let front : length (take at old) ≡ at = length-take-le at old within in
+    let prefix : length (take at old) ≡ at = length-take-le at old within in
     get_or_append_left (take at old) (bytes ++ drop (at + length bytes) old) 0 k (omega arith) ∙ get_or-take at old k 0 before
 
--- nor does it behind its range
-pub overwritten_behind : (at : ℕ) (bytes old : List ℕ) (k : ℕ) → at ≤ length old → at + length bytes ≤ k → get_or (overwritten at bytes old) k 0 ≡ get_or old k 0
-overwritten_behind at bytes old k within behind =
+-- nor does it after its range
+pub overwritten_after : (at : ℕ) (bytes old : List ℕ) (k : ℕ) → at ≤ length old → at + length bytes ≤ k → get_or (overwritten at bytes old) k 0 ≡ get_or old k 0
+overwritten_after at bytes old k within after =
     let place : at + length bytes + (k - at - length bytes) ≡ k = omega arith in
     get_or-append_right (take at old) (bytes ++ drop (at + length bytes) old) at k 0 (length-take-le at old within) (omega arith)
     ∙ get_or-append_right bytes (drop (at + length bytes) old) (length bytes) (k - at) 0 refl (omega arith)
@@ -54,7 +52,7 @@ written_sound at bytes side within fits sound =
             let parts = or_parts _ _ out in
             elim (outside at (length bytes) k parts.0) [
               | inl before ↦ overwritten_before at bytes side.reads k within before ∙ sound.image.kept k (omega arith) there parts.1
-              | inr behind ↦ overwritten_behind at bytes side.reads k within behind ∙ sound.image.kept k (omega (arith, size)) there parts.1
+              | inr after ↦ overwritten_after at bytes side.reads k within after ∙ sound.image.kept k (omega (arith, size)) there parts.1
             ];
       };
       short = omega (arith, sound.short);
@@ -92,7 +90,7 @@ settled_sound bytes short = record {
   short = short;
 }
 
--- what stood may still stand inside a write
+-- an image before a write is one inside it
 pub within_touching : (at count : ℕ) (side : SideState) (bytes : List ℕ) → IsSideImage side bytes → IsSideImage (touching at count side) bytes
 within_touching at count side bytes image = record {
   no_shorter = image.no_shorter;
@@ -100,19 +98,15 @@ within_touching at count side bytes image = record {
   kept = λ k below there out. image.kept k below there (or_parts _ _ out).1;
 }
 
-either_stands : (test : Bool) (more side : SideState) (image : List ℕ) → (IsSideImage side image → IsSideImage more image) → IsSideImage side image → IsSideImage (cond test more side) image
-either_stands true more side image within is = within is
-either_stands false more side image within is = is
-
--- the same of any write, also one that would be too long
-pub within_writing : (at count : ℕ) (side : SideState) (bytes : List ℕ) → IsSideImage side bytes → IsSideImage (writing at count side) bytes
-within_writing at count side bytes is = either_stands (nat_lt (at + count) (2 ^ 63)) (touching at count side) side bytes (within_touching at count side bytes) is
+either_is_unchanged : (test : Bool) (more side : SideState) (image : List ℕ) → (IsSideImage side image → IsSideImage more image) → IsSideImage side image → IsSideImage (cond test more side) image
+either_is_unchanged true more side image within is = within is
+either_is_unchanged false more side image within is = is
 
 -- inside a write there are the images from after it
 pub within_written : (at : ℕ) (bytes : List ℕ) (side : SideState) (image : List ℕ) → IsSideImage (written at bytes side) image → IsSideImage (touching at (length bytes) side) image
 within_written at bytes side image is = record { no_shorter = is.no_shorter; no_longer = is.no_longer; kept = is.kept }
 
--- what stood may still stand inside a cut
+-- an image before a cut is one inside it
 pub within_cutting : (len : ℕ) (side : SideState) (bytes : List ℕ) → IsSideImage side bytes → IsSideImage (cutting len side) bytes
 within_cutting len side bytes image = record { no_shorter = omega (arith, image.no_shorter); no_longer = image.no_longer; kept = image.kept }
 
@@ -134,15 +128,3 @@ settled_disk_only bytes image is =
     let a : image.a ≡ bytes.a = settled_only bytes.a image.a is.a in
     let b : image.b ≡ bytes.b = settled_only bytes.b image.b is.b in
     λ i. record { a = a i; b = b i }
-
-on_side_stands : (side : Side) (more : SideState → SideState) (disk : DiskState) → ((s : SideState) (image : List ℕ) → IsSideImage s image → IsSideImage (more s) image) → IsWithin (on_side side more disk) disk
-on_side_stands A more disk stands image is = record { a = stands disk.a image.a is.a; b = is.b }
-on_side_stands B more disk stands image is = record { a = is.a; b = stands disk.b image.b is.b }
-
--- what stood of a disk may still stand inside a write
-pub stands_in_write : (side : Side) (at count : ℕ) (disk : DiskState) → IsWithin (on_side side (writing at count) disk) disk
-stands_in_write side at count disk = on_side_stands side (writing at count) disk (within_writing at count)
-
--- and inside a cut
-pub stands_in_cut : (side : Side) (len : ℕ) (disk : DiskState) → IsWithin (on_side side (cutting len) disk) disk
-stands_in_cut side len disk = on_side_stands side (cutting len) disk (within_cutting len)

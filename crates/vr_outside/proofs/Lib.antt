@@ -1,2 +1,3 @@
+-- The lemmas.
 pub mod MomentLaws
 pub mod ImageLaws

@@ -3,7 +3,7 @@ use Rattle.std.proofs.Common.{◌≡◌, List, [], ◌∷◌, ◌++◌, length, 
 use Rattle.std.specs.List.{AllByRecursion}
 use Rattle.std.proofs.Math.Seq.{drop-append_seam}
 use Rattle.std.proofs.lemmas.List.{append-nil}
-use Rattle.vr_outside.specs.Disks.{DiskState, Image, Moments, all_of, EachImage, IsWithin, Shrinks, Goes, added_since, since, Follows, AtAnyMoment, Keeps, NeverLoses}
+use Rattle.vr_outside.specs.Disks.{DiskState, Image, Moments, all_of, EachImage, IsWithin, Shrinks, Goes, added_since, moments_since, Follows, AtAnyMoment, StaysTrue, NeverLoses}
 
 -- the last state of a list, or the one before it
 abbrev last_of : DiskState → List DiskState → DiskState
@@ -55,20 +55,20 @@ each_inside P during (state ∷ later) shrinks each =
     let here : EachImage P state = λ image is. each image (shrinks.0 image is) in
     (here, each_inside P state later shrinks.2 here)
 
-keeps_inside : (P : Image → Type 0) (during : DiskState) (inside : List DiskState) → Shrinks during inside → Keeps P during inside
+keeps_inside : (P : Image → Type 0) (during : DiskState) (inside : List DiskState) → Shrinks during inside → StaysTrue P during inside
 keeps_inside P during [] shrinks = tt
 keeps_inside P during (state ∷ later) shrinks = ((λ each image is. each image (shrinks.0 image is)), keeps_inside P state later shrinks.2)
 
 -- the first step of a list of moments may begin elsewhere
-keeps_from : (P : Image → Type 0) (first other : DiskState) (states : List DiskState) → (EachImage P first → EachImage P other) → Keeps P other states → Keeps P first states
+keeps_from : (P : Image → Type 0) (first other : DiskState) (states : List DiskState) → (EachImage P first → EachImage P other) → StaysTrue P other states → StaysTrue P first states
 keeps_from P first other [] to keeps = tt
 keeps_from P first other (state ∷ later) to keeps = ((λ each. keeps.0 (to each)), keeps.1)
 
-keeps-append : (P : Image → Type 0) (first : DiskState) (xs ys : List DiskState) → Keeps P first xs → Keeps P (last_of first xs) ys → Keeps P first (xs ++ ys)
+keeps-append : (P : Image → Type 0) (first : DiskState) (xs ys : List DiskState) → StaysTrue P first xs → StaysTrue P (last_of first xs) ys → StaysTrue P first (xs ++ ys)
 keeps-append P first [] ys one two = two
 keeps-append P first (x ∷ xs) ys one two = (one.0, keeps-append P x xs ys one.1 two)
 
-keeps_last : (P : Image → Type 0) (first : DiskState) (states : List DiskState) → Keeps P first states → EachImage P first → EachImage P (last_of first states)
+keeps_last : (P : Image → Type 0) (first : DiskState) (states : List DiskState) → StaysTrue P first states → EachImage P first → EachImage P (last_of first states)
 keeps_last P first [] keeps each = each
 keeps_last P first (next ∷ later) keeps each = keeps_last P next later keeps.1 (keeps.0 each)
 
@@ -111,14 +111,9 @@ call_moments during old new P goes before inside =
 pub goes_on : (during : DiskState) (old middle new : Moments) (P : Image → Type 0) → AtAnyMoment old middle P → Goes during middle new → EachImage P during → AtAnyMoment old new P
 goes_on during old middle new P run goes inside = joined_moments old middle new P run (call_moments during middle new P goes (at_present old middle P run) inside)
 
--- two calls, inside of which each image has P
-pub goes_twice : (during later : DiskState) (old middle new : Moments) (P : Image → Type 0) → EachImage P old.now → Goes during old middle → EachImage P during → Goes later middle new → EachImage P later → AtAnyMoment old new P
-goes_twice during later old middle new P before first inside second then =
-    goes_on later old middle new P (call_moments during old middle P first before inside) second then
-
 -- what follows from P holds where P does
 pub weaker_moments : (old new : Moments) (P Q : Image → Type 0) → ((image : Image) → P image → Q image) → AtAnyMoment old new P → AtAnyMoment old new Q
-weaker_moments old new P Q to moments = record { follows = moments.follows; each = all_weaker P Q (since old new) to moments.each }
+weaker_moments old new P Q to moments = record { follows = moments.follows; each = all_weaker P Q (moments_since old new) to moments.each }
 
 -- before the first call nothing is lost
 pub loses_nothing : (moments : Moments) (P : Image → Type 0) → NeverLoses moments moments P
@@ -126,7 +121,7 @@ loses_nothing moments P =
     let none : all_of moments ≡ all_of moments ++ [] = sym (append-nil (all_of moments)) in
     record {
       follows = follows_by moments moments [] none;
-      keeps = subst (Keeps P moments.now) (sym (added_is moments moments [] none)) tt;
+      keeps = subst (StaysTrue P moments.now) (sym (added_is moments moments [] none)) tt;
     }
 
 -- at the end of a run, what was had at its start is had
@@ -137,10 +132,10 @@ kept_at_present old new P never each = subst (EachImage P) (last_is old new neve
 pub joined_losses : (old middle new : Moments) (P : Image → Type 0) → NeverLoses old middle P → NeverLoses middle new P → NeverLoses old new P
 joined_losses old middle new P first second =
     let whole = joined_follows old middle new first.follows second.follows in
-    let then : Keeps P (last_of old.now (added_since old middle)) (added_since middle new) = subst (λ (s : DiskState). Keeps P s (added_since middle new)) (sym (last_is old middle first.follows)) second.keeps in
+    let then : StaysTrue P (last_of old.now (added_since old middle)) (added_since middle new) = subst (λ (s : DiskState). StaysTrue P s (added_since middle new)) (sym (last_is old middle first.follows)) second.keeps in
     record {
       follows = follows_by old new (added_since old middle ++ added_since middle new) whole;
-      keeps = subst (Keeps P old.now) (sym (added_is old new (added_since old middle ++ added_since middle new) whole)) (keeps-append P old.now (added_since old middle) (added_since middle new) first.keeps then);
+      keeps = subst (StaysTrue P old.now) (sym (added_is old new (added_since old middle ++ added_since middle new) whole)) (keeps-append P old.now (added_since old middle) (added_since middle new) first.keeps then);
     }
 
 -- one call loses nothing that its start hands on to the images inside of it
@@ -148,7 +143,7 @@ pub call_loses_nothing : (during : DiskState) (old new : Moments) (P : Image →
 call_loses_nothing during old new P goes to =
     record {
       follows = goes_follows during old new goes;
-      keeps = subst (Keeps P old.now) (sym (added_is old new goes.inside goes.added)) (keeps_from P old.now during goes.inside to (keeps_inside P during goes.inside goes.shrinks));
+      keeps = subst (StaysTrue P old.now) (sym (added_is old new goes.inside goes.added)) (keeps_from P old.now during goes.inside to (keeps_inside P during goes.inside goes.shrinks));
     }
 
 -- a run that loses nothing, and then such a call

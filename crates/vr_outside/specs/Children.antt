@@ -10,6 +10,7 @@ use Rattle.vr_outside.specs.declared.procs.Ended.{Ended}
 use Rattle.vr_outside.specs.declared.procs.StartFault.{StartFault}
 use Rattle.vr_outside.specs.declared.procs.WaitFault.{WaitFault}
 use Rattle.vr_outside.specs.declared.procs.WaitFault.TheVariants as wait
+use Rattle.vr_base.specs.declared.limits.TheConstants.{ARTEFACT_LIMIT, RESULTS_LIMIT}
 
 -- the request that a ticket was started with
 abbrev pub started_with : ℕ → List Event → Option Request
@@ -27,7 +28,7 @@ abbrev pub AddsTicket : Result ℕ StartFault → List ℕ → List ℕ → Type
 AddsTicket (Ok ticket) old new = (¬ (Contains old ticket)) × (new ≡ old ++ ticket ∷ [])
 AddsTicket (Err fault) old new = new ≡ old
 
--- after Ok the journal has the start at its end, after a fault it stands
+-- after Ok the journal has the start at its end, after a fault it is unchanged
 abbrev pub AddsStart : Request → Result ℕ StartFault → List Event → List Event → Type 0
 AddsStart request (Ok ticket) old new = new ≡ old ++ event.Started ticket request ∷ []
 AddsStart request (Err fault) old new = new ≡ old
@@ -53,6 +54,15 @@ end_event (Err (wait.Lost ticket)) = event.Gone ticket
 abbrev pub AnswersStarted : (Request → Exit) → List Event → Ended → Type 0
 AnswersStarted answer journal end = IfSome (started_with end.ticket journal) (λ request. end.exit ≡ answer request)
 
+-- results are given only where the request names a path for them
+abbrev pub AnswersPath : MaybeText → MaybeText → Type 0
+AnswersPath Nothing found = found ≡ Nothing
+AnswersPath (Given path) found = Unit {0}
+
+-- results come only where the request that the end's ticket was started with names a path for them
+abbrev pub AnswersStartedPath : List Event → Ended → Type 0
+AnswersStartedPath journal end = IfSome (started_with end.ticket journal) (λ request. AnswersPath request.results end.exit.results)
+
 -- at most so many bytes, where there is a text
 abbrev pub IsShort : ℕ → MaybeText → Type 0
 IsShort limit Nothing = Unit {0}
@@ -60,5 +70,5 @@ IsShort limit (Given bytes) = length bytes ≤ limit
 
 -- an exit holds at most 262,144 bytes of output and 1,048,576 bytes of results
 pub record FitsExit (exit : Exit) : Type 0 where
-  pub output : length exit.output ≤ 262144
-  pub results : IsShort 1048576 exit.results
+  pub output : length exit.output ≤ ARTEFACT_LIMIT
+  pub results : IsShort RESULTS_LIMIT exit.results

@@ -14,7 +14,7 @@ use Rattle.vr_outside.specs.declared.streams.SourceFault.TheVariants as source
 use Rattle.vr_outside.specs.declared.streams.SinkFault.{SinkFault}
 use Rattle.vr_outside.specs.declared.streams.SinkFault.TheVariants as sink
 
--- the count rose: it is greater now, or it stands at the last number
+-- the count rose: it is greater now, or it is at the last number
 abbrev pub Rose : ℕ → ℕ → Type 0
 Rose before now = min (before + 1) (2 ^ 64 - 1) ≤ now
 
@@ -23,7 +23,7 @@ pub record Counted (before now : ℕ) : Type 0 where
   pub later : before ≤ now
   pub rose : Rose before now
 
--- After each answer of a tree: its fault was counted, and after any other answer the count stands.
+-- After each answer of a tree: its fault was counted, and after any other answer the count is unchanged.
 abbrev pub TreeCounts : {T : Type 0} → Result T TreeFault → ℕ → ℕ → Type 0
 TreeCounts (Ok value) before now = now ≡ before
 TreeCounts (Err tree.NoMemory) before now = now ≡ before

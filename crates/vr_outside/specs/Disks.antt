@@ -1,4 +1,4 @@
--- What a stop may leave of the two sides of a disk, and the moments of a run of calls.
+-- What a stop can leave of the two sides of a disk, and the moments of a run of calls.
 use Rattle.std.specs.Prelude.{◌≡◌, ◌⊎◌, ℕ, ◌+◌, ◌^◌, ◌<◌, ◌≤◌, nat_le, nat_lt, min, max, Bool, false, ◌&&◌, ◌||◌, List, [], ◌∷◌, ◌++◌, length, take, drop, slice_index, if◌then◌else◌}
 use Rattle.std.specs.List.{AllByRecursion}
 use Rattle.vr_outside.specs.declared.disk.Side.{Side}
@@ -29,9 +29,9 @@ side_of A disk = disk.a
 side_of B disk = disk.b
 
 -- the bytes of one side of an image
-abbrev pub bytes_of : Side → Image → List ℕ
-bytes_of A image = image.a
-bytes_of B image = image.b
+abbrev pub image_side : Side → Image → List ℕ
+image_side A image = image.a
+image_side B image = image.b
 
 -- a disk with one side changed
 abbrev pub on_side : Side → (SideState → SideState) → DiskState → DiskState
@@ -43,13 +43,13 @@ abbrev pub is_touched : List (ℕ × ℕ) → ℕ → Bool
 is_touched [] position = false
 is_touched (write ∷ writes) position = (nat_le write.0 position && nat_lt position (write.0 + write.1)) || is_touched writes position
 
--- What a stop may leave of a side: bytes of a length between, which are the synced ones where no write touched them.
+-- What a stop can leave of a side: bytes of a length between, which are the synced ones where no write touched them.
 pub record IsSideImage (side : SideState) (bytes : List ℕ) : Type 0 where
   pub no_shorter : side.low ≤ length bytes
   pub no_longer : length bytes ≤ side.high
   pub kept : (k : ℕ) → k < length bytes → k < length side.synced → is_touched side.touched k ≡ false → slice_index bytes k ≡ slice_index side.synced k
 
--- what a stop may leave of a disk: an image of each side
+-- what a stop can leave of a disk: an image of each side
 pub record IsImage (disk : DiskState) (image : Image) : Type 0 where
   pub a : IsSideImage disk.a image.a
   pub b : IsSideImage disk.b image.b
@@ -158,8 +158,8 @@ abbrev pub added_since : (old new : Moments) → List DiskState
 added_since old new = drop (length (all_of old)) (all_of new)
 
 -- the moments of a run: the one that it began at, those inside of calls and between them, and the present one
-abbrev pub since : (old new : Moments) → List DiskState
-since old new = old.now ∷ added_since old new
+abbrev pub moments_since : (old new : Moments) → List DiskState
+moments_since old new = old.now ∷ added_since old new
 
 -- a run keeps the moments before it
 abbrev pub Follows : (old new : Moments) → Type 0
@@ -168,23 +168,23 @@ Follows old new = all_of new ≡ all_of old ++ added_since old new
 -- each image of each moment of a run has P
 pub record AtAnyMoment (old new : Moments) (P : Image → Type 0) : Type 0 where
   pub follows : Follows old new
-  pub each : AllByRecursion (EachImage P) (since old new)
+  pub each : AllByRecursion (EachImage P) (moments_since old new)
 
 -- from each moment to the next: once each image has P, each image has it
-abbrev pub Keeps : (Image → Type 0) → DiskState → List DiskState → Type 0
-Keeps P disk [] = Unit {0}
-Keeps P disk (next ∷ later) = (EachImage P disk → EachImage P next) × Keeps P next later
+abbrev pub StaysTrue : (Image → Type 0) → DiskState → List DiskState → Type 0
+StaysTrue P disk [] = Unit {0}
+StaysTrue P disk (next ∷ later) = (EachImage P disk → EachImage P next) × StaysTrue P next later
 
 -- once each image of a moment of a run has P, each image of each later moment has it
 pub record NeverLoses (old new : Moments) (P : Image → Type 0) : Type 0 where
   pub follows : Follows old new
-  pub keeps : Keeps P old.now (added_since old new)
+  pub keeps : StaysTrue P old.now (added_since old new)
 
--- an image of one of two moments
-abbrev pub IsOfEither : (one other : DiskState) → Image → Type 0
-IsOfEither one other image = IsImage one image ⊎ IsImage other image
+-- one of two values, as of what an image holds inside a call: what was before it or what is after it
+abbrev pub IsEither : {T : Type 0} → T → T → T → Type 0
+IsEither value one other = (value ≡ one) ⊎ (value ≡ other)
 
 -- Opening a disk: images only become fewer until both sides are synced, and from then on each image has P. It may end
 -- before that.
-abbrev pub Opens : (old new : Moments) → (Image → Type 0) → Type 0
-Opens old new P = Goes old.now old new ⊎ ((middle : Moments) × Goes old.now old middle × AtAnyMoment middle new P)
+abbrev pub OpensWith : (old new : Moments) → (Image → Type 0) → Type 0
+OpensWith old new P = Goes old.now old new ⊎ ((middle : Moments) × Goes old.now old middle × AtAnyMoment middle new P)

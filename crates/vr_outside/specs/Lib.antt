@@ -1,3 +1,4 @@
+-- The definitions.
 pub mod Counts
 pub mod Trees
 pub mod Children

@@ -13,12 +13,12 @@ use Rattle.vr_outside.specs.declared.records.Need.TheVariants.{Fresh}
 use Rattle.vr_outside.specs.Disks.{DiskState, Image, IsImage}
 
 -- the file that a view is of: its last
-abbrev pub last_of : List Entry → Option Entry
-last_of view = slice_get view (length view - 1)
+abbrev pub last_entry : List Entry → Option Entry
+last_entry view = slice_get view (length view - 1)
 
 -- the view ends in this name
 abbrev pub is_of : FileName → Record → Bool
-is_of name kept = option_map_or (λ entry. is_same_name entry.name name) (last_of kept.view) false
+is_of name kept = option_map_or (λ entry. is_same_name entry.name name) (last_entry kept.view) false
 
 -- the last record of a name
 unfoldable pub latest : FileName → List Record → Option Record
@@ -27,7 +27,7 @@ latest name (first ∷ rest) = option_or (latest name rest) (if is_of name first
 
 -- a later record has the same name
 abbrev pub is_replaced : List Record → Record → Bool
-is_replaced later kept = option_map_or (λ entry. list_any (is_of entry.name) later) (last_of kept.view) false
+is_replaced later kept = option_map_or (λ entry. list_any (is_of entry.name) later) (last_entry kept.view) false
 
 -- the latest record of each name, in their order
 unfoldable pub latest_alone : List Record → List Record
@@ -35,22 +35,19 @@ latest_alone [] = []
 latest_alone (first ∷ rest) = if is_replaced rest first then latest_alone rest else first ∷ latest_alone rest
 
 -- all the records, or the latest alone
-abbrev pub IsKeptOf : List Record → List Record → Type 0
-IsKeptOf before now = (now ≡ before) ⊎ (now ≡ latest_alone before)
+abbrev pub IsAllOrLatest : List Record → List Record → Type 0
+IsAllOrLatest before now = (now ≡ before) ⊎ (now ≡ latest_alone before)
 
 -- An image has the records of an image of a disk, or the latest of these alone.
 pub record HasRecordsOf (records_of : Image → List Record) (disk : DiskState) (image : Image) : Type 0 where
   pub before : Image
   pub was : IsImage disk before
-  pub kept : IsKeptOf (records_of before) (records_of image)
-
-abbrev pub IsEither : List Record → List Record → List Record → Type 0
-IsEither records one other = (records ≡ one) ⊎ (records ≡ other)
+  pub kept : IsAllOrLatest (records_of before) (records_of image)
 
 -- The latest record of the file at a place of a graph has its present view, and this artefact.
 pub record IsRecorded (latest_of : FileName → Option Record) (graph : List Entry) (at : ℕ) : Type 0 where
   pub entry : Entry
-  pub stands : slice_get graph at ≡ Some entry
+  pub is_entry : slice_get graph at ≡ Some entry
   pub artefact : List ℕ
   pub is : latest_of entry.name ≡ Some (record { view = view graph at; artefact = artefact })
 

@@ -13,14 +13,14 @@ abbrev pub IsTaken : ℕ → TakeEnd → Type 0
 IsTaken limit (Got input) = length input ≤ limit
 IsTaken limit TooLong = Unit {0}
 
--- a front of the bytes was added
-pub record AddsFront (bytes old new : List ℕ) : Type 0 where
-  pub front : List ℕ
+-- a prefix of the bytes was added
+pub record AddsPrefix (bytes old new : List ℕ) : Type 0 where
+  pub prefix : List ℕ
   pub back : List ℕ
-  pub parts : bytes ≡ front ++ back
-  pub added : new ≡ old ++ front
+  pub parts : bytes ≡ prefix ++ back
+  pub added : new ≡ old ++ prefix
 
--- after Ok all bytes were put, after a fault a front of them
+-- after Ok all bytes were put, after a fault a prefix of them
 abbrev pub Puts : {T : Type 0} → Result T SinkFault → List ℕ → List ℕ → List ℕ → Type 0
 Puts (Ok value) bytes old new = new ≡ old ++ bytes
-Puts (Err fault) bytes old new = AddsFront bytes old new
+Puts (Err fault) bytes old new = AddsPrefix bytes old new

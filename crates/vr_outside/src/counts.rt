@@ -1,3 +1,4 @@
+//! Counts of faults.
 ghost use Rattle.vr_outside.specs.Counts.{Counted};
 
 /// A count of faults with one more fault. It stays at the last number.

@@ -13,7 +13,7 @@ mod tree;
 
 pub use counts::counted;
 pub use disk::{Disk, Side};
-pub use durable::{cut_durably, write_both_durably, write_durably};
+pub use durable::{cut_durably, write_durably};
 pub use procs::{Ended, Procs, StartFault, WaitFault};
 pub use records::{Need, Needs, Record, Records, StoreFault};
 pub use streams::{Sink, SinkFault, Source, SourceFault, TakeEnd};

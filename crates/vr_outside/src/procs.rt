@@ -1,9 +1,10 @@
+//! Children: how they are started and waited for, and what is told of those that ended.
 ghost use Rattle.std.specs.Prelude.{◌≡◌, ℕ, ◌<◌, List, ◌++◌, [], ◌∷◌, length, IfOk, Contains};
 ghost use Rattle.vr_base.specs.declared.child.Request.{Request};
 ghost use Rattle.vr_base.specs.declared.child.Exit.{Exit};
 ghost use Rattle.vr_base.specs.declared.child.Event.{Event};
 ghost use Rattle.vr_outside.specs.Counts.{StartCounts, ChildCounts};
-ghost use Rattle.vr_outside.specs.Children.{IsFresh, AddsTicket, AddsStart, ended_ticket, without, end_event, AnswersStarted, FitsExit};
+ghost use Rattle.vr_outside.specs.Children.{IsFresh, AddsTicket, AddsStart, ended_ticket, without, end_event, AnswersStarted, AnswersStartedPath, FitsExit};
 
 use std::alloc::Global;
 use vr_base::{Exit, Request};
@@ -52,7 +53,8 @@ pub trait Procs {
     fn start(&mut self, alloc: Global, request: &Request) -> Result<u64, StartFault>
         ensures running { AddsTicket result (running self.old) (running self.new) }
         ensures fresh { tells → IfOk result (IsFresh (journal self.old)) }
-        ensures journal { tells → AddsStart request.now result (journal self.old) (journal self.new) }
+        ensures journal { tells →
+            AddsStart request.now result (journal self.old) (journal self.new) }
         ensures same { answer self.new ≡ answer self.old }
         ensures cause { StartCounts result (failed_starts self.old) (failed_starts self.new) }
         ensures children { lost_children self.new ≡ lost_children self.old };
@@ -64,7 +66,10 @@ pub trait Procs {
         ensures running { running self.new ≡ without (ended_ticket result) (running self.old) }
         ensures sizes { IfOk result (λ end. FitsExit end.exit) }
         ensures journal { tells → (journal self.new ≡ journal self.old ++ end_event result ∷ []) }
+        // Each end is the answer to what its ticket was started with,
         ensures exit { tells → IfOk result (AnswersStarted (answer self.old) (journal self.old)) }
+        // and has results only where that names a path for them.
+        ensures results { tells → IfOk result (AnswersStartedPath (journal self.old)) }
         ensures same { answer self.new ≡ answer self.old }
         ensures cause { ChildCounts result (lost_children self.old) (lost_children self.new) }
         ensures starts { failed_starts self.new ≡ failed_starts self.old };

@@ -1,17 +1,18 @@
+//! Records of compiled files on a disk, as those who build with them see the store.
 ghost use Rattle.std.specs.Prelude.{◌≡◌, ◌<◌, ◌≤◌, ◌++◌, [], ◌∷◌, List, Bool, false, Option, option_map, length, All, IfOk, IfSome, OnOk, is_err};
 ghost use Rattle.vr_base.specs.View.{view};
 ghost use Rattle.vr_base.specs.declared.file.FileName.{FileName};
 ghost use Rattle.vr_outside.specs.Counts.{DiskCounts, StoreCounts};
-ghost use Rattle.vr_outside.specs.Disks.{DiskState, Image, reads_of, IsDurable, AtAnyMoment, NeverLoses, Opens};
-ghost use Rattle.vr_outside.specs.Records.{latest, deps_at, IsRecorded, AreNeeds, HasRecordsOf, IsKeptOf, IsEither, after_commit, after_reset};
+ghost use Rattle.vr_outside.specs.Disks.{DiskState, Image, reads_of, IsDurable, IsEither, AtAnyMoment, NeverLoses, OpensWith};
+ghost use Rattle.vr_outside.specs.Records.{latest, deps_at, IsRecorded, AreNeeds, HasRecordsOf, IsAllOrLatest, after_commit, after_reset};
 ghost use Rattle.vr_outside.specs.declared.records.Record.{Record};
 ghost use Rattle.vr_outside.specs.declared.records.StoreFault.TheVariants as fault;
 
 use crate::Disk;
 use std::alloc::{AllocError, AllocFailed, Global};
-use vr_base::{DiskFailed, FileName, Graph, Items, NoMemory, Text};
+use vr_base::{ARTEFACT_LIMIT, DiskFailed, FileName, Graph, Items, NoMemory, Text};
 
-/// Why records can't be read or kept.
+/// Why records can't be read or committed.
 #[derive(Clone, Copy, Debug, PartialEq, Eq)]
 pub enum StoreFault {
     NoMemory,
@@ -71,7 +72,7 @@ pub type Needs = Items<Need>;
 /// Records of compiled files on a disk: of each the view that was compiled, and what the compiler gave. The last
 /// record of a name counts. After `DiskFailed` a store is broken until it is opened again.
 pub trait Records: Sized {
-    /// A record that is ready to be kept.
+    /// A record that is ready to be committed.
     type Prepared;
 
     /// The records that an image of a disk holds, in order.
@@ -81,7 +82,7 @@ pub trait Records: Sized {
     ghost latest_of: { Self → FileName → Option Record };
 
     /// The disk is the one that the store was opened over, and only the store wrote it since.
-    ghost stands: { Self → DiskState → Type 0 };
+    ghost in_step: { Self → DiskState → Type 0 };
 
     ghost broken: { Self → Bool };
 
@@ -91,17 +92,25 @@ pub trait Records: Sized {
     /// The store has room for the record, and prepared nothing and changed nothing since.
     ghost is_ready: { Self → Self.Prepared → Type 0 };
 
-    /// Opens the records of a disk. Whatever a disk holds stands for some records, possibly none. It first syncs
+    /// Opens the records of a disk. Whatever a disk holds denotes some records, possibly none. It first syncs
     /// both sides.
     fn from_disk<D: Disk>(alloc: Global, disk: &mut D) -> Result<Self, StoreFault>
-        // At any moment, after a fault too, a stop leaves the records of an image at entry, or the latest of these.
-        ensures any_moment { D.tells → AtAnyMoment (D.moments disk.old) (D.moments disk.new) (HasRecordsOf records_of (D.moments disk.old).now) }
+        // At any moment, after a fault too, a stop can leave the records of an image at entry, or the latest of these.
+        ensures any_moment { D.tells →
+            AtAnyMoment (D.moments disk.old) (D.moments disk.new)
+            (HasRecordsOf records_of (D.moments disk.old).now) }
         // Once both sides are synced, it leaves those of what reads gave at entry, or the latest of these.
-        ensures opens { D.tells → Opens (D.moments disk.old) (D.moments disk.new) (λ image. IsKeptOf (records_of (reads_of (D.moments disk.old).now)) (records_of image)) }
-        ensures records { D.tells → OnOk result (IsKeptOf (records_of (reads_of (D.moments disk.old).now)) (records_of (reads_of (D.moments disk.new).now))) }
-        ensures stands { D.tells → IfOk result (λ store. stands store (D.moments disk.new).now) }
-        ensures whole { IfOk result (λ store. broken store ≡ false) }
-        ensures cause { StoreCounts result (D.failed_disk_calls disk.old) (D.failed_disk_calls disk.new) };
+        ensures opens { D.tells →
+            let before = records_of (reads_of (D.moments disk.old).now) in
+            OpensWith (D.moments disk.old) (D.moments disk.new)
+            (λ image. IsAllOrLatest before (records_of image)) }
+        ensures records { D.tells →
+            let before = records_of (reads_of (D.moments disk.old).now) in
+            OnOk result (IsAllOrLatest before (records_of (reads_of (D.moments disk.new).now))) }
+        ensures in_step { D.tells → IfOk result (λ store. in_step store (D.moments disk.new).now) }
+        ensures usable { IfOk result (λ store. broken store ≡ false) }
+        ensures cause { StoreCounts result (D.failed_disk_calls disk.old)
+            (D.failed_disk_calls disk.new) };
 
     /// For each file of a graph, whether its latest record has its present view.
     fn needs(&self, alloc: Global, graph: &Graph) -> Result<Needs, NoMemory>
@@ -110,10 +119,11 @@ pub trait Records: Sized {
     /// What the compiler gave by the latest record of a name, lent from the store; `None` exactly where the name
     /// has no record. It takes no memory.
     fn artefact(&self, name: &FileName) -> Option<&[u8]>
-        ensures bytes { option_map (λ bytes. bytes.now) result ≡ option_map (λ kept. kept.artefact) (latest_of self.now name.now) }
-        ensures size { IfSome result (λ bytes. length bytes.now ≤ 262144) };
+        ensures bytes { option_map (λ bytes. bytes.now) result
+            ≡ option_map (λ kept. kept.artefact) (latest_of self.now name.now) }
+        ensures size { IfSome result (λ bytes. length bytes.now ≤ ARTEFACT_LIMIT) };
 
-    /// Makes a record of the present view of a file ready, with room for it. After `NoMemory` the store stands.
+    /// Makes a record of the present view of a file ready, with room for it. After `NoMemory` the store is unchanged.
     fn prepare(
         &mut self,
         alloc: Global,
@@ -122,49 +132,72 @@ pub trait Records: Sized {
         artefact: &Text,
     ) -> Result<Self::Prepared, NoMemory>
         requires place { at < length graph.now }
-        requires artefact { length artefact.now ≤ 262144 }
+        requires artefact { length artefact.now ≤ ARTEFACT_LIMIT }
         requires recorded { All (IsRecorded (latest_of self.old) graph.now) (deps_at graph.now at) }
-        ensures record { IfOk result (λ prepared. record_of prepared ≡ record { view = view graph.now at; artefact = artefact.now }) }
+        ensures record { IfOk result (λ prepared.
+            record_of prepared ≡ record { view = view graph.now at; artefact = artefact.now }) }
         ensures ready { IfOk result (λ prepared. is_ready self.new prepared) }
         ensures latest { (name : FileName) → latest_of self.new name ≡ latest_of self.old name }
         ensures broken { broken self.new ≡ broken self.old }
-        ensures stands { (disk : DiskState) → stands self.old disk → stands self.new disk };
+        ensures in_step { (disk : DiskState) → in_step self.old disk → in_step self.new disk };
 
     /// Adds a prepared record. It takes no memory.
     fn commit<D: Disk>(&mut self, disk: &mut D, prepared: Self::Prepared) -> Result<(), DiskFailed>
-        requires whole { broken self.old ≡ false }
+        requires usable { broken self.old ≡ false }
         requires ready { is_ready self.old prepared }
-        requires stands { D.tells → stands self.old (D.moments disk.old).now }
-        ensures latest { (name : FileName) → latest_of self.new name ≡ after_commit result (record_of prepared) (latest_of self.old) name }
-        ensures stands { D.tells → OnOk result (stands self.new (D.moments disk.new).now) }
-        ensures added { D.tells → OnOk result (records_of (reads_of (D.moments disk.new).now) ≡ records_of (reads_of (D.moments disk.old).now) ++ record_of prepared ∷ []) }
-        // At any moment, after a fault too, a stop leaves the records from before, with the new one or without.
-        ensures any_moment { D.tells → AtAnyMoment (D.moments disk.old) (D.moments disk.new) (λ image. IsEither (records_of image) (records_of (reads_of (D.moments disk.old).now)) (records_of (reads_of (D.moments disk.old).now) ++ record_of prepared ∷ [])) }
+        requires in_step { D.tells → in_step self.old (D.moments disk.old).now }
+        ensures latest { (name : FileName) →
+            latest_of self.new name
+            ≡ after_commit result (record_of prepared) (latest_of self.old) name }
+        ensures in_step { D.tells → OnOk result (in_step self.new (D.moments disk.new).now) }
+        ensures added { D.tells →
+            let before = records_of (reads_of (D.moments disk.old).now) in
+            let now = records_of (reads_of (D.moments disk.new).now) in
+            OnOk result (now ≡ before ++ record_of prepared ∷ []) }
+        // At any moment, after a fault too, a stop can leave the records from before, with the new one or without.
+        ensures any_moment { D.tells →
+            let before = records_of (reads_of (D.moments disk.old).now) in
+            AtAnyMoment (D.moments disk.old) (D.moments disk.new)
+            (λ image. IsEither (records_of image) before (before ++ record_of prepared ∷ [])) }
         // Once each image has the new one, each image has it.
-        ensures loses { D.tells → NeverLoses (D.moments disk.old) (D.moments disk.new) (λ image. records_of image ≡ records_of (reads_of (D.moments disk.old).now) ++ record_of prepared ∷ []) }
+        ensures loses { D.tells →
+            let before = records_of (reads_of (D.moments disk.old).now) in
+            NeverLoses (D.moments disk.old) (D.moments disk.new)
+            (λ image. records_of image ≡ before ++ record_of prepared ∷ []) }
         ensures broken { broken self.new ≡ is_err result }
-        ensures cause { DiskCounts result (D.failed_disk_calls disk.old) (D.failed_disk_calls disk.new) };
+        ensures cause { DiskCounts result (D.failed_disk_calls disk.old)
+            (D.failed_disk_calls disk.new) };
 
     /// Leaves no record. It takes no memory.
     fn reset<D: Disk>(&mut self, disk: &mut D) -> Result<(), DiskFailed>
-        requires whole { broken self.old ≡ false }
-        requires stands { D.tells → stands self.old (D.moments disk.old).now }
-        ensures latest { (name : FileName) → latest_of self.new name ≡ after_reset result (latest_of self.old) name }
-        ensures stands { D.tells → OnOk result (stands self.new (D.moments disk.new).now) }
-        ensures emptied { D.tells → OnOk result (records_of (reads_of (D.moments disk.new).now) ≡ []) }
-        // At any moment, after a fault too, a stop leaves the records from before, or none.
-        ensures any_moment { D.tells → AtAnyMoment (D.moments disk.old) (D.moments disk.new) (λ image. IsEither (records_of image) (records_of (reads_of (D.moments disk.old).now)) []) }
+        requires usable { broken self.old ≡ false }
+        requires in_step { D.tells → in_step self.old (D.moments disk.old).now }
+        ensures latest { (name : FileName) →
+            latest_of self.new name ≡ after_reset result (latest_of self.old) name }
+        ensures in_step { D.tells → OnOk result (in_step self.new (D.moments disk.new).now) }
+        ensures emptied { D.tells →
+            OnOk result (records_of (reads_of (D.moments disk.new).now) ≡ []) }
+        // At any moment, after a fault too, a stop can leave the records from before, or none.
+        ensures any_moment { D.tells →
+            let before = records_of (reads_of (D.moments disk.old).now) in
+            AtAnyMoment (D.moments disk.old) (D.moments disk.new)
+            (λ image. IsEither (records_of image) before []) }
         // Once no image has a record, none has one.
-        ensures loses { D.tells → NeverLoses (D.moments disk.old) (D.moments disk.new) (λ image. records_of image ≡ []) }
+        ensures loses { D.tells →
+            NeverLoses (D.moments disk.old) (D.moments disk.new)
+            (λ image. records_of image ≡ []) }
         ensures broken { broken self.new ≡ is_err result }
-        ensures cause { DiskCounts result (D.failed_disk_calls disk.old) (D.failed_disk_calls disk.new) };
+        ensures cause { DiskCounts result (D.failed_disk_calls disk.old)
+            (D.failed_disk_calls disk.new) };
 
     /// Whether a call of this store has answered `DiskFailed`.
     fn is_broken(&self) -> bool
         ensures { result ≡ broken self.now };
 
-    /// Where the store stands, a stop leaves what reads give, and the latest record of each name is the disk's.
-    ghost durable: { (store : Self) (disk : DiskState) → stands store disk → IsDurable disk };
+    /// Where the store is in step with a disk, a stop can leave what reads give,
+    ghost durable: { (store : Self) (disk : DiskState) → in_step store disk → IsDurable disk };
 
-    ghost held: { (store : Self) (disk : DiskState) (name : FileName) → stands store disk → latest_of store name ≡ latest name (records_of (reads_of disk)) };
+    /// and the latest record of each name is the disk's.
+    ghost held: { (store : Self) (disk : DiskState) (name : FileName) → in_step store disk →
+        latest_of store name ≡ latest name (records_of (reads_of disk)) };
 }

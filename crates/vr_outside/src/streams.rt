@@ -1,3 +1,4 @@
+//! An input that is taken and an output that is put.
 ghost use Rattle.std.specs.Prelude.{◌≡◌, ℕ, List, [], IfOk, OnOk};
 ghost use Rattle.vr_outside.specs.Counts.{SourceCounts, SinkCounts};
 ghost use Rattle.vr_outside.specs.Streams.{take_end, IsTaken, Puts};
@@ -28,7 +29,7 @@ pub trait Source {
     /// Whether the source tells what it holds.
     ghost tells: { Type 0 };
 
-    /// What is left of the input.
+    /// What remains of the input.
     ghost left: { Self → List ℕ };
 
     /// How often the source has failed.
@@ -53,7 +54,7 @@ pub trait Sink {
     /// How often the sink has failed.
     ghost failed_puts: { Self → ℕ };
 
-    /// Puts all bytes at the end. After a fault a front of them stands there.
+    /// Puts all bytes at the end. After a fault a prefix of them was put.
     fn put(&mut self, bytes: &[u8]) -> Result<(), SinkFault>
         ensures contents { tells → Puts result bytes.now (contents self.old) (contents self.new) }
         ensures cause { SinkCounts result (failed_puts self.old) (failed_puts self.new) };

@@ -1,3 +1,4 @@
-mod Fronts
+-- The lemmas.
+mod Prefixes
 mod Listings
 mod Tickets

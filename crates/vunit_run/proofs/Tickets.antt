@@ -1,4 +1,4 @@
--- What is left of the running tickets.
+-- What remains of the running tickets.
 use Rattle.std.specs.Prelude.{ℕ, ◌+◌, ◌≤◌, ◌==◌, List, [], ◌∷◌, length, true, false, if◌then◌else◌}
 use Rattle.std.proofs.Common.{arith}
 use Rattle.vr_outside.specs.Children.{without}

@@ -3,7 +3,7 @@ use Rattle.std.specs.Prelude.{◌≡◌, ℕ, ◌==◌, Bool, true, false, ℤ, 
 use Rattle.vr_base.specs.declared.child.MaybeText.{MaybeText}
 use Rattle.vr_base.specs.declared.child.MaybeText.TheVariants.{Nothing, Given}
 
--- a good end stands for none where the output is cut and was all that was asked for
+-- a good end denotes none where the output is cut and was all that was asked for
 abbrev pub cut_code : ℕ → Bool → MaybeText → ℕ
 cut_code code true Nothing = if code == 0 then 257 else code
 cut_code code true (Given path) = code
@@ -14,8 +14,3 @@ abbrev pub child_code : Option ℤ → Bool → MaybeText → ℕ
 child_code None more results = 256
 child_code (Some (pos code)) more results = cut_code code more results
 child_code (Some (negsuc code)) more results = 256
-
--- results are given only where they were asked for
-abbrev pub AnswersPath : MaybeText → MaybeText → Type 0
-AnswersPath Nothing found = found ≡ Nothing
-AnswersPath (Given path) found = Unit {0}

@@ -1,4 +1,6 @@
-pub mod Fronts
+-- The definitions.
+pub mod Prefixes
 pub mod Codes
 pub mod Commands
 pub mod Status
+pub mod Untold

@@ -2,25 +2,19 @@
 ghost use Rattle.std.specs.Prelude.{◌≡◌, ◌<◌, ◌≤◌, length, IfOk, MatchResult, option_map, string_bytes};
 ghost use Rattle.std.specs.Str.{IsUtf8};
 ghost use Rattle.std.specs.Process.{exit_code};
-ghost use Rattle.vr_outside.specs.Children.{FitsExit, IsShort};
-ghost use Rattle.vunit_run.specs.Codes.{child_code, AnswersPath};
+ghost use Rattle.vr_outside.specs.Children.{FitsExit, IsShort, AnswersPath};
+ghost use Rattle.vunit_run.specs.Codes.{child_code};
 ghost use Rattle.vunit_run.specs.Commands.{IsProgram, IsCommandOf};
 
 use crate::files::read_file;
-use crate::reading::{Front, IoFault, drain, read_front};
+use crate::reading::{IoFault, Prefix, drain, read_prefix};
 use std::alloc::Global;
 use std::fs::Files;
 use std::io::{ErrorKind, Write};
 use std::process::{Child, Command, ExitStatus, OpenProcess, Processes, Stdio};
 use std::{fs, io};
-use vr_base::{Exit, MaybeText, Request, Text};
+use vr_base::{ARTEFACT_LIMIT, Exit, MaybeText, RESULTS_LIMIT, Request, Text};
 use vr_outside::ReadEnd;
-
-// The bytes that are kept of what a child prints.
-const OUTPUT_LIMIT: u64 = 262_144;
-
-// The bytes of a results file that is taken.
-const RESULTS_LIMIT: u64 = 1_048_576;
 
 // The code of a child that a signal ended.
 const SIGNAL_CODE: u32 = 256;
@@ -28,7 +22,7 @@ const SIGNAL_CODE: u32 = 256;
 // The code of a child that ended well but printed more than is kept, and was to leave no results.
 const CUT_CODE: u32 = 257;
 
-// The first command word that stands for the program itself.
+// The first command word that denotes the program itself.
 const OWN_WORD: &[u8] = b"@self";
 
 /// A child that was started and has its whole input, and the path where it leaves its results, if anywhere.
@@ -104,7 +98,8 @@ fn command_of(alloc: Global, own_path: &Option<String>, words: &[Text]) -> Resul
 
 // The program that a first word names.
 fn program_of<'a>(own_path: &'a Option<String>, word: &'a Text) -> Result<&'a str, IoFault>
-    ensures { IfOk result (λ program. IsProgram (option_map string_bytes own_path.now) word.now program.now) }
+    ensures { let own = option_map string_bytes own_path.now in
+        IfOk result (λ program. IsProgram own word.now program.now) }
 {
     if word.bytes() != OWN_WORD {
         return utf8(word);
@@ -148,23 +143,23 @@ pub fn end_child<P: OpenProcess + Drop>(
     })
 }
 
-// Reads the output to its end, keeps the front of it, and closes the pipe.
+// Reads the output to its end, keeps the prefix of it, and closes the pipe.
 fn take_output<P: OpenProcess>(
     child: &mut Child<P>,
     buffer: &mut [u8],
     alloc: Global,
-) -> Result<Front, IoFault>
+) -> Result<Prefix, IoFault>
     requires { 0 < length buffer.old }
-    ensures { IfOk result (λ front. length front.kept.items ≤ 262144) }
+    ensures { IfOk result (λ prefix. length prefix.kept.items ≤ ARTEFACT_LIMIT) }
 {
     let Some(mut stdout) = child.stdout.take() else {
         return Err(IoFault::Failed);
     };
-    let front = read_front(&mut stdout, buffer, alloc, OUTPUT_LIMIT)?;
-    if front.more {
+    let prefix = read_prefix(&mut stdout, buffer, alloc, ARTEFACT_LIMIT as u64)?;
+    if prefix.more {
         drain(&mut stdout, buffer)?;
     }
-    Ok(front)
+    Ok(prefix)
 }
 
 fn code_of(status: ExitStatus, more: bool, results: &MaybeText) -> u32
@@ -188,13 +183,13 @@ fn take_results(
     results: MaybeText,
 ) -> Result<MaybeText, IoFault>
     requires { 0 < length buffer.old }
-    ensures size { IfOk result (IsShort 1048576) }
+    ensures size { IfOk result (IsShort RESULTS_LIMIT) }
     ensures named { IfOk result (AnswersPath results) }
 {
     let MaybeText::Given(path) = results else {
         return Ok(MaybeText::Nothing);
     };
-    match read_file(files, buffer, alloc, path.bytes(), RESULTS_LIMIT)? {
+    match read_file(files, buffer, alloc, path.bytes(), RESULTS_LIMIT as u64)? {
         ReadEnd::Got(text) => Ok(MaybeText::Given(text)),
         ReadEnd::Absent | ReadEnd::TooLong => Ok(MaybeText::Nothing),
     }

@@ -29,6 +29,7 @@ pub struct ChildProcs<R: Processes> {
     lost_children: u64,
     buffer: Vec<u8>,
     ghost has_room: { 0 < vec_len buffer },
+    ghost together: { vec_len children ≡ vec_len tickets },
 }
 
 impl<R: Processes + Files + AllocGlobal + Drop> ChildProcs<R> {
@@ -53,7 +54,8 @@ impl<R: Processes + Files + AllocGlobal + Drop> ChildProcs<R> {
     fn fresh_ticket(&self) -> Result<u64, IoFault>
         ensures ticket { IfOk result (λ ticket. ¬ (Contains self.now.tickets.items ticket)) }
         ensures later { IfOk result (λ ticket. ticket < u64.MAX) }
-        ensures refused { OnErr result ((self.now.next_ticket ≡ u64.MAX) ⊎ Contains self.now.tickets.items self.now.next_ticket) }
+        ensures refused { let next = self.now.next_ticket in
+            OnErr result ((next ≡ u64.MAX) ⊎ Contains self.now.tickets.items next) }
     {
         let ticket = self.next_ticket;
         if ticket == u64::MAX {
@@ -65,10 +67,12 @@ impl<R: Processes + Files + AllocGlobal + Drop> ChildProcs<R> {
         Ok(ticket)
     }
 
-    // Room for one more child is made first, so that a started child is never given up for want of memory.
+    // Room for one more child is made first, so that a started child is never given up for lack of memory.
     fn start_next(&mut self, alloc: Global, request: &Request) -> Result<u64, IoFault>
         ensures tickets { MatchResult result
-            (λ ticket. (¬ (Contains self.old.tickets.items ticket)) × (self.new.tickets.items ≡ self.old.tickets.items ++ ticket ∷ []))
+            (λ ticket.
+            (¬ (Contains self.old.tickets.items ticket))
+            × (self.new.tickets.items ≡ self.old.tickets.items ++ ticket ∷ []))
             (λ _. self.new.tickets.items ≡ self.old.tickets.items) }
         ensures starts { self.new.failed_starts ≡ self.old.failed_starts }
         ensures children { self.new.lost_children ≡ self.old.lost_children }
@@ -118,10 +122,6 @@ impl<R: Processes + Files + AllocGlobal + Drop> Procs for ChildProcs<R> {
 
     fn wait_any(&mut self, alloc: Global) -> Result<Ended, WaitFault> {
         let ticket = self.tickets.remove(0);
-        if self.children.is_empty() {
-            self.lost_children = counted(self.lost_children);
-            return Err(WaitFault::Lost { ticket });
-        }
         let running = self.children.remove(0);
         let buffer = self.buffer.as_mut_slice();
         match end_child(&self.runtime, buffer, alloc, running) {

@@ -1,8 +1,8 @@
 // One file, read up to a limit.
 ghost use Rattle.std.specs.Prelude.{◌<◌, length, IfOk};
-ghost use Rattle.vr_outside.specs.Trees.{IsWithin};
+ghost use Rattle.vr_outside.specs.Trees.{FitsReadLimit};
 
-use crate::reading::{IoFault, read_front};
+use crate::reading::{IoFault, read_prefix};
 use std::alloc::Global;
 use std::fs::Files;
 use std::io::ErrorKind;
@@ -20,18 +20,18 @@ pub fn read_file<R: Files>(
     limit: u64,
 ) -> Result<ReadEnd, IoFault>
     requires { 0 < length buffer.old }
-    ensures { IfOk result (IsWithin limit) }
+    ensures { IfOk result (FitsReadLimit limit) }
 {
     let Ok(path) = str::from_utf8(path) else {
         return Err(IoFault::Failed);
     };
     match fs::open(files, path) {
         Ok(mut file) => {
-            let front = read_front(&mut file, buffer, alloc, limit)?;
-            if front.more {
+            let prefix = read_prefix(&mut file, buffer, alloc, limit)?;
+            if prefix.more {
                 return Ok(ReadEnd::TooLong);
             }
-            Ok(ReadEnd::Got(Text::from_vec(front.kept)))
+            Ok(ReadEnd::Got(Text::from_vec(prefix.kept)))
         }
         Err(error) if means_absent(&error) => Ok(ReadEnd::Absent),
         Err(error) => Err(IoFault::from(error)),

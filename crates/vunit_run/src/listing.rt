@@ -11,12 +11,10 @@ use crate::reading::IoFault;
 use std::alloc::Global;
 use std::cmp::Ordering;
 use std::fs::{DirEntry, Files};
+use std::io::ErrorKind;
 use std::{fs, io};
-use vr_base::{Items, Text};
+use vr_base::{Items, PATH_LIMIT, Text};
 use vr_outside::NamesEnd;
-
-// A longer path isn't listed, nor is any below it.
-const LONGEST_PATH: usize = 1024;
 
 // The folder of the program's own output, which isn't listed.
 const OUTPUT_FOLDER: &str = "vunit_out";
@@ -60,7 +58,7 @@ fn texts(alloc: Global, paths: Vec<String>) -> Result<Vec<Text>, IoFault> {
     Ok(texts)
 }
 
-// Walks one folder after another, until none is left or more than `limit` files were found.
+// Walks one folder after another, until none remains or more than `limit` files were found.
 fn find_files<R: Files + AllocGlobal + Clone + Drop>(
     files: &R,
     alloc: Global,
@@ -82,7 +80,8 @@ fn find_files<R: Files + AllocGlobal + Clone + Drop>(
     Err(IoFault::Failed)
 }
 
-// Takes the entries of one folder. The present folder has the empty path.
+// Takes the entries of one folder. The present folder has the empty path. A folder that has gone since it was seen has
+// no entries. One that may not be read fails.
 fn read_folder<R: Files + AllocGlobal + Clone + Drop>(
     files: &R,
     alloc: Global,
@@ -90,12 +89,21 @@ fn read_folder<R: Files + AllocGlobal + Clone + Drop>(
     limit: usize,
     walk: &mut Walk,
 ) -> Result<(), IoFault> {
-    let place = if folder.is_empty() { "." } else { folder };
-    for entry in fs::read_dir(files, place)? {
+    let is_present = folder.is_empty();
+    let entries = match fs::read_dir(files, if is_present { "." } else { folder }) {
+        Ok(entries) => entries,
+        Err(error) if !is_present && means_absent(&error) => return Ok(()),
+        Err(error) => return Err(IoFault::from(error)),
+    };
+    for entry in entries {
         if walk.found.len() > limit {
             return Ok(());
         }
-        take_entry(files, alloc, folder, &entry?, walk)?;
+        match entry {
+            Ok(entry) => take_entry(files, alloc, folder, &entry, walk)?,
+            Err(error) if !is_present && means_absent(&error) => return Ok(()),
+            Err(error) => return Err(IoFault::from(error)),
+        }
     }
     Ok(())
 }
@@ -113,7 +121,7 @@ fn take_entry<R: Files + AllocGlobal>(
         return Ok(());
     }
     let path = joined(alloc, folder, name)?;
-    if path.len() > LONGEST_PATH {
+    if path.len() > PATH_LIMIT {
         return Ok(());
     }
     match kind_of(files, entry)? {
@@ -140,13 +148,14 @@ enum Kind {
     Other,
 }
 
-// A link to a file is a file. A link to a folder isn't followed, so that no walk goes in a circle.
+// A link to a file is a file. A link to a folder isn't followed, so that no walk goes in a circle. A link to nothing, to
+// itself or to a place that may not be looked at is passed over.
 fn kind_of<R: Files>(files: &R, entry: &DirEntry<R>) -> Result<Kind, IoFault> {
     let own = or_absent(entry.metadata())?;
     match own {
         Some(data) if data.is_file() => Ok(Kind::File),
         Some(data) if data.is_dir() => Ok(Kind::Folder),
-        Some(data) if data.is_symlink() => match or_absent(fs::metadata(files, entry.path()))? {
+        Some(data) if data.is_symlink() => match or_unseen(fs::metadata(files, entry.path()))? {
             Some(target) if target.is_file() => Ok(Kind::File),
             _ => Ok(Kind::Other),
         },
@@ -161,6 +170,24 @@ fn or_absent(data: io::Result<fs::Metadata>) -> Result<Option<fs::Metadata>, IoF
         Err(error) if means_absent(&error) => Ok(None),
         Err(error) => Err(IoFault::from(error)),
     }
+}
+
+// What can't be seen through a link is nothing.
+fn or_unseen(data: io::Result<fs::Metadata>) -> Result<Option<fs::Metadata>, IoFault> {
+    match data {
+        Ok(data) => Ok(Some(data)),
+        Err(error) if is_closed(&error) => Ok(None),
+        Err(error) if means_absent(&error) => Ok(None),
+        Err(error) => Err(IoFault::from(error)),
+    }
+}
+
+// Whether an error says that a link goes in a circle, or to a place that may not be looked at.
+fn is_closed(error: &io::Error) -> bool {
+    matches!(
+        error.kind(),
+        ErrorKind::FilesystemLoop | ErrorKind::PermissionDenied
+    )
 }
 
 // Whether the paths are strictly rising, and each is a name.
@@ -183,7 +210,7 @@ fn is_listing(paths: &[Text]) -> bool
 fn is_name(path: &[u8]) -> bool
     ensures { IsTrue result ↔ IsName path.now }
 {
-    !path.is_empty() && path.len() <= LONGEST_PATH && str::from_utf8(path).is_ok()
+    !path.is_empty() && path.len() <= PATH_LIMIT && str::from_utf8(path).is_ok()
 }
 
 fn is_less(path: &[u8], next: &[u8]) -> bool

@@ -3,7 +3,7 @@ ghost use Rattle.std.specs.Prelude.{◌≡◌, ◌≢◌, ◌<◌, ◌≤◌, le
 ghost use Rattle.std.specs.Io.KnownBytes.{Consumes, Keeps, IsAtEnd};
 ghost use Rattle.std.specs.IoError.{error_kind};
 ghost use Rattle.std.specs.declared.io.ErrorKind.TheVariants.{OutOfMemory};
-ghost use Rattle.vunit_run.specs.Fronts.{IsFront};
+ghost use Rattle.vunit_run.specs.Prefixes.{IsPrefix};
 ghost use Rattle.vunit_run.specs.declared.reading.IoFault.TheVariants.{NoMemory, Failed};
 
 use std::alloc::{AllocError, AllocFailed, Global};
@@ -56,21 +56,22 @@ impl From<io::Error> for IoFault {
 
 /// The first bytes that a reader gave, and whether it gave more than were to be kept.
 #[derive(Drop)]
-pub struct Front {
+pub struct Prefix {
     pub kept: Vec<u8>,
     pub more: bool,
 }
 
 /// Reads to the end, or until there are more than `limit` bytes, and keeps at most these.
-pub fn read_front<R: Read>(
+pub fn read_prefix<R: Read>(
     reader: &mut R,
     buffer: &mut [u8],
     alloc: Global,
     limit: u64,
-) -> Result<Front, IoFault>
+) -> Result<Prefix, IoFault>
     requires { 0 < length buffer.old }
-    ensures size { IfOk result (λ front. length front.kept.items ≤ limit) }
-    ensures front { IfOk result (λ front. IsFront limit (R.remaining reader.old) front.kept.items front.more) }
+    ensures size { IfOk result (λ prefix. length prefix.kept.items ≤ limit) }
+    ensures prefix { IfOk result (λ prefix.
+        IsPrefix limit (R.remaining reader.old) prefix.kept.items prefix.more) }
 {
     let most = limit as usize;
     let mut kept = Vec::new(alloc);
@@ -79,10 +80,10 @@ pub fn read_front<R: Read>(
         let room = most - kept.len();
         if count > room {
             kept.extend_from_slice(&buffer[..room])?;
-            return Ok(Front { kept, more: true });
+            return Ok(Prefix { kept, more: true });
         }
         if count == 0 {
-            return Ok(Front { kept, more: false });
+            return Ok(Prefix { kept, more: false });
         }
         kept.extend_from_slice(&buffer[..count])?;
     }
@@ -105,8 +106,10 @@ pub fn drain<R: Read>(reader: &mut R, buffer: &mut [u8]) -> Result<(), IoFault>
 // One read, tried again where a signal interrupts it. 0 is the end.
 fn read_some<R: Read>(reader: &mut R, buffer: &mut [u8]) -> Result<usize, IoFault>
     ensures bound { IfOk result (λ count. count ≤ length buffer.new) }
-    ensures given { IfOk result (λ count. Consumes (R.remaining reader.old) (R.remaining reader.new) (take count buffer.new)) }
-    ensures end { IfOk result (λ count. count ≡ 0 → 0 < length buffer.old → IsAtEnd (R.remaining reader.new)) }
+    ensures given { IfOk result (λ count.
+        Consumes (R.remaining reader.old) (R.remaining reader.new) (take count buffer.new)) }
+    ensures end { IfOk result (λ count.
+        count ≡ 0 → 0 < length buffer.old → IsAtEnd (R.remaining reader.new)) }
     ensures err { OnErr result (Keeps (R.remaining reader.old) (R.remaining reader.new)) }
 {
     for _ in 0..u64::MAX {

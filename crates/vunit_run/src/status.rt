@@ -1,10 +1,11 @@
+// The status that the program ends with.
 ghost use Rattle.std.specs.Prelude.{◌≡◌};
 ghost use Rattle.vunit_run.specs.Status.{status};
 
 use vr_base::Outcome;
 
 /// The status that the program ends with: 0 where all is done, 1 where the sources, a file or a test was refused, 2
-/// for faulty words, 3 for a fault of the outside, 4 for want of memory, 5 for a passed limit; a child's is its code,
+/// for faulty words, 3 for a fault of the outside, 4 for lack of memory, 5 for a passed limit; a child's is its code,
 /// or 255 where that is more.
 pub fn status_of(outcome: &Outcome) -> u8
     ensures { result ≡ status outcome.now }

@@ -1,9 +1,9 @@
 // Standard input and output.
 ghost use Rattle.std.specs.Prelude.{◌<◌, length, vec_len, IfOk};
 ghost use Rattle.vr_outside.specs.Streams.{IsTaken};
-ghost use Rattle.vunit_run.specs.Fronts.{IsTakenOf};
+ghost use Rattle.vunit_run.specs.Prefixes.{IsTakenOf};
 
-use crate::reading::{IoFault, drain, read_front};
+use crate::reading::{IoFault, drain, read_prefix};
 use std::alloc::Global;
 use std::io;
 use std::io::Write;
@@ -46,12 +46,12 @@ fn take_whole<R: io::Read>(
     ensures size { IfOk result (IsTaken limit) }
     ensures input { IfOk result (IsTakenOf limit (R.remaining reader.old)) }
 {
-    let front = read_front(reader, buffer, alloc, limit)?;
-    if front.more {
+    let prefix = read_prefix(reader, buffer, alloc, limit)?;
+    if prefix.more {
         drain(reader, buffer)?;
         return Ok(TakeEnd::TooLong);
     }
-    Ok(TakeEnd::Got(Text::from_vec(front.kept)))
+    Ok(TakeEnd::Got(Text::from_vec(prefix.kept)))
 }
 
 impl<R: Input> Source for StdSource<R> {

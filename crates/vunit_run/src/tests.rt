@@ -1,22 +1,37 @@
 // The adapters over real files and real programs.
 use crate::child_procs::ChildProcs;
 use crate::file_tree::FileTree;
-use crate::reading::{IoFault, read_front};
+use crate::reading::{IoFault, read_prefix};
 use std::alloc::Global;
 use std::io::{ErrorKind, Read};
 use std::os::unix::fs::symlink;
+use std::path::PathBuf;
 use std::test::Fail;
 use std::{env, fs, io};
 use vr_base::{Exit, Items, MaybeText, NoMemory, Request, Text};
 use vr_outside::{NamesEnd, Procs, ReadEnd, StartFault, Tree, TreeFault};
 
-// A new folder, which is the present one from here on.
-fn enter_new_folder(rt: &HostRuntime, name: &str) -> Result<(), Fail> {
+// The path of a test's own folder.
+fn folder_of(rt: &HostRuntime, name: &str) -> Result<PathBuf, Fail> {
     let id = std::process::id(rt.process());
     let mut path = env::temp_dir(rt)?;
     path.push(format!(in rt.alloc(); "vunit_run_{name}_{id}")?.as_str())?;
+    Ok(path)
+}
+
+// A new folder, which is the present one from here on.
+fn enter_new_folder(rt: &HostRuntime, name: &str) -> Result<(), Fail> {
+    let path = folder_of(rt, name)?;
     fs::create_dir_all(rt, path.as_path())?;
     env::set_current_dir(rt, path.as_path())?;
+    Ok(())
+}
+
+// Leaves the folder and removes it with all in it.
+fn leave_folder(rt: &HostRuntime, name: &str) -> Result<(), Fail> {
+    let path = folder_of(rt, name)?;
+    env::set_current_dir(rt, "/")?;
+    fs::remove_dir_all(rt, path.as_path())?;
     Ok(())
 }
 
@@ -139,7 +154,7 @@ fn lists_and_reads_the_present_folder(rt: HostRuntime) -> Result<(), Fail> {
             "{wanted}"
         );
     }
-    Ok(())
+    leave_folder(&rt, "tree")
 }
 
 // The names of the present folder, or what kept them back.
@@ -170,6 +185,7 @@ fn lists_links_to_files_and_paths_of_1024_bytes(rt: HostRuntime) -> Result<(), F
     symlink(&rt, longest.as_str(), "link_to_a_file")?;
     symlink(&rt, folder.as_str(), "link_to_a_folder")?;
     symlink(&rt, "nothing", "link_to_nothing")?;
+    symlink(&rt, "link_to_itself", "link_to_itself")?;
     assert_eq!(rt; count_names(&rt), Ok(2));
     let end = exit_of(
         &rt,
@@ -178,7 +194,7 @@ fn lists_links_to_files_and_paths_of_1024_bytes(rt: HostRuntime) -> Result<(), F
         MaybeText::Nothing,
     )?;
     assert_eq!(rt; (end.code, count_names(&rt)), (0, Err(TreeFault::Failed)));
-    Ok(())
+    leave_folder(&rt, "odd")
 }
 
 // A reader that breaks after its first bytes.
@@ -208,8 +224,8 @@ fn a_read_that_breaks_gives_its_own_fault(rt: HostRuntime) -> Result<(), Fail> {
             has_begun: false,
             kind,
         };
-        match read_front(&mut reader, &mut [0; 8], rt.alloc(), 5) {
-            Ok(_) => return Err(Fail::new("a front")),
+        match read_prefix(&mut reader, &mut [0; 8], rt.alloc(), 5) {
+            Ok(_) => return Err(Fail::new("a prefix")),
             Err(fault) => assert_eq!(rt; fault, wanted),
         }
     }
@@ -229,7 +245,7 @@ fn children_end_as_they_say(rt: HostRuntime) -> Result<(), Fail> {
 }
 
 #[test]
-fn keeps_the_front_of_a_long_output(rt: HostRuntime) -> Result<(), Fail> {
+fn keeps_the_prefix_of_a_long_output(rt: HostRuntime) -> Result<(), Fail> {
     let script = "head -c 262144 /dev/zero; echo more; exit ";
     enter_new_folder(&rt, "output")?;
     let exact = exit_of(
@@ -249,7 +265,7 @@ fn keeps_the_front_of_a_long_output(rt: HostRuntime) -> Result<(), Fail> {
         let end = exit_of(&rt, &["sh", "-c", command.as_str()], b"", results)?;
         assert_eq!(rt; (end.code, end.output.bytes().len()), (code, 262_144));
     }
-    Ok(())
+    leave_folder(&rt, "output")
 }
 
 #[test]
@@ -269,8 +285,12 @@ fn takes_results_of_this_run_alone(rt: HostRuntime) -> Result<(), Fail> {
         };
         assert!(rt; same, "{script}");
     }
-    Ok(())
+    leave_folder(&rt, "results")
 }
+
+// Ends with 1 where a child of the test's process has ended and wasn't waited for.
+static NO_ZOMBIE: &str =
+    "for s in /proc/[0-9]*/stat; do read -r id name state parent rest 2>/dev/null < $s || continue; [ $parent = $PPID ] && [ $state = Z ] && exit 1; done; exit 0";
 
 #[test]
 fn a_start_that_cannot_be_made_fails(rt: HostRuntime) -> Result<(), Fail> {
@@ -284,6 +304,8 @@ fn a_start_that_cannot_be_made_fails(rt: HostRuntime) -> Result<(), Fail> {
         let request = request(rt.alloc(), words, input, MaybeText::Nothing)?;
         assert!(rt; procs.start(rt.alloc(), &request) == Err(StartFault::Failed));
     }
+    let waited = exit_of(&rt, &["sh", "-c", NO_ZOMBIE], b"", MaybeText::Nothing)?;
+    assert_eq!(rt; waited.code, 0);
     let request = request(rt.alloc(), &["cat"], b"", MaybeText::Nothing)?;
     assert!(rt; procs.start(rt.alloc(), &request) == Ok(0));
     Ok(())
@@ -315,5 +337,5 @@ fn two_children_run_at_the_same_time(rt: HostRuntime) -> Result<(), Fail> {
     let second = procs.wait_any(rt.alloc())?;
     assert_eq!(rt; (first.ticket, first.exit.code), (0, 0));
     assert_eq!(rt; (second.ticket, second.exit.code), (1, 0));
-    Ok(())
+    leave_folder(&rt, "two")
 }

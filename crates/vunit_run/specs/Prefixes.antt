@@ -4,9 +4,9 @@ use Rattle.vr_outside.specs.Streams.{take_end}
 use Rattle.vr_outside.specs.declared.streams.TakeEnd.{TakeEnd}
 
 -- Of the bytes that were left, up to a limit of them was kept, and there was more exactly where they pass the limit.
-abbrev pub IsFront : ℕ → Option (List ℕ) → List ℕ → Bool → Type 0
-IsFront limit None kept more = Unit {0}
-IsFront limit (Some bytes) kept more = (kept ≡ take limit bytes) × (more ≡ nat_lt limit (length bytes))
+abbrev pub IsPrefix : ℕ → Option (List ℕ) → List ℕ → Bool → Type 0
+IsPrefix limit None kept more = Unit {0}
+IsPrefix limit (Some bytes) kept more = (kept ≡ take limit bytes) × (more ≡ nat_lt limit (length bytes))
 
 -- all that was left was taken, up to a limit
 abbrev pub IsTakenOf : ℕ → Option (List ℕ) → TakeEnd → Type 0

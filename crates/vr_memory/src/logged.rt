@@ -1,3 +1,4 @@
+//! A call of a disk.
 use vr_base::{RoomItems, Text};
 use vr_outside::Side;
 
@@ -11,11 +12,11 @@ pub enum Act {
 
 /// A call of a disk: its number, its side, what it does, and whether it was done or failed inside.
 #[derive(Drop)]
-pub struct Kept {
+pub struct LoggedCall {
     pub number: u64,
     pub side: Side,
     pub act: Act,
     pub done: bool,
 }
 
-pub type KeptList = RoomItems<Kept>;
+pub type LoggedCalls = RoomItems<LoggedCall>;

@@ -1,6 +1,6 @@
 use Rattle.std.proofs.Common.{◌≡◌, ◌≤◌, length}
 use Rattle.std.specs.Io.KnownBytes.{Consumes}
-use Rattle.vunit_run.proofs.reading.read_front.Given as goal
+use Rattle.vunit_run.proofs.reading.read_prefix.Given as goal
 
 -- what was read is kept, and is no more than was asked for
 abbrev pub invariant-loop : goal.invariant-loop
