@@ -12,7 +12,7 @@ struct scanned {
     uint64_t tokens, comments;
 };
 
-void vhdl_lex_scan(const uint8_t *text, size_t length, struct scanned *out);
+void bench_scan(const uint8_t *text, size_t length, struct scanned *out);
 
 static double now(void) {
     struct timespec time;
@@ -53,7 +53,7 @@ int main(int count, char **words) {
 
         struct scanned scanned;
         from = now();
-        vhdl_lex_scan(text, length, &scanned);
+        bench_scan(text, length, &scanned);
         proved[i] = now() - from;
         if (!scanned.whole || scanned.tokens != tokens || scanned.comments != comments) {
             puts("the two scanners differ");

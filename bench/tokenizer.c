@@ -106,7 +106,7 @@ static int push_comment(struct scan *scan, size_t start, size_t end) {
     return 1;
 }
 
-/* 1, or 0 at a fault or want of memory. */
+/* 1, or 0 at a fault or out of memory. */
 static int cut(const uint8_t *text, size_t length, struct scan *scan) {
     size_t at = 0;
     if (length >= 3 && text[0] == 0xEF && text[1] == 0xBB && text[2] == 0xBF) at = 3;

@@ -2,8 +2,8 @@
 use Rattle.std.proofs.Common.{◌≡◌, ◌≢◌, ℕ, zero, suc, ◌+◌, ◌<◌, ◌≤◌, ◌⊎◌, Bool, true, false, List, [], ◌∷◌, length, slice_index_or, refl, sym, ◌∙◌, ap, inl, inr, ⊎_elim, arith}
 use Rattle.std.specs.Prelude.{count_by, slice_range}
 use Rattle.vr_base.specs.declared.design.Role.{Role}
-use Rattle.vr_base.specs.declared.design.Role.TheVariants.{Library, Use, Context, Entity, Architecture, Configuration, Package, Body, Is, Of, New, Function, Procedure, Generate, End, If, For, Case, Elsif, Else, Inner, Opening, Closing, Semicolon, Colon, Dot, Name, Other}
-use Rattle.scan_spec.specs.Units.{role_at, is_opening, is_closing, IsLevel, IsNotBehind, MayOpen, BeginsPackage, IsPackageOpener, HasBody, IsSubprogramOpener, OpensItems, begins_generate, IsGenerateOpener, IsGenerateEnd, ends_inner, IsPlainEnd, Closes}
+use Rattle.vr_base.specs.declared.design.Role.TheVariants.{Library, Use, Context, Entity, Architecture, Configuration, Package, Body, Is, Of, New, Function, Procedure, Generate, End, If, For, Case, Elsif, Else, Component, Inner, All, Generic, Opening, Closing, Semicolon, Colon, Dot, Comma, Name, Other}
+use Rattle.scan_spec.specs.Units.{role_at, is_opening, is_closing, IsLevel, IsNotAfter, MayOpen, BeginsPackage, IsPackageOpener, HasBody, IsSubprogramOpener, OpensItems, begins_generate, IsGenerateOpener, IsGenerateEnd, ends_inner, IsPlainEnd, Closes}
 use Rattle.scan_spec.proofs.Search.{Decided, both, denied, same_bool, same_number, at_most, Largest, largest}
 use Rattle.scan_spec.proofs.Forms.{each_from}
 use Rattle.scan_spec.proofs.Files.{in_file}
@@ -11,7 +11,7 @@ use Rattle.scan_spec.proofs.Files.{in_file}
 -- ## Equal roles
 
 all_roles : List Role
-all_roles = Library ∷ Use ∷ Context ∷ Entity ∷ Architecture ∷ Configuration ∷ Package ∷ Body ∷ Is ∷ Of ∷ New ∷ Function ∷ Procedure ∷ Generate ∷ End ∷ If ∷ For ∷ Case ∷ Elsif ∷ Else ∷ Inner ∷ Opening ∷ Closing ∷ Semicolon ∷ Colon ∷ Dot ∷ Name ∷ Other ∷ []
+all_roles = Library ∷ Use ∷ Context ∷ Entity ∷ Architecture ∷ Configuration ∷ Package ∷ Body ∷ Is ∷ Of ∷ New ∷ Function ∷ Procedure ∷ Generate ∷ End ∷ If ∷ For ∷ Case ∷ Elsif ∷ Else ∷ Inner ∷ Opening ∷ Closing ∷ Semicolon ∷ Colon ∷ Dot ∷ Name ∷ Other ∷ Component ∷ All ∷ Generic ∷ Comma ∷ []
 
 number_of : Role → ℕ
 number_of Library = 0
@@ -42,6 +42,10 @@ number_of Colon = 24
 number_of Dot = 25
 number_of Name = 26
 number_of Other = 27
+number_of Component = 28
+number_of All = 29
+number_of Generic = 30
+number_of Comma = 31
 
 role_back : (role : Role) → slice_index_or all_roles (number_of role) Other ≡ role
 unfolding all_roles number_of
@@ -73,6 +77,10 @@ role_back Colon = refl
 role_back Dot = refl
 role_back Name = refl
 role_back Other = refl
+role_back Component = refl
+role_back All = refl
+role_back Generic = refl
+role_back Comma = refl
 
 pub same_role : (a b : Role) → Decided (a ≡ b)
 same_role a b =
@@ -103,9 +111,9 @@ module _ (roles : List Role) where
   is_role : (at : ℕ) (role : Role) → Decided (role_at roles at ≡ role)
   is_role at role = same_role (role_at roles at) role
 
-  not_behind : (role : Role) (at : ℕ) → Decided (IsNotBehind role roles at)
-  not_behind role zero = inl tt
-  not_behind role (suc before) = denied (is_role before role)
+  not_after : (role : Role) (at : ℕ) → Decided (IsNotAfter role roles at)
+  not_after role zero = inl tt
+  not_after role (suc before) = denied (is_role before role)
 
 module _ (roles : List Role) (start : ℕ) where
   is_level : (at : ℕ) → Decided (IsLevel roles start at)
@@ -113,8 +121,8 @@ module _ (roles : List Role) (start : ℕ) where
 
   may_open : (at : ℕ) → Decided (MayOpen roles start at)
   may_open at =
-      converted (λ (p : IsLevel roles start at × (IsNotBehind End roles at × IsNotBehind Colon roles at)). record { level = p.0; no_end = p.1.0; no_colon = p.1.1 }) (λ (m : MayOpen roles start at). (m.level, (m.no_end, m.no_colon)))
-      (both (is_level at) (both (not_behind roles End at) (not_behind roles Colon at)))
+      converted (λ (p : IsLevel roles start at × (IsNotAfter End roles at × IsNotAfter Colon roles at)). record { level = p.0; no_end = p.1.0; no_colon = p.1.1 }) (λ (m : MayOpen roles start at). (m.level, (m.no_end, m.no_colon)))
+      (both (is_level at) (both (not_after roles End at) (not_after roles Colon at)))
 
   begins_package : (at : ℕ) → Decided (BeginsPackage roles at)
   begins_package at =
@@ -137,8 +145,8 @@ module _ (roles : List Role) (start : ℕ) where
   between : (at is_at : ℕ) → Decided (Between at is_at)
   between at is_at =
       converted
-      (λ (each : (n : ℕ) → at + 1 ≤ n → n < is_at → IsLevel roles start n → (role_at roles n ≢ Is) × (role_at roles n ≢ Semicolon)). λ n behind before level. each n (omega arith) before level)
-      (λ (each : Between at is_at). λ n behind before level. each n (omega arith) before level)
+      (λ (each : (n : ℕ) → at + 1 ≤ n → n < is_at → IsLevel roles start n → (role_at roles n ≢ Is) × (role_at roles n ≢ Semicolon)). λ n after before level. each n (omega arith) before level)
+      (λ (each : Between at is_at). λ n after before level. each n (omega arith) before level)
       (each_from (λ (n : ℕ). IsLevel roles start n → (role_at roles n ≢ Is) × (role_at roles n ≢ Semicolon)) (λ n. implied (is_level n) (both (denied (is_role roles n Is)) (denied (is_role roles n Semicolon)))) (at + 1) is_at)
 
   body_at : (at is_at : ℕ) → Decided (BodyAt at is_at)
@@ -163,8 +171,8 @@ module _ (roles : List Role) (start : ℕ) where
 
 pub generate_opener : (roles : List Role) (at : ℕ) → Decided (IsGenerateOpener roles at)
 generate_opener roles at =
-    converted (λ (p : (role_at roles at ≡ Generate) × (IsNotBehind End roles at × (begins_generate roles at ≡ true))). record { word = p.0; no_end = p.1.0; begins = p.1.1 }) (λ (o : IsGenerateOpener roles at). (o.word, (o.no_end, o.begins)))
-    (both (is_role roles at Generate) (both (not_behind roles End at) (same_bool (begins_generate roles at) true)))
+    converted (λ (p : (role_at roles at ≡ Generate) × (IsNotAfter End roles at × (begins_generate roles at ≡ true))). record { word = p.0; no_end = p.1.0; begins = p.1.1 }) (λ (o : IsGenerateOpener roles at). (o.word, (o.no_end, o.begins)))
+    (both (is_role roles at Generate) (both (not_after roles End at) (same_bool (begins_generate roles at) true)))
 
 pub plain_end : (roles : List Role) (at : ℕ) → Decided (IsPlainEnd roles at)
 plain_end roles at =

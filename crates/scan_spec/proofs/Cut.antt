@@ -5,9 +5,9 @@ use Rattle.vr_base.specs.declared.lexical.Token.{Token}
 use Rattle.vr_base.specs.declared.lexical.TokenKind.TheVariants.{Str, Extended}
 use Rattle.vr_base.specs.declared.lexical.LexFault.{LexFault}
 use Rattle.vr_base.specs.declared.lexical.LexFault.TheVariants.{NoMemory, UnclosedString, UnclosedExtended, UnclosedComment}
-use Rattle.scan_spec.specs.Tokens.{Row, token, block_comment, Piece, Place, row_at, IsLongest, IsRight, Leads, behind, text_start, IsCut, Opens, HasFault}
+use Rattle.scan_spec.specs.Tokens.{Row, token, block_comment, Piece, Place, row_at, IsLongest, IsRight, Leads, place_after, text_start, IsCut, Opens, HasFault}
 
--- of a form one longest piece stands at a place
+-- of a form one longest piece is at an offset
 one_longest : {row : Row} {text : List ℕ} {start a b : ℕ} → IsLongest row text start a → IsLongest row text start b → a ≡ b
 one_longest {row} {text} {start} {a} {b} left right =
     let below : a ≤ b = right.longest a left.within left.fits in
@@ -22,7 +22,7 @@ one_right {text} {last} {at} {p} {q} left right =
     let ends : p.end ≡ q.end = one_longest also right.longest in
     λ i. record { row = rows i; start = starts i; end = ends i }
 
--- no piece is right at the place
+-- no piece is right at the offset
 abbrev pub Stuck : List ℕ → Place → Type 0
 Stuck text place = (piece : Piece) → IsRight text place.last place.at piece → ⊥
 
@@ -46,8 +46,8 @@ one_way text place [] (q ∷ qs) a b left a_stuck right b_stuck = absurd (subst 
 one_way text place (p ∷ ps) [] a b left a_stuck right b_stuck = absurd (subst (Stuck text) (sym right) b_stuck p left.0)
 one_way text place (p ∷ ps) (q ∷ qs) a b left a_stuck right b_stuck =
     let same : p ≡ q = one_right left.0 right.0 in
-    let moved : Leads text (behind place q) ps a = subst (λ (x : Piece). Leads text (behind place x) ps a) same left.1 in
-    let rest = one_way text (behind place q) ps qs a b moved a_stuck right.1 b_stuck in
+    let moved : Leads text (place_after place q) ps a = subst (λ (x : Piece). Leads text (place_after place x) ps a) same left.1 in
+    let rest = one_way text (place_after place q) ps qs a b moved a_stuck right.1 b_stuck in
     ((λ i. same i ∷ rest.0 i), rest.1)
 
 pub one_cut : (text : List ℕ) (a b : List Piece) → IsCut text a → IsCut text b → a ≡ b
@@ -65,7 +65,7 @@ no_cut_and_fault text pieces (UnclosedString at) cut has = no_cut_and_opening te
 no_cut_and_fault text pieces (UnclosedExtended at) cut has = no_cut_and_opening text pieces (token Extended) at cut has
 no_cut_and_fault text pieces (UnclosedComment at) cut has = no_cut_and_opening text pieces block_comment at cut has
 
--- the fault of a row at a place
+-- the fault of a row at an offset
 abbrev fault_of : Row → ℕ → LexFault
 fault_of (token Str) at = UnclosedString at
 fault_of (token Extended) at = UnclosedExtended at

@@ -8,7 +8,7 @@ use Rattle.vr_base.specs.declared.lexical.Token.{Token}
 use Rattle.vr_base.specs.declared.lexical.TokenKind.TheVariants.{Word, Extended, Number, Str, Char, Tick, Symbol, High}
 use Rattle.vr_base.specs.declared.lexical.LexFault.{LexFault}
 use Rattle.vr_base.specs.declared.lexical.LexFault.TheVariants.{UnclosedString, UnclosedExtended, UnclosedComment}
-use Rattle.scan_spec.specs.Tokens.{Row, byte_order_mark, blank, line_comment, block_comment, tool_directive, token, quote, apostrophe, dash, grave, backslash, star, slash, is_line_end, is_blank, EachByte, IsBlockComment, Inside, nothing, byte, pair, IsMarked, HasForm, is_word_byte, is_number_byte, first_row, row_at, IsLongest, IsRight, Piece, Place, Leads, behind, text_start, IsCut, Opens, HasFault}
+use Rattle.scan_spec.specs.Tokens.{Row, byte_order_mark, blank, line_comment, block_comment, tool_directive, token, quote, apostrophe, dash, grave, backslash, star, slash, is_line_end, is_blank, EachByte, IsBlockComment, Inside, nothing, byte, pair, IsMarked, HasForm, is_word_byte, is_number_byte, first_row, row_at, IsLongest, IsRight, Piece, Place, Leads, place_after, text_start, IsCut, Opens, HasFault}
 use Rattle.scan_spec.proofs.Search.{Largest, NoneUpTo, largest}
 use Rattle.scan_spec.proofs.Forms.{decide_form}
 
@@ -77,7 +77,7 @@ pub marked_some : (mark : ℕ) (text : List ℕ) (at end : ℕ) → IsMarked mar
 marked_some mark text at end marked = let before : at + 1 ≤ marked.close = start_inside marked.inside in omega (arith, marked.up_to)
 
 block_some : (text : List ℕ) (at end : ℕ) → IsBlockComment text at end → at < end
-block_some text at end block = omega (arith, block.up_to, block.behind)
+block_some text at end block = omega (arith, block.up_to, block.after)
 
 third_in : (text : List ℕ) (at mark : ℕ) → mark ≢ 0 → slice_index text (at + 2) ≡ mark → at + 3 ≤ length text
 third_in text at mark some is = let inner : at + 2 < length text = in_text text (at + 2) (λ zero_there. some (sym is ∙ zero_there)) in omega arith
@@ -113,25 +113,25 @@ next text last at within =
     let row = row_at text last at in
     next_of text row at (has text row at within (begins _ _ (slice_index text at) (slice_index text (at + 1)) (slice_index text (at + 2)))) (largest (HasForm row text at) (decide_form row text at) (length text))
 
--- something that opens at a place and has no end
+-- something that opens at an offset and has no end
 record Hole (text : List ℕ) (place : Place) : Type 0 where
   within : place.at < length text
   opening : IsOpening (row_at text place.last place.at)
   no_end : (end : ℕ) → end ≤ length text → HasForm (row_at text place.last place.at) text place.at end → ⊥
 
--- right pieces from a place to the text's end, or to a hole
+-- right pieces from an offset to the text's end, or to a hole
 record Ends (text : List ℕ) (place : Place) : Type 0 where
   pieces : List Piece
   end : Place
   leads : Leads text place pieces end
   stop : (end.at ≡ length text) ⊎ Hole text end
 
--- the pieces from a place within the text on, given those from any later place
+-- the pieces from an offset within the text on, given those from any later place
 ends_step : (text : List ℕ) (bound : ℕ) → ((place : Place) → length text ≤ place.at + bound → place.at ≤ length text → Ends text place) → (place : Place) → length text ≤ place.at + suc bound → place.at < length text → Next text (row_at text place.last place.at) place.at → Ends text place
 ends_step text bound later place bounded some (longest_to end longest) =
     let piece : Piece = record { row = row_at text place.last place.at; start = place.at; end = end } in
     let right : IsRight text place.last place.at piece = record { starts = refl; first = refl; longest = longest } in
-    let rest = later (behind place piece) (omega (arith, longest.some)) longest.within in
+    let rest = later (place_after place piece) (omega (arith, longest.some)) longest.within in
     record { pieces = piece ∷ rest.pieces; end = rest.end; leads = (right, rest.leads); stop = rest.stop }
 ends_step text bound later place bounded some (open_here opening none) =
     record { pieces = []; end = place; leads = refl; stop = inr (record { within = some; opening = opening; no_end = none }) }

@@ -19,40 +19,40 @@ in_file roles at named = ⊎_elim (λ h. h) (λ h. absurd (named (get_or_past ro
 
 -- ## Where elements end
 
--- the end lies behind a place, within the file
-pub record EndsBehind (roles : List Role) (place last : ℕ) : Type 0 where
-  pub behind : place < last
+-- the end lies after a token, within the file
+pub record EndsAfter (roles : List Role) (place last : ℕ) : Type 0 where
+  pub after : place < last
   pub within : last < length roles
 
-semicolon_behind : (roles : List Role) (start last : ℕ) → IsFirstSemicolon roles (start + 1) last → EndsBehind roles start last
-semicolon_behind roles start last is = record { behind = omega (arith, is.behind); within = in_file roles last (λ other. let there : role_at roles last ≡ Semicolon = is.there in cc) }
+semicolon_after : (roles : List Role) (start last : ℕ) → IsFirstSemicolon roles (start + 1) last → EndsAfter roles start last
+semicolon_after roles start last is = record { after = omega (arith, is.after); within = in_file roles last (λ other. let there : role_at roles last ≡ Semicolon = is.there in cc) }
 
-pub end_part_behind : (roles : List Role) (start last : ℕ) → IsEndPart roles start last → EndsBehind roles start last
-end_part_behind roles start last part =
+pub end_part_after : (roles : List Role) (start last : ℕ) → IsEndPart roles start last → EndsAfter roles start last
+end_part_after roles start last part =
     let ordered = items_ordered part.inside in
-    let rest = semicolon_behind roles part.close last part.semicolon in
-    record { behind = omega (arith, rest.behind); within = rest.within }
+    let rest = semicolon_after roles part.close last part.semicolon in
+    record { after = omega (arith, rest.after); within = rest.within }
 
-closer : (roles : List Role) (a b last : ℕ) → a ≤ b → EndsBehind roles b last → EndsBehind roles a last
-closer roles a b last ordered ends = record { behind = omega (arith, ends.behind); within = ends.within }
+closer : (roles : List Role) (a b last : ℕ) → a ≤ b → EndsAfter roles b last → EndsAfter roles a last
+closer roles a b last ordered ends = record { after = omega (arith, ends.after); within = ends.within }
 
-pub plain_behind : (kind : UnitKind) (roles : List Role) (at last : ℕ) → EndsPlain kind roles at last → EndsBehind roles (at + 2) last
-plain_behind kinds.PackageInstance roles at last ends =
+pub plain_after : (kind : UnitKind) (roles : List Role) (at last : ℕ) → EndsPlain kind roles at last → EndsAfter roles (at + 2) last
+plain_after kinds.PackageInstance roles at last ends =
     let three : at + 3 ≡ at + 2 + 1 = omega arith in
-    semicolon_behind roles (at + 2) last (subst (λ (n : ℕ). IsFirstSemicolon roles n last) three ends)
-plain_behind kinds.PackageBody roles at last ends = closer roles (at + 2) (at + 4) last (omega arith) (end_part_behind roles (at + 4) last ends)
-plain_behind kinds.Entity roles at last ends = closer roles (at + 2) (at + 3) last (omega arith) (end_part_behind roles (at + 3) last ends)
-plain_behind kinds.Architecture roles at last ends = closer roles (at + 2) (at + 3) last (omega arith) (end_part_behind roles (at + 3) last ends)
-plain_behind kinds.Configuration roles at last ends = closer roles (at + 2) (at + 3) last (omega arith) (end_part_behind roles (at + 3) last ends)
-plain_behind kinds.Package roles at last ends = closer roles (at + 2) (at + 3) last (omega arith) (end_part_behind roles (at + 3) last ends)
-plain_behind kinds.Context roles at last ends = closer roles (at + 2) (at + 3) last (omega arith) (end_part_behind roles (at + 3) last ends)
+    semicolon_after roles (at + 2) last (subst (λ (n : ℕ). IsFirstSemicolon roles n last) three ends)
+plain_after kinds.PackageBody roles at last ends = closer roles (at + 2) (at + 4) last (omega arith) (end_part_after roles (at + 4) last ends)
+plain_after kinds.Entity roles at last ends = closer roles (at + 2) (at + 3) last (omega arith) (end_part_after roles (at + 3) last ends)
+plain_after kinds.Architecture roles at last ends = closer roles (at + 2) (at + 3) last (omega arith) (end_part_after roles (at + 3) last ends)
+plain_after kinds.Configuration roles at last ends = closer roles (at + 2) (at + 3) last (omega arith) (end_part_after roles (at + 3) last ends)
+plain_after kinds.Package roles at last ends = closer roles (at + 2) (at + 3) last (omega arith) (end_part_after roles (at + 3) last ends)
+plain_after kinds.Context roles at last ends = closer roles (at + 2) (at + 3) last (omega arith) (end_part_after roles (at + 3) last ends)
 
-pub element_behind : (roles : List Role) (at : ℕ) (element : Element) → IsElement roles at element → EndsBehind roles at (last_of element)
-element_behind roles at (item last) is = semicolon_behind roles at last is.1
-element_behind roles at (plain kind last) is = closer roles at (at + 2) last (omega arith) (plain_behind kind roles at last is.1)
-element_behind roles at (owned kind before last) is = closer roles at (at + 5 + 2 * before) last (omega arith) (end_part_behind roles (at + 5 + 2 * before) last is.2)
+pub element_after : (roles : List Role) (at : ℕ) (element : Element) → IsElement roles at element → EndsAfter roles at (last_of element)
+element_after roles at (item last) is = semicolon_after roles at last is.1
+element_after roles at (plain kind last) is = closer roles at (at + 2) last (omega arith) (plain_after kind roles at last is.1)
+element_after roles at (owned kind before last) is = closer roles at (at + 5 + 2 * before) last (omega arith) (end_part_after roles (at + 5 + 2 * before) last is.2)
 
--- ## One element at a place
+-- ## One element at a token
 
 one_plain_end : (kind : UnitKind) (roles : List Role) (at a b : ℕ) → EndsPlain kind roles at a → EndsPlain kind roles at b → a ≡ b
 one_plain_end kinds.PackageInstance roles at a b left right = one_semicolon roles (at + 3) a b left right
@@ -93,7 +93,7 @@ abbrev pub NoElement : List Role → ℕ → Type 0
 NoElement roles at = (element : Element) → IsElement roles at element → ⊥
 
 pub end_has_no_element : (roles : List Role) (at : ℕ) → at ≡ length roles → NoElement roles at
-end_has_no_element roles at whole element is = let ends = element_behind roles at element is in omega (arith, ends.behind, ends.within)
+end_has_no_element roles at whole element is = let ends = element_after roles at element is in omega (arith, ends.after, ends.within)
 
 element_begins : (roles : List Role) (at : ℕ) (element : Element) → IsElement roles at element → Begins roles at
 element_begins roles at (item last) is = subst (BeginsAs roles at) (sym is.0) tt
@@ -116,7 +116,7 @@ one_way roles at (x ∷ xs) (y ∷ ys) a b left a_ends right b_ends =
 pub one_outline : (roles : List Role) (xs ys : List Element) → IsOutline roles xs → IsOutline roles ys → xs ≡ ys
 one_outline roles xs ys left right = (one_way roles 0 xs ys (length roles) (length roles) left (end_has_no_element roles (length roles) refl) right (end_has_no_element roles (length roles) refl)).0
 
--- a place where elements stop
+-- a token where elements stop
 record Stops (roles : List Role) (at : ℕ) : Type 0 where
   elements : List Element
   follow : Follow roles 0 elements at

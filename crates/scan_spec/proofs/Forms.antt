@@ -23,7 +23,7 @@ decide_each test text start end = each_from (λ (at : ℕ). test (slice_index te
 decide_ends : (text : List ℕ) (at : ℕ) → Decided (EndsComment text at)
 decide_ends text at = both (same_number (slice_index text at) star) (same_number (slice_index text (at + 1)) slash)
 
--- the parts of a block comment that closes at a place
+-- the parts of a block comment that closes at an offset
 abbrev Closed : List ℕ → ℕ → ℕ → ℕ → Type 0
 Closed text start end close = EndsComment text close × (start + 2 ≤ close) × ((at : ℕ) → start + 2 ≤ at → at < close → EndsComment text at → ⊥) × (end ≡ close + 2)
 
@@ -31,17 +31,17 @@ decide_block : (text : List ℕ) (start end : ℕ) → Decided (IsBlockComment t
 decide_block text start end =
     let close = end - 2 in
     let ends = decide_ends text close in
-    let behind = at_most (start + 2) close in
+    let after = at_most (start + 2) close in
     let next = each_from (λ (at : ℕ). EndsComment text at → ⊥) (λ at. denied (decide_ends text at)) (start + 2) close in
     let up_to = same_number end (close + 2) in
     ⊎_elim
-    (λ (p : EndsComment text close × ((start + 2 ≤ close) × (((at : ℕ) → start + 2 ≤ at → at < close → EndsComment text at → ⊥) × (end ≡ close + 2)))). inl (record { close = close; closes = p.0; behind = p.1.0; next = p.1.1.0; up_to = p.1.1.1 }))
+    (λ (p : EndsComment text close × ((start + 2 ≤ close) × (((at : ℕ) → start + 2 ≤ at → at < close → EndsComment text at → ⊥) × (end ≡ close + 2)))). inl (record { close = close; closes = p.0; after = p.1.0; next = p.1.1.0; up_to = p.1.1.1 }))
     (λ none. inr (λ (block : IsBlockComment text start end).
     let is : block.close ≡ close = omega (arith, block.up_to) in
-    none (subst (EndsComment text) is block.closes, (subst (λ (n : ℕ). start + 2 ≤ n) is block.behind, (subst (λ (n : ℕ). (at : ℕ) → start + 2 ≤ at → at < n → EndsComment text at → ⊥) is block.next, subst (λ (n : ℕ). end ≡ n + 2) is block.up_to)))))
-    (both ends (both behind (both next up_to)))
+    none (subst (EndsComment text) is block.closes, (subst (λ (n : ℕ). start + 2 ≤ n) is block.after, (subst (λ (n : ℕ). (at : ℕ) → start + 2 ≤ at → at < n → EndsComment text at → ⊥) is block.next, subst (λ (n : ℕ). end ≡ n + 2) is block.up_to)))))
+    (both ends (both after (both next up_to)))
 
--- the last step to a place inside marks
+-- the last step to an offset inside marks
 pub data LastStep (mark : ℕ) (text : List ℕ) (start end : ℕ) : Type 0 where
   none_yet : end ≡ start → LastStep mark text start end
   last_byte : (at : ℕ) → Inside mark text start at → slice_index text at ≢ mark → is_line_end (slice_index text at) ≡ false → end ≡ at + 1 → LastStep mark text start end

@@ -1,4 +1,4 @@
--- Items are read in one way, and what ends them stands at one place.
+-- Items are read in one way, and what ends them is at one place.
 use Rattle.std.proofs.Common.{◌≡◌, ℕ, ◌+◌, ◌*◌, ◌≤◌, Bool, true, false, List, sym, ◌∙◌, subst, inl, inr, ⊎_elim, arith}
 use Rattle.std.proofs.str.Laws.{order}
 use Rattle.vr_base.specs.declared.design.Role.{Role}
@@ -27,7 +27,7 @@ items_ordered (single one rest) = let later = items_ordered rest in omega arith
 items_ordered (items opens inner ends rest) = let first = items_ordered inner in let later = items_ordered rest in omega arith
 items_ordered (region opens inner ends rest) = let first = items_ordered inner in let later = items_ordered rest in omega arith
 
--- items behind an opener: those within its region, and those behind its end
+-- items after an opener: those within its region, and those after its end
 pub record Nested (roles : List Role) (start : ℕ) (inner generate : Bool) (at end : ℕ) : Type 0 where
   pub close : ℕ
   pub inside : Items roles start inner (at + 1) close
@@ -75,7 +75,7 @@ one_close {roles} {start} {generate} {at} {a} {b} (region {close = close} opens 
 
 pub one_semicolon : (roles : List Role) (start a b : ℕ) → IsFirstSemicolon roles start a → IsFirstSemicolon roles start b → a ≡ b
 one_semicolon roles start a b left right =
-    ⊎_elim (λ h. absurd (right.first a left.behind h left.there)) (λ h. ⊎_elim (λ k. absurd (left.first b right.behind k right.there)) (λ k. omega arith) (order b a)) (order a b)
+    ⊎_elim (λ h. absurd (right.first a left.after h left.there)) (λ h. ⊎_elim (λ k. absurd (left.first b right.after k right.there)) (λ k. omega arith) (order b a)) (order a b)
 
 pub one_end_part : (roles : List Role) (start a b : ℕ) → IsEndPart roles start a → IsEndPart roles start b → a ≡ b
 one_end_part roles start a b left right =
@@ -85,6 +85,6 @@ one_end_part roles start a b left right =
 pub one_owner : (roles : List Role) (start a b : ℕ) → IsOwner roles start a → IsOwner roles start b → a ≡ b
 one_owner roles start a b left right =
     ⊎_elim
-    (λ h. let is : role_at roles (start + 2 * a + 1) ≡ Is = left.is_behind in let dot : role_at roles (start + 2 * a + 1) ≡ Dot = right.dots a h in absurd cc)
-    (λ h. ⊎_elim (λ k. let is : role_at roles (start + 2 * b + 1) ≡ Is = right.is_behind in let dot : role_at roles (start + 2 * b + 1) ≡ Dot = left.dots b k in absurd cc) (λ k. omega arith) (order b a))
+    (λ h. let is : role_at roles (start + 2 * a + 1) ≡ Is = left.is_after in let dot : role_at roles (start + 2 * a + 1) ≡ Dot = right.dots a h in absurd cc)
+    (λ h. ⊎_elim (λ k. let is : role_at roles (start + 2 * b + 1) ≡ Is = right.is_after in let dot : role_at roles (start + 2 * b + 1) ≡ Dot = left.dots b k in absurd cc) (λ k. omega arith) (order b a))
     (order a b)

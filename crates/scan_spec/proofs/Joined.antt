@@ -4,9 +4,9 @@ use Rattle.std.proofs.lemmas.List.Folds.{drop_split}
 use Rattle.std.proofs.Math.Seq.{drop-length}
 use Rattle.std.proofs.lemmas.List.{append-nil}
 use Rattle.std.specs.List.{flat_map}
-use Rattle.scan_spec.specs.Tokens.{Piece, Place, IsRight, Leads, behind, text_start, IsCut, bytes_of}
+use Rattle.scan_spec.specs.Tokens.{Piece, Place, IsRight, Leads, place_after, text_start, IsCut, bytes_of}
 
--- the bytes of a piece, and the bytes behind it
+-- the bytes of a piece, and the bytes after it
 one_piece : (text : List ℕ) (place : Place) (piece : Piece) → IsRight text place.last place.at piece → bytes_of text piece ++ drop piece.end text ≡ drop place.at text
 one_piece text place piece right =
     let starts : piece.start ≡ place.at = right.starts in
@@ -14,11 +14,11 @@ one_piece text place piece right =
     let ordered : piece.start ≤ piece.end = omega arith in
     sym (drop_split text piece.start piece.end ordered) ∙ ap (λ (n : ℕ). drop n text) starts
 
--- the bytes of the pieces, and those behind them
+-- the bytes of the pieces, and those after them
 joined_from : (text : List ℕ) (place : Place) (pieces : List Piece) (end : Place) → Leads text place pieces end → flat_map (bytes_of text) pieces ++ drop end.at text ≡ drop place.at text
 joined_from text place [] end leads = ap (λ (p : Place). drop p.at text) (sym leads)
 joined_from text place (piece ∷ pieces) end leads =
-    append_assoc (bytes_of text piece) (flat_map (bytes_of text) pieces) (drop end.at text) ∙ ap (λ (rest : List ℕ). bytes_of text piece ++ rest) (joined_from text (behind place piece) pieces end leads.1) ∙ one_piece text place piece leads.0
+    append_assoc (bytes_of text piece) (flat_map (bytes_of text) pieces) (drop end.at text) ∙ ap (λ (rest : List ℕ). bytes_of text piece ++ rest) (joined_from text (place_after place piece) pieces end leads.1) ∙ one_piece text place piece leads.0
 
 pub joined : (text : List ℕ) (pieces : List Piece) → IsCut text pieces → flat_map (bytes_of text) pieces ≡ text
 joined text pieces cut =

@@ -1,3 +1,4 @@
+-- The lemmas on cuts and outlines, and what they show.
 pub mod Cut
 pub mod Joined
 pub mod Search
@@ -8,3 +9,5 @@ pub mod Files
 pub mod Lying
 pub mod Classes
 pub mod Outlines
+pub mod OneFinding
+pub mod Placed

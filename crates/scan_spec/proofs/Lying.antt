@@ -2,7 +2,7 @@
 use Rattle.std.proofs.Common.{◌≡◌, ℕ, zero, suc, ◌+◌, ◌<◌, ◌≤◌, List, [], ◌∷◌, ◌++◌, length, sym, ap, subst, arith}
 use Rattle.vr_base.specs.declared.lexical.Token.{Token}
 use Rattle.vr_base.specs.declared.lexical.Tokens.{Tokens}
-use Rattle.scan_spec.specs.Tokens.{Row, byte_order_mark, blank, line_comment, block_comment, tool_directive, token, Piece, Place, Leads, behind, text_start, token_of, tokens_of}
+use Rattle.scan_spec.specs.Tokens.{Row, byte_order_mark, blank, line_comment, block_comment, tool_directive, token, Piece, Place, Leads, place_after, text_start, token_of, tokens_of}
 use Rattle.scan_spec.specs.Units.{token_at, AreTokensOf}
 
 -- each token lies in a text of this length
@@ -29,7 +29,7 @@ lie_from text place [] end leads = no_token (length text)
 lie_from text place (piece ∷ pieces) end leads =
     let starts : piece.start ≡ place.at = leads.0.starts in
     let some : place.at < piece.end = leads.0.longest.some in
-    lie_row (length text) piece.row piece.start piece.end (tokens_of pieces) (omega arith) leads.0.longest.within (lie_from text (behind place piece) pieces end leads.1)
+    lie_row (length text) piece.row piece.start piece.end (tokens_of pieces) (omega arith) leads.0.longest.within (lie_from text (place_after place piece) pieces end leads.1)
 
 few_row : (row : Row) (start end : ℕ) (rest : List Token) → length (token_of row start end ++ rest) ≤ suc (length rest)
 few_row byte_order_mark start end rest = omega arith
@@ -43,7 +43,7 @@ few_from : (text : List ℕ) (place : Place) (pieces : List Piece) (end : Place)
 few_from text place [] end leads = let same : place.at ≡ end.at = ap (λ (p : Place). p.at) leads in omega arith
 few_from text place (piece ∷ pieces) end leads =
     let some : place.at < piece.end = leads.0.longest.some in
-    let rest = few_from text (behind place piece) pieces end leads.1 in
+    let rest = few_from text (place_after place piece) pieces end leads.1 in
     let row = few_row piece.row piece.start piece.end (tokens_of pieces) in
     omega arith
 

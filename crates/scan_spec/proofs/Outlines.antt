@@ -14,7 +14,7 @@ use Rattle.scan_spec.specs.Units.{role_at, roles_of, token_at, IsPlainEnd, Opens
 use Rattle.scan_spec.proofs.Search.{Decided, both, denied, same_number, at_most, Largest, largest}
 use Rattle.scan_spec.proofs.Forms.{each_from}
 use Rattle.scan_spec.proofs.Grammar.{items_ordered, items_of_close, Nested, opener_is_no_generate, one_close, one_owner}
-use Rattle.scan_spec.proofs.Files.{in_file, element_behind, NoElement}
+use Rattle.scan_spec.proofs.Files.{in_file, element_after, NoElement}
 use Rattle.scan_spec.proofs.Classes.{same_role, converted, opens_items, generate_opener, plain_end, closes}
 
 -- ## Items
@@ -40,7 +40,7 @@ module _ {roles : List Role} {start : ℕ} where
   rest_of_single one some (region opens inner ends rest) = absurd (one.no_generate opens)
 
 module _ (roles : List Role) (start : ℕ) where
-  -- what closes a region that opens at a place
+  -- what closes a region that opens at a token
   abbrev ClosedAt : Bool → Bool → ℕ → ℕ → ℕ → Type 0
   ClosedAt inner generate at end close = Items roles start inner (at + 1) close × (Closes roles inner close × Items roles start generate (close + 1) end)
 
@@ -52,7 +52,7 @@ module _ (roles : List Role) (start : ℕ) where
   closed_at bound decide inner generate at end small close =
       ⊎_elim
       (λ early. inr (λ p. let ordered = items_ordered p.0 in omega arith))
-      (λ behind. ⊎_elim
+      (λ after. ⊎_elim
       (λ late. inr (λ p. let ordered = items_ordered p.1.1 in omega arith))
       (λ within. both (decide inner (at + 1) close (omega arith)) (both (closes roles inner close) (decide generate (close + 1) end (omega arith))))
       (order end (close + 1)))
@@ -90,10 +90,10 @@ module _ (roles : List Role) (start : ℕ) where
 module _ (roles : List Role) where
   first_semicolon : (start at : ℕ) → Decided (IsFirstSemicolon roles start at)
   first_semicolon start at =
-      converted (λ (p : (start ≤ at) × ((role_at roles at ≡ Semicolon) × ((before : ℕ) → start ≤ before → before < at → role_at roles before ≢ Semicolon))). record { behind = p.0; there = p.1.0; first = p.1.1 }) (λ (s : IsFirstSemicolon roles start at). (s.behind, (s.there, s.first)))
+      converted (λ (p : (start ≤ at) × ((role_at roles at ≡ Semicolon) × ((before : ℕ) → start ≤ before → before < at → role_at roles before ≢ Semicolon))). record { after = p.0; there = p.1.0; first = p.1.1 }) (λ (s : IsFirstSemicolon roles start at). (s.after, (s.there, s.first)))
       (both (at_most start at) (both (same_role (role_at roles at) Semicolon) (each_from (λ (n : ℕ). role_at roles n ≢ Semicolon) (λ n. denied (same_role (role_at roles n) Semicolon)) start at)))
 
-  -- a place with a property, or none
+  -- a token with a property, or none
   record Some (P : ℕ → Type 0) : Type 0 where
     place : ℕ
     holds : P place
@@ -132,8 +132,8 @@ module _ (roles : List Role) where
   is_owner start before =
       converted
       (λ (p : ((n : ℕ) → 0 ≤ n → n < suc before → role_at roles (start + 2 * n) ≡ Name) × (((n : ℕ) → 0 ≤ n → n < before → role_at roles (start + 2 * n + 1) ≡ Dot) × (role_at roles (start + 2 * before + 1) ≡ Is))).
-      record { names = λ n within. p.0 n (omega arith) (omega arith); dots = λ n within. p.1.0 n (omega arith) within; is_behind = p.1.1 })
-      (λ (o : IsOwner roles start before). ((λ n _ within. o.names n (omega arith)), ((λ n _ within. o.dots n within), o.is_behind)))
+      record { names = λ n within. p.0 n (omega arith) (omega arith); dots = λ n within. p.1.0 n (omega arith) within; is_after = p.1.1 })
+      (λ (o : IsOwner roles start before). ((λ n _ within. o.names n (omega arith)), ((λ n _ within. o.dots n within), o.is_after)))
       (both (each_from (λ (n : ℕ). role_at roles (start + 2 * n) ≡ Name) (λ n. same_role (role_at roles (start + 2 * n)) Name) 0 (suc before))
       (both (each_from (λ (n : ℕ). role_at roles (start + 2 * n + 1) ≡ Dot) (λ n. same_role (role_at roles (start + 2 * n + 1)) Dot) 0 before)
       (same_role (role_at roles (start + 2 * before + 1)) Is)))
@@ -142,7 +142,7 @@ module _ (roles : List Role) where
   some_owner start =
       ⊎_elim
       (λ (found : Largest (IsOwner roles start) (length roles)). inl (record { place = found.is; holds = found.holds }))
-      (λ none. inr (λ before is. let within : start + 2 * before + 1 < length roles = in_file roles (start + 2 * before + 1) (λ other. let there : role_at roles (start + 2 * before + 1) ≡ Is = is.is_behind in cc) in none before (omega arith) is))
+      (λ none. inr (λ before is. let within : start + 2 * before + 1 < length roles = in_file roles (start + 2 * before + 1) (λ other. let there : role_at roles (start + 2 * before + 1) ≡ Is = is.is_after in cc) in none before (omega arith) is))
       (largest (IsOwner roles start) (is_owner start) (length roles))
 
   some_plain_end : (kind : UnitKind) (at : ℕ) → Some (EndsPlain kind roles at) ⊎ ((last : ℕ) → EndsPlain kind roles at last → ⊥)
@@ -156,7 +156,7 @@ module _ (roles : List Role) where
 
 -- ## Elements
 
--- an element stands at a place, or it is known why none does
+-- an element begins at a token, or it is known why none does
 data Stand (roles : List Role) (at : ℕ) : Type 0 where
   stands : (element : Element) → IsElement roles at element → Stand roles at
   no_unit : (Begins roles at → ⊥) → Stand roles at
@@ -209,7 +209,7 @@ module _ (roles : List Role) (at : ℕ) where
 
 -- ## The file
 
--- elements from a place on up to the file's end, or to a place where none stands
+-- elements from a token on up to the file's end, or to a token where none stands
 record Reaches (roles : List Role) (from : ℕ) : Type 0 where
   elements : List Element
   at : ℕ
@@ -219,8 +219,8 @@ record Reaches (roles : List Role) (from : ℕ) : Type 0 where
 module _ (roles : List Role) where
   reach_step : (bound : ℕ) → ((from : ℕ) → length roles ≤ from + bound → from ≤ length roles → Reaches roles from) → (from : ℕ) → length roles ≤ from + suc bound → from < length roles → Stand roles from → Reaches roles from
   reach_step bound later from bounded within (stands element is) =
-      let ends = element_behind roles from element is in
-      let rest = later (last_of element + 1) (omega (arith, ends.behind)) (omega (arith, ends.within)) in
+      let ends = element_after roles from element is in
+      let rest = later (last_of element + 1) (omega (arith, ends.after)) (omega (arith, ends.within)) in
       record { elements = element ∷ rest.elements; at = rest.at; follow = (is, rest.follow); stop = rest.stop }
   reach_step bound later from bounded within (no_unit none) = record { elements = []; at = from; follow = refl; stop = inr (within, inl none) }
   reach_step bound later from bounded within (unended start none) = record { elements = []; at = from; follow = refl; stop = inr (within, inr (start, none)) }

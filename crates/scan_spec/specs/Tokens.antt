@@ -1,9 +1,9 @@
 -- The token cut of a text (IEEE Std 1076-2008, clause 15, in this project's profile).
 --
--- At each place of the text the first row of a table that fits there says what form the next piece has, and the
--- longest piece of that form is right there. The cut of a text is the list of pieces, each right at its place, from
+-- At each offset of the text the first row of a table that fits there says what form the next piece has, and the
+-- longest piece of that form is right there. The cut of a text is the list of pieces, each right at its offset, from
 -- its start to its end. Where a string, an extended identifier or a comment opens that has no end, there is a fault.
--- A place is a number of bytes from the start, and a piece has the bytes from its start up to its end.
+-- An offset is a number of bytes from the start, and a piece has the bytes from its start up to its end.
 use Rattle.std.specs.Prelude.{◌≡◌, ◌≢◌, ℕ, ◌+◌, ◌<◌, ◌≤◌, Bool, true, false, not, ◌&&◌, ◌||◌, ◌==◌, if◌then◌else◌, nat_le, List, [], ◌∷◌, length, slice_index, slice_range, bytes_eq, codes, Option, Some, None, Result, Ok, Err}
 use Rattle.std.specs.List.{flat_map}
 use Rattle.std.specs.Char.{is_ascii_digit, is_ascii_alphabetic}
@@ -68,7 +68,7 @@ pub data Row : Type 0 where
   tool_directive : Row
   token : TokenKind → Row
 
--- Whether an apostrophe behind this token is a tick: behind a name that isn't reserved, the word `all`, a closing
+-- Whether an apostrophe after this token is a tick: after a name that isn't reserved, the word `all`, a closing
 -- bracket, and a literal that may be a name.
 abbrev pub takes_tick : List ℕ → Token → TokenKind → Bool
 takes_tick text last Word = not (is_reserved (slice_range text last.start last.end)) || bytes_eq (lower_case (slice_range text last.start last.end)) (codes "all")
@@ -80,10 +80,10 @@ takes_tick text last Tick = false
 takes_tick text last Symbol = slice_index text last.start == 41 || slice_index text last.start == 93
 takes_tick text last High = false
 
--- the token before a place, or none
-abbrev pub stands_tick : List ℕ → Option Token → Bool
-stands_tick text None = false
-stands_tick text (Some last) = takes_tick text last last.kind
+-- the token before an offset, or none
+abbrev pub is_tick_at : List ℕ → Option Token → Bool
+is_tick_at text None = false
+is_tick_at text (Some last) = takes_tick text last last.kind
 
 -- The first row that fits: at the text's start or not, where an apostrophe is a tick or not, and where these are
 -- the next three bytes, 0 for those past the end.
@@ -103,14 +103,14 @@ first_row at_start tick first second third =
     else (if nat_le 128 first then token High
     else token Symbol)))))))))))
 
--- the first row that fits at a place, given the token before it
+-- the first row that fits at an offset, given the token before it
 abbrev pub row_at : List ℕ → Option Token → ℕ → Row
 row_at text last at =
-    first_row (at == 0) (stands_tick text last) (slice_index text at) (slice_index text (at + 1)) (slice_index text (at + 2))
+    first_row (at == 0) (is_tick_at text last) (slice_index text at) (slice_index text (at + 1)) (slice_index text (at + 2))
 
 -- ## The forms of pieces
 
--- each byte from a place up to another passes a test
+-- each byte from one offset up to another passes a test
 abbrev pub EachByte : (ℕ → Bool) → List ℕ → ℕ → ℕ → Type 0
 EachByte test text start end = (at : ℕ) → start ≤ at → at < end → test (slice_index text at) ≡ true
 
@@ -121,11 +121,11 @@ EndsComment text at = (slice_index text at ≡ star) × (slice_index text (at + 
 pub record IsBlockComment (text : List ℕ) (start end : ℕ) : Type 0 where
   pub close : ℕ
   pub closes : EndsComment text close
-  pub behind : start + 2 ≤ close
+  pub after : start + 2 ≤ close
   pub next : (at : ℕ) → start + 2 ≤ at → at < close → EndsComment text at → ⊥
   pub up_to : end ≡ close + 2
 
--- on one line, bytes other than the mark, or pairs of it, from a place up to another
+-- on one line, bytes other than the mark, or pairs of it, from one offset up to another
 pub data Inside (mark : ℕ) (text : List ℕ) (start : ℕ) : ℕ → Type 0 where
   nothing : {end : ℕ} → end ≡ start → Inside mark text start end
   byte : {at end : ℕ} → Inside mark text start at → slice_index text at ≢ mark → is_line_end (slice_index text at) ≡ false → end ≡ at + 1 → Inside mark text start end
@@ -168,7 +168,7 @@ pub record IsLongest (row : Row) (text : List ℕ) (start end : ℕ) : Type 0 wh
   pub fits : HasForm row text start end
   pub longest : (other : ℕ) → other ≤ length text → HasForm row text start other → other ≤ end
 
--- the piece is right at the place, given the token before it
+-- the piece is right at the offset, given the token before it
 pub record IsRight (text : List ℕ) (last : Option Token) (at : ℕ) (piece : Piece) : Type 0 where
   pub starts : piece.start ≡ at
   pub first : piece.row ≡ row_at text last at
@@ -183,12 +183,12 @@ abbrev pub comment_of : Row → ℕ → ℕ → List Span
 comment_of line_comment start end = record { start = start; end = end } ∷ []
 comment_of _ start end = []
 
--- the token before the place behind a piece
+-- the token before the offset after a piece
 abbrev pub last_after : Option Token → Row → ℕ → ℕ → Option Token
 last_after last (token kind) start end = Some (record { kind = kind; start = start; end = end })
 last_after last _ start end = last
 
--- a place of a text, and the token before it
+-- an offset of a text, and the token before it
 pub record Place : Type 0 where
   pub last : Option Token
   pub at : ℕ
@@ -196,13 +196,13 @@ pub record Place : Type 0 where
 abbrev pub text_start : Place
 text_start = record { last = None; at = 0 }
 
-abbrev pub behind : Place → Piece → Place
-behind place piece = record { last = last_after place.last piece.row piece.start piece.end; at = piece.end }
+abbrev pub place_after : Place → Piece → Place
+place_after place piece = record { last = last_after place.last piece.row piece.start piece.end; at = piece.end }
 
--- the pieces stand one behind the other from a place up to another, each right at its place
+-- the pieces follow one another from one offset up to another, each right at its offset
 abbrev pub Leads : List ℕ → Place → List Piece → Place → Type 0
 Leads text place [] end = place ≡ end
-Leads text place (piece ∷ pieces) end = IsRight text place.last place.at piece × Leads text (behind place piece) pieces end
+Leads text place (piece ∷ pieces) end = IsRight text place.last place.at piece × Leads text (place_after place piece) pieces end
 
 -- the pieces are the cut of the text
 pub record IsCut (text : List ℕ) (pieces : List Piece) : Type 0 where
@@ -210,7 +210,7 @@ pub record IsCut (text : List ℕ) (pieces : List Piece) : Type 0 where
   pub leads : Leads text text_start pieces end
   pub whole : end.at ≡ length text
 
--- behind pieces that are right something opens at a place that has no end
+-- after pieces that are right something opens at an offset that has no end
 pub record Opens (row : Row) (text : List ℕ) (at : ℕ) : Type 0 where
   pub pieces : List Piece
   pub place : Place
@@ -220,7 +220,7 @@ pub record Opens (row : Row) (text : List ℕ) (at : ℕ) : Type 0 where
   pub first : row_at text place.last at ≡ row
   pub no_end : (end : ℕ) → end ≤ length text → HasForm row text at end → ⊥
 
--- the text has the fault; want of memory is none
+-- the text has the fault; out of memory is none
 abbrev pub HasFault : List ℕ → LexFault → Type 0
 HasFault text NoMemory = ⊥
 HasFault text (UnclosedString at) = Opens (token Str) text at
@@ -239,7 +239,7 @@ pub record AreOf (pieces : List Piece) (tokens : Tokens) : Type 0 where
   pub list : tokens.list ≡ tokens_of pieces
   pub comments : tokens.comments ≡ comments_of pieces
 
--- What scanning gives: tokens of the cut, a fault of the text, or want of memory.
+-- What scanning gives: tokens of the cut, a fault of the text, or out of memory.
 abbrev pub Scans : List ℕ → Result Tokens LexFault → Type 0
 Scans text (Ok tokens) = (pieces : List Piece) × IsCut text pieces × AreOf pieces tokens
 Scans text (Err NoMemory) = Unit {0}

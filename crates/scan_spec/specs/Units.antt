@@ -1,7 +1,7 @@
 -- The unit grammar (IEEE Std 1076-2008, clause 13.1, in this project's lenient profile).
 --
--- A file is a list of context items and design units. The grammar sees the role of each token. Places are numbers of
--- tokens, and a place past the last token has the role of a token that the grammar doesn't name.
+-- A file is a list of context items and design units. The grammar sees the role of each token. Tokens are given by their
+-- numbers, counted from 0, and a number past the last one has the role of a token that the grammar doesn't name.
 use Rattle.std.specs.Prelude.{◌≡◌, ◌≢◌, ℕ, zero, suc, ◌+◌, ◌*◌, ◌<◌, ◌≤◌, ◌⊎◌, ◌==◌, Bool, true, false, if◌then◌else◌, List, [], ◌∷◌, ◌++◌, length, map, count_by, slice_index, slice_index_or, slice_range, bytes_eq, codes, Result, Ok, Err}
 use Rattle.vr_base.specs.declared.lexical.TokenKind.{TokenKind}
 use Rattle.vr_base.specs.declared.lexical.TokenKind.TheVariants.{Word, Extended, Number, Str, Char, Tick, Symbol, High}
@@ -11,7 +11,7 @@ use Rattle.vr_base.specs.declared.child.MaybeText.TheVariants.{Nothing, Given}
 use Rattle.vr_base.specs.declared.design.UnitKind.{UnitKind}
 use Rattle.vr_base.specs.declared.design.UnitKind.TheVariants as kinds
 use Rattle.vr_base.specs.declared.design.Role.{Role}
-use Rattle.vr_base.specs.declared.design.Role.TheVariants.{Library, Use, Context, Entity, Architecture, Configuration, Package, Body, Is, Of, New, Function, Procedure, Generate, End, If, For, Case, Elsif, Else, Inner, Opening, Closing, Semicolon, Colon, Dot, Name, Other}
+use Rattle.vr_base.specs.declared.design.Role.TheVariants.{Library, Use, Context, Entity, Architecture, Configuration, Package, Body, Is, Of, New, Function, Procedure, Generate, End, If, For, Case, Elsif, Else, Component, Inner, All, Generic, Opening, Closing, Semicolon, Colon, Dot, Comma, Name, Other}
 use Rattle.vr_base.specs.declared.design.Beginning.{Beginning}
 use Rattle.vr_base.specs.declared.design.Beginning.TheVariants as begins
 use Rattle.vr_base.specs.declared.design.Unit.{Unit as DesignUnit}
@@ -51,19 +51,22 @@ word_role word =
     else (if bytes_eq word (codes "record") then Inner
     else (if bytes_eq word (codes "units") then Inner
     else (if bytes_eq word (codes "protected") then Inner
-    else (if bytes_eq word (codes "component") then Inner
+    else (if bytes_eq word (codes "component") then Component
     else (if bytes_eq word (codes "postponed") then Inner
+    else (if bytes_eq word (codes "all") then All
+    else (if bytes_eq word (codes "generic") then Generic
     else (if is_reserved word then Other
-    else Name))))))))))))))))))))))))))))
+    else Name))))))))))))))))))))))))))))))
 
 abbrev pub symbol_role : ℕ → Role
 symbol_role byte =
     if byte == 40 then Opening
     else (if byte == 41 then Closing
+    else (if byte == 44 then Comma
     else (if byte == 46 then Dot
     else (if byte == 58 then Colon
     else (if byte == 59 then Semicolon
-    else Other))))
+    else Other)))))
 
 abbrev pub kind_role : List ℕ → Token → TokenKind → Role
 kind_role text token Word = word_role (lower_case (slice_range text token.start token.end))
@@ -84,7 +87,7 @@ roles_of text tokens = map (role_of text) tokens
 abbrev pub role_at : List Role → ℕ → Role
 role_at roles at = slice_index_or roles at Other
 
--- ## Classes of tokens within a unit, whose items start at a place
+-- ## Classes of tokens within a unit, whose items start at a token
 
 abbrev pub is_opening : Role → Bool
 is_opening Opening = true
@@ -99,17 +102,17 @@ abbrev pub IsLevel : List Role → ℕ → ℕ → Type 0
 IsLevel roles start at = count_by is_opening (slice_range roles start at) ≡ count_by is_closing (slice_range roles start at)
 
 -- the token before isn't of the role
-abbrev pub IsNotBehind : Role → List Role → ℕ → Type 0
-IsNotBehind role roles zero = Unit {0}
-IsNotBehind role roles (suc before) = role_at roles before ≢ role
+abbrev pub IsNotAfter : Role → List Role → ℕ → Type 0
+IsNotAfter role roles zero = Unit {0}
+IsNotAfter role roles (suc before) = role_at roles before ≢ role
 
--- a place at which an item can begin
+-- a token at which an item can begin
 pub record MayOpen (roles : List Role) (start at : ℕ) : Type 0 where
   pub level : IsLevel roles start at
-  pub no_end : IsNotBehind End roles at
-  pub no_colon : IsNotBehind Colon roles at
+  pub no_end : IsNotAfter End roles at
+  pub no_colon : IsNotAfter Colon roles at
 
--- behind `package` stands `body`, or NAME `is` and then not `new`
+-- after `package` comes `body`, or NAME `is` and then not `new`
 abbrev pub BeginsPackage : List Role → ℕ → Type 0
 BeginsPackage roles at = (role_at roles (at + 1) ≡ Body) ⊎ ((role_at roles (at + 1) ≡ Name) × (role_at roles (at + 2) ≡ Is) × (role_at roles (at + 3) ≢ New))
 
@@ -119,7 +122,7 @@ pub record IsPackageOpener (roles : List Role) (start at : ℕ) : Type 0 where
   pub may : MayOpen roles start at
   pub begins : BeginsPackage roles at
 
--- at level the next `is` stands before the next `;`, and before no `new`
+-- at level the next `is` comes before the next `;`, and before no `new`
 pub record HasBody (roles : List Role) (start at : ℕ) : Type 0 where
   pub is_at : ℕ
   pub later : at < is_at
@@ -137,7 +140,7 @@ pub record IsSubprogramOpener (roles : List Role) (start at : ℕ) : Type 0 wher
 abbrev pub OpensItems : List Role → ℕ → ℕ → Type 0
 OpensItems roles start at = IsPackageOpener roles start at ⊎ IsSubprogramOpener roles start at
 
--- whether the nearest of `if`, `for`, `case`, `elsif` and `else` before a place is one of the first three
+-- whether the nearest of `if`, `for`, `case`, `elsif` and `else` before a token is one of the first three
 abbrev pub next_begins : Bool → Role → Bool
 next_begins before If = true
 next_begins before For = true
@@ -152,18 +155,19 @@ begins_generate roles (suc before) = next_begins (begins_generate roles before) 
 
 pub record IsGenerateOpener (roles : List Role) (at : ℕ) : Type 0 where
   pub word : role_at roles at ≡ Generate
-  pub no_end : IsNotBehind End roles at
+  pub no_end : IsNotAfter End roles at
   pub begins : begins_generate roles at ≡ true
 
 pub record IsGenerateEnd (roles : List Role) (at : ℕ) : Type 0 where
   pub word : role_at roles at ≡ End
   pub what : role_at roles (at + 1) ≡ Generate
 
--- behind `end` the role says that something within a unit ends
+-- after `end` the role says that something within a unit ends
 abbrev pub ends_inner : Role → Bool
 ends_inner If = true
 ends_inner Case = true
 ends_inner For = true
+ends_inner Component = true
 ends_inner Inner = true
 ends_inner Generate = true
 ends_inner _ = false
@@ -186,7 +190,7 @@ pub record IsSingle (roles : List Role) (start : ℕ) (generate : Bool) (at : �
   pub no_generate : IsGenerateOpener roles at → ⊥
   pub no_close : Closes roles generate at → ⊥
 
--- the items from a place up to another, in the region of a generate statement or not
+-- the items from one token up to another, in the region of a generate statement or not
 pub data Items (roles : List Role) (start : ℕ) : Bool → ℕ → ℕ → Type 0 where
   nothing : {generate : Bool} {at end : ℕ} → end ≡ at → Items roles start generate at end
   single : {generate : Bool} {at end : ℕ} → IsSingle roles start generate at → Items roles start generate (at + 1) end → Items roles start generate at end
@@ -195,9 +199,9 @@ pub data Items (roles : List Role) (start : ℕ) : Bool → ℕ → ℕ → Type
 
 -- ## Context items and units
 
--- the first `;` from a place on
+-- the first `;` from a token on
 pub record IsFirstSemicolon (roles : List Role) (start at : ℕ) : Type 0 where
-  pub behind : start ≤ at
+  pub after : start ≤ at
   pub there : role_at roles at ≡ Semicolon
   pub first : (before : ℕ) → start ≤ before → before < at → role_at roles before ≢ Semicolon
 
@@ -208,33 +212,33 @@ pub record IsEndPart (roles : List Role) (start last : ℕ) : Type 0 where
   pub ends : IsPlainEnd roles close
   pub semicolon : IsFirstSemicolon roles (close + 1) last
 
--- NAMEs joined by `.`: so many before the last, and an `is` behind it
+-- NAMEs joined by `.`: so many before the last, and an `is` after it
 pub record IsOwner (roles : List Role) (start before : ℕ) : Type 0 where
   pub names : (n : ℕ) → n ≤ before → role_at roles (start + 2 * n) ≡ Name
   pub dots : (n : ℕ) → n < before → role_at roles (start + 2 * n + 1) ≡ Dot
-  pub is_behind : role_at roles (start + 2 * before + 1) ≡ Is
+  pub is_after : role_at roles (start + 2 * before + 1) ≡ Is
 
 -- what begins, by the first four roles; no unit may begin where no row fits
-abbrev pub beginning : Role → Role → Role → Role → Beginning
-beginning Library _ _ _ = begins.Item
-beginning Use _ _ _ = begins.Item
-beginning Context Name Is _ = begins.Plain kinds.Context
-beginning Context _ _ _ = begins.Item
-beginning Entity Name Is _ = begins.Plain kinds.Entity
-beginning Architecture Name Of _ = begins.Owned kinds.Architecture
-beginning Configuration Name Of _ = begins.Owned kinds.Configuration
-beginning Package Body Name Is = begins.Plain kinds.PackageBody
-beginning Package Name Is New = begins.Plain kinds.PackageInstance
-beginning Package Name Is _ = begins.Plain kinds.Package
-beginning _ _ _ _ = begins.Nothing
+abbrev pub beginning_of : Role → Role → Role → Role → Beginning
+beginning_of Library _ _ _ = begins.Item
+beginning_of Use _ _ _ = begins.Item
+beginning_of Context Name Is _ = begins.Plain kinds.Context
+beginning_of Context _ _ _ = begins.Item
+beginning_of Entity Name Is _ = begins.Plain kinds.Entity
+beginning_of Architecture Name Of _ = begins.Owned kinds.Architecture
+beginning_of Configuration Name Of _ = begins.Owned kinds.Configuration
+beginning_of Package Body Name Is = begins.Plain kinds.PackageBody
+beginning_of Package Name Is New = begins.Plain kinds.PackageInstance
+beginning_of Package Name Is _ = begins.Plain kinds.Package
+beginning_of _ _ _ _ = begins.Nothing
 
 abbrev pub beginning_at : List Role → ℕ → Beginning
-beginning_at roles at = beginning (role_at roles at) (role_at roles (at + 1)) (role_at roles (at + 2)) (role_at roles (at + 3))
+beginning_at roles at = beginning_of (role_at roles at) (role_at roles (at + 1)) (role_at roles (at + 2)) (role_at roles (at + 3))
 
--- the place of a unit's name
-abbrev pub name_place : UnitKind → ℕ → ℕ
-name_place kinds.PackageBody at = at + 2
-name_place _ at = at + 1
+-- the token number of a unit's name
+abbrev pub name_token : UnitKind → ℕ → ℕ
+name_token kinds.PackageBody at = at + 2
+name_token _ at = at + 1
 
 -- how a unit without an owner ends: an instance of a package has no items
 abbrev pub EndsPlain : UnitKind → List Role → ℕ → ℕ → Type 0
@@ -253,7 +257,7 @@ last_of (item last) = last
 last_of (plain kind last) = last
 last_of (owned kind before last) = last
 
--- the element stands at the place
+-- the element begins at the token
 abbrev pub IsElement : List Role → ℕ → Element → Type 0
 IsElement roles at (item last) = (beginning_at roles at ≡ begins.Item) × IsFirstSemicolon roles (at + 1) last
 IsElement roles at (plain kind last) = (beginning_at roles at ≡ begins.Plain kind) × EndsPlain kind roles at last
@@ -271,7 +275,7 @@ Begins roles at = BeginsAs roles at (beginning_at roles at)
 
 -- ## A file
 
--- the elements stand one behind the other from a place up to another
+-- the elements follow one another from one token up to another
 abbrev pub Follow : List Role → ℕ → List Element → ℕ → Type 0
 Follow roles at [] end = at ≡ end
 Follow roles at (element ∷ elements) end = IsElement roles at element × Follow roles (last_of element + 1) elements end
@@ -280,14 +284,14 @@ Follow roles at (element ∷ elements) end = IsElement roles at element × Follo
 abbrev pub IsOutline : List Role → List Element → Type 0
 IsOutline roles elements = Follow roles 0 elements (length roles)
 
--- behind elements something begins neither an item nor a unit
+-- after elements something begins neither an item nor a unit
 pub record IsNoUnit (roles : List Role) (at : ℕ) : Type 0 where
   pub elements : List Element
   pub follow : Follow roles 0 elements at
   pub within : at < length roles
   pub no_start : Begins roles at → ⊥
 
--- behind elements an item or a unit begins that has no end
+-- after elements an item or a unit begins that has no end
 pub record IsUnended (roles : List Role) (at : ℕ) : Type 0 where
   pub elements : List Element
   pub follow : Follow roles 0 elements at
@@ -308,11 +312,11 @@ name_by_kind text token _ = lower_case (slice_range text token.start token.end)
 abbrev pub name_of : List ℕ → List Token → ℕ → List ℕ
 name_of text tokens at = name_by_kind text (token_at tokens at) (token_at tokens at).kind
 
--- the unit that an element is, if it is one; lead is the place behind the unit before it
+-- the unit that an element is, if it is one; lead is the token after the unit before it
 abbrev pub unit_of : List ℕ → List Token → ℕ → ℕ → Element → List DesignUnit
 unit_of text tokens lead at (item last) = []
-unit_of text tokens lead at (plain kind last) = record { kind = kind; name = name_of text tokens (name_place kind at); owner = Nothing; lead = lead; first = at; last = last } ∷ []
-unit_of text tokens lead at (owned kind before last) = record { kind = kind; name = name_of text tokens (name_place kind at); owner = Given (name_of text tokens (at + 3 + 2 * before)); lead = lead; first = at; last = last } ∷ []
+unit_of text tokens lead at (plain kind last) = record { kind = kind; name = name_of text tokens (name_token kind at); owner = Nothing; lead = lead; first = at; last = last } ∷ []
+unit_of text tokens lead at (owned kind before last) = record { kind = kind; name = name_of text tokens (name_token kind at); owner = Given (name_of text tokens (at + 3 + 2 * before)); lead = lead; first = at; last = last } ∷ []
 
 abbrev pub lead_after : ℕ → Element → ℕ
 lead_after lead (item last) = lead
@@ -326,13 +330,13 @@ units_from text tokens lead at (element ∷ elements) = unit_of text tokens lead
 abbrev pub units_of : List ℕ → List Token → List Element → List DesignUnit
 units_of text tokens elements = units_from text tokens 0 0 elements
 
--- the tokens have the fault; want of memory is none
+-- the tokens have the fault; out of memory is none
 abbrev pub HasUnitFault : List ℕ → List Token → UnitFault → Type 0
 HasUnitFault text tokens NoMemory = ⊥
 HasUnitFault text tokens (NotUnit place) = (at : ℕ) × IsNoUnit (roles_of text tokens) at × (place ≡ (token_at tokens at).start)
 HasUnitFault text tokens (NotEnded place) = (at : ℕ) × IsUnended (roles_of text tokens) at × (place ≡ (token_at tokens at).start)
 
--- What outlining gives: the units of the file, a fault, or want of memory.
+-- What outlining gives: the units of the file, a fault, or out of memory.
 abbrev pub Outlines : List ℕ → List Token → Result (List DesignUnit) UnitFault → Type 0
 Outlines text tokens (Ok units) = (elements : List Element) × IsOutline (roles_of text tokens) elements × (units ≡ units_of text tokens elements)
 Outlines text tokens (Err NoMemory) = Unit {0}

@@ -1,15 +1,20 @@
-ghost use Rattle.std.specs.Prelude.{◌≡◌, ◌⊎◌, ℕ, List};
-ghost use Rattle.std.specs.List.{flat_map};
+//! Laws of the token cut and of the unit grammar, as functions with empty bodies: a caller cites one by calling it.
+
+ghost use Rattle.std.specs.Prelude.{◌≡◌, ◌<◌, ◌≤◌, ◌⊎◌, ℕ, List, length};
+ghost use Rattle.std.specs.List.{All, flat_map};
 ghost use Rattle.vr_base.specs.declared.lexical.LexFault.{LexFault};
 ghost use Rattle.vr_base.specs.declared.lexical.Token.{Token};
+ghost use Rattle.vr_base.specs.declared.lexical.Tokens.{Tokens};
 ghost use Rattle.vr_base.specs.declared.design.Role.{Role};
 ghost use Rattle.vr_base.specs.declared.design.UnitFault.{UnitFault};
-ghost use Rattle.scan_spec.specs.Units.{Element, IsOutline, HasUnitFault, roles_of};
+ghost use Rattle.scan_spec.specs.Units.{AreTokensOf, Element, IsOutline, HasUnitFault, roles_of, units_of};
+ghost use Rattle.scan_spec.specs.UnitPlaces.{IsPlaced, FollowOn};
 ghost use Rattle.scan_spec.specs.Tokens.{Piece, IsCut, HasFault, bytes_of};
 
 /// The pieces of a cut, joined, are the text.
 pub fn joined_pieces()
-    ensures { (text : List ℕ) (pieces : List Piece) → IsCut text pieces → flat_map (bytes_of text) pieces ≡ text }
+    ensures { (text : List ℕ) (pieces : List Piece) →
+        IsCut text pieces → flat_map (bytes_of text) pieces ≡ text }
 {}
 
 /// A text has no two cuts.
@@ -24,22 +29,34 @@ pub fn one_fault()
 
 /// A text that has a cut has no fault.
 pub fn no_fault_beside()
-    ensures { (text : List ℕ) (pieces : List Piece) (fault : LexFault) → IsCut text pieces → HasFault text fault → ⊥ }
+    ensures { (text : List ℕ) (pieces : List Piece) (fault : LexFault) →
+        IsCut text pieces → HasFault text fault → ⊥ }
 {}
 
 /// Each text has a cut or a fault.
 pub fn cut_or_fault()
-    ensures { (text : List ℕ) → ((pieces : List Piece) × IsCut text pieces) ⊎ ((fault : LexFault) × HasFault text fault) }
+    ensures { (text : List ℕ) →
+        ((pieces : List Piece) × IsCut text pieces) ⊎ ((fault : LexFault) × HasFault text fault) }
+{}
+
+/// The tokens of a cut are in the text, and no more than its bytes.
+pub fn laws_of_tokens()
+    ensures within { (text : List ℕ) (tokens : Tokens) → AreTokensOf text tokens →
+        All (λ token. (token.start < token.end) × (token.end ≤ length text)) tokens.list }
+    ensures few { (text : List ℕ) (tokens : Tokens) → AreTokensOf text tokens →
+        length tokens.list ≤ length text }
 {}
 
 /// Tokens have no two outlines.
 pub fn one_outline()
-    ensures { (roles : List Role) (a b : List Element) → IsOutline roles a → IsOutline roles b → a ≡ b }
+    ensures { (roles : List Role) (a b : List Element) →
+        IsOutline roles a → IsOutline roles b → a ≡ b }
 {}
 
 /// Tokens have no two faults of the unit grammar.
 pub fn one_unit_fault()
-    ensures { (text : List ℕ) (tokens : List Token) (a b : UnitFault) → HasUnitFault text tokens a → HasUnitFault text tokens b → a ≡ b }
+    ensures { (text : List ℕ) (tokens : List Token) (a b : UnitFault) →
+        HasUnitFault text tokens a → HasUnitFault text tokens b → a ≡ b }
 {}
 
 /// Tokens that have an outline have no fault of the unit grammar.
@@ -51,5 +68,17 @@ pub fn no_unit_fault_beside()
 /// The tokens of each text have an outline or a fault of the unit grammar.
 pub fn outline_or_fault()
     ensures { (text : List ℕ) (tokens : List Token) →
-        ((elements : List Element) × IsOutline (roles_of text tokens) elements) ⊎ ((fault : UnitFault) × HasUnitFault text tokens fault) }
+        ((elements : List Element) × IsOutline (roles_of text tokens) elements)
+        ⊎ ((fault : UnitFault) × HasUnitFault text tokens fault) }
+{}
+
+/// Each unit of an outline is where its token numbers say: `lead` to `first` are its context items, at `first` is its
+/// keyword, at `last` its final semicolon, and its name and owner lie between. The units follow one another: each
+/// `lead` is the token after the `last` before, so their ranges rise and are disjoint.
+pub fn laws_of_units()
+    ensures placed { (text : List ℕ) (tokens : List Token) (elements : List Element) →
+        IsOutline (roles_of text tokens) elements →
+        All (IsPlaced text tokens) (units_of text tokens elements) }
+    ensures ordered { (text : List ℕ) (tokens : List Token) (elements : List Element) →
+        IsOutline (roles_of text tokens) elements → FollowOn 0 (units_of text tokens elements) }
 {}

@@ -2,3 +2,6 @@
 #![tactic(auto)]
 
 pub mod laws;
+mod scanners;
+
+pub use scanners::{one_scanner, some_scanner};

@@ -1,3 +1,4 @@
+-- The lemmas on the scanner: its tables, its pieces, and the steps of a cut.
 pub mod Classes
 pub mod Marked
 pub mod WordTable

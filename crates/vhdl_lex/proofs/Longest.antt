@@ -7,7 +7,7 @@ use Rattle.scan_spec.specs.Tokens.{Row, byte_order_mark, blank, line_comment, bl
 use Rattle.vhdl_lex.specs.Ends.{IsRunEnd, IsCommentEnd, IsMarkedEnd}
 use Rattle.vhdl_lex.specs.Pieces.{Skips}
 
--- the bytes that pass a test, from a place on, end here
+-- the bytes that pass a test, from an offset on, end here
 record Run (test : ℕ → Bool) (text : List ℕ) (at end : ℕ) : Type 0 where
   some : at < end
   within : end ≤ length text
@@ -56,7 +56,7 @@ module _ (text : List ℕ) (at : ℕ) (reaches : at + 3 ≤ length text) where
   mark_longest = record { some = omega arith; within = omega arith; fits = refl; longest = λ other in_text is. omega arith }
 
 pub block_longest : (text : List ℕ) (at end : ℕ) → IsCommentEnd text at (Some end) → IsLongest block_comment text at end
-block_longest text at end is = record { some = omega (arith, is.1.up_to, is.1.behind); within = is.0; fits = is.1; longest = λ other within fits. is.2 other fits }
+block_longest text at end is = record { some = omega (arith, is.1.up_to, is.1.after); within = is.0; fits = is.1; longest = λ other within fits. is.2 other fits }
 
 pub string_longest : (text : List ℕ) (at end : ℕ) → at < end → IsMarkedEnd 34 text at (Some end) → IsLongest (token Str) text at end
 string_longest text at end some is = record { some = some; within = is.0; fits = is.1; longest = λ other within fits. is.2 other fits }

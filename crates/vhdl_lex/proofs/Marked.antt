@@ -7,7 +7,7 @@ use Rattle.scan_spec.proofs.Exists.{in_text, start_inside}
 use Rattle.scan_spec.proofs.Forms.{none_yet, last_byte, last_pair, last_step}
 use Rattle.vhdl_lex.specs.Ends.{IsMarkedEnd}
 
--- the first step from a place inside marks towards a later one
+-- the first step from an offset inside marks towards a later one
 data FirstStep (mark : ℕ) (text : List ℕ) (at end : ℕ) : Type 0 where
   one : slice_index text at ≢ mark → is_line_end (slice_index text at) ≡ false → FirstStep mark text at end
   two : slice_index text at ≡ mark → slice_index text (at + 1) ≡ mark → at + 2 ≤ end → FirstStep mark text at end
@@ -41,7 +41,7 @@ first_step mark text start (suc bound) at end small before inside below =
           (order at place)
     ]
 
--- the furthest end that was met up to a place
+-- the furthest end that was met up to an offset
 abbrev pub Best : ℕ → List ℕ → ℕ → ℕ → Option ℕ → Type 0
 Best mark text start at None = (end : ℕ) → IsMarked mark text start end → at < end
 Best mark text start at (Some best) = (best ≤ length text) × IsMarked mark text start best × ((end : ℕ) → IsMarked mark text start end → (end ≤ best) ⊎ (at < end))
@@ -50,18 +50,18 @@ module _ (mark : ℕ) (text : List ℕ) (start : ℕ) where
   pub best_at_start : Best mark text start (start + 1) None
   best_at_start end marked = let from = start_inside marked.inside in omega (arith, marked.up_to)
 
-  -- an end behind a place is further where the mark isn't there
+  -- an end after an offset is further where the mark isn't there
   further : (at : ℕ) → slice_index text at ≢ mark → (end : ℕ) → IsMarked mark text start end → at < end → at + 1 < end
-  further at other end marked behind =
+  further at other end marked after =
       ⊎_elim (λ h. h) (λ h. let is : marked.close ≡ at = omega (arith, marked.up_to) in absurd (other (sym (ap (slice_index text) is) ∙ marked.closes))) (order (at + 1) end)
 
   pub best_past_other : (at : ℕ) (best : Option ℕ) → slice_index text at ≢ mark → Best mark text start at best → Best mark text start (at + 1) best
   best_past_other at None other before = λ end marked. further at other end marked (before end marked)
   best_past_other at (Some best) other before = (before.0, before.1, λ end marked. ⊎_elim (λ h. inl h) (λ h. inr (further at other end marked h)) (before.2 end marked))
 
-  -- every end behind a place, seen from what is inside there
+  -- every end after an offset, seen from what is inside there
   step_to : (at : ℕ) → Inside mark text (start + 1) at → (end : ℕ) (marked : IsMarked mark text start end) → at + 1 < end → FirstStep mark text at marked.close
-  step_to at inside end marked behind = first_step mark text (start + 1) (suc marked.close) at marked.close (omega arith) inside marked.inside (omega (arith, marked.up_to))
+  step_to at inside end marked after = first_step mark text (start + 1) (suc marked.close) at marked.close (omega arith) inside marked.inside (omega (arith, marked.up_to))
 
   marked_here : (at : ℕ) → Inside mark text (start + 1) at → slice_index text at ≡ mark → IsMarked mark text start (at + 1)
   marked_here at inside is = record { close = at; inside = inside; closes = is; up_to = refl }
@@ -90,10 +90,10 @@ module _ (mark : ℕ) (text : List ℕ) (start : ℕ) where
         (order (at + 1) end),
   )
 
-  -- nothing ends behind a place where neither the mark nor a byte of the line stands
+  -- nothing ends after an offset where neither the mark nor a byte of the line stands
   none_further : (at : ℕ) → Inside mark text (start + 1) at → slice_index text at ≢ mark → (is_line_end (slice_index text at) ≡ true) ⊎ (length text ≤ at) → mark ≢ 0 → (end : ℕ) → IsMarked mark text start end → at < end → ⊥
-  none_further at inside other stops some end marked behind =
-      elim (step_to at inside end marked (further at other end marked behind)) [
+  none_further at inside other stops some end marked after =
+      elim (step_to at inside end marked (further at other end marked after)) [
         | one not_mark in_line ↦ ⊎_elim (λ ends. cc) (λ past. let in_there : marked.close < length text = in_text text marked.close (λ zero_there. some (sym marked.closes ∙ zero_there)) in omega (arith, marked.up_to)) stops
         | two first second reaches ↦ other first
       ]
@@ -102,7 +102,7 @@ module _ (mark : ℕ) (text : List ℕ) (start : ℕ) where
   best_is_end at None inside other stops some before = λ end marked. none_further at inside other stops some end marked (before end marked)
   best_is_end at (Some best) inside other stops some before = (before.0, before.1, λ end marked. ⊎_elim (λ h. h) (λ h. absurd (none_further at inside other stops some end marked h)) (before.2 end marked))
 
--- the walk stands at a place
+-- the walk is at an offset
 pub record Walk (mark : ℕ) (text : List ℕ) (start at : ℕ) (best : Option ℕ) : Type 0 where
   pub within : at ≤ length text
   pub inside : Inside mark text (start + 1) at

@@ -2,19 +2,19 @@
 use Rattle.std.specs.Prelude.{◌≡◌, ℕ, ◌<◌, ◌≤◌, Bool, false, List, length, slice_index, Option, Some, None}
 use Rattle.scan_spec.specs.Tokens.{EachByte, IsBlockComment, IsMarked}
 
--- from a place up to the end each byte passes the test, and no further
+-- from an offset up to the end each byte passes the test, and no further
 pub record IsRunEnd (test : ℕ → Bool) (text : List ℕ) (start end : ℕ) : Type 0 where
   pub reaches : start ≤ end
   pub within : end ≤ length text
   pub each : EachByte test text start end
   pub stops : end < length text → test (slice_index text end) ≡ false
 
--- the end of the block comment that opens at a place, or none where it has none
+-- the end of the block comment that opens at an offset, or none where it has none
 abbrev pub IsCommentEnd : List ℕ → ℕ → Option ℕ → Type 0
 IsCommentEnd text at None = (end : ℕ) → IsBlockComment text at end → ⊥
 IsCommentEnd text at (Some end) = (end ≤ length text) × IsBlockComment text at end × ((other : ℕ) → IsBlockComment text at other → other ≤ end)
 
--- the furthest end of what opens with the mark at a place, or none where it has none
+-- the furthest end of what opens with the mark at an offset, or none where it has none
 abbrev pub IsMarkedEnd : ℕ → List ℕ → ℕ → Option ℕ → Type 0
 IsMarkedEnd mark text at None = (end : ℕ) → IsMarked mark text at end → ⊥
 IsMarkedEnd mark text at (Some end) = (end ≤ length text) × IsMarked mark text at end × ((other : ℕ) → IsMarked mark text at other → other ≤ end)

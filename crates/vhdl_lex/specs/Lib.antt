@@ -1,3 +1,4 @@
+-- What the functions of the scanner find, as their contracts say it.
 pub mod Ends
 pub mod Places
 pub mod Pieces

@@ -1,4 +1,4 @@
--- What stands at a place of a text.
+-- What is at an offset of a text.
 use Rattle.std.specs.Prelude.{◌≡◌, ℕ, ◌<◌, ◌≤◌, List, [], length, Option, Some, None}
 use Rattle.vr_base.specs.declared.lexical.Token.{Token}
 use Rattle.vr_base.specs.declared.lexical.TokenKind.TheVariants.{Str, Extended}
@@ -7,12 +7,12 @@ use Rattle.scan_spec.specs.Tokens.{Row, line_comment, block_comment, token, Piec
 use Rattle.vhdl_lex.specs.declared.piece.Found.{Found}
 use Rattle.vhdl_lex.specs.declared.piece.Found.TheVariants.{Gap, Comment, Lexeme, Unclosed}
 
--- the token before a place lies in the text
-abbrev pub LiesIn : List ℕ → Option Token → Type 0
-LiesIn text None = Unit {0}
-LiesIn text (Some last) = (last.start < last.end) × (last.end ≤ length text)
+-- the token before an offset lies in the text
+abbrev pub LastIsIn : List ℕ → Option Token → Type 0
+LastIsIn text None = Unit {0}
+LastIsIn text (Some last) = (last.start < last.end) × (last.end ≤ length text)
 
--- gaps that are no line comments stand from a place up to another
+-- gaps that are no line comments are from one offset up to another
 pub record Skips (text : List ℕ) (last : Option Token) (at end : ℕ) : Type 0 where
   pub pieces : List Piece
   pub leads : Leads text (record { last = last; at = at }) pieces (record { last = last; at = end })
@@ -22,7 +22,7 @@ pub record Skips (text : List ℕ) (last : Option Token) (at end : ℕ) : Type 0
   pub within : end ≤ length text
 
 -- the row fits first, and its longest piece ends here
-pub record Ends (row : Row) (text : List ℕ) (last : Option Token) (at end : ℕ) : Type 0 where
+pub record IsPieceEnd (row : Row) (text : List ℕ) (last : Option Token) (at end : ℕ) : Type 0 where
   pub first : row_at text last at ≡ row
   pub longest : IsLongest row text at end
 
@@ -31,11 +31,11 @@ pub record HasNoEnd (row : Row) (text : List ℕ) (last : Option Token) (at : �
   pub first : row_at text last at ≡ row
   pub no_end : (end : ℕ) → end ≤ length text → HasForm row text at end → ⊥
 
--- what was found stands at the place
+-- what was found is at the offset
 abbrev pub IsFound : List ℕ → Option Token → ℕ → Found → Type 0
 IsFound text last at (Gap end) = Skips text last at end
-IsFound text last at (Comment end) = Ends line_comment text last at end
-IsFound text last at (Lexeme kind end) = Ends (token kind) text last at end
+IsFound text last at (Comment end) = IsPieceEnd line_comment text last at end
+IsFound text last at (Lexeme kind end) = IsPieceEnd (token kind) text last at end
 IsFound text last at (Unclosed NoMemory) = ⊥
 IsFound text last at (Unclosed (UnclosedString place)) = (place ≡ at) × HasNoEnd (token Str) text last at
 IsFound text last at (Unclosed (UnclosedExtended place)) = (place ≡ at) × HasNoEnd (token Extended) text last at

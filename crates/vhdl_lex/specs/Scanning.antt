@@ -5,12 +5,12 @@ use Rattle.vr_base.specs.declared.lexical.LexFault.{LexFault}
 use Rattle.vr_base.specs.declared.lexical.LexFault.TheVariants.{NoMemory}
 use Rattle.scan_spec.specs.Tokens.{Piece, AreOf}
 
--- the tokens of these pieces, or want of memory
+-- the tokens of these pieces, or out of memory
 abbrev pub GivesTokens : List Piece → Result Tokens LexFault → Type 0
 GivesTokens pieces (Ok tokens) = AreOf pieces tokens
 GivesTokens pieces (Err fault) = fault ≡ NoMemory
 
--- this fault, or want of memory
+-- this fault, or out of memory
 abbrev pub GivesFault : LexFault → Result Tokens LexFault → Type 0
 GivesFault fault (Ok tokens) = ⊥
 GivesFault fault (Err NoMemory) = Unit {0}

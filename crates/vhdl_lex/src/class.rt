@@ -9,7 +9,7 @@ const IN_NUMBER: u8 = 2;
 
 const IN_WORD: u8 = 3;
 
-/// The class of each byte. What may stand in a word may stand in a number too.
+/// The class of each byte. What may be in a word may be in a number too.
 static CLASS: [u8; 256] = [
     0, 0, 0, 0, 0, 0, 0, 0, 0, 0, 1, 1, 1, 1, 0, 0, 0, 0, 0, 0, 0, 0, 0, 0, 0, 0, 0, 0, 0, 0, 0, 0,
     0, 0, 0, 2, 0, 0, 0, 0, 0, 0, 0, 0, 0, 0, 2, 0, 3, 3, 3, 3, 3, 3, 3, 3, 3, 3, 0, 0, 0, 0, 0, 0,

@@ -1,15 +1,15 @@
-//! The piece that stands at a place of a text: a gap, a line comment or a token, or what has no end.
+//! The piece at an offset of a text: a gap, a line comment or a token, or what has no end.
 
 ghost use Rattle.std.specs.Prelude.{◌≡◌, ◌≢◌, ◌<◌, ◌≤◌, ◌^◌, length, slice_index, Option};
 ghost use Rattle.vr_base.specs.declared.lexical.Token.{Token};
-ghost use Rattle.scan_spec.specs.Tokens.{stands_tick};
-ghost use Rattle.vhdl_lex.specs.Pieces.{IsFound, LiesIn};
+ghost use Rattle.scan_spec.specs.Tokens.{is_tick_at};
+ghost use Rattle.vhdl_lex.specs.Pieces.{IsFound, LastIsIn};
 
 use crate::ends::{comment_end, line_end, marked_end, number_end, word_end};
 use crate::reserved::is_reserved;
 use vr_base::{LexFault, Token, TokenKind};
 
-/// What stands at a place. Each but the last ends before a byte.
+/// What is at an offset. Each but the last ends before a byte.
 pub enum Found {
     Gap(usize),
     /// A line comment.
@@ -18,11 +18,11 @@ pub enum Found {
     Unclosed(LexFault),
 }
 
-/// Whether an apostrophe behind this token is a tick.
+/// Whether an apostrophe after this token is a tick.
 #[inline(never)]
-fn stands_tick(text: &[u8], last: Option<Token>) -> bool
-    requires { LiesIn text.now last }
-    ensures { result ≡ stands_tick text.now last }
+fn is_tick_at(text: &[u8], last: Option<Token>) -> bool
+    requires { LastIsIn text.now last }
+    ensures { result ≡ is_tick_at text.now last }
 {
     let Some(token) = last else { return false };
     match token.kind {
@@ -104,10 +104,10 @@ fn backslash_at(text: &[u8], at: usize) -> Found
 fn apostrophe_at(text: &[u8], last: Option<Token>, at: usize) -> Found
     requires apostrophe { slice_index text.now at ≡ 39 }
     requires within { at < length text.now }
-    requires last { LiesIn text.now last }
+    requires last { LastIsIn text.now last }
     ensures { IsFound text.now last at result }
 {
-    if at + 2 < text.len() && text[at + 2] == b'\'' && !stands_tick(text, last) {
+    if at + 2 < text.len() && text[at + 2] == b'\'' && !is_tick_at(text, last) {
         Found::Lexeme(TokenKind::Char, at + 3)
     } else {
         Found::Lexeme(TokenKind::Tick, at + 1)
@@ -127,12 +127,12 @@ fn high_at(text: &[u8], at: usize) -> Found
     }
 }
 
-/// The piece at `at`, behind the token `last`.
+/// The piece at `at`, after the token `last`.
 #[inline(always)]
 pub fn piece_at(text: &[u8], last: Option<Token>, at: usize) -> Found
     requires within { at < length text.now }
     requires small { length text.now < 2 ^ 32 }
-    requires last { LiesIn text.now last }
+    requires last { LastIsIn text.now last }
     ensures { IsFound text.now last at result }
 {
     match text[at] {

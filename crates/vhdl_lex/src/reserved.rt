@@ -1,4 +1,6 @@
 //! The reserved words (IEEE Std 1076-2008, clause 15.10), looked up by a table without collisions.
+//!
+//! The three tables and the four factors in `place_of` were found by `bench/reserved.py`, which prints them again.
 
 ghost use Rattle.std.specs.Prelude.{◌≡◌, ◌<◌, length, slice_index, slice_index_or, []};
 ghost use Rattle.scan_spec.specs.Words.{is_reserved, reserved_words};
@@ -89,7 +91,7 @@ fn reserved_word(number: usize) -> &'static [u8]
     &LETTERS[start..end]
 }
 
-/// The number of the one word that may stand at a place, counted from 1, or 0 for none.
+/// The number of the one word that may be at a place, counted from 1, or 0 for none.
 #[inline(always)]
 fn number_at(place: usize) -> usize
     requires { place < 1024 }

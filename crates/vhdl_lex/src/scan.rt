@@ -7,12 +7,12 @@ ghost use Rattle.vhdl_lex.specs.Scanning.{GivesTokens, GivesFault};
 
 use crate::piece::{Found, piece_at};
 use std::alloc::Global;
-use vr_base::{Items, LexFault, Span, Token, Tokens};
+use vr_base::{Items, LexFault, Span, TEXT_LIMIT, Token, Tokens};
 
 /// The tokens and the line comments of a text of at most 4,194,304 bytes, or its lexical fault, in time in
 /// proportion to its length (IEEE Std 1076-2008, clause 15).
 pub fn scan_tokens(alloc: Global, text: &[u8]) -> Result<Tokens, LexFault>
-    requires { length text.now ≤ 4194304 }
+    requires { length text.now ≤ TEXT_LIMIT }
     // Tokens are those of the cut, and a fault is one that the text has.
     ensures right { Scans text.now result }
     // Where there is a cut its tokens are given, unless memory runs out.
@@ -24,7 +24,7 @@ pub fn scan_tokens(alloc: Global, text: &[u8]) -> Result<Tokens, LexFault>
 }
 
 fn scan(alloc: Global, text: &[u8]) -> Result<Tokens, LexFault>
-    requires { length text.now ≤ 4194304 }
+    requires { length text.now ≤ TEXT_LIMIT }
     ensures { Scans text.now result }
 {
     let mut list = Vec::with_capacity(alloc, text.len() / 4 + 1)?;
@@ -55,6 +55,8 @@ fn scan(alloc: Global, text: &[u8]) -> Result<Tokens, LexFault>
         };
         at = end;
     }
+    // Scans are kept while a project is read, so the room that was reserved and not used goes back.
+    list.shrink_to_fit();
     Ok(Tokens {
         list: Items::from_vec(list),
         comments: Items::from_vec(comments),

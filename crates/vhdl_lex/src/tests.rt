@@ -30,7 +30,7 @@ fn put_part(out: &mut Vec<u8>, text: &[u8], start: u32, end: u32) -> Result<(), 
     Ok(())
 }
 
-/// Each token as its letter and its bytes, then each comment behind a `#`.
+/// Each token as its letter and its bytes, then each comment after a `#`.
 fn written(alloc: Global, text: &[u8], tokens: &Tokens) -> Result<Vec<u8>, Fail> {
     let mut out = Vec::new(alloc);
     for token in tokens.list.as_slice() {

@@ -8,7 +8,7 @@ use Rattle.vr_base.specs.declared.design.Unit.{Unit as DesignUnit}
 use Rattle.vr_base.specs.declared.design.UnitFault.{UnitFault}
 use Rattle.vr_base.specs.declared.design.UnitFault.TheVariants.{NoMemory, NotUnit, NotEnded}
 use Rattle.scan_spec.specs.Units.{role_of, roles_of, begins_generate, Element, item, plain, owned, last_of, lead_after, IsElement, unit_of, units_from, units_of, Follow, Outlines}
-use Rattle.scan_spec.proofs.Files.{plain_behind, end_part_behind, element_behind}
+use Rattle.scan_spec.proofs.Files.{plain_after, end_part_after, element_after}
 use Rattle.vhdl_units.specs.declared.file.Next.{Next}
 use Rattle.vhdl_units.specs.Standing.{Adds, IsAdded}
 
@@ -17,10 +17,10 @@ roles_len text tokens = length-map tokens (role_of text)
 
 module _ (text : List ℕ) (tokens : List Token) (at : ℕ) where
   pub plain_places : (kind : UnitKind) (last : ℕ) → IsElement (roles_of text tokens) at (plain kind last) → (at + 2 < last) × (last < length tokens)
-  plain_places kind last is = let ends = plain_behind kind (roles_of text tokens) at last is.1 in (ends.behind, omega (arith, ends.within, roles_len text tokens))
+  plain_places kind last is = let ends = plain_after kind (roles_of text tokens) at last is.1 in (ends.after, omega (arith, ends.within, roles_len text tokens))
 
   pub owned_places : (kind : UnitKind) (before last : ℕ) → IsElement (roles_of text tokens) at (owned kind before last) → (at + 3 + 2 * before < last) × (last < length tokens)
-  owned_places kind before last is = let ends = end_part_behind (roles_of text tokens) (at + 5 + 2 * before) last is.2 in (omega (arith, ends.behind), omega (arith, ends.within, roles_len text tokens))
+  owned_places kind before last is = let ends = end_part_after (roles_of text tokens) (at + 5 + 2 * before) last is.2 in (omega (arith, ends.after), omega (arith, ends.within, roles_len text tokens))
 
 module _ (text : List ℕ) (tokens : List Token) (lead at : ℕ) (old new : List DesignUnit) where
   pub item_added : (last : ℕ) → IsElement (roles_of text tokens) at (item last) → old ≡ new → Adds text tokens lead at old new (record { last = last; lead = lead })
@@ -34,7 +34,7 @@ module _ (text : List ℕ) (tokens : List Token) (lead at : ℕ) (old new : List
 
 -- ## The walk through a file
 
--- where the context items begin that stand before what comes next
+-- where the context items begin before what comes next
 abbrev pub lead_of : ℕ → List Element → ℕ
 lead_of lead [] = lead
 lead_of lead (element ∷ elements) = lead_of (lead_after lead element) elements
@@ -63,9 +63,9 @@ pub record Outlined (text : List ℕ) (tokens : List Token) (units : List Design
   pub led : lead ≤ at
 
 lead_small : (lead at : ℕ) (element : Element) → lead ≤ at → at < last_of element → lead_after lead element ≤ last_of element + 1
-lead_small lead at (item last) led behind = omega arith
-lead_small lead at (plain kind last) led behind = omega arith
-lead_small lead at (owned kind before last) led behind = omega arith
+lead_small lead at (item last) led after = omega arith
+lead_small lead at (plain kind last) led after = omega arith
+lead_small lead at (owned kind before last) led after = omega arith
 
 pub outlined_start : (text : List ℕ) (tokens : List Token) → Outlined text tokens [] false 0 0
 outlined_start text tokens = record { elements = []; follow = refl; units_are = refl; lead_is = refl; begins_is = refl; within = omega arith; led = omega arith }
@@ -74,14 +74,14 @@ module _ (text : List ℕ) (tokens : List Token) (units : List DesignUnit) (begi
   -- the next token to be looked at lies within the file, and further on
   pub next_place : (new : List DesignUnit) (next : Next) → Adds text tokens lead at units new next → (at < next.last) × (next.last < length tokens)
   next_place new next adds =
-      let ends = element_behind (roles_of text tokens) at adds.element adds.stands in
-      (omega (arith, ends.behind, adds.last), omega (arith, ends.within, adds.last, roles_len text tokens))
+      let ends = element_after (roles_of text tokens) at adds.element adds.stands in
+      (omega (arith, ends.after, adds.last), omega (arith, ends.within, adds.last, roles_len text tokens))
 
   pub outlined_more : (new : List DesignUnit) (next : Next) (later : Bool) → Adds text tokens lead at units new next → later ≡ begins_generate (roles_of text tokens) (next.last + 1) → Outlined text tokens new later next.lead (next.last + 1)
   outlined_more new next later adds later_is =
       let roles = roles_of text tokens in
-      let ends = element_behind roles at adds.element adds.stands in
-      let small = lead_small lead at adds.element outlined.led ends.behind in
+      let ends = element_after roles at adds.element adds.stands in
+      let small = lead_small lead at adds.element outlined.led ends.after in
       let place = next_place new next adds in
       record {
         elements = outlined.elements ++ adds.element ∷ [];

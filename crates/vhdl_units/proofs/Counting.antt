@@ -9,11 +9,11 @@ use Rattle.vhdl_units.specs.declared.level.Counts.{Counts}
 use Rattle.scan_spec.specs.Units.{role_at, is_opening, is_closing}
 use Rattle.vhdl_units.specs.Walk.{AreCounts}
 
-count_more : (test : Role → Bool) (roles : List Role) (start at : ℕ) → start ≤ at → at < length roles → count_by test (slice_range roles start (at + 1)) ≡ count_by test (slice_range roles start at) + cond (test (role_at roles at)) 1 0
+pub count_more : (test : Role → Bool) (roles : List Role) (start at : ℕ) → start ≤ at → at < length roles → count_by test (slice_range roles start (at + 1)) ≡ count_by test (slice_range roles start at) + cond (test (role_at roles at)) 1 0
 count_more test roles start at ordered within =
     ap (count_by test) (between_more roles start at Other ordered within) ∙ sum_by-append (λ x. cond (test x) 1 0) (slice_range roles start at) (role_at roles at ∷ []) ∙ ap (λ (n : ℕ). count_by test (slice_range roles start at) + n) (grind arith)
 
--- the counts behind one more token
+-- the counts after one more token
 pub counts_more : (roles : List Role) (start at : ℕ) (counts : Counts) → AreCounts roles start at counts → at < length roles → AreCounts roles start (at + 1) (record { opened = counts.opened + cond (is_opening (role_at roles at)) 1 0; closed = counts.closed + cond (is_closing (role_at roles at)) 1 0 })
 counts_more roles start at counts are within = record {
   ordered = omega (arith, are.ordered);
@@ -22,11 +22,11 @@ counts_more roles start at counts are within = record {
   closed = ap (λ (n : ℕ). n + cond (is_closing (role_at roles at)) 1 0) are.closed ∙ sym (count_more is_closing roles start at are.ordered within);
 }
 
-not_opening : (role : Role) → role ≢ Opening → is_opening role ≡ false
+pub not_opening : (role : Role) → role ≢ Opening → is_opening role ≡ false
 not_opening Opening other = absurd (other refl)
 not_opening _ other = refl
 
-not_closing : (role : Role) → role ≢ Closing → is_closing role ≡ false
+pub not_closing : (role : Role) → role ≢ Closing → is_closing role ≡ false
 not_closing Closing other = absurd (other refl)
 not_closing _ other = refl
 

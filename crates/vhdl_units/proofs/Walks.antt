@@ -8,7 +8,7 @@ use Rattle.vr_base.specs.declared.design.Beginning.TheVariants as begins
 use Rattle.scan_spec.specs.Units.{role_at, begins_generate, next_begins, IsOwner, HasBody, IsFirstSemicolon, IsEndPart, beginning_at, Begins, BeginsAs, Element, item, plain, owned, IsElement}
 use Rattle.scan_spec.proofs.Files.{in_file}
 use Rattle.scan_spec.proofs.Grammar.{one_close, one_owner}
-use Rattle.vhdl_units.specs.Parts.{IsNextMark, KnowsMark, IsUnitClose, IsSemicolonFrom, IsEndFrom}
+use Rattle.vhdl_units.specs.Parts.{IsNextMark, IsUnitClose, IsSemicolonFrom, IsEndFrom}
 
 pub begins_more : (roles : List Role) (at : ℕ) → begins_generate roles (at + 1) ≡ next_begins (begins_generate roles at) (role_at roles at)
 begins_more roles at = ap (begins_generate roles) (add-one at)
@@ -28,17 +28,17 @@ body_at_mark roles start at mark next body =
     (λ later.
     let is_in : body.is_at < length roles = in_file roles body.is_at (λ other. let is : role_at roles body.is_at ≡ Is = body.is_there in cc) in
     let there = next.there (omega arith) in
-    let first = body.first mark (omega (arith, next.behind)) later there.0 in
+    let first = body.first mark (omega (arith, next.after)) later there.0 in
     absurd (⊎_elim first.0 first.1 there.1))
     (λ same. omega arith)
     (order mark body.is_at))
     (order body.is_at mark)
 
--- where the next mark is an `is`, whether there is a body hangs on what stands behind it
+-- where the next mark is an `is`, whether there is a body hangs on what comes after it
 pub body_here : (roles : List Role) (start at mark : ℕ) → IsNextMark roles start (at + 1) mark → role_at roles mark ≡ Is → role_at roles (mark + 1) ≢ New → HasBody roles start at
 body_here roles start at mark next is no_new =
     let is_in : mark < length roles = in_file roles mark (λ other. cc) in
-    record { is_at = mark; later = omega (arith, next.behind); is_there = is; is_level = (next.there is_in).0; first = λ between behind before level. next.none between (omega arith) before level; no_new = no_new }
+    record { is_at = mark; later = omega (arith, next.after); is_there = is; is_level = (next.there is_in).0; first = λ between after before level. next.none between (omega arith) before level; no_new = no_new }
 
 pub body_without_new : (roles : List Role) (start at mark : ℕ) → IsNextMark roles start (at + 1) mark → HasBody roles start at → role_at roles (mark + 1) ≢ New
 body_without_new roles start at mark next body is = body.no_new (ap (λ (n : ℕ). role_at roles (n + 1)) (body_at_mark roles start at mark next body) ∙ is)
@@ -51,13 +51,7 @@ pub test_fails : (test : Bool) (P : Type 0) → (IsTrue test ↔ P) → (P → �
 test_fails true P means none = absurd (none (means.0 refl))
 test_fails false P means none = refl
 
--- the known mark, one place on
-pub knows_next : (roles : List Role) (start at mark : ℕ) → KnowsMark roles start at mark → KnowsMark roles start (at + 1) mark
-knows_next roles start at mark knows later =
-    let next = knows (omega arith) in
-    record { behind = omega arith; within = next.within; none = λ between behind before level. next.none between (omega arith) before level; there = next.there }
-
--- the end of a unit, by its close and the semicolon behind it
+-- the end of a unit, by its close and the semicolon after it
 pub end_from : (roles : List Role) (start close : ℕ) (last : Option ℕ) → IsUnitClose roles start close → IsSemicolonFrom roles (close + 1) last → IsEndFrom roles start last
 end_from roles start close None is none = λ last part.
     let same : part.close ≡ close = one_close part.inside part.ends is.inside is.ends in

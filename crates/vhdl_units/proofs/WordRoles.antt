@@ -6,7 +6,7 @@ use Rattle.std.proofs.lemmas.List.{get_or-map}
 use Rattle.std.proofs.lemmas.List.Folds.{list_any_at}
 use Rattle.std.proofs.lemmas.Bool.Decides.{nat_tests}
 use Rattle.vr_base.specs.declared.design.Role.{Role}
-use Rattle.vr_base.specs.declared.design.Role.TheVariants.{Library, Use, Context, Entity, Architecture, Configuration, Package, Body, Is, Of, New, Function, Procedure, Generate, End, If, For, Case, Elsif, Else, Inner, Name, Other}
+use Rattle.vr_base.specs.declared.design.Role.TheVariants.{Library, Use, Context, Entity, Architecture, Configuration, Package, Body, Is, Of, New, Function, Procedure, Generate, End, If, For, Case, Elsif, Else, Component, Inner, All, Generic, Name, Other}
 use Rattle.scan_spec.specs.Words.{is_reserved, lower_case, reserved_words}
 use Rattle.scan_spec.specs.Units.{word_role}
 use Rattle.vhdl_units.specs.declared.roles.TheConstants.{ROLES}
@@ -73,6 +73,8 @@ role_of_other word no_word =
     skip _ Inner (other 75 (lit< tt)) (
     skip _ Inner (other 102 (lit< tt)) (
     skip _ Inner (other 72 (lit< tt)) (
-    skip _ Inner (other 18 (lit< tt)) (
+    skip _ Component (other 18 (lit< tt)) (
     skip _ Inner (other 68 (lit< tt)) (
-    skip _ Other (ap (λ (w : List ℕ). list_any (bytes_eq w) reserved_words) (lower_twice word) ∙ no_word) refl))))))))))))))))))))))))))))
+    skip _ All (other 4 (lit< tt)) (
+    skip _ Generic (other 37 (lit< tt)) (
+    skip _ Other (ap (λ (w : List ℕ). list_any (bytes_eq w) reserved_words) (lower_twice word) ∙ no_word) refl))))))))))))))))))))))))))))))

@@ -1,46 +1,37 @@
 -- What the walk through the roles of a file finds.
-use Rattle.std.specs.Prelude.{◌≡◌, ◌≢◌, ◌⊎◌, ℕ, ◌<◌, ◌≤◌, Bool, false, List, length, Option, Some, None}
+use Rattle.std.specs.Prelude.{◌≡◌, ◌≢◌, ℕ, ◌<◌, ◌≤◌, Bool, false, List, length, Option, Some, None}
 use Rattle.vr_base.specs.declared.design.Role.{Role}
-use Rattle.vr_base.specs.declared.design.Role.TheVariants.{Is, Semicolon, Function, Procedure}
+use Rattle.vr_base.specs.declared.design.Role.TheVariants.{Is, Semicolon}
 use Rattle.scan_spec.specs.Units.{role_at, IsLevel, OpensItems, IsGenerateOpener, Closes, IsSingle, Items, IsPlainEnd, IsFirstSemicolon, IsOwner, IsEndPart, Element, IsElement, last_of}
+use Rattle.vhdl_units.specs.Marks.{IsMark}
 use Rattle.vhdl_units.specs.declared.class.Class.{Class}
 use Rattle.vhdl_units.specs.declared.class.Class.TheVariants.{Single, Items as OpensPlain, Region, Close}
 
--- the first `;` from a place on, or none
+-- the first `;` from a token on, or none
 abbrev pub IsSemicolonFrom : List Role → ℕ → Option ℕ → Type 0
 IsSemicolonFrom roles start None = (at : ℕ) → IsFirstSemicolon roles start at → ⊥
 IsSemicolonFrom roles start (Some at) = IsFirstSemicolon roles start at
 
--- how many NAMEs of an owner stand before its last, or none where no owner stands there
+-- how many NAMEs of an owner come before its last, or none where there is no owner
 abbrev pub IsOwnerFrom : List Role → ℕ → Option ℕ → Type 0
 IsOwnerFrom roles start None = (before : ℕ) → IsOwner roles start before → ⊥
 IsOwnerFrom roles start (Some before) = IsOwner roles start before
 
-abbrev pub IsSubprogramWord : Role → Type 0
-IsSubprogramWord role = (role ≡ Function) ⊎ (role ≡ Procedure)
-
-abbrev pub IsMark : Role → Type 0
-IsMark role = (role ≡ Is) ⊎ (role ≡ Semicolon)
-
--- the first `is` or `;` at level from a place on, or the end of the file
+-- the first `is` or `;` at level from a token on, or the end of the file
 pub record IsNextMark (roles : List Role) (start from mark : ℕ) : Type 0 where
-  pub behind : from ≤ mark
+  pub after : from ≤ mark
   pub within : mark ≤ length roles
   pub none : (between : ℕ) → from ≤ between → between < mark → IsLevel roles start between → (role_at roles between ≢ Is) × (role_at roles between ≢ Semicolon)
   pub there : mark < length roles → IsLevel roles start mark × IsMark (role_at roles mark)
 
--- the mark, where it lies behind a place, is the first from there
-abbrev pub KnowsMark : List Role → ℕ → ℕ → ℕ → Type 0
-KnowsMark roles start at mark = at < mark → IsNextMark roles start at mark
-
--- the class of the token at a place
+-- the class of a token
 abbrev pub IsClass : List Role → ℕ → Bool → ℕ → Class → Type 0
 IsClass roles start inside at Single = IsSingle roles start inside at
 IsClass roles start inside at OpensPlain = OpensItems roles start at
 IsClass roles start inside at Region = IsGenerateOpener roles at
 IsClass roles start inside at Close = Closes roles inside at
 
--- the plain end that ends the unit whose items start at a place, or none
+-- the plain end that ends the unit whose items start at a token, or none
 pub record IsUnitClose (roles : List Role) (start close : ℕ) : Type 0 where
   pub inside : Items roles start false start close
   pub ends : IsPlainEnd roles close
@@ -54,7 +45,7 @@ abbrev pub IsEndFrom : List Role → ℕ → Option ℕ → Type 0
 IsEndFrom roles start None = (last : ℕ) → IsEndPart roles start last → ⊥
 IsEndFrom roles start (Some last) = IsEndPart roles start last
 
--- what stands at a place of the file, or none where nothing that begins there ends
+-- what begins at a token of the file, or none where nothing that begins there ends
 abbrev pub IsElementAt : List Role → ℕ → Option ℕ → Type 0
 IsElementAt roles at None = (element : Element) → IsElement roles at element → ⊥
 IsElementAt roles at (Some last) = (element : Element) × IsElement roles at element × (last ≡ last_of element)

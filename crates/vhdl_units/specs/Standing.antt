@@ -1,4 +1,4 @@
--- What stands at a place of a file.
+-- What begins at a token of a file.
 use Rattle.std.specs.Prelude.{◌≡◌, ◌++◌, ℕ, List, Result, Ok, Err}
 use Rattle.vr_base.specs.declared.lexical.Token.{Token}
 use Rattle.vr_base.specs.declared.design.Unit.{Unit as DesignUnit}
@@ -10,7 +10,7 @@ use Rattle.vhdl_units.specs.declared.file.Next.{Next}
 use Rattle.vhdl_units.specs.declared.stands.Standing.{Standing}
 use Rattle.vhdl_units.specs.declared.stands.Standing.TheVariants.{Item, Plain, Owned, NoUnit, Unended}
 
--- an element, or why none stands there
+-- an element, or why none begins there
 abbrev pub IsStanding : List Role → ℕ → Standing → Type 0
 IsStanding roles at (Item last) = IsElement roles at (item last)
 IsStanding roles at (Plain kind last) = IsElement roles at (plain kind last)
@@ -18,7 +18,7 @@ IsStanding roles at (Owned kind before last) = IsElement roles at (owned kind be
 IsStanding roles at NoUnit = Begins roles at → ⊥
 IsStanding roles at Unended = Begins roles at × ((element : Element) → IsElement roles at element → ⊥)
 
--- an element stands at the place, its unit was added, and this is what comes next
+-- an element begins at the token, its unit was added, and this is what comes next
 pub record Adds (text : List ℕ) (tokens : List Token) (lead at : ℕ) (old new : List DesignUnit) (next : Next) : Type 0 where
   pub element : Element
   pub stands : IsElement (roles_of text tokens) at element
@@ -26,19 +26,19 @@ pub record Adds (text : List ℕ) (tokens : List Token) (lead at : ℕ) (old new
   pub lead_next : next.lead ≡ lead_after lead element
   pub units : new ≡ old ++ unit_of text tokens lead at element
 
--- what adding gives: the next place, or the fault of this one, or want of memory
+-- what adding gives: the next token, or the fault of this one, or out of memory
 abbrev pub IsAdded : List ℕ → List Token → ℕ → ℕ → List DesignUnit → List DesignUnit → Result Next UnitFault → Type 0
 IsAdded text tokens lead at old new (Ok next) = Adds text tokens lead at old new next
 IsAdded text tokens lead at old new (Err NoMemory) = Unit {0}
 IsAdded text tokens lead at old new (Err (NotUnit place)) = (Begins (roles_of text tokens) at → ⊥) × (place ≡ (token_at tokens at).start)
 IsAdded text tokens lead at old new (Err (NotEnded place)) = Begins (roles_of text tokens) at × ((element : Element) → IsElement (roles_of text tokens) at element → ⊥) × (place ≡ (token_at tokens at).start)
 
--- these units, or want of memory
+-- these units, or out of memory
 abbrev pub GivesUnits : List DesignUnit → Result (List DesignUnit) UnitFault → Type 0
 GivesUnits units (Ok given) = given ≡ units
 GivesUnits units (Err fault) = fault ≡ NoMemory
 
--- this fault, or want of memory
+-- this fault, or out of memory
 abbrev pub GivesUnitFault : UnitFault → Result (List DesignUnit) UnitFault → Type 0
 GivesUnitFault fault (Ok units) = ⊥
 GivesUnitFault fault (Err NoMemory) = Unit {0}

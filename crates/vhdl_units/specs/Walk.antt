@@ -6,7 +6,7 @@ use Rattle.vhdl_units.specs.declared.level.Counts.{Counts}
 use Rattle.vhdl_units.specs.declared.class.Class.{Class}
 use Rattle.vhdl_units.specs.declared.class.Class.TheVariants.{Single, Items, Region, Close}
 
--- the parentheses between a unit's start and a place
+-- the parentheses between a unit's start and a token
 pub record AreCounts (roles : List Role) (start at : ℕ) (counts : Counts) : Type 0 where
   pub ordered : start ≤ at
   pub within : at ≤ length roles

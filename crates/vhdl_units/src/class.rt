@@ -1,9 +1,10 @@
 //! What a token within a unit does.
 
 ghost use Rattle.std.specs.Prelude.{◌≡◌, ◌≤◌, ◌<◌, ◌+◌, ◌↔◌, IsTrue, length, true};
-ghost use Rattle.scan_spec.specs.Units.{IsNotBehind, MayOpen, BeginsPackage, HasBody, IsPackageOpener, IsSubprogramOpener, IsGenerateOpener, Closes, IsLevel, begins_generate, ends_inner, role_at};
+ghost use Rattle.scan_spec.specs.Units.{IsNotAfter, MayOpen, BeginsPackage, HasBody, IsPackageOpener, IsSubprogramOpener, IsGenerateOpener, Closes, IsLevel, begins_generate, ends_inner, role_at};
 ghost use Rattle.vhdl_units.specs.Walk.{AreCounts};
-ghost use Rattle.vhdl_units.specs.Parts.{IsClass, IsNextMark, IsSubprogramWord};
+ghost use Rattle.vhdl_units.specs.Marks.{AreMarks, IsSubprogramWord};
+ghost use Rattle.vhdl_units.specs.Parts.{IsClass, IsNextMark};
 
 use crate::ends::role_at;
 use crate::level::Counts;
@@ -32,9 +33,9 @@ fn is_role(roles: &[Role], at: usize, role: Role) -> bool
 
 /// Whether the token before isn't of this role.
 #[inline(always)]
-fn is_not_behind(role: Role, roles: &[Role], at: usize) -> bool
+fn is_not_after(role: Role, roles: &[Role], at: usize) -> bool
     requires { at ≤ length roles.now }
-    ensures { IsTrue result ↔ IsNotBehind role roles.now at }
+    ensures { IsTrue result ↔ IsNotAfter role roles.now at }
 {
     at == 0 || roles[at - 1] != role
 }
@@ -46,11 +47,11 @@ fn may_open(roles: &[Role], start: usize, at: usize, counts: Counts) -> bool
     ensures { IsTrue result ↔ MayOpen roles.now start at }
 {
     counts.opened == counts.closed
-        && is_not_behind(Role::End, roles, at)
-        && is_not_behind(Role::Colon, roles, at)
+        && is_not_after(Role::End, roles, at)
+        && is_not_after(Role::Colon, roles, at)
 }
 
-/// Whether a package that isn't an instance begins behind its word.
+/// Whether a package that isn't an instance begins after its word.
 fn begins_package(roles: &[Role], at: usize) -> bool
     requires { at < length roles.now }
     ensures { IsTrue result ↔ BeginsPackage roles.now at }
@@ -72,7 +73,7 @@ fn opens_package(roles: &[Role], start: usize, at: usize, counts: Counts) -> boo
     may_open(roles, start, at, counts) && begins_package(roles, at)
 }
 
-/// Whether a subprogram's word begins a body; `mark` is the first `is` or `;` at level behind it.
+/// Whether a subprogram's word begins a body; `mark` is the first `is` or `;` at level after it.
 fn has_body(roles: &[Role], start: usize, at: usize, mark: usize) -> bool
     requires within { at < length roles.now }
     requires mark { IsNextMark roles.now start (at + 1) mark }
@@ -81,15 +82,15 @@ fn has_body(roles: &[Role], start: usize, at: usize, mark: usize) -> bool
     is_role(roles, mark, Role::Is) && !is_role(roles, mark + 1, Role::New)
 }
 
-/// Whether a token opens the items of a subprogram; `mark` is the first `is` or `;` at level behind it.
-fn opens_subprogram(roles: &[Role], start: usize, at: usize, counts: Counts, mark: usize) -> bool
+/// Whether a token opens the items of a subprogram.
+fn opens_subprogram(roles: &[Role], marks: &[u32], start: usize, at: usize, counts: Counts) -> bool
     requires within { at < length roles.now }
     requires counts { AreCounts roles.now start at counts }
-    requires mark { IsNextMark roles.now start (at + 1) mark }
+    requires marks { AreMarks roles.now 0 marks.now }
     requires word { IsSubprogramWord (role_at roles.now at) }
     ensures { IsTrue result ↔ IsSubprogramOpener roles.now start at }
 {
-    may_open(roles, start, at, counts) && has_body(roles, start, at, mark)
+    may_open(roles, start, at, counts) && has_body(roles, start, at, marks[at] as usize)
 }
 
 /// Whether a `generate` opens a region.
@@ -99,15 +100,15 @@ fn opens_region(roles: &[Role], at: usize, begins: bool) -> bool
     requires word { role_at roles.now at ≡ Role.Generate }
     ensures { IsTrue result ↔ IsGenerateOpener roles.now at }
 {
-    begins && is_not_behind(Role::End, roles, at)
+    begins && is_not_after(Role::End, roles, at)
 }
 
-/// Whether the role behind an `end` says that something within a unit ends.
+/// Whether the role after an `end` says that something within a unit ends.
 fn ends_inner(role: Role) -> bool
     ensures { result ≡ ends_inner role }
 {
     match role {
-        Role::If | Role::Case | Role::For | Role::Inner | Role::Generate => true,
+        Role::If | Role::Case | Role::For | Role::Component | Role::Inner | Role::Generate => true,
         _ => false,
     }
 }
@@ -130,22 +131,22 @@ fn closes(roles: &[Role], inside: bool, at: usize) -> bool
 #[inline(always)]
 pub fn class_at(
     roles: &[Role],
+    marks: &[u32],
     start: usize,
     at: usize,
     inside: bool,
     counts: Counts,
     begins: bool,
-    mark: usize,
 ) -> Class
     requires within { at < length roles.now }
     requires counts { AreCounts roles.now start at counts }
     requires begins { begins ≡ begins_generate roles.now at }
-    requires mark { IsSubprogramWord (role_at roles.now at) → IsNextMark roles.now start (at + 1) mark }
+    requires marks { AreMarks roles.now 0 marks.now }
     ensures { IsClass roles.now start inside at result }
 {
     match roles[at] {
         Role::Package if opens_package(roles, start, at, counts) => Class::Items,
-        Role::Function | Role::Procedure if opens_subprogram(roles, start, at, counts, mark) =>
+        Role::Function | Role::Procedure if opens_subprogram(roles, marks, start, at, counts) =>
             Class::Items,
         Role::Generate if opens_region(roles, at, begins) => Class::Region,
         Role::End if closes(roles, inside, at) => Class::Close,

@@ -58,7 +58,7 @@ pub fn first_semicolon(roles: &[Role], from: usize) -> Option<usize>
     None
 }
 
-/// How many names of an owner stand before its last one, where an owner with its `is` stands at `from`.
+/// How many names of an owner come before its last one, where an owner with its `is` begins at `from`.
 pub fn owner_from(roles: &[Role], from: usize) -> Option<usize>
     requires { from ≤ length roles.now }
     ensures { IsOwnerFrom roles.now from result }
@@ -80,7 +80,7 @@ pub fn owner_from(roles: &[Role], from: usize) -> Option<usize>
     None
 }
 
-/// Whether a `generate` behind one more token opens a region.
+/// Whether a `generate` after one more token opens a region.
 #[inline(always)]
 pub fn begins_after(begins: bool, role: Role) -> bool
     ensures { result ≡ next_begins begins role }

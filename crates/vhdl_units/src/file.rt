@@ -8,11 +8,12 @@ ghost use Rattle.vhdl_units.specs.Lies.{AllLieIn};
 ghost use Rattle.vhdl_units.specs.Standing.{IsStanding, IsAdded, GivesUnits, GivesUnitFault};
 
 use crate::ends::begins_at;
-use crate::roles::roles_of;
+use crate::marks::marks_of;
+use crate::roles::token_roles;
 use crate::stands::{Standing, stands_at};
 use crate::texts::{owned_unit, plain_unit};
 use std::alloc::Global;
-use vr_base::{Items, Token, Tokens, Unit, UnitFault, UnitList};
+use vr_base::{Items, TEXT_LIMIT, Token, Tokens, Unit, UnitFault, UnitList};
 
 /// Where an element ends, and where the context items of the next unit begin.
 #[derive(Clone, Copy)]
@@ -25,19 +26,21 @@ pub struct Next {
 /// time in proportion to the number of tokens (IEEE Std 1076-2008, clause 13.1).
 pub fn outline(alloc: Global, text: &[u8], tokens: &Tokens) -> Result<UnitList, UnitFault>
     requires tokens { AreTokensOf text.now tokens.now }
-    requires small { length text.now ≤ 4194304 }
+    requires small { length text.now ≤ TEXT_LIMIT }
     // Units are those of the file, and a fault is one that it has.
     ensures right { Outlines text.now tokens.now.list result }
     // Where there is an outline its units are given, unless memory runs out.
-    ensures outline { (elements : List Element) → IsOutline (roles_of text.now tokens.now.list) elements →
+    ensures outline { (elements : List Element) →
+        IsOutline (roles_of text.now tokens.now.list) elements →
         GivesUnits (units_of text.now tokens.now.list elements) result }
     // Where there is a fault it is given, unless memory runs out.
-    ensures fault { (fault : UnitFault) → HasUnitFault text.now tokens.now.list fault → GivesUnitFault fault result }
+    ensures fault { (fault : UnitFault) →
+        HasUnitFault text.now tokens.now.list fault → GivesUnitFault fault result }
 {
     read(alloc, text, tokens.list.as_slice())
 }
 
-/// Adds the unit that stands at a token, if one does.
+/// Adds the unit that begins at a token, if one does.
 fn add_unit(
     alloc: Global,
     text: &[u8],
@@ -48,7 +51,7 @@ fn add_unit(
     standing: Standing,
 ) -> Result<Next, UnitFault>
     requires lie { AllLieIn text.now tokens.now }
-    requires small { length tokens.now ≤ 4194304 }
+    requires small { length tokens.now ≤ TEXT_LIMIT }
     requires within { at < length tokens.now }
     requires lead { lead ≤ at }
     requires standing { IsStanding (roles_of text.now tokens.now) at standing }
@@ -83,17 +86,19 @@ fn add_unit(
 
 fn read(alloc: Global, text: &[u8], tokens: &[Token]) -> Result<UnitList, UnitFault>
     requires lie { AllLieIn text.now tokens.now }
-    requires small { length tokens.now ≤ 4194304 }
+    requires small { length tokens.now ≤ TEXT_LIMIT }
     ensures { Outlines text.now tokens.now result }
 {
-    let known = roles_of(alloc, text, tokens)?;
+    let known = token_roles(alloc, text, tokens)?;
     let roles = known.as_slice();
+    let next_marks = marks_of(alloc, roles)?;
+    let marks = next_marks.as_slice();
     let mut units = Vec::new(alloc);
     let mut begins = false;
     let mut lead = 0;
     let mut at = 0;
     while at < roles.len() {
-        let standing = stands_at(alloc, roles, at, begins)?;
+        let standing = stands_at(alloc, roles, marks, at, begins)?;
         let next = add_unit(alloc, text, tokens, &mut units, lead, at, standing)?;
         begins = begins_at(roles, at, next.last + 1, begins);
         lead = next.lead;

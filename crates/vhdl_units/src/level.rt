@@ -1,10 +1,7 @@
 //! Parentheses within a unit.
 
-ghost use Rattle.std.specs.Prelude.{◌≡◌, ◌≤◌, ◌<◌, ◌+◌, List, ℕ, length, slice_get, Some};
-ghost use Rattle.vr_base.specs.declared.design.Role.{Role};
+ghost use Rattle.std.specs.Prelude.{◌<◌, ◌+◌, length};
 ghost use Rattle.vhdl_units.specs.Walk.{AreCounts};
-ghost use Rattle.scan_spec.specs.Units.{IsLevel, role_at};
-ghost use Rattle.vhdl_units.specs.Parts.{IsNextMark};
 
 use crate::ends::role_at;
 use vr_base::Role;
@@ -16,7 +13,7 @@ pub struct Counts {
     pub closed: usize,
 }
 
-/// The counts behind one more token.
+/// The counts after one more token.
 #[inline(always)]
 pub fn counts_after(counts: Counts, roles: &[Role], start: usize, at: usize) -> Counts
     requires counts { AreCounts roles.now start at counts }
@@ -30,22 +27,4 @@ pub fn counts_after(counts: Counts, roles: &[Role], start: usize, at: usize) -> 
         _ => {}
     }
     next
-}
-
-/// The first `is` or `;` at level from `from` on, or the number of tokens.
-pub fn next_mark(roles: &[Role], start: usize, from: usize, counts: Counts) -> usize
-    requires counts { AreCounts roles.now start from counts }
-    ensures { IsNextMark roles.now start from result }
-{
-    let mut counts = counts;
-    let mut mark = from;
-    while mark < roles.len() {
-        let role = roles[mark];
-        if counts.opened == counts.closed && (role == Role::Is || role == Role::Semicolon) {
-            return mark;
-        }
-        counts = counts_after(counts, roles, start, mark);
-        mark += 1;
-    }
-    mark
 }

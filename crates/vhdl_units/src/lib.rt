@@ -1,16 +1,19 @@
-//! The design units of a VHDL text.
+//! The design units of a VHDL text, and the roles and names of its tokens.
 #![tactic(auto)]
 
 mod class;
 mod ends;
 mod file;
 mod level;
+mod marks;
 mod regions;
 mod roles;
 mod stands;
 mod texts;
+mod view;
 
 pub use file::outline;
+pub use view::{is_named, name_of, roles_of};
 
 #[cfg(test)]
 mod tests;

@@ -16,7 +16,7 @@ static ROLES: [Role; 115] = [
     Role::Other,
     Role::Other,
     Role::Other,
-    Role::Other,
+    Role::All,
     Role::Other,
     Role::Architecture,
     Role::Other,
@@ -30,7 +30,7 @@ static ROLES: [Role; 115] = [
     Role::Other,
     Role::Other,
     Role::Case,
-    Role::Inner,
+    Role::Component,
     Role::Configuration,
     Role::Other,
     Role::Context,
@@ -49,7 +49,7 @@ static ROLES: [Role; 115] = [
     Role::Other,
     Role::Function,
     Role::Generate,
-    Role::Other,
+    Role::Generic,
     Role::Other,
     Role::Other,
     Role::If,
@@ -146,6 +146,7 @@ fn symbol_role(byte: u8) -> Role
     match byte {
         b'(' => Role::Opening,
         b')' => Role::Closing,
+        b',' => Role::Comma,
         b'.' => Role::Dot,
         b':' => Role::Colon,
         b';' => Role::Semicolon,
@@ -168,7 +169,7 @@ fn role_of(text: &[u8], token: Token) -> Role
 }
 
 /// The roles of tokens of the text, in order.
-pub fn roles_of(alloc: Global, text: &[u8], tokens: &[Token]) -> Result<Vec<Role>, NoMemory>
+pub fn token_roles(alloc: Global, text: &[u8], tokens: &[Token]) -> Result<Vec<Role>, NoMemory>
     requires { AllLieIn text.now tokens.now }
     ensures { IfOk result (λ roles. roles.items ≡ roles_of text.now tokens.now) }
 {

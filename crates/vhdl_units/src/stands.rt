@@ -1,8 +1,9 @@
-//! What stands at a place of a file: a context item or a unit, as far as it goes.
+//! What begins at a token of a file: a context item or a unit, as far as it goes.
 
 ghost use Rattle.std.specs.Prelude.{◌≡◌, ◌<◌, length, IfOk};
 ghost use Rattle.scan_spec.specs.Units.{begins_generate, beginning_at};
 ghost use Rattle.vr_base.specs.declared.design.Beginning.TheVariants as begin;
+ghost use Rattle.vhdl_units.specs.Marks.{AreMarks};
 ghost use Rattle.vhdl_units.specs.Standing.{IsStanding};
 
 use crate::ends::{beginning_at, begins_at, first_semicolon, owner_from};
@@ -10,7 +11,7 @@ use crate::regions::unit_end;
 use std::alloc::Global;
 use vr_base::{Beginning, NoMemory, Role, UnitKind};
 
-/// What stands at a place, with its last token.
+/// What begins at a token, with its last token.
 #[derive(Clone, Copy)]
 pub enum Standing {
     Item(usize),
@@ -21,16 +22,18 @@ pub enum Standing {
     Unended,
 }
 
-/// What stands behind a word that begins a unit without an owner.
+/// What begins after a word that begins a unit without an owner.
 fn plain_at(
     alloc: Global,
     roles: &[Role],
+    marks: &[u32],
     at: usize,
     begins: bool,
     kind: UnitKind,
 ) -> Result<Standing, NoMemory>
     requires within { at < length roles.now }
     requires begins { begins ≡ begins_generate roles.now at }
+    requires marks { AreMarks roles.now 0 marks.now }
     requires is { beginning_at roles.now at ≡ begin.Plain kind }
     ensures { IfOk result (IsStanding roles.now at) }
 {
@@ -39,10 +42,17 @@ fn plain_at(
         UnitKind::PackageBody => unit_end(
             alloc,
             roles,
+            marks,
             at + 4,
             begins_at(roles, at, at + 4, begins),
         )?,
-        _ => unit_end(alloc, roles, at + 3, begins_at(roles, at, at + 3, begins))?,
+        _ => unit_end(
+            alloc,
+            roles,
+            marks,
+            at + 3,
+            begins_at(roles, at, at + 3, begins),
+        )?,
     };
     match end {
         Some(last) => Ok(Standing::Plain(kind, last)),
@@ -50,16 +60,18 @@ fn plain_at(
     }
 }
 
-/// What stands behind a word that begins a unit with an owner.
+/// What begins after a word that begins a unit with an owner.
 fn owned_at(
     alloc: Global,
     roles: &[Role],
+    marks: &[u32],
     at: usize,
     begins: bool,
     kind: UnitKind,
 ) -> Result<Standing, NoMemory>
     requires within { at < length roles.now }
     requires begins { begins ≡ begins_generate roles.now at }
+    requires marks { AreMarks roles.now 0 marks.now }
     requires is { beginning_at roles.now at ≡ begin.Owned kind }
     ensures { IfOk result (IsStanding roles.now at) }
 {
@@ -67,21 +79,29 @@ fn owned_at(
         return Ok(Standing::NoUnit);
     };
     let start = at + 5 + 2 * before;
-    match unit_end(alloc, roles, start, begins_at(roles, at, start, begins))? {
+    match unit_end(
+        alloc,
+        roles,
+        marks,
+        start,
+        begins_at(roles, at, start, begins),
+    )? {
         Some(last) => Ok(Standing::Owned(kind, before, last)),
         None => Ok(Standing::Unended),
     }
 }
 
-/// What stands at a token of the file. `begins` says whether a `generate` there would open a region.
+/// What begins at a token of the file. `begins` says whether a `generate` there would open a region.
 pub fn stands_at(
     alloc: Global,
     roles: &[Role],
+    marks: &[u32],
     at: usize,
     begins: bool,
 ) -> Result<Standing, NoMemory>
     requires within { at < length roles.now }
     requires begins { begins ≡ begins_generate roles.now at }
+    requires marks { AreMarks roles.now 0 marks.now }
     ensures { IfOk result (IsStanding roles.now at) }
 {
     match beginning_at(roles, at) {
@@ -89,8 +109,8 @@ pub fn stands_at(
             Some(last) => Ok(Standing::Item(last)),
             None => Ok(Standing::Unended),
         },
-        Beginning::Plain(kind) => plain_at(alloc, roles, at, begins, kind),
-        Beginning::Owned(kind) => owned_at(alloc, roles, at, begins, kind),
+        Beginning::Plain(kind) => plain_at(alloc, roles, marks, at, begins, kind),
+        Beginning::Owned(kind) => owned_at(alloc, roles, marks, at, begins, kind),
         Beginning::Nothing => Ok(Standing::NoUnit),
     }
 }

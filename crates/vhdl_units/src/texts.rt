@@ -1,15 +1,16 @@
 //! The names of units, and units with them.
 
-ghost use Rattle.std.specs.Prelude.{◌≡◌, ◌+◌, ◌*◌, ◌<◌, ◌≤◌, [], ◌∷◌, length, IfOk};
+ghost use Rattle.std.specs.Prelude.{◌≡◌, ◌↔◌, IsTrue, ◌+◌, ◌*◌, ◌<◌, ◌≤◌, [], ◌∷◌, length, IfOk};
 ghost use Rattle.vr_base.specs.declared.lexical.Token.{Token};
-ghost use Rattle.scan_spec.specs.Units.{name_of, name_place, unit_of, plain, owned, token_at};
+ghost use Rattle.scan_spec.specs.Words.{lower_case};
+ghost use Rattle.scan_spec.specs.Units.{name_of, name_token, unit_of, plain, owned, token_at};
 ghost use Rattle.vhdl_units.specs.Lies.{AllLieIn};
 
 use std::alloc::Global;
-use vr_base::{MaybeText, NoMemory, Text, Token, TokenKind, Unit, UnitKind};
+use vr_base::{MaybeText, NoMemory, TEXT_LIMIT, Text, Token, TokenKind, Unit, UnitKind};
 
 /// The name that a token is: a word in lower case, an extended identifier as written.
-fn name_of(alloc: Global, text: &[u8], tokens: &[Token], at: usize) -> Result<Text, NoMemory>
+pub fn token_name(alloc: Global, text: &[u8], tokens: &[Token], at: usize) -> Result<Text, NoMemory>
     requires lie { AllLieIn text.now tokens.now }
     requires within { at < length tokens.now }
     ensures { IfOk result (λ name. name ≡ name_of text.now tokens.now at) }
@@ -24,10 +25,46 @@ fn name_of(alloc: Global, text: &[u8], tokens: &[Token], at: usize) -> Result<Te
     Ok(Text::from_vec(name))
 }
 
-/// The place of the name of a unit that begins at `at`.
-fn name_place(kind: UnitKind, at: usize) -> usize
-    requires { at < 4194304 }
-    ensures { result ≡ name_place kind at }
+/// Whether the bytes, in lower case, are these.
+fn is_lowered(bytes: &[u8], name: &[u8]) -> bool
+    ensures { IsTrue result ↔ (lower_case bytes.now ≡ name.now) }
+{
+    if bytes.len() != name.len() {
+        return false;
+    }
+    for i in 0..bytes.len() {
+        if bytes[i].to_ascii_lowercase() != name[i] {
+            return false;
+        }
+    }
+    true
+}
+
+/// Whether the bytes are these as they are.
+fn is_same(bytes: &[u8], name: &[u8]) -> bool
+    ensures { IsTrue result ↔ (bytes.now ≡ name.now) }
+{
+    bytes == name
+}
+
+/// Whether a token has this name.
+pub fn token_is_named(text: &[u8], tokens: &[Token], at: usize, name: &[u8]) -> bool
+    requires lie { AllLieIn text.now tokens.now }
+    requires within { at < length tokens.now }
+    ensures { IsTrue result ↔ (name_of text.now tokens.now at ≡ name.now) }
+{
+    let token = tokens[at];
+    let bytes = &text[token.start as usize..token.end as usize];
+    match token.kind {
+        TokenKind::Extended => is_same(bytes, name),
+        _ => is_lowered(bytes, name),
+    }
+}
+
+/// The token number of the name of a unit that begins at `at`.
+fn name_token(kind: UnitKind, at: usize) -> usize
+    requires { at < TEXT_LIMIT }
+    ensures { result ≡ name_token kind at }
 {
     match kind {
         UnitKind::PackageBody => at + 2,
@@ -49,10 +86,11 @@ pub fn plain_unit(
     requires lead { lead ≤ at }
     requires named { at + 2 < last }
     requires within { last < length tokens.now }
-    requires small { length tokens.now ≤ 4194304 }
-    ensures { IfOk result (λ unit. unit_of text.now tokens.now lead at (plain kind last) ≡ unit ∷ []) }
+    requires small { length tokens.now ≤ TEXT_LIMIT }
+    ensures { IfOk result (λ unit.
+        unit_of text.now tokens.now lead at (plain kind last) ≡ unit ∷ []) }
 {
-    let name = name_of(alloc, text, tokens, name_place(kind, at))?;
+    let name = token_name(alloc, text, tokens, name_token(kind, at))?;
     Ok(Unit {
         kind,
         name,
@@ -63,7 +101,7 @@ pub fn plain_unit(
     })
 }
 
-/// A unit with an owner, from `at` to `last`; `before` names stand before the last of the owner.
+/// A unit with an owner, from `at` to `last`; `before` names come before the last of the owner.
 pub fn owned_unit(
     alloc: Global,
     text: &[u8],
@@ -78,11 +116,12 @@ pub fn owned_unit(
     requires lead { lead ≤ at }
     requires named { at + 3 + 2 * before < last }
     requires within { last < length tokens.now }
-    requires small { length tokens.now ≤ 4194304 }
-    ensures { IfOk result (λ unit. unit_of text.now tokens.now lead at (owned kind before last) ≡ unit ∷ []) }
+    requires small { length tokens.now ≤ TEXT_LIMIT }
+    ensures { IfOk result (λ unit.
+        unit_of text.now tokens.now lead at (owned kind before last) ≡ unit ∷ []) }
 {
-    let name = name_of(alloc, text, tokens, name_place(kind, at))?;
-    let owner = name_of(alloc, text, tokens, at + 3 + 2 * before)?;
+    let name = token_name(alloc, text, tokens, name_token(kind, at))?;
+    let owner = token_name(alloc, text, tokens, at + 3 + 2 * before)?;
     Ok(Unit {
         kind,
         name,

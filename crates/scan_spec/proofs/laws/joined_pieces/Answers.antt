@@ -1,3 +1,4 @@
+-- Joined pieces are the text.
 use Rattle.scan_spec.proofs.Joined.{joined}
 use Rattle.scan_spec.proofs.laws.joined_pieces.Goals as goal
 

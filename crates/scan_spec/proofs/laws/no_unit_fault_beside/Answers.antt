@@ -1,3 +1,4 @@
+-- Tokens with an outline have no fault of the grammar.
 use Rattle.scan_spec.proofs.Files.{no_outline_and_fault}
 use Rattle.scan_spec.proofs.laws.no_unit_fault_beside.Goals as goal
 

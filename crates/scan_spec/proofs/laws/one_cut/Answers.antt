@@ -1,3 +1,4 @@
+-- Two cuts of a text are the same.
 use Rattle.scan_spec.proofs.Cut.{one_cut}
 use Rattle.scan_spec.proofs.laws.one_cut.Goals as goal
 

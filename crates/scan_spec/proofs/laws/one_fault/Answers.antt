@@ -1,3 +1,4 @@
+-- Two faults of a text are the same.
 use Rattle.scan_spec.proofs.Cut.{one_fault}
 use Rattle.scan_spec.proofs.laws.one_fault.Goals as goal
 

@@ -1,3 +1,4 @@
+-- Two outlines of tokens are the same.
 use Rattle.scan_spec.proofs.Files.{one_outline}
 use Rattle.scan_spec.proofs.laws.one_outline.Goals as goal
 

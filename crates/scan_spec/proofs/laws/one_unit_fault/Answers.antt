@@ -1,3 +1,4 @@
+-- Two faults of the grammar are the same.
 use Rattle.scan_spec.proofs.Files.{one_unit_fault}
 use Rattle.scan_spec.proofs.laws.one_unit_fault.Goals as goal
 

@@ -1,3 +1,4 @@
+-- The table of classes is right for bytes of numbers.
 use Rattle.vhdl_lex.proofs.Classes.{number_class}
 use Rattle.vhdl_lex.proofs.class.is_number_byte.Goals as goal
 

@@ -1,3 +1,4 @@
+-- The furthest end so far, and where the walk goes on.
 use Rattle.std.proofs.Common.{length, ◌-◌}
 use Rattle.vhdl_lex.proofs.Marked.{Walk}
 use Rattle.vhdl_lex.proofs.ends.marked_end.Given as goal

@@ -1,3 +1,4 @@
+-- A word with a number is reserved, and no other is.
 use Rattle.vhdl_lex.proofs.WordTable.{reserved_by_number}
 use Rattle.vhdl_lex.proofs.reserved.is_reserved.Goals as goal
 

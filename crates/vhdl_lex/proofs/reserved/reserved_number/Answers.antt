@@ -1,4 +1,5 @@
-use Rattle.std.proofs.Common.{◌≡◌, ◌↔◌, IsTrue, List, ℕ, ◌+◌, ◌-◌, ◌<◌, ◌≤◌, [], false, length, slice_index, sym, ◌∙◌, ap, subst, arith}
+-- The word at a place of the table is the only one that can be there.
+use Rattle.std.proofs.Common.{◌≡◌, ◌↔◌, IsTrue, List, ℕ, ◌+◌, ◌-◌, ◌<◌, length, slice_index, sym, ◌∙◌, ap, subst, arith}
 use Rattle.std.proofs.lemmas.Bool.{eqb-true}
 use Rattle.std.proofs.lemmas.List.{nil_from_length}
 use Rattle.scan_spec.specs.Words.{is_reserved, lower_case}

@@ -1,3 +1,4 @@
+-- The letters of a word are those of the definition.
 use Rattle.std.proofs.Common.{slice_range, ◌∙◌, arith}
 use Rattle.vhdl_lex.specs.declared.reserved.TheConstants.{LETTERS}
 use Rattle.vhdl_lex.proofs.WordTable.{starts_ordered, start_within, letters_are}

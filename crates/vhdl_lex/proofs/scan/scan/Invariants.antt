@@ -1,3 +1,4 @@
+-- The pieces that were read so far.
 use Rattle.std.proofs.Common.{length, ◌-◌}
 use Rattle.vhdl_lex.proofs.Steps.{Read}
 use Rattle.vhdl_lex.proofs.scan.scan.Given as goal

@@ -1,3 +1,4 @@
+-- What scanning gives is exact, since a text has one cut or one fault.
 use Rattle.vhdl_lex.proofs.Exact.{gives_tokens, gives_fault}
 use Rattle.vhdl_lex.proofs.scan.scan_tokens.Goals as goal
 

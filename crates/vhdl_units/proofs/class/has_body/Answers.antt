@@ -1,3 +1,4 @@
+-- Whether there is a body hangs on the next mark and the token after it.
 use Rattle.vhdl_units.proofs.Walks.{body_here, body_without_new, no_test, test_fails}
 use Rattle.vhdl_units.proofs.class.has_body.Goals as goal
 

@@ -1,3 +1,4 @@
+-- What a `generate` would open, token by token.
 use Rattle.std.proofs.Common.{◌≡◌, ◌-◌, ◌≤◌}
 use Rattle.scan_spec.specs.Units.{begins_generate}
 use Rattle.vhdl_units.proofs.ends.begins_at.Given as goal

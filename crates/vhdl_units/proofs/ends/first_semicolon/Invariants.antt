@@ -1,3 +1,4 @@
+-- No semicolon so far.
 use Rattle.std.proofs.Common.{◌≢◌, ℕ, ◌-◌, ◌<◌, ◌≤◌, length}
 use Rattle.vr_base.specs.declared.design.Role.TheVariants.{Semicolon}
 use Rattle.scan_spec.specs.Units.{role_at}

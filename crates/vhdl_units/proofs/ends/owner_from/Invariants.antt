@@ -1,3 +1,4 @@
+-- The names of an owner so far.
 use Rattle.std.proofs.Common.{◌-◌, length}
 use Rattle.vhdl_units.proofs.Walks.{OwnerSoFar}
 use Rattle.vhdl_units.proofs.ends.owner_from.Given as goal

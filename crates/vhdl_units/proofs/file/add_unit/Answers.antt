@@ -1,4 +1,4 @@
--- What stands at the token is added.
+-- What is at the token is added.
 use Rattle.std.proofs.Common.{refl, subst}
 use Rattle.scan_spec.specs.Units.{roles_of}
 use Rattle.vhdl_units.specs.Standing.{IsStanding}

@@ -1,3 +1,4 @@
+-- What outlining gives is exact, since a file has one outline or one fault.
 use Rattle.std.proofs.Common.{List, length, sym, ap, subst, arith}
 use Rattle.vr_base.specs.declared.lexical.Token.{Token}
 use Rattle.scan_spec.specs.Units.{Outlines}

@@ -1,4 +1,4 @@
--- Each element that stands at a token is one more element of the file.
+-- Each element that is at a token is one more element of the file.
 use Rattle.std.proofs.Common.{◌+◌, List, length, ◌∙◌, ap, arith}
 use Rattle.vr_base.specs.declared.design.Role.{Role}
 use Rattle.scan_spec.specs.Units.{begins_generate}

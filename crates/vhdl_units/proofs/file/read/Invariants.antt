@@ -1,3 +1,4 @@
+-- The elements that were read so far.
 use Rattle.std.proofs.Common.{◌≡◌, length, ◌-◌}
 use Rattle.scan_spec.specs.Units.{roles_of}
 use Rattle.vhdl_units.proofs.Adding.{Outlined}

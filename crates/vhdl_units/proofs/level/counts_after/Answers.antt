@@ -1,3 +1,4 @@
+-- The counts go up at a parenthesis and nowhere else.
 use Rattle.std.proofs.Common.{sym, ◌∙◌}
 use Rattle.vhdl_units.proofs.Counting.{opening_more, closing_more, other_more}
 use Rattle.vhdl_units.proofs.level.counts_after.Goals as goal

@@ -1,3 +1,4 @@
+-- A unit ends at the first semicolon after its close.
 use Rattle.std.proofs.Common.{subst}
 use Rattle.vhdl_units.specs.Parts.{IsCloseFrom}
 use Rattle.vhdl_units.proofs.Walks.{end_from}

@@ -1,3 +1,4 @@
+-- The role of a word is that of its number among the reserved words.
 use Rattle.std.proofs.Common.{◌≡◌, ◌≢◌, ◌-◌, ℕ, List, zero, suc, slice_index_or, refl, sym, ◌∙◌, ap, subst, arith}
 use Rattle.scan_spec.specs.Words.{lower_case}
 use Rattle.scan_spec.specs.Units.{word_role}

@@ -1,3 +1,4 @@
+-- A unit with an owner whose items have no end has no end.
 use Rattle.std.proofs.Common.{◌+◌, ◌*◌, subst}
 use Rattle.vhdl_units.specs.Parts.{IsEndFrom}
 use Rattle.vhdl_units.proofs.Walks.{owned_unended}

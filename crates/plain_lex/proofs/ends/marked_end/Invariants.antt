@@ -1,9 +1,0 @@
-use Rattle.std.proofs.Common.{length, ◌-◌}
-use Rattle.plain_lex.proofs.Marked.{Walk}
-use Rattle.plain_lex.proofs.ends.marked_end.Given as goal
-
-abbrev pub invariant-loop-close : goal.invariant-loop-close
-invariant-loop-close l = Walk l.mark l.text l.at l.close l.end
-
-abbrev pub decreases-loop-close : goal.decreases-loop-close
-decreases-loop-close l = length l.text - l.close

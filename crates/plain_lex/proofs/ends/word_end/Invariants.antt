@@ -1,9 +1,0 @@
-use Rattle.std.proofs.Common.{length, ◌-◌, ◌≤◌}
-use Rattle.scan_spec.specs.Tokens.{EachByte, is_word_byte}
-use Rattle.plain_lex.proofs.ends.word_end.Given as goal
-
-abbrev pub invariant-loop-end : goal.invariant-loop-end
-invariant-loop-end l = record { reaches : l.at ≤ l.end; within : l.end ≤ length l.text; each : EachByte is_word_byte l.text l.at l.end }
-
-abbrev pub decreases-loop-end : goal.decreases-loop-end
-decreases-loop-end l = length l.text - l.end

@@ -1,0 +1,2 @@
+-- The definitions that the calls for benches cite.
+pub mod Counts

@@ -1,0 +1,33 @@
+-- The next `is` or `;` of each depth of parentheses, found once for a whole file.
+use Rattle.std.specs.Prelude.{◌≡◌, ◌≢◌, ◌⊎◌, ℕ, ◌+◌, ◌<◌, ◌≤◌, List, length, take, drop, count_by, slice_index}
+use Rattle.vr_base.specs.declared.design.Role.{Role}
+use Rattle.vr_base.specs.declared.design.Role.TheVariants.{Is, Semicolon, Function, Procedure}
+use Rattle.scan_spec.specs.Units.{role_at, is_opening, is_closing}
+
+-- the parentheses that open before a token and those that close from it on: as many at two tokens of one depth, and never
+-- more than the file has tokens
+abbrev pub level_at : List Role → ℕ → ℕ
+level_at roles at = count_by is_opening (take at roles) + count_by is_closing (drop at roles)
+
+abbrev pub IsMark : Role → Type 0
+IsMark role = (role ≡ Is) ⊎ (role ≡ Semicolon)
+
+abbrev pub IsSubprogramWord : Role → Type 0
+IsSubprogramWord role = (role ≡ Function) ⊎ (role ≡ Procedure)
+
+-- the first `is` or `;` of a level from a token on, or the end of the file
+pub record IsFirstMark (roles : List Role) (from level mark : ℕ) : Type 0 where
+  pub after : from ≤ mark
+  pub within : mark ≤ length roles
+  pub none : (between : ℕ) → from ≤ between → between < mark → level_at roles between ≡ level → (role_at roles between ≢ Is) × (role_at roles between ≢ Semicolon)
+  pub there : mark < length roles → (level_at roles mark ≡ level) × IsMark (role_at roles mark)
+
+-- by level the first marks from a token on
+pub record AreNearest (roles : List Role) (from : ℕ) (nearest : List ℕ) : Type 0 where
+  pub entries : length nearest ≡ length roles + 1
+  pub first : (level : ℕ) → level ≤ length roles → IsFirstMark roles from level (slice_index nearest level)
+
+-- by token, for each subprogram's word from a token on, the first mark after it of its own level
+pub record AreMarks (roles : List Role) (from : ℕ) (marks : List ℕ) : Type 0 where
+  pub entries : length marks ≡ length roles
+  pub first : (at : ℕ) → from ≤ at → at < length roles → IsSubprogramWord (role_at roles at) → IsFirstMark roles (at + 1) (level_at roles at) (slice_index marks at)

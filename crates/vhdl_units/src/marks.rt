@@ -1,0 +1,55 @@
+//! For each subprogram's word of a file the next `is` or `;` of its own depth of parentheses.
+
+ghost use Rattle.std.specs.Prelude.{◌≡◌, ◌≤◌, ◌+◌, IfOk, count_by, length};
+ghost use Rattle.scan_spec.specs.Units.{is_opening};
+ghost use Rattle.vhdl_units.specs.Marks.{AreMarks, AreNearest};
+
+use crate::ends::role_at;
+use std::alloc::Global;
+use vr_base::{NoMemory, Role, TEXT_LIMIT};
+
+/// The number of opening parentheses.
+fn openings(roles: &[Role]) -> usize
+    ensures { result ≡ count_by is_opening roles.now }
+{
+    let mut count = 0;
+    for role in roles {
+        if *role == Role::Opening {
+            count += 1;
+        }
+    }
+    count
+}
+
+/// Goes from the right over the file, with the nearest mark of each level so far.
+fn fill(roles: &[Role], nearest: &mut [u32], marks: &mut [u32])
+    requires small { length roles.now ≤ TEXT_LIMIT }
+    requires nearest { AreNearest roles.now (length roles.now) nearest.old }
+    requires entries { length marks.old ≡ length roles.now }
+    ensures { AreMarks roles.now 0 marks.new }
+{
+    let mut level = openings(roles);
+    let mut at = roles.len();
+    while at > 0 {
+        at -= 1;
+        match role_at(roles, at) {
+            Role::Opening => level -= 1,
+            Role::Closing => level += 1,
+            Role::Is | Role::Semicolon => nearest[level] = at as u32,
+            Role::Function | Role::Procedure => marks[at] = nearest[level],
+            _ => {}
+        }
+    }
+}
+
+/// By token the next `is` or `;` of a subprogram's word, or the number of tokens where there is none. The time is in
+/// proportion to the number of tokens, however deep the parentheses go.
+pub fn marks_of(alloc: Global, roles: &[Role]) -> Result<Vec<u32>, NoMemory>
+    requires { length roles.now ≤ TEXT_LIMIT }
+    ensures { IfOk result (λ marks. AreMarks roles.now 0 marks.items) }
+{
+    let mut nearest = vec![in alloc; roles.len() as u32; roles.len() + 1]?;
+    let mut marks = vec![in alloc; 0; roles.len()]?;
+    fill(roles, &mut nearest, &mut marks);
+    Ok(marks)
+}

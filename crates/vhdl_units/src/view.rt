@@ -1,0 +1,36 @@
+//! What readers of a file's tokens ask: the role of each token, and the name of one.
+
+ghost use Rattle.std.specs.Prelude.{◌≡◌, ◌<◌, ◌↔◌, IsTrue, IfOk, length};
+ghost use Rattle.scan_spec.specs.Units.{AreTokensOf, name_of, roles_of};
+
+use crate::roles::token_roles;
+use crate::texts::{token_is_named, token_name};
+use std::alloc::Global;
+use vr_base::{Items, NoMemory, RoleList, Text, Tokens};
+
+/// The roles of a text's tokens, in order: one byte a token, made once for all who read the file.
+pub fn roles_of(alloc: Global, text: &[u8], tokens: &Tokens) -> Result<RoleList, NoMemory>
+    requires { AreTokensOf text.now tokens.now }
+    ensures { IfOk result (λ roles. roles ≡ roles_of text.now tokens.now.list) }
+{
+    let roles = token_roles(alloc, text, tokens.list.as_slice())?;
+    Ok(Items::from_vec(roles))
+}
+
+/// The name that a token is: a word in lower case, an extended identifier as written (IEEE Std 1076-2008, clause 15.4).
+pub fn name_of(alloc: Global, text: &[u8], tokens: &Tokens, at: usize) -> Result<Text, NoMemory>
+    requires tokens { AreTokensOf text.now tokens.now }
+    requires within { at < length tokens.now.list }
+    ensures { IfOk result (λ name. name ≡ name_of text.now tokens.now.list at) }
+{
+    token_name(alloc, text, tokens.list.as_slice(), at)
+}
+
+/// Whether a token has this name, as `run` or `runner_cfg`, of which no copy is made.
+pub fn is_named(text: &[u8], tokens: &Tokens, at: usize, name: &[u8]) -> bool
+    requires tokens { AreTokensOf text.now tokens.now }
+    requires within { at < length tokens.now.list }
+    ensures { IsTrue result ↔ (name_of text.now tokens.now.list at ≡ name.now) }
+{
+    token_is_named(text, tokens.list.as_slice(), at, name)
+}
