@@ -1,4 +1,4 @@
--- What a clean build gives at each place: what becomes of the file there, over all results.
+-- What a clean build gives at each position: what becomes of the file there, over all results.
 use Rattle.std.proofs.Common.{◌≡◌, ℕ, zero, suc, ◌+◌, ◌<◌, Bool, ◌&&◌, cond, List, [], ◌∷◌, ◌++◌, length, get_or, Option, Some, refl, sym, ap, ◌∙◌, arith}
 use Rattle.std.specs.Prelude.{All, slice_get, is_some}
 use Rattle.std.specs.List.{list_all, filter_map, cons_option}
@@ -48,11 +48,11 @@ module _ (answer : Request → Exit) where
   length-after results (entry ∷ entries) = omega (arith, length-after (results ++ next_result answer results entry ∷ []) entries, length-append results (next_result answer results entry ∷ []))
 
   -- the results so far stay
-  pub front_after : (results : List Result) (entries : List Entry) (k : ℕ) → k < length results → slice_get (results_after answer results entries) k ≡ slice_get results k
+  pub prefix_after : (results : List Result) (entries : List Entry) (k : ℕ) → k < length results → slice_get (results_after answer results entries) k ≡ slice_get results k
   unfolding results_after
-  front_after results [] k lt = refl
-  front_after results (entry ∷ entries) k lt =
-      front_after (results ++ next_result answer results entry ∷ []) entries k (omega (arith, length-append results (next_result answer results entry ∷ [])))
+  prefix_after results [] k lt = refl
+  prefix_after results (entry ∷ entries) k lt =
+      prefix_after (results ++ next_result answer results entry ∷ []) entries k (omega (arith, length-append results (next_result answer results entry ∷ [])))
       ∙ slice_get-push_other results (next_result answer results entry) k (λ e. omega arith)
 
   at_after : (results : List Result) (entries : List Entry) (k : ℕ) (entry : Entry) → slice_get entries k ≡ Some entry → All (λ dep. dep < length results + k) entry.deps
@@ -63,25 +63,25 @@ module _ (answer : Request → Exit) where
       let same : first ≡ entry = cc in
       let next : Result = next_result answer results first in
       let all : List Result = results_after answer (results ++ next ∷ []) rest in
-      let place : length results + 0 ≡ length results = omega arith in
-      ap (slice_get all) place
-      ∙ front_after (results ++ next ∷ []) rest (length results) (omega (arith, length-append results (next ∷ [])))
+      let position : length results + 0 ≡ length results = omega arith in
+      ap (slice_get all) position
+      ∙ prefix_after (results ++ next ∷ []) rest (length results) (omega (arith, length-append results (next ∷ [])))
       ∙ slice_get-pushed results next
       ∙ ap (λ (e : Entry). Some (next_result answer results e)) same
-      ∙ ap (λ (r : Result). Some r) (same_next results all entry (λ j l. sym (front_after results (first ∷ rest) (get_or entry.deps j 0) (omega (arith, low j 0 l)))))
+      ∙ ap (λ (r : Result). Some r) (same_next results all entry (λ j l. sym (prefix_after results (first ∷ rest) (get_or entry.deps j 0) (omega (arith, low j 0 l)))))
   at_after results (first ∷ rest) (suc k) entry found low =
       let next : Result = next_result answer results first in
       let all : List Result = results_after answer (results ++ next ∷ []) rest in
       let count : length (results ++ next ∷ []) ≡ length results + 1 = length-append results (next ∷ []) in
-      let place : length results + suc k ≡ length (results ++ next ∷ []) + k = omega arith in
-      ap (slice_get all) place ∙ at_after (results ++ next ∷ []) rest k entry found (λ j d l. omega (arith, low j d l))
+      let position : length results + suc k ≡ length (results ++ next ∷ []) + k = omega arith in
+      ap (slice_get all) position ∙ at_after (results ++ next ∷ []) rest k entry found (λ j d l. omega (arith, low j d l))
 
 pub length-clean : (answer : Request → Exit) (graph : List Entry) → length (clean_build answer graph) ≡ length graph
 length-clean answer graph = omega (arith, length-after answer [] graph)
 
--- what becomes of the file at a place, over all results
+-- what becomes of the file at a position, over all results
 pub clean_at : (answer : Request → Exit) (graph : List Entry) (at : ℕ) (entry : Entry) → slice_get graph at ≡ Some entry → All (λ dep. dep < at) entry.deps
     → slice_get (clean_build answer graph) at ≡ Some (next_result answer (clean_build answer graph) entry)
 clean_at answer graph at entry found low =
-    let place : at ≡ 0 + at = omega arith in
-    ap (slice_get (clean_build answer graph)) place ∙ at_after answer [] graph at entry found (λ j d l. omega (arith, low j d l))
+    let position : at ≡ 0 + at = omega arith in
+    ap (slice_get (clean_build answer graph)) position ∙ at_after answer [] graph at entry found (λ j d l. omega (arith, low j d l))

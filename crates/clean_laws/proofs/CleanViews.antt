@@ -1,4 +1,4 @@
--- A clean build of the view of a file gives what a clean build of the graph gives at the places of the view.
+-- A clean build of the view of a file gives what a clean build of the graph gives at the slots of the view.
 use Rattle.std.proofs.Common.{◌≡◌, ℕ, zero, suc, ◌<◌, Bool, List, map, [], ◌∷◌, length, get_or, Option, Some, refl, sym, ap, subst, ◌∙◌, arith}
 use Rattle.std.specs.Prelude.{Contains, slice_get, is_some}
 use Rattle.std.specs.List.{filter_map, cons_option}
@@ -20,15 +20,15 @@ pub filter_map-map : {X Y Z : Type 0} (f : Y → Option Z) (g : X → Y) (xs : L
 filter_map-map f g [] = refl
 filter_map-map f g (x ∷ xs) = ap (cons_option (f (g x))) (filter_map-map f g xs)
 
--- the items at these places, one after the other
-pub items_at : {X : Type 0} (all : List X) (places : List ℕ) (items : List X) → length items ≡ length places
-    → ((k : ℕ) → k < length places → slice_get items k ≡ slice_get all (get_or places k 0)) → items ≡ filter_map (slice_get all) places
+-- the items at these slots, one after the other
+pub items_at : {X : Type 0} (all : List X) (slots : List ℕ) (items : List X) → length items ≡ length slots
+    → ((k : ℕ) → k < length slots → slice_get items k ≡ slice_get all (get_or slots k 0)) → items ≡ filter_map (slice_get all) slots
 items_at all [] [] count h = refl
 items_at all [] (item ∷ items) count h = absurd (omega (arith, count))
-items_at all (place ∷ places) [] count h = absurd (omega (arith, count))
-items_at {X} all (place ∷ places) (item ∷ items) count h =
-    ap (λ (xs : List X). item ∷ xs) (items_at all places items (omega (arith, count)) (λ k l. h (suc k) (omega arith)))
-    ∙ sym (filter_map-cons (slice_get all) place places (Some item) (sym (h 0 (omega arith))))
+items_at all (slot ∷ slots) [] count h = absurd (omega (arith, count))
+items_at {X} all (slot ∷ slots) (item ∷ items) count h =
+    ap (λ (xs : List X). item ∷ xs) (items_at all slots items (omega (arith, count)) (λ k l. h (suc k) (omega arith)))
+    ∙ sym (filter_map-cons (slice_get all) slot slots (Some item) (sym (h 0 (omega arith))))
 
 -- a file whose dependencies have new numbers, where the results there are the same
 pub renumbered_next : (answer : Request → Exit) (a b : List Result) (positions : List ℕ) (entry : Entry)
@@ -52,7 +52,7 @@ module _ (answer : Request → Exit) (graph : List Entry) (valid : IsGraph graph
   is : IsPart graph positions
   is = viewed_is_part graph at valid lt
 
-  -- each place of the view has the result of the position that it is of
+  -- each slot of the view has the result of the position that it is of
   same_up_to : (n k : ℕ) → k < n → k < length positions → slice_get (clean_build answer (view graph at)) k ≡ slice_get (clean_build answer graph) (get_or positions k 0)
   same_up_to zero k low l = absurd (omega arith)
   same_up_to (suc n) k low l =
@@ -80,7 +80,7 @@ module _ (answer : Request → Exit) (graph : List Entry) (valid : IsGraph graph
       items_at (clean_build answer graph) positions (clean_build answer (view graph at)) (length-clean answer (view graph at) ∙ length-part graph positions is)
       (λ k l. same_up_to (suc k) k (omega arith) l)
 
--- a clean build of a view gives the results at the places of the view
+-- a clean build of a view gives the results at the slots of the view
 pub clean_view : (answer : Request → Exit) (graph : List Entry) → IsGraph graph → (at : ℕ) → at < length graph
     → clean_build answer (view graph at) ≡ filter_map (slice_get (clean_build answer graph)) (viewed graph at)
 clean_view answer graph valid at lt = view_of_clean answer graph valid at lt

@@ -1,11 +1,11 @@
 -- What has happened in a lawful journal is what a clean build says.
-use Rattle.std.proofs.Common.{◌≡◌, ℕ, zero, suc, ◌+◌, ◌<◌, ◌≤◌, Bool, true, false, eqb, List, [], ◌∷◌, length, get_or, Option, Some, None, refl, sym, ap, subst, ◌∙◌, arith, inl, inr}
+use Rattle.std.proofs.Common.{◌≡◌, ℕ, zero, suc, ◌+◌, ◌<◌, ◌≤◌, Bool, true, false, ◌&&◌, eqb, List, [], ◌∷◌, length, get_or, Option, Some, None, refl, sym, ap, subst, ◌∙◌, arith, inl, inr}
 use Rattle.std.specs.Prelude.{All, slice_get, is_some, is_none, unwrap_or}
 use Rattle.std.specs.Option.{option_and_then, option_map}
 use Rattle.std.specs.List.{list_all, list_any, filter_map}
 use Rattle.std.proofs.lemmas.Bool.{cases_Bool, cases_eq, eqb-true, cond-true, cond-false, and_parts, and_from, not-true}
 use Rattle.std.proofs.lemmas.List.Elements.{All-nil, All-head, All-tail, All-cons, All-append, All-push, All-weaker}
-use Rattle.std.proofs.lemmas.Option.{none-some, same_Some, slice_get_within, slice_get_cases, get_or_from_slice_get, cond_some}
+use Rattle.std.proofs.lemmas.Option.{none-some, same_Some, slice_get_within, slice_get_cases, get_or_from_slice_get}
 use Rattle.vr_base.specs.declared.graph.Entry.{Entry}
 use Rattle.vr_base.specs.declared.graph.BuiltFile.{BuiltFile}
 use Rattle.vr_base.specs.declared.child.Request.{Request}
@@ -15,25 +15,29 @@ use Rattle.vr_base.specs.declared.child.Event.TheVariants.{Started, Ended, Gone}
 use Rattle.vr_base.specs.Graphs.{IsGraph}
 use Rattle.vr_base.specs.Jobs.{compile_request}
 use Rattle.run_spec.specs.CleanBuild.{Result, Made, Refused, built_of, built_below, result_of, is_free, clean_build, clean_request, RecordsClean}
-use Rattle.run_spec.specs.ChildJournal.{Setting, Run, End, Book, empty_book, exit_at, artefact_of, or_else, made, deps_of, is_startable, first_from, next_start, built_file, request_at, run_of, others_of, end_of, after, after_all, Lawful, Answered}
+use Rattle.run_spec.specs.Moves.{is_startable, first_from, next_start}
+use Rattle.run_spec.specs.ChildJournal.{Setting, Run, End, Book, empty_book, exit_at, output_at, or_else, artefact_so_far, deps_of, job_of, core_of, next_position, built_file, request_at, run_of, end_of, after, after_all, book_of, Lawful, Answered}
+use Rattle.run_spec.proofs.Journal.{startable_is}
+use Rattle.run_spec.proofs.Steps.{Steps, run_found, All-others, steps_of}
 use Rattle.clean_laws.proofs.CleanPlaces.{clean_at, filter_map-same}
 
--- nothing is recorded of the file at a place, and all that it depends on is made in the clean build
-pub record IsDue (answer : Request → Exit) (setting : Setting) (place : ℕ) : Type 0 where
+-- nothing is recorded of the file at a position, and all that it depends on is made in the clean build
+pub record IsDue (answer : Request → Exit) (setting : Setting) (position : ℕ) : Type 0 where
   pub entry : Entry
-  pub stands : slice_get setting.graph place ≡ Some entry
-  pub stale : setting.recorded place ≡ None
+  pub is_entry : slice_get setting.graph position ≡ Some entry
+  pub stale : setting.recorded position ≡ None
   pub free : is_free (clean_build answer setting.graph) entry ≡ true
 
 -- a running child was started with what the clean build asks for its file
 pub record IsCleanRun (answer : Request → Exit) (setting : Setting) (run : Run) : Type 0 where
-  pub due : IsDue answer setting run.place
+  pub due : IsDue answer setting run.position
   pub asked : run.request ≡ compile_request due.entry (built_below (clean_build answer setting.graph) due.entry)
 
--- the exit of a child says of its file what the clean build does
+-- a child that has ended was started so too, and its exit says of its file what the clean build does
 pub record IsCleanEnd (answer : Request → Exit) (setting : Setting) (end : End) : Type 0 where
-  pub due : IsDue answer setting end.place
-  pub result : slice_get (clean_build answer setting.graph) end.place ≡ Some (result_of due.entry end.exit)
+  pub due : IsDue answer setting end.position
+  pub asked : end.request ≡ compile_request due.entry (built_below (clean_build answer setting.graph) due.entry)
+  pub result : slice_get (clean_build answer setting.graph) end.position ≡ Some (result_of due.entry end.exit)
 
 -- all that has happened so far is what the clean build says
 pub record IsCleanBook (answer : Request → Exit) (setting : Setting) (book : Book) : Type 0 where
@@ -55,38 +59,42 @@ pub none_value : {X : Type 0} (o : Option X) → is_none o ≡ true → o ≡ No
 none_value None h = refl
 none_value (Some x) h = let nothing : ⊥ = cc in absurd nothing
 
--- what is found at a place is of the list
-pub exit_found : (P : End → Type 0) (ends : List End) (place : ℕ) (exit : Exit) → exit_at ends place ≡ Some exit → All P ends → P (record { place = place; exit = exit })
+-- what is found at a position is of the list
+pub exit_found : (P : End → Type 0) (ends : List End) (position : ℕ) (exit : Exit) → exit_at ends position ≡ Some exit → All P ends → (request : Request) × P (record { position = position; request = request; exit = exit })
 unfolding exit_at
-exit_found P [] place exit h all = absurd (none-some exit h)
-exit_found P (end ∷ ends) place exit h all =
-    elim (cases_Bool (eqb end.place place)) [
+exit_found P [] position exit h all = absurd (none-some exit h)
+exit_found P (end ∷ ends) position exit h all =
+    elim (cases_Bool (eqb end.position position)) [
       | inl t ↦
-          let same : end.place ≡ place = eqb-true end.place place t in
-          let e : end.exit ≡ exit = same_Some end.exit exit (sym (cond-true (eqb end.place place) (Some end.exit) (exit_at ends place) t) ∙ h) in
-          let p : P (record { place = end.place; exit = end.exit }) = All-head P end ends all in
-          subst (λ (k : ℕ). P (record { place = k; exit = exit })) same (subst (λ (x : Exit). P (record { place = end.place; exit = x })) e p)
-      | inr f ↦ exit_found P ends place exit (sym (cond-false (eqb end.place place) (Some end.exit) (exit_at ends place) f) ∙ h) (All-tail P end ends all)
+          let same : end.position ≡ position = eqb-true end.position position t in
+          let e : end.exit ≡ exit = same_Some end.exit exit (sym (cond-true (eqb end.position position) (Some end.exit) (exit_at ends position) t) ∙ h) in
+          let p : P (record { position = end.position; request = end.request; exit = end.exit }) = All-head P end ends all in
+          (end.request, subst (λ (k : ℕ). P (record { position = k; request = end.request; exit = exit })) same (subst (λ (x : Exit). P (record { position = end.position; request = end.request; exit = x })) e p))
+      | inr f ↦ exit_found P ends position exit (sym (cond-false (eqb end.position position) (Some end.exit) (exit_at ends position) f) ∙ h) (All-tail P end ends all)
     ]
 
-pub run_found : (P : Run → Type 0) (runs : List Run) (ticket : ℕ) (run : Run) → run_of ticket runs ≡ Some run → All P runs → P run
-run_found P [] ticket run h all = absurd (none-some run h)
-run_found P (first ∷ runs) ticket run h all =
-    elim (cases_Bool (eqb first.ticket ticket)) [
-      | inl t ↦ subst P (same_Some first run (sym (cond-true (eqb first.ticket ticket) (Some first) (run_of ticket runs) t) ∙ h)) (All-head P first runs all)
-      | inr f ↦ run_found P runs ticket run (sym (cond-false (eqb first.ticket ticket) (Some first) (run_of ticket runs) f) ∙ h) (All-tail P first runs all)
+pub output_found : (P : End → Type 0) (ends : List End) (position : ℕ) (output : List ℕ) → output_at ends position ≡ Some output → All P ends →
+    (end : End) × P end × (end.position ≡ position) × (eqb end.exit.code 0 ≡ true) × (end.exit.output ≡ output)
+unfolding output_at
+output_found P [] position output h all = absurd (none-some output h)
+output_found P (end ∷ ends) position output h all =
+    elim (cases_Bool (eqb end.position position && eqb end.exit.code 0)) [
+      | inl t ↦
+          let parts = and_parts (eqb end.position position) (eqb end.exit.code 0) t in
+          let e : end.exit.output ≡ output = same_Some end.exit.output output (sym (cond-true (eqb end.position position && eqb end.exit.code 0) (Some end.exit.output) (output_at ends position) t) ∙ h) in
+          (end, All-head P end ends all, eqb-true end.position position parts.0, parts.1, e)
+      | inr f ↦ output_found P ends position output (sym (cond-false (eqb end.position position && eqb end.exit.code 0) (Some end.exit.output) (output_at ends position) f) ∙ h) (All-tail P end ends all)
     ]
 
-pub All-others : (P : Run → Type 0) (runs : List Run) (ticket : ℕ) → All P runs → All P (others_of ticket runs)
-All-others P [] ticket all = all
-All-others P (first ∷ runs) ticket all =
-    elim (cases_Bool (eqb first.ticket ticket)) [
-      | inl t ↦ subst (All P) (sym (cond-true (eqb first.ticket ticket) runs (first ∷ others_of ticket runs) t)) (All-tail P first runs all)
-      | inr f ↦ subst (All P) (sym (cond-false (eqb first.ticket ticket) runs (first ∷ others_of ticket runs) f))
-          (All-cons P first (others_of ticket runs) (All-head P first runs all) (All-others P runs ticket (All-tail P first runs all)))
-    ]
+-- what has no artefact isn't recorded
+pub not_recorded : (setting : Setting) (ends : List End) (position : ℕ) → artefact_so_far setting ends position ≡ None → setting.recorded position ≡ None
+unfolding artefact_so_far
+not_recorded setting ends position h = from (setting.recorded position) refl where
+  from : (recorded : Option (List ℕ)) → setting.recorded position ≡ recorded → recorded ≡ None
+  from None e = refl
+  from (Some artefact) e = absurd (none-some artefact (sym h ∙ ap (λ (o : Option (List ℕ)). or_else o (output_at ends position)) e))
 
--- the first place that passes: it passes, and none before it does
+-- the first position that passes: it passes, and none before it does
 pub first_at : (p : ℕ → Bool) (from n i : ℕ) → first_from p from n ≡ Some i → (from ≤ i) × (i < from + n) × (p i ≡ true) × ((k : ℕ) → from ≤ k → k < i → p k ≡ false)
 unfolding first_from
 first_at p from zero i h = absurd (none-some i h)
@@ -121,95 +129,94 @@ first_missing p from (suc n) h k a b =
     ]
 
 -- a file of a graph depends on earlier ones alone
-pub deps_before : (graph : List Entry) → IsGraph graph → (place : ℕ) (entry : Entry) → slice_get graph place ≡ Some entry → All (λ dep. dep < place) entry.deps
-deps_before graph is place entry at =
-    subst (λ (e : Entry). All (λ dep. dep < place) e.deps) (get_or_from_slice_get graph place entry entry at) (is.each place entry (slice_get_within graph place entry at)).before
+pub deps_before : (graph : List Entry) → IsGraph graph → (position : ℕ) (entry : Entry) → slice_get graph position ≡ Some entry → All (λ dep. dep < position) entry.deps
+deps_before graph is position entry at =
+    subst (λ (e : Entry). All (λ dep. dep < position) e.deps) (get_or_from_slice_get graph position entry entry at) (is.each position entry (slice_get_within graph position entry at)).before
 
-pub found_deps_before : (graph : List Entry) → IsGraph graph → (place : ℕ) → All (λ dep. dep < place) (deps_of (slice_get graph place))
-found_deps_before graph is place = from (slice_get graph place) refl where
-  from : (here : Option Entry) → slice_get graph place ≡ here → All (λ dep. dep < place) (deps_of here)
-  from None at = All-nil (λ dep. dep < place)
-  from (Some entry) at = deps_before graph is place entry at
+pub found_deps_before : (graph : List Entry) → IsGraph graph → (position : ℕ) → All (λ dep. dep < position) (deps_of (slice_get graph position))
+found_deps_before graph is position = from (slice_get graph position) refl where
+  from : (here : Option Entry) → slice_get graph position ≡ here → All (λ dep. dep < position) (deps_of here)
+  from None at = All-nil (λ dep. dep < position)
+  from (Some entry) at = deps_before graph is position entry at
 
 -- a file that may be started
-pub startable_parts : (setting : Setting) (book : Book) (place : ℕ) → is_startable setting book place ≡ true →
-    (list_any (λ other. eqb other place) book.taken ≡ false) × (setting.recorded place ≡ None) × (list_all (λ dep. is_some (made setting book dep)) (deps_of (slice_get setting.graph place)) ≡ true)
-unfolding is_startable
-startable_parts setting book place h =
-    let all = and_parts _ _ h in
+pub startable_parts : (setting : Setting) (book : Book) (position : ℕ) → is_startable (job_of setting) (core_of book) position ≡ true →
+    (list_any (λ other. eqb other position) book.taken ≡ false) × (setting.recorded position ≡ None) × (list_all (λ dep. is_some (artefact_so_far setting book.ends dep)) (deps_of (slice_get setting.graph position)) ≡ true)
+startable_parts setting book position h =
+    let all = and_parts _ _ (sym (startable_is setting book position) ∙ h) in
     let two = and_parts _ _ all.0 in
-    (not-true _ two.0, none_value _ two.1, all.1)
+    (not-true _ two.0, not_recorded setting book.ends position (none_value _ two.1), all.1)
 
--- the least place of a file that may be started
-pub next_parts : (setting : Setting) (book : Book) (place : ℕ) → next_start setting book ≡ Some place →
-    (place < length setting.graph) × (is_startable setting book place ≡ true) × ((k : ℕ) → k < place → is_startable setting book k ≡ false)
+-- the least position of a file that may be started
+pub next_parts : (setting : Setting) (book : Book) (position : ℕ) → next_position setting book ≡ Some position →
+    (position < length setting.graph) × (is_startable (job_of setting) (core_of book) position ≡ true) × ((k : ℕ) → k < position → is_startable (job_of setting) (core_of book) k ≡ false)
 unfolding next_start
-next_parts setting book place h =
-    let found = first_at (is_startable setting book) 0 (length setting.graph) place h in
+next_parts setting book position h =
+    let found = first_at (is_startable (job_of setting) (core_of book)) 0 (length setting.graph) position h in
     (omega (arith, found.1), found.2, λ k l. found.3 k (omega arith) l)
 
-pub next_missing : (setting : Setting) (book : Book) → next_start setting book ≡ None → (k : ℕ) → k < length setting.graph → is_startable setting book k ≡ false
+pub next_missing : (setting : Setting) (book : Book) → next_position setting book ≡ None → (k : ℕ) → k < length setting.graph → is_startable (job_of setting) (core_of book) k ≡ false
 unfolding next_start
-next_missing setting book h k l = first_missing (is_startable setting book) 0 (length setting.graph) h k (omega arith) (omega arith)
+next_missing setting book h k l = first_missing (is_startable (job_of setting) (core_of book)) 0 (length setting.graph) h k (omega arith) (omega arith)
 
-pub clean_due : (answer : Request → Exit) (setting : Setting) (place : ℕ) (due : IsDue answer setting place) →
-    clean_request answer setting.graph place ≡ Some (compile_request due.entry (built_below (clean_build answer setting.graph) due.entry))
-clean_due answer setting place due = rw (due.stands, due.free) refl
+pub clean_due : (answer : Request → Exit) (setting : Setting) (position : ℕ) (due : IsDue answer setting position) →
+    clean_request answer setting.graph position ≡ Some (compile_request due.entry (built_below (clean_build answer setting.graph) due.entry))
+clean_due answer setting position due = rw (due.is_entry, due.free) refl
 
 -- a running child was started with what the clean build asks
-pub run_asked : (answer : Request → Exit) (setting : Setting) (run : Run) → IsCleanRun answer setting run → clean_request answer setting.graph run.place ≡ Some run.request
-run_asked answer setting run is = clean_due answer setting run.place is.due ∙ ap (λ (r : Request). Some r) (sym is.asked)
+pub run_asked : (answer : Request → Exit) (setting : Setting) (run : Run) → IsCleanRun answer setting run → clean_request answer setting.graph run.position ≡ Some run.request
+run_asked answer setting run is = clean_due answer setting run.position is.due ∙ ap (λ (r : Request). Some r) (sym is.asked)
 
 -- what the clean build says of a file that is due
-pub result_due : (answer : Request → Exit) (setting : Setting) → IsGraph setting.graph → (place : ℕ) (due : IsDue answer setting place) →
-    slice_get (clean_build answer setting.graph) place ≡ Some (result_of due.entry (answer (compile_request due.entry (built_below (clean_build answer setting.graph) due.entry))))
-result_due answer setting graph place due =
-    clean_at answer setting.graph place due.entry due.stands (deps_before setting.graph graph place due.entry due.stands) ∙ ap (λ (r : Result). Some r) (cond-true _ _ _ due.free)
+pub result_due : (answer : Request → Exit) (setting : Setting) → IsGraph setting.graph → (position : ℕ) (due : IsDue answer setting position) →
+    slice_get (clean_build answer setting.graph) position ≡ Some (result_of due.entry (answer (compile_request due.entry (built_below (clean_build answer setting.graph) due.entry))))
+result_due answer setting graph position due =
+    clean_at answer setting.graph position due.entry due.is_entry (deps_before setting.graph graph position due.entry due.is_entry) ∙ ap (λ (r : Result). Some r) (cond-true _ _ _ due.free)
 
 module _ (answer : Request → Exit) (setting : Setting) (graph : IsGraph setting.graph) (clean : RecordsClean answer setting.graph setting.recorded) where
   module _ (book : Book) (is : IsCleanBook answer setting book) where
-    ended_clean : (k : ℕ) (entry : Entry) (artefact : List ℕ) (exit : Option Exit) → slice_get setting.graph k ≡ Some entry → exit_at book.ends k ≡ exit →
-        option_and_then artefact_of exit ≡ Some artefact →
+    ended_clean : (k : ℕ) (entry : Entry) (artefact : List ℕ) → slice_get setting.graph k ≡ Some entry → output_at book.ends k ≡ Some artefact →
         slice_get (clean_build answer setting.graph) k ≡ Some (Made (record { name = entry.name; artefact = artefact }))
-    ended_clean k entry artefact None at e h = absurd (none-some artefact h)
-    ended_clean k entry artefact (Some exit) at e h =
-        let end : IsCleanEnd answer setting (record { place = k; exit = exit }) = exit_found (IsCleanEnd answer setting) book.ends k exit e is.ends in
-        let same : end.due.entry ≡ entry = same_Some end.due.entry entry (sym end.due.stands ∙ at) in
-        let parts = cond_some (eqb exit.code 0) exit.output artefact h in
-        end.result
-        ∙ ap (λ (file : Entry). Some (result_of file exit)) same
-        ∙ ap (λ (r : Result). Some r) (cond-true (eqb exit.code 0) (Made (record { name = entry.name; artefact = exit.output })) (Refused exit.code exit.output) parts.0)
-        ∙ ap (λ (bytes : List ℕ). Some (Made (record { name = entry.name; artefact = bytes }))) parts.1
+    ended_clean k entry artefact at h =
+        let found = output_found (IsCleanEnd answer setting) book.ends k artefact h is.ends in
+        let end : End = found.0 in
+        let here : slice_get setting.graph k ≡ Some found.1.due.entry = subst (λ (p : ℕ). slice_get setting.graph p ≡ Some found.1.due.entry) found.2 found.1.due.is_entry in
+        let same : found.1.due.entry ≡ entry = same_Some found.1.due.entry entry (sym here ∙ at) in
+        ap (slice_get (clean_build answer setting.graph)) (sym found.2)
+        ∙ found.1.result
+        ∙ ap (λ (file : Entry). Some (result_of file end.exit)) same
+        ∙ ap (λ (r : Result). Some r) (cond-true (eqb end.exit.code 0) (Made (record { name = entry.name; artefact = end.exit.output })) (Refused end.exit.code end.exit.output) found.3)
+        ∙ ap (λ (bytes : List ℕ). Some (Made (record { name = entry.name; artefact = bytes }))) found.4
 
     made_from : (k : ℕ) (entry : Entry) (artefact : List ℕ) (recorded : Option (List ℕ)) → slice_get setting.graph k ≡ Some entry → setting.recorded k ≡ recorded →
-        or_else recorded (option_and_then artefact_of (exit_at book.ends k)) ≡ Some artefact →
+        or_else recorded (output_at book.ends k) ≡ Some artefact →
         slice_get (clean_build answer setting.graph) k ≡ Some (Made (record { name = entry.name; artefact = artefact }))
     made_from k entry artefact (Some bytes) at e h = clean k artefact entry (e ∙ h) at
-    made_from k entry artefact None at e h = ended_clean k entry artefact (exit_at book.ends k) at refl h
+    made_from k entry artefact None at e h = ended_clean k entry artefact at h
 
     -- what is made is what the clean build makes
-    pub made_clean : (k : ℕ) (entry : Entry) (artefact : List ℕ) → slice_get setting.graph k ≡ Some entry → made setting book k ≡ Some artefact →
+    pub made_clean : (k : ℕ) (entry : Entry) (artefact : List ℕ) → slice_get setting.graph k ≡ Some entry → artefact_so_far setting book.ends k ≡ Some artefact →
         slice_get (clean_build answer setting.graph) k ≡ Some (Made (record { name = entry.name; artefact = artefact }))
-    unfolding made
+    unfolding artefact_so_far
     made_clean k entry artefact at h = made_from k entry artefact (setting.recorded k) at refl h
 
-    -- the file at a place by now, and that of the clean build
+    -- the file at a position by now, and that of the clean build
     abbrev by_now : ℕ → Option BuiltFile
-    by_now dep = built_file (slice_get setting.graph dep) (made setting book dep)
+    by_now dep = built_file (slice_get setting.graph dep) (artefact_so_far setting book.ends dep)
 
     abbrev by_clean : ℕ → Option BuiltFile
     by_clean dep = built_of (slice_get (clean_build answer setting.graph) dep)
 
-    file_clean : (dep : ℕ) → dep < length setting.graph → is_some (made setting book dep) ≡ true → (is_some (by_clean dep) ≡ true) × (by_now dep ≡ by_clean dep)
+    file_clean : (dep : ℕ) → dep < length setting.graph → is_some (artefact_so_far setting book.ends dep) ≡ true → (is_some (by_clean dep) ≡ true) × (by_now dep ≡ by_clean dep)
     file_clean dep lt h =
-        let some = some_value (made setting book dep) h in
+        let some = some_value (artefact_so_far setting book.ends dep) h in
         elim (slice_get_cases setting.graph dep).1 [
           | inl here ↦ let at = made_clean dep here.0 some.0 here.2 some.1 in (ap (λ (r : Option Result). is_some (built_of r)) at, rw (here.2, some.1, at) refl)
           | inr past ↦ absurd (omega (arith, past.0))
         ]
 
     -- all that is made of some files is what the clean build makes of them
-    all_clean : (deps : List ℕ) → All (λ dep. dep < length setting.graph) deps → list_all (λ dep. is_some (made setting book dep)) deps ≡ true →
+    all_clean : (deps : List ℕ) → All (λ dep. dep < length setting.graph) deps → list_all (λ dep. is_some (artefact_so_far setting book.ends dep)) deps ≡ true →
         (list_all (λ dep. is_some (by_clean dep)) deps ≡ true) × ((k : ℕ) → k < length deps → by_now (get_or deps k 0) ≡ by_clean (get_or deps k 0))
     all_clean [] low h = (refl, λ k l. absurd (omega arith))
     all_clean (dep ∷ deps) low h =
@@ -222,56 +229,56 @@ module _ (answer : Request → Exit) (setting : Setting) (graph : IsGraph settin
           at here rest zero l = here
           at here rest (suc k) l = rest k (omega arith)
 
-    low_deps : (place : ℕ) → place < length setting.graph → (deps : List ℕ) → All (λ dep. dep < place) deps → All (λ dep. dep < length setting.graph) deps
-    low_deps place lt deps low = All-weaker (λ dep. dep < place) (λ dep. dep < length setting.graph) (λ dep l. omega arith) deps low
+    low_deps : (position : ℕ) → position < length setting.graph → (deps : List ℕ) → All (λ dep. dep < position) deps → All (λ dep. dep < length setting.graph) deps
+    low_deps position lt deps low = All-weaker (λ dep. dep < position) (λ dep. dep < length setting.graph) (λ dep l. omega arith) deps low
 
     -- a file that may be started is due, and is started with what the clean build asks
-    pub startable_due : (place : ℕ) → place < length setting.graph → is_startable setting book place ≡ true →
-        (due : IsDue answer setting place) × (request_at setting book place ≡ Some (compile_request due.entry (built_below (clean_build answer setting.graph) due.entry)))
+    pub startable_due : (position : ℕ) → position < length setting.graph → is_startable (job_of setting) (core_of book) position ≡ true →
+        (due : IsDue answer setting position) × (request_at setting book.ends position ≡ Some (compile_request due.entry (built_below (clean_build answer setting.graph) due.entry)))
     unfolding request_at
-    startable_due place lt h =
-        let parts = startable_parts setting book place h in
-        elim (slice_get_cases setting.graph place).1 [
+    startable_due position lt h =
+        let parts = startable_parts setting book position h in
+        elim (slice_get_cases setting.graph position).1 [
           | inl here ↦
               let entry : Entry = here.0 in
               let deps : List ℕ = entry.deps in
-              let all : list_all (λ dep. is_some (made setting book dep)) deps ≡ true =
-              subst (λ (e : Option Entry). list_all (λ dep. is_some (made setting book dep)) (deps_of e) ≡ true) here.2 parts.2 in
-              let files = all_clean deps (low_deps place lt deps (deps_before setting.graph graph place entry here.2)) all in
+              let all : list_all (λ dep. is_some (artefact_so_far setting book.ends dep)) deps ≡ true =
+              subst (λ (e : Option Entry). list_all (λ dep. is_some (artefact_so_far setting book.ends dep)) (deps_of e) ≡ true) here.2 parts.2 in
+              let files = all_clean deps (low_deps position lt deps (deps_before setting.graph graph position entry here.2)) all in
               let same : filter_map by_now deps ≡ built_below (clean_build answer setting.graph) entry =
               filter_map-same by_now by_clean deps 0 files.1 in (
-                record { entry = entry; stands = here.2; stale = parts.1; free = files.0 },
+                record { entry = entry; is_entry = here.2; stale = parts.1; free = files.0 },
                 rw here.2 (ap (λ (built : List BuiltFile). Some (compile_request entry built)) same),
               )
           | inr past ↦ absurd (omega (arith, past.0))
         ]
 
-    least_from : (next : Option ℕ) → next_start setting book ≡ next → option_and_then (request_at setting book) next ≡ option_and_then (clean_request answer setting.graph) next
+    least_from : (next : Option ℕ) → next_position setting book ≡ next → option_and_then (request_at setting book.ends) next ≡ option_and_then (clean_request answer setting.graph) next
     least_from None e = refl
-    least_from (Some place) e =
-        let parts = next_parts setting book place e in
-        let start = startable_due place parts.0 parts.1 in
-        start.1 ∙ sym (clean_due answer setting place start.0)
+    least_from (Some position) e =
+        let parts = next_parts setting book position e in
+        let start = startable_due position parts.0 parts.1 in
+        start.1 ∙ sym (clean_due answer setting position start.0)
 
     -- the next start asks what the clean build asks of its file
-    pub least_clean : option_and_then (request_at setting book) (next_start setting book) ≡ option_and_then (clean_request answer setting.graph) (next_start setting book)
-    least_clean = least_from (next_start setting book) refl
+    pub least_clean : option_and_then (request_at setting book.ends) (next_position setting book) ≡ option_and_then (clean_request answer setting.graph) (next_position setting book)
+    least_clean = least_from (next_position setting book) refl
 
-    start_from : (ticket : ℕ) (request : Request) (next : Option ℕ) → next_start setting book ≡ next → option_and_then (request_at setting book) next ≡ Some request →
-        IsCleanRun answer setting (record { ticket = ticket; place = unwrap_or next 0; request = request })
+    start_from : (ticket : ℕ) (request : Request) (next : Option ℕ) → next_position setting book ≡ next → option_and_then (request_at setting book.ends) next ≡ Some request →
+        IsCleanRun answer setting (record { ticket = ticket; position = unwrap_or next 0; request = request })
     start_from ticket request None e h = absurd (none-some request h)
-    start_from ticket request (Some place) e h =
-        let parts = next_parts setting book place e in
-        let start = startable_due place parts.0 parts.1 in
+    start_from ticket request (Some position) e h =
+        let parts = next_parts setting book position e in
+        let start = startable_due position parts.0 parts.1 in
         record { due = start.0; asked = same_Some request (compile_request start.0.entry (built_below (clean_build answer setting.graph) start.0.entry)) (sym h ∙ start.1) }
 
     -- a start keeps it
-    pub started_clean : (ticket : ℕ) (request : Request) → option_and_then (request_at setting book) (next_start setting book) ≡ Some request →
+    pub started_clean : (ticket : ℕ) (request : Request) → option_and_then (request_at setting book.ends) (next_position setting book) ≡ Some request →
         IsCleanBook answer setting (after setting book (Started ticket request))
     unfolding after
     started_clean ticket request h = record {
-      runs = All-push (IsCleanRun answer setting) book.runs (record { ticket = ticket; place = unwrap_or (next_start setting book) 0; request = request }) is.runs
-          (start_from ticket request (next_start setting book) refl h);
+      runs = All-push (IsCleanRun answer setting) book.runs (record { ticket = ticket; position = unwrap_or (next_position setting book) 0; request = request }) is.runs
+          (start_from ticket request (next_position setting book) refl h);
       ends = is.ends;
     }
 
@@ -280,14 +287,15 @@ module _ (answer : Request → Exit) (setting : Setting) (graph : IsGraph settin
     end_from ticket exit None e h = absurd (none-some exit h)
     end_from ticket exit (Some run) e h =
         let here : IsCleanRun answer setting run = run_found (IsCleanRun answer setting) book.runs ticket run e is.runs in
-        let end : IsCleanEnd answer setting (record { place = run.place; exit = exit }) = record {
+        let end : IsCleanEnd answer setting (record { position = run.position; request = run.request; exit = exit }) = record {
           due = here.due;
+          asked = here.asked;
           result =
-              result_due answer setting graph run.place here.due
+              result_due answer setting graph run.position here.due
               ∙ ap (λ (request : Request). Some (result_of here.due.entry (answer request))) (sym here.asked)
               ∙ ap (λ (x : Exit). Some (result_of here.due.entry x)) (same_Some (answer run.request) exit h);
         } in
-        All-cons (IsCleanEnd answer setting) (record { place = run.place; exit = exit }) [] end (All-nil (IsCleanEnd answer setting))
+        All-cons (IsCleanEnd answer setting) (record { position = run.position; request = run.request; exit = exit }) [] end (All-nil (IsCleanEnd answer setting))
 
     -- an end that is the answer keeps it
     pub ended_clean_book : (ticket : ℕ) (exit : Exit) → option_map (λ run. answer run.request) (run_of ticket book.runs) ≡ Some exit →
@@ -304,19 +312,17 @@ module _ (answer : Request → Exit) (setting : Setting) (graph : IsGraph settin
     gone_clean ticket = record { runs = All-others (IsCleanRun answer setting) book.runs ticket is.runs; ends = is.ends }
 
   -- lawful events whose ends are answers keep it
-  pub clean_after : (book : Book) → IsCleanBook answer setting book → (events : List Event) → Lawful setting book events → Answered answer setting book events →
-      IsCleanBook answer setting (after_all setting book events)
-  unfolding after_all Lawful Answered
-  clean_after book is [] lawful answered = is
-  clean_after book is (Started ticket request ∷ events) lawful answered =
-      clean_after (after setting book (Started ticket request)) (started_clean book is ticket request lawful.0.least) events lawful.1 answered
-  clean_after book is (Ended ticket exit ∷ events) lawful answered = clean_after (after setting book (Ended ticket exit)) (ended_clean_book book is ticket exit answered.0) events lawful answered.1
-  clean_after book is (Gone ticket ∷ events) lawful answered = clean_after (after setting book (Gone ticket)) (gone_clean book is ticket) events lawful answered
+  pub clean_after : (book : Book) → IsCleanBook answer setting book → (events : List Event) → Steps answer setting book events → IsCleanBook answer setting (after_all setting book events)
+  unfolding after_all Steps
+  clean_after book is [] steps = is
+  clean_after book is (Started ticket request ∷ events) steps = clean_after (after setting book (Started ticket request)) (started_clean book is ticket request steps.0.least) events steps.1
+  clean_after book is (Ended ticket exit ∷ events) steps = clean_after (after setting book (Ended ticket exit)) (ended_clean_book book is ticket exit steps.0) events steps.1
+  clean_after book is (Gone ticket ∷ events) steps = clean_after (after setting book (Gone ticket)) (gone_clean book is ticket) events steps
 
   -- at first nothing has happened
   pub clean_at_first : IsCleanBook answer setting empty_book
   clean_at_first = record { runs = All-nil (IsCleanRun answer setting); ends = All-nil (IsCleanEnd answer setting) }
 
   -- all that has happened in a lawful journal is what the clean build says
-  pub clean_book : (events : List Event) → Lawful setting empty_book events → Answered answer setting empty_book events → IsCleanBook answer setting (after_all setting empty_book events)
-  clean_book events lawful answered = clean_after empty_book clean_at_first events lawful answered
+  pub clean_book : (events : List Event) → Lawful setting events → Answered answer events → IsCleanBook answer setting (book_of setting events)
+  clean_book events lawful answered = clean_after empty_book clean_at_first events (steps_of answer setting events lawful answered)

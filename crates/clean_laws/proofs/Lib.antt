@@ -1,3 +1,4 @@
+-- The lemmas.
 pub mod CleanPlaces
 pub mod CleanViews
 pub mod TrueRecords

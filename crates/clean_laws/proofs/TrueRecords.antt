@@ -17,7 +17,7 @@ use Rattle.vr_base.specs.Jobs.{compile_request}
 use Rattle.vr_base.specs.Names.{is_same_name}
 use Rattle.vr_base.specs.View.{view}
 use Rattle.vr_outside.specs.declared.records.Record.{Record}
-use Rattle.vr_outside.specs.Records.{last_of, is_of, latest, is_replaced, latest_alone}
+use Rattle.vr_outside.specs.Records.{last_entry, is_of, latest, is_replaced, latest_alone}
 use Rattle.run_spec.specs.CleanBuild.{Result, Made, Refused, Blocked, built_of, built_below, result_of, is_free, next_result, clean_build, RecordsClean}
 use Rattle.run_spec.specs.Faithful.{IsTrueRecord}
 use Rattle.run_spec.specs.Recorded.{recorded_at}
@@ -95,9 +95,9 @@ module _ (answer : Request → Exit) (graph : List Entry) (valid : IsGraph graph
       → slice_get (clean_build answer graph) at ≡ Some (Made (record { name = entry.name; artefact = artefact }))
   made_of_true holds =
       let file : BuiltFile = record { name = holds.name; artefact = artefact } in
-      let ends : filter_map (slice_get (clean_build answer graph)) entry.deps ++ next ∷ [] ≡ map Made holds.front ++ Made file ∷ [] =
-      sym (view_ends answer graph valid at entry next found here) ∙ holds.all_made ∙ map-append Made holds.front (file ∷ []) in
-      let made : next ≡ Made file = last_one (filter_map (slice_get (clean_build answer graph)) entry.deps) (map Made holds.front) next (Made file) ends in
+      let ends : filter_map (slice_get (clean_build answer graph)) entry.deps ++ next ∷ [] ≡ map Made holds.prefix ++ Made file ∷ [] =
+      sym (view_ends answer graph valid at entry next found here) ∙ holds.all_made ∙ map-append Made holds.prefix (file ∷ []) in
+      let made : next ≡ Made file = last_one (filter_map (slice_get (clean_build answer graph)) entry.deps) (map Made holds.prefix) next (Made file) ends in
       let name : holds.name ≡ entry.name = next_name entry (answer (compile_request entry (built_below (clean_build answer graph) entry))) (is_free (clean_build answer graph) entry) file made in
       here ∙ ap (λ (r : Result). Some r) made ∙ ap (λ (n : FileName). Some (Made (record { name = n; artefact = artefact }))) name
 
@@ -105,11 +105,11 @@ module _ (answer : Request → Exit) (graph : List Entry) (valid : IsGraph graph
 pub records_clean : (answer : Request → Exit) (latest_of : FileName → Option Record) (graph : List Entry) → IsGraph graph
     → ((name : FileName) (kept : Record) → latest_of name ≡ Some kept → IsTrueRecord answer kept)
     → RecordsClean answer graph (recorded_at latest_of graph)
-records_clean answer latest_of graph valid holds place artefact entry recorded found =
-    let of_record = record_of_recorded latest_of graph place artefact recorded in
-    let is : latest_of of_record.0.entry.name ≡ Some (record { view = view graph place; artefact = artefact }) =
-    of_record.0.is ∙ ap (λ (bytes : List ℕ). Some (record { view = view graph place; artefact = bytes })) of_record.1 in
-    made_of_true answer graph valid place artefact entry found (holds of_record.0.entry.name (record { view = view graph place; artefact = artefact }) is)
+records_clean answer latest_of graph valid holds position artefact entry recorded found =
+    let of_record = record_of_recorded latest_of graph position artefact recorded in
+    let is : latest_of of_record.0.entry.name ≡ Some (record { view = view graph position; artefact = artefact }) =
+    of_record.0.is ∙ ap (λ (bytes : List ℕ). Some (record { view = view graph position; artefact = bytes })) of_record.1 in
+    made_of_true answer graph valid position artefact entry found (holds of_record.0.entry.name (record { view = view graph position; artefact = artefact }) is)
 
 -- what a clean build makes of a file is a true record of its view
 pub true_record : (answer : Request → Exit) (graph : List Entry) → IsGraph graph → (at : ℕ) (entry : Entry) (artefact : List ℕ)
@@ -117,13 +117,13 @@ pub true_record : (answer : Request → Exit) (graph : List Entry) → IsGraph g
     → slice_get (clean_build answer graph) at ≡ Some (Made (record { name = entry.name; artefact = artefact })) → IsTrueRecord answer (record { view = view graph at; artefact = artefact })
 true_record answer graph valid at entry artefact found free made =
     let file : BuiltFile = record { name = entry.name; artefact = artefact } in
-    let front : List BuiltFile = built_below (clean_build answer graph) entry in
+    let prefix : List BuiltFile = built_below (clean_build answer graph) entry in
     record {
-      front = front;
+      prefix = prefix;
       name = entry.name;
       all_made = view_ends answer graph valid at entry (Made file) found made
           ∙ ap (λ (rs : List Result). rs ++ Made file ∷ []) (all_made (clean_build answer graph) entry.deps free)
-          ∙ sym (map-append Made front (file ∷ []));
+          ∙ sym (map-append Made prefix (file ∷ []));
     }
 
 or_none : (r : Option Record) → option_or r None ≡ r
@@ -160,7 +160,7 @@ not_latest : (name : FileName) (first : Record) (rest : List Record) → is_repl
 not_latest name first rest replaced =
     elim (cases_Bool (is_of name first)) [
       | inl of ↦
-          let found = has_latest name rest (replaced_name name rest (last_of first.view) of replaced) in
+          let found = has_latest name rest (replaced_name name rest (last_entry first.view) of replaced) in
           ap (λ (r : Option Record). option_or r (cond (is_of name first) (Some first) None)) found.1 ∙ sym found.1
       | inr other ↦ ap (option_or (latest name rest)) (cond-false (is_of name first) (Some first) None other) ∙ or_none (latest name rest)
     ]

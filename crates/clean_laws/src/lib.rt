@@ -1,4 +1,4 @@
-//! What a clean build gives: at each place, of the view of a file, and of records that it made.
+//! What a clean build gives: at each position, of the view of a file, and of records that it made.
 #![tactic(auto)]
 
 mod laws;

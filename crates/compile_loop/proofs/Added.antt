@@ -5,7 +5,7 @@ use Rattle.vr_base.specs.declared.child.Request.{Request}
 use Rattle.vr_base.specs.declared.child.Exit.{Exit}
 use Rattle.vr_base.specs.declared.child.Event.{Event}
 use Rattle.vr_outside.specs.declared.records.Record.{Record}
-use Rattle.run_spec.specs.ChildJournal.{Setting, Lawful, Answered, IsWhole, empty_book, since}
+use Rattle.run_spec.specs.ChildJournal.{Setting, Lawful, Answered, IsWhole, since}
 use Rattle.run_spec.specs.Marks.{marks_of}
 use Rattle.run_spec.proofs.Journal.{since-added}
 use Rattle.compile_loop.specs.declared.faults.BuildFault.{BuildFault}
@@ -15,8 +15,8 @@ use Rattle.compile_loop.specs.Commits.{commits}
 
 pub record Added (answer : Request → Exit) (setting : Setting) (result : Result BuildEnd BuildFault) (old new events : List Event) (P : List Record → Type 0) : Type 0 where
   pub follows : new ≡ old ++ events
-  pub lawful : Lawful setting empty_book events
-  pub answered : Answered answer setting empty_book events
+  pub lawful : Lawful setting events
+  pub answered : Answered answer events
   pub whole : OnOk result (IsWhole setting events)
   pub marks : IfOk result (λ end. end.marks ≡ marks_of setting events)
   pub built : IfOk result (λ end. end.whole ≡ whole_of setting events)

@@ -4,15 +4,15 @@ use Rattle.std.specs.Bool.{OnTrue}
 use Rattle.std.proofs.lemmas.List.{append-nil, append_assoc}
 use Rattle.vr_base.specs.declared.file.FileName.{FileName}
 use Rattle.vr_outside.specs.declared.records.Record.{Record}
-use Rattle.vr_outside.specs.Disks.{Image, Moments, reads_of, IsDurable}
-use Rattle.vr_outside.specs.Records.{is_of, with_record, IsEither}
+use Rattle.vr_outside.specs.Disks.{Image, IsEither, Moments, reads_of, IsDurable}
+use Rattle.vr_outside.specs.Records.{is_of, with_record}
 use Rattle.vr_outside.proofs.MomentLaws.{weaker_moments, joined_moments, started_moments}
-use Rattle.compile_loop.specs.Commits.{latest_after, HasFront, Knows, Keeps}
+use Rattle.compile_loop.specs.Commits.{latest_after, HasPrefix, HasCommitted, CommitsRecords}
 
--- with one record or without is with a front of it
-pub either_front : (before : List Record) (kept : Record) (now : List Record) → IsEither now before (before ++ kept ∷ []) → HasFront before (kept ∷ []) now
-either_front before kept now (inl same) = record { front = []; left = kept ∷ []; all = refl; are = same ∙ sym (append-nil before) }
-either_front before kept now (inr more) = record { front = kept ∷ []; left = []; all = refl; are = more }
+-- with one record or without is with a prefix of it
+pub either_prefix : (before : List Record) (kept : Record) (now : List Record) → IsEither now before (before ++ kept ∷ []) → HasPrefix before (kept ∷ []) now
+either_prefix before kept now (inl same) = record { prefix = []; left = kept ∷ []; all = refl; are = same ∙ sym (append-nil before) }
+either_prefix before kept now (inr more) = record { prefix = kept ∷ []; left = []; all = refl; are = more }
 
 latest_after-append : (xs ys : List Record) (before : FileName → Option Record) (name : FileName) → latest_after (xs ++ ys) before name ≡ latest_after ys (latest_after xs before) name
 latest_after-append [] ys before name = refl
@@ -27,70 +27,70 @@ latest_then : (xs ys : List Record) (before middle now : FileName → Option Rec
     → (name : FileName) → now name ≡ latest_after (xs ++ ys) before name
 latest_then xs ys before middle now first second name = second name ∙ latest_after-same ys middle (latest_after xs before) first name ∙ sym (latest_after-append xs ys before name)
 
-knows_then : (whole : Bool) (xs ys : List Record) (before middle now : FileName → Option Record) → ((name : FileName) → middle name ≡ latest_after xs before name) → Knows whole ys middle now → Knows whole (xs ++ ys) before now
+knows_then : (whole : Bool) (xs ys : List Record) (before middle now : FileName → Option Record) → ((name : FileName) → middle name ≡ latest_after xs before name) → HasCommitted whole ys middle now → HasCommitted whole (xs ++ ys) before now
 knows_then true xs ys before middle now first second = latest_then xs ys before middle now first second
 knows_then false xs ys before middle now first second =
     record {
-      front = xs ++ second.front;
+      prefix = xs ++ second.prefix;
       left = second.left;
-      all = ap (λ (l : List Record). xs ++ l) second.all ∙ sym (append_assoc xs second.front second.left);
-      latest = latest_then xs second.front before middle now first second.latest;
+      all = ap (λ (l : List Record). xs ++ l) second.all ∙ sym (append_assoc xs second.prefix second.left);
+      latest = latest_then xs second.prefix before middle now first second.latest;
     }
 
 reads_then : (whole : Bool) (before middle now xs ys : List Record) → middle ≡ before ++ xs → OnTrue whole (now ≡ middle ++ ys) → OnTrue whole (now ≡ before ++ (xs ++ ys))
 reads_then true before middle now xs ys first second = second ∙ ap (λ (l : List Record). l ++ ys) first ∙ append_assoc before xs ys
 reads_then false before middle now xs ys first second = tt
 
--- a front of the first records is one of all
-front_first : (before xs ys now : List Record) → HasFront before xs now → HasFront before (xs ++ ys) now
-front_first before xs ys now has = record {
-  front = has.front;
+-- a prefix of the first records is one of all
+prefix_first : (before xs ys now : List Record) → HasPrefix before xs now → HasPrefix before (xs ++ ys) now
+prefix_first before xs ys now has = record {
+  prefix = has.prefix;
   left = has.left ++ ys;
-  all = ap (λ (l : List Record). l ++ ys) has.all ∙ append_assoc has.front has.left ys;
+  all = ap (λ (l : List Record). l ++ ys) has.all ∙ append_assoc has.prefix has.left ys;
   are = has.are;
 }
 
-front_second : (before middle xs ys now : List Record) → middle ≡ before ++ xs → HasFront middle ys now → HasFront before (xs ++ ys) now
-front_second before middle xs ys now first has = record {
-  front = xs ++ has.front;
+prefix_second : (before middle xs ys now : List Record) → middle ≡ before ++ xs → HasPrefix middle ys now → HasPrefix before (xs ++ ys) now
+prefix_second before middle xs ys now first has = record {
+  prefix = xs ++ has.prefix;
   left = has.left;
-  all = ap (λ (l : List Record). xs ++ l) has.all ∙ sym (append_assoc xs has.front has.left);
-  are = has.are ∙ ap (λ (l : List Record). l ++ has.front) first ∙ append_assoc before xs has.front;
+  all = ap (λ (l : List Record). xs ++ l) has.all ∙ sym (append_assoc xs has.prefix has.left);
+  are = has.are ∙ ap (λ (l : List Record). l ++ has.prefix) first ∙ append_assoc before xs has.prefix;
 }
 
 module _ (before middle now : FileName → Option Record) (tells : Type 0) (records_of : Image → List Record) (old mid new : Moments) (xs ys : List Record) where
   -- what is kept by two steps, one after the other
-  pub keeps_then : (whole : Bool) → Keeps true before middle tells records_of old mid xs → Keeps whole middle now tells records_of mid new ys → Keeps whole before now tells records_of old new (xs ++ ys)
+  pub keeps_then : (whole : Bool) → CommitsRecords true before middle tells records_of old mid xs → CommitsRecords whole middle now tells records_of mid new ys → CommitsRecords whole before now tells records_of old new (xs ++ ys)
   keeps_then whole first second = record {
     knows = knows_then whole xs ys before middle now first.knows second.knows;
     reads = λ told. reads_then whole (records_of (reads_of old.now)) (records_of (reads_of mid.now)) (records_of (reads_of new.now)) xs ys (first.reads told) (second.reads told);
-    any_moment = λ told. joined_moments old mid new (λ image. HasFront (records_of (reads_of old.now)) (xs ++ ys) (records_of image))
-        (weaker_moments old mid (λ image. HasFront (records_of (reads_of old.now)) xs (records_of image)) (λ image. HasFront (records_of (reads_of old.now)) (xs ++ ys) (records_of image)) (λ image has. front_first (records_of (reads_of old.now)) xs ys (records_of image) has) (first.any_moment told))
-        (weaker_moments mid new (λ image. HasFront (records_of (reads_of mid.now)) ys (records_of image)) (λ image. HasFront (records_of (reads_of old.now)) (xs ++ ys) (records_of image)) (λ image has. front_second (records_of (reads_of old.now)) (records_of (reads_of mid.now)) xs ys (records_of image) (first.reads told) has) (second.any_moment told));
+    any_moment = λ told. joined_moments old mid new (λ image. HasPrefix (records_of (reads_of old.now)) (xs ++ ys) (records_of image))
+        (weaker_moments old mid (λ image. HasPrefix (records_of (reads_of old.now)) xs (records_of image)) (λ image. HasPrefix (records_of (reads_of old.now)) (xs ++ ys) (records_of image)) (λ image has. prefix_first (records_of (reads_of old.now)) xs ys (records_of image) has) (first.any_moment told))
+        (weaker_moments mid new (λ image. HasPrefix (records_of (reads_of mid.now)) ys (records_of image)) (λ image. HasPrefix (records_of (reads_of old.now)) (xs ++ ys) (records_of image)) (λ image has. prefix_second (records_of (reads_of old.now)) (records_of (reads_of mid.now)) xs ys (records_of image) (first.reads told) has) (second.any_moment told));
   }
 
 -- where all were kept, so were they where less is said
-pub keeps_weaker : (whole : Bool) (before now : FileName → Option Record) (tells : Type 0) (records_of : Image → List Record) (old new : Moments) (more : List Record) → Keeps true before now tells records_of old new more → Keeps whole before now tells records_of old new more
+pub keeps_weaker : (whole : Bool) (before now : FileName → Option Record) (tells : Type 0) (records_of : Image → List Record) (old new : Moments) (more : List Record) → CommitsRecords true before now tells records_of old new more → CommitsRecords whole before now tells records_of old new more
 keeps_weaker true before now tells records_of old new more kept = kept
 keeps_weaker false before now tells records_of old new more kept = record {
-  knows = record { front = more; left = []; all = sym (append-nil more); latest = kept.knows };
+  knows = record { prefix = more; left = []; all = sym (append-nil more); latest = kept.knows };
   reads = λ told. tt;
   any_moment = kept.any_moment;
 }
 
-knows_none : (whole : Bool) (before now : FileName → Option Record) → ((name : FileName) → now name ≡ before name) → Knows whole [] before now
+knows_none : (whole : Bool) (before now : FileName → Option Record) → ((name : FileName) → now name ≡ before name) → HasCommitted whole [] before now
 knows_none true before now same = same
-knows_none false before now same = record { front = []; left = []; all = refl; latest = same }
+knows_none false before now same = record { prefix = []; left = []; all = refl; latest = same }
 
 reads_none : (whole : Bool) (records : List Record) → OnTrue whole (records ≡ records ++ [])
 reads_none true records = sym (append-nil records)
 reads_none false records = tt
 
 -- where nothing was done, nothing is kept
-pub keeps_none : (whole : Bool) (before now : FileName → Option Record) (tells : Type 0) (records_of : Image → List Record) (moments : Moments) → ((name : FileName) → now name ≡ before name) → (tells → IsDurable moments.now) → Keeps whole before now tells records_of moments moments []
+pub keeps_none : (whole : Bool) (before now : FileName → Option Record) (tells : Type 0) (records_of : Image → List Record) (moments : Moments) → ((name : FileName) → now name ≡ before name) → (tells → IsDurable moments.now) → CommitsRecords whole before now tells records_of moments moments []
 keeps_none whole before now tells records_of moments same durable = record {
   knows = knows_none whole before now same;
   reads = λ told. reads_none whole (records_of (reads_of moments.now));
-  any_moment = λ told. started_moments moments (λ image. HasFront (records_of (reads_of moments.now)) [] (records_of image))
-      (λ image is. record { front = []; left = []; all = refl; are = ap records_of (durable told image is) ∙ sym (append-nil (records_of (reads_of moments.now))) });
+  any_moment = λ told. started_moments moments (λ image. HasPrefix (records_of (reads_of moments.now)) [] (records_of image))
+      (λ image is. record { prefix = []; left = []; all = refl; are = ap records_of (durable told image is) ∙ sym (append-nil (records_of (reads_of moments.now))) });
 }

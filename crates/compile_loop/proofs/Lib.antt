@@ -1,3 +1,4 @@
+-- The lemmas.
 mod OneChild
 mod Keeping
 mod HeldFiles

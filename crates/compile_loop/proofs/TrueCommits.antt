@@ -8,7 +8,7 @@ use Rattle.vr_base.specs.declared.child.Request.{Request}
 use Rattle.vr_base.specs.declared.child.Exit.{Exit}
 use Rattle.vr_base.specs.declared.child.Event.{Event}
 use Rattle.vr_base.specs.Graphs.{IsGraph}
-use Rattle.run_spec.specs.ChildJournal.{Setting, End, Lawful, Answered, empty_book, after_all}
+use Rattle.run_spec.specs.ChildJournal.{Setting, End, Lawful, Answered, book_of}
 use Rattle.run_spec.specs.CleanBuild.{Result, Made, Refused, RecordsClean, clean_build}
 use Rattle.run_spec.specs.Faithful.{IsTrueRecord}
 use Rattle.clean_laws.proofs.JournalBooks.{IsCleanEnd, clean_book}
@@ -17,22 +17,22 @@ use Rattle.compile_loop.specs.Commits.{record_at, kept_of, commits_of, commits}
 
 module _ (answer : Request → Exit) (setting : Setting) (is : IsGraph setting.graph) where
   -- what is kept of one child
-  kept_true : (end : End) → IsCleanEnd answer setting end → All (IsTrueRecord answer) (kept_of setting.graph end)
+  kept_true : (end : End) → IsCleanEnd answer setting end → All (IsTrueRecord answer) (kept_of setting.graph end.position end.exit)
   kept_true end clean =
       elim (cases_Bool (eqb end.exit.code 0)) [
         | inl made ↦
-            let result : slice_get (clean_build answer setting.graph) end.place ≡ Some (Made (record { name = clean.due.entry.name; artefact = end.exit.output })) =
+            let result : slice_get (clean_build answer setting.graph) end.position ≡ Some (Made (record { name = clean.due.entry.name; artefact = end.exit.output })) =
             clean.result ∙ ap (λ (r : Result). Some r) (cond-true (eqb end.exit.code 0) (Made (record { name = clean.due.entry.name; artefact = end.exit.output })) (Refused end.exit.code end.exit.output) made) in
-            subst (All (IsTrueRecord answer)) (sym (cond-true (eqb end.exit.code 0) (record_at setting.graph end.place end.exit.output ∷ []) [] made))
-            (All-cons (IsTrueRecord answer) (record_at setting.graph end.place end.exit.output) [] (true_record answer setting.graph is end.place clean.due.entry end.exit.output clean.due.stands clean.due.free result) (All-nil (IsTrueRecord answer)))
-        | inr refused ↦ subst (All (IsTrueRecord answer)) (sym (cond-false (eqb end.exit.code 0) (record_at setting.graph end.place end.exit.output ∷ []) [] refused)) (All-nil (IsTrueRecord answer))
+            subst (All (IsTrueRecord answer)) (sym (cond-true (eqb end.exit.code 0) (record_at setting.graph end.position end.exit.output ∷ []) [] made))
+            (All-cons (IsTrueRecord answer) (record_at setting.graph end.position end.exit.output) [] (true_record answer setting.graph is end.position clean.due.entry end.exit.output clean.due.is_entry clean.due.free result) (All-nil (IsTrueRecord answer)))
+        | inr refused ↦ subst (All (IsTrueRecord answer)) (sym (cond-false (eqb end.exit.code 0) (record_at setting.graph end.position end.exit.output ∷ []) [] refused)) (All-nil (IsTrueRecord answer))
       ]
 
   all_kept_true : (ends : List End) → All (IsCleanEnd answer setting) ends → All (IsTrueRecord answer) (commits_of setting.graph ends)
   all_kept_true [] clean = All-nil (IsTrueRecord answer)
   all_kept_true (end ∷ ends) clean =
-      subst (All (IsTrueRecord answer)) (sym (flat_map-cons (kept_of setting.graph) end ends))
-      (All-append (IsTrueRecord answer) (kept_of setting.graph end) (commits_of setting.graph ends) (kept_true end (All-head (IsCleanEnd answer setting) end ends clean)) (all_kept_true ends (All-tail (IsCleanEnd answer setting) end ends clean)))
+      subst (All (IsTrueRecord answer)) (sym (flat_map-cons (λ (e : End). kept_of setting.graph e.position e.exit) end ends))
+      (All-append (IsTrueRecord answer) (kept_of setting.graph end.position end.exit) (commits_of setting.graph ends) (kept_true end (All-head (IsCleanEnd answer setting) end ends clean)) (all_kept_true ends (All-tail (IsCleanEnd answer setting) end ends clean)))
 
-  pub commits_true : RecordsClean answer setting.graph setting.recorded → (events : List Event) → Lawful setting empty_book events → Answered answer setting empty_book events → All (IsTrueRecord answer) (commits setting events)
-  commits_true clean events lawful answered = all_kept_true (after_all setting empty_book events).ends (clean_book answer setting is clean events lawful answered).ends
+  pub commits_true : RecordsClean answer setting.graph setting.recorded → (events : List Event) → Lawful setting events → Answered answer events → All (IsTrueRecord answer) (commits setting events)
+  commits_true clean events lawful answered = all_kept_true (book_of setting events).ends (clean_book answer setting is clean events lawful answered).ends

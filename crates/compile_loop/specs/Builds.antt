@@ -10,35 +10,34 @@ use Rattle.vr_base.specs.declared.outcome.Mark.TheVariants as mark
 use Rattle.vr_outside.specs.declared.records.Record.{Record}
 use Rattle.vr_outside.specs.declared.records.Need.{Need}
 use Rattle.vr_outside.specs.declared.records.Need.TheVariants.{Fresh, Stale}
-use Rattle.run_spec.specs.PresentGraph.{below}
-use Rattle.run_spec.specs.ChildJournal.{Setting, Lawful, Answered, IsWhole, empty_book, made, built_file}
+use Rattle.vr_base.specs.PresentGraph.{below}
+use Rattle.run_spec.specs.ChildJournal.{Setting, Lawful, Answered, IsWhole, artefact_after, built_file}
 use Rattle.run_spec.specs.Marks.{marks_of}
 use Rattle.compile_loop.specs.declared.faults.BuildFault.{BuildFault}
 use Rattle.compile_loop.specs.declared.files.Step.{Step}
 use Rattle.compile_loop.specs.declared.files.Step.TheVariants.{Made, Refused}
 use Rattle.compile_loop.specs.declared.builds.BuildEnd.{BuildEnd}
 use Rattle.compile_loop.specs.Commits.{commits}
-use Rattle.compile_loop.specs.Stands.{book_of}
 
 -- the mark of a file that is made
 abbrev pub made_mark : Need → Mark
 made_mark Fresh = mark.Fresh
 made_mark Stale = mark.Compiled
 
--- the mark of a file behind a refused one
+-- the mark of a file after a refused one
 abbrev pub left_mark : Need → Mark
 left_mark Fresh = mark.Fresh
 left_mark Stale = mark.Left
 
--- the marks of a build whose files are all made, or that stopped at a place
+-- the marks of a build whose files are all made, or that stopped at a position
 abbrev pub marks_by : List Need → ℕ → Step → List Mark
-marks_by needs place Made = map made_mark needs
-marks_by needs place (Refused code output) = map made_mark (take place needs) ++ (mark.Refused code output ∷ map left_mark (drop (place + 1) needs))
+marks_by needs position Made = map made_mark needs
+marks_by needs position (Refused code output) = map made_mark (take position needs) ++ (mark.Refused code output ∷ map left_mark (drop (position + 1) needs))
 
--- at a refusal a file is refused, and else none is left
+-- at a refusal a file is refused, and else none remains
 abbrev pub Reaches : ℕ → ℕ → Step → Type 0
-Reaches files place Made = place ≡ files
-Reaches files place (Refused code output) = place < files
+Reaches files position Made = position ≡ files
+Reaches files position (Refused code output) = position < files
 
 -- the file is made: its record is current, or it was compiled
 abbrev pub is_made : Mark → Bool
@@ -50,7 +49,7 @@ is_made mark.Left = false
 
 -- each file that is made, with its artefact
 abbrev pub built_by : Setting → List Event → List BuiltFile
-built_by setting events = filter_map (λ place. built_file (slice_get setting.graph place) (made setting (book_of setting events) place)) (below (length setting.graph))
+built_by setting events = filter_map (λ position. built_file (slice_get setting.graph position) (artefact_after setting events position)) (below (length setting.graph))
 
 -- all files with their artefacts, where each one is made
 abbrev pub whole_of : Setting → List Event → Option (List BuiltFile)
@@ -66,30 +65,30 @@ pub record AddsBuild (answer : Request → Exit) (setting : Setting) (needs : Li
   pub events : List Event
   pub journal : new ≡ old ++ events
   pub whole : IsWhole setting events
-  pub answered : Answered answer setting empty_book events
+  pub answered : Answered answer events
   pub marked : marks_by needs (length built) step ≡ marks_of setting events
   pub made_all : whole_by built step ≡ whole_of setting events
   pub kept : P (commits setting events)
 
--- a build that a fault or want of memory ended
+-- a build that a fault or out of memory ended
 pub record AddsLawful (answer : Request → Exit) (setting : Setting) (old new : List Event) (P : List Record → Type 0) : Type 0 where
   pub events : List Event
   pub journal : new ≡ old ++ events
-  pub lawful : Lawful setting empty_book events
-  pub answered : Answered answer setting empty_book events
+  pub lawful : Lawful setting events
+  pub answered : Answered answer events
   pub kept : P (commits setting events)
 
 -- what making all files does
-abbrev pub MakesAll : (Request → Exit) → Setting → List Need → Result Step BuildFault → List BuiltFile → List Event → List Event → (List Record → Type 0) → Type 0
-MakesAll answer setting needs (Ok step) built old new P = AddsBuild answer setting needs built step old new P
-MakesAll answer setting needs (Err fault) built old new P = AddsLawful answer setting old new P
+abbrev pub BuildsAll : (Request → Exit) → Setting → List Need → Result Step BuildFault → List BuiltFile → List Event → List Event → (List Record → Type 0) → Type 0
+BuildsAll answer setting needs (Ok step) built old new P = AddsBuild answer setting needs built step old new P
+BuildsAll answer setting needs (Err fault) built old new P = AddsLawful answer setting old new P
 
 -- a build that ended by itself, with these marks, and what is whole
 pub record AddsEnd (answer : Request → Exit) (setting : Setting) (end : BuildEnd) (old new : List Event) (P : List Record → Type 0) : Type 0 where
   pub events : List Event
   pub journal : new ≡ old ++ events
   pub whole : IsWhole setting events
-  pub answered : Answered answer setting empty_book events
+  pub answered : Answered answer events
   pub marked : end.marks ≡ marks_of setting events
   pub made_all : end.whole ≡ whole_of setting events
   pub kept : P (commits setting events)

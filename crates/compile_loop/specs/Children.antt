@@ -7,7 +7,7 @@ use Rattle.vr_base.specs.declared.child.Exit.{Exit}
 use Rattle.vr_base.specs.declared.child.Event.{Event}
 use Rattle.vr_base.specs.declared.child.Event.TheVariants.{Started, Ended, Gone}
 use Rattle.vr_base.specs.declared.file.FileName.{FileName}
-use Rattle.vr_outside.specs.Children.{started_with}
+use Rattle.vr_outside.specs.Children.{started_with, IsFresh}
 use Rattle.vr_outside.specs.Counts.{Counted}
 use Rattle.vr_outside.specs.declared.records.Record.{Record}
 use Rattle.vr_outside.specs.declared.records.StoreFault.{StoreFault}
@@ -24,14 +24,15 @@ use Rattle.compile_loop.specs.Commits.{kept_of, record_at, latest_after}
 abbrev pub whole_run : ℕ → Request → Exit → List Event
 whole_run ticket request exit = Started ticket request ∷ Ended ticket exit ∷ []
 
--- what one child may have added: nothing, a start whose exit was lost, or a start and an end
-pub data OneChild (answer : Request → Exit) (request : Request) : List Event → Type 0 where
-  none : OneChild answer request []
-  lost : (ticket : ℕ) → OneChild answer request (Started ticket request ∷ Gone ticket ∷ [])
+-- what a child may have added whose exit there isn't: nothing, or a start with a new ticket and the loss of its exit
+pub data OneChild (old : List Event) (request : Request) : List Event → Type 0 where
+  none : OneChild old request []
+  lost : (ticket : ℕ) → IsFresh old ticket → OneChild old request (Started ticket request ∷ Gone ticket ∷ [])
 
--- a child ran to this exit, which is the answer
+-- a child with a new ticket ran to this exit, which is the answer
 pub record AddsRun (answer : Request → Exit) (request : Request) (exit : Exit) (old new : List Event) : Type 0 where
   pub ticket : ℕ
+  pub fresh : IsFresh old ticket
   pub journal : new ≡ old ++ whole_run ticket request exit
   pub answered : exit ≡ answer request
 
@@ -39,12 +40,12 @@ pub record AddsRun (answer : Request → Exit) (request : Request) (exit : Exit)
 pub record AddsPart (answer : Request → Exit) (request : Request) (old new : List Event) : Type 0 where
   pub events : List Event
   pub journal : new ≡ old ++ events
-  pub part : OneChild answer request events
+  pub part : OneChild old request events
 
 -- what a started child's end adds
-abbrev pub EndsChild : (Request → Exit) → ℕ → Result Exit ChildFault → List Event → List Event → Type 0
-EndsChild answer ticket (Ok exit) old new = (new ≡ old ++ Ended ticket exit ∷ []) × IfSome (started_with ticket old) (λ request. exit ≡ answer request)
-EndsChild answer ticket (Err fault) old new = new ≡ old ++ Gone ticket ∷ []
+abbrev pub EndsOneChild : (Request → Exit) → ℕ → Result Exit ChildFault → List Event → List Event → Type 0
+EndsOneChild answer ticket (Ok exit) old new = (new ≡ old ++ Ended ticket exit ∷ []) × IfSome (started_with ticket old) (λ request. exit ≡ answer request)
+EndsOneChild answer ticket (Err fault) old new = new ≡ old ++ Gone ticket ∷ []
 
 abbrev pub RunsChild : (Request → Exit) → Request → Result Exit ChildFault → List Event → List Event → Type 0
 RunsChild answer request (Ok exit) old new = AddsRun answer request exit old new
@@ -64,7 +65,7 @@ ChildLosses (Err child.StartFailed) before now = now ≡ before
 ChildLosses (Err child.ChildLost) before now = Counted before now
 
 -- failed starts, lost children and failed disk calls after a build or a part of one: each fault was counted where it
--- is answered, and else the counts stand
+-- is answered, and else the counts are unchanged
 abbrev pub BuildStarts : {T : Type 0} → Result T BuildFault → ℕ → ℕ → Type 0
 BuildStarts (Ok value) before now = now ≡ before
 BuildStarts (Err fault.NoMemory) before now = now ≡ before
@@ -101,12 +102,12 @@ is_disk_failed (Err fault.DiskFailed) = true
 
 -- Whether all that was to be kept is kept. It is where a child couldn't be started or was lost: what the children
 -- before it gave was kept before it was started.
-abbrev pub is_kept : {T : Type 0} → Result T BuildFault → Bool
-is_kept (Ok value) = true
-is_kept (Err fault.NoMemory) = false
-is_kept (Err fault.StartFailed) = true
-is_kept (Err fault.ChildLost) = true
-is_kept (Err fault.DiskFailed) = false
+abbrev pub is_all_committed : {T : Type 0} → Result T BuildFault → Bool
+is_all_committed (Ok value) = true
+is_all_committed (Err fault.NoMemory) = false
+is_all_committed (Err fault.StartFailed) = true
+is_all_committed (Err fault.ChildLost) = true
+is_all_committed (Err fault.DiskFailed) = false
 
 -- what an exit says of a file, and what is built then
 abbrev pub SaysExit : Entry → Exit → List BuiltFile → List BuiltFile → Step → Type 0
@@ -115,21 +116,21 @@ SaysExit entry exit built built' (Refused code output) = ((exit.code == 0) ≡ f
 
 -- what a store knows and what is built after a file: one record and one file more, or the same
 abbrev pub AddsFile : List Entry → ℕ → List BuiltFile → List BuiltFile → (FileName → Option Record) → (FileName → Option Record) → Step → Type 0
-AddsFile graph place built built' before now Made = (length built' ≡ length built + 1) × (artefact : List ℕ) × ((name : FileName) → now name ≡ latest_after (record_at graph place artefact ∷ []) before name)
-AddsFile graph place built built' before now (Refused code output) = (built' ≡ built) × ((name : FileName) → now name ≡ before name)
+AddsFile graph position built built' before now Made = (length built' ≡ length built + 1) × (artefact : List ℕ) × ((name : FileName) → now name ≡ latest_after (record_at graph position artefact ∷ []) before name)
+AddsFile graph position built built' before now (Refused code output) = (built' ≡ built) × ((name : FileName) → now name ≡ before name)
 
 -- a child ran to its end, its exit says this of the file, and what is to be kept of it is kept
-pub record AddsExit (answer : Request → Exit) (graph : List Entry) (place : ℕ) (entry : Entry) (request : Request) (built built' : List BuiltFile) (step : Step) (old new : List Event) (P : List Record → Type 0) : Type 0 where
+pub record AddsExit (answer : Request → Exit) (graph : List Entry) (position : ℕ) (entry : Entry) (request : Request) (built built' : List BuiltFile) (step : Step) (old new : List Event) (P : List Record → Type 0) : Type 0 where
   pub exit : Exit
   pub run : AddsRun answer request exit old new
   pub says : SaysExit entry exit built built' step
-  pub kept : P (kept_of graph (record { place = place; exit = exit }))
+  pub kept : P (kept_of graph position exit)
 
 -- a child ran to its end, and what is to be kept of it wasn't all kept
-pub record AddsUnkept (answer : Request → Exit) (graph : List Entry) (place : ℕ) (request : Request) (old new : List Event) (P : List Record → Type 0) : Type 0 where
+pub record AddsUnkept (answer : Request → Exit) (graph : List Entry) (position : ℕ) (request : Request) (old new : List Event) (P : List Record → Type 0) : Type 0 where
   pub exit : Exit
   pub run : AddsRun answer request exit old new
-  pub kept : P (kept_of graph (record { place = place; exit = exit }))
+  pub kept : P (kept_of graph position exit)
 
 -- no child ran to its end, and nothing is to be kept
 pub record AddsLost (answer : Request → Exit) (request : Request) (old new : List Event) (P : List Record → Type 0) : Type 0 where
@@ -138,10 +139,10 @@ pub record AddsLost (answer : Request → Exit) (request : Request) (old new : L
 
 -- what compiling one file does
 abbrev pub Compiles : (Request → Exit) → List Entry → ℕ → Entry → Request → Result Step BuildFault → List BuiltFile → List BuiltFile → List Event → List Event → (List Record → Type 0) → Type 0
-Compiles answer graph place entry request (Ok step) built built' old new P = AddsExit answer graph place entry request built built' step old new P
-Compiles answer graph place entry request (Err fault) built built' old new P = AddsLost answer request old new P ⊎ AddsUnkept answer graph place request old new P
+Compiles answer graph position entry request (Ok step) built built' old new P = AddsExit answer graph position entry request built built' step old new P
+Compiles answer graph position entry request (Err fault) built built' old new P = AddsLost answer request old new P ⊎ AddsUnkept answer graph position request old new P
 
--- the recorded artefact of a file stands behind what is built
+-- the recorded artefact of a file comes after what is built
 abbrev pub AddsRecorded : Option Record → Entry → List BuiltFile → List BuiltFile → Type 0
 AddsRecorded None entry built built' = ⊥
 AddsRecorded (Some kept) entry built built' = built' ≡ built ++ (record { name = entry.name; artefact = kept.artefact }) ∷ []

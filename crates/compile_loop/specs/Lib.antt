@@ -1,4 +1,5 @@
+-- The definitions.
 pub mod Commits
 pub mod Children
-pub mod Stands
+pub mod HasBuiltTo
 pub mod Builds

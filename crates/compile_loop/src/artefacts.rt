@@ -1,3 +1,5 @@
+//! The artefacts of files that are made, and their way into the store.
+
 ghost use Rattle.std.specs.Prelude.{◌≡◌, ◌<◌, ◌≤◌, ◌++◌, [], ◌∷◌, true, false, length, All, slice_get, Some, is_some, IfOk, OnOk};
 ghost use Rattle.std.specs.Bool.{OnFalse};
 ghost use Rattle.std.specs.Result.{is_ok};
@@ -6,14 +8,14 @@ ghost use Rattle.vr_base.specs.Graphs.{IsBuiltFile};
 ghost use Rattle.vr_base.specs.Names.{FitsName};
 ghost use Rattle.vr_outside.specs.Counts.{StoreCounts};
 ghost use Rattle.vr_outside.specs.Records.{IsRecorded, deps_at};
-ghost use Rattle.compile_loop.specs.Commits.{Keeps, record_at};
+ghost use Rattle.compile_loop.specs.Commits.{CommitsRecords, record_at};
 ghost use Rattle.compile_loop.specs.Children.{is_store_broken, AddsRecorded};
 
 use std::alloc::Global;
-use vr_base::{Built, BuiltFile, Entry, Graph, NoMemory, Text};
+use vr_base::{ARTEFACT_LIMIT, Built, BuiltFile, Entry, FILE_LIMIT, Graph, NoMemory, Text};
 use vr_outside::{Disk, Records, StoreFault};
 
-/// Puts a file with its artefact behind those that were built before.
+/// Puts a file with its artefact after those that were built before.
 pub(crate) fn add_built(
     alloc: Global,
     entry: &Entry,
@@ -21,9 +23,10 @@ pub(crate) fn add_built(
     built: &mut Built,
 ) -> Result<(), NoMemory>
     requires name { FitsName entry.now.name }
-    requires artefact { length artefact ≤ 262144 }
-    requires room { length built.old < 4096 }
-    ensures { OnOk result (built.new ≡ built.old ++ (record { name = entry.now.name; artefact = artefact }) ∷ []) }
+    requires artefact { length artefact ≤ ARTEFACT_LIMIT }
+    requires room { length built.old < FILE_LIMIT }
+    ensures { OnOk result
+        (built.new ≡ built.old ++ (record { name = entry.now.name; artefact = artefact }) ∷ []) }
 {
     built.push(BuiltFile {
         name: entry.name.copy(alloc)?,
@@ -31,13 +34,13 @@ pub(crate) fn add_built(
     })
 }
 
-/// A copy of the file at a place.
-fn copy_at(alloc: Global, built: &Built, place: u32) -> Result<BuiltFile, NoMemory>
-    requires { place < length built.now }
-    ensures file { IfOk result (λ file. slice_get built.now place ≡ Some file) }
+/// A copy of the file at a position.
+fn copy_at(alloc: Global, built: &Built, position: u32) -> Result<BuiltFile, NoMemory>
+    requires { position < length built.now }
+    ensures file { IfOk result (λ file. slice_get built.now position ≡ Some file) }
     ensures fits { IfOk result IsBuiltFile }
 {
-    let file = built.get(place as u64);
+    let file = built.get(position as u64);
     Ok(BuiltFile {
         name: file.name.copy(alloc)?,
         artefact: file.artefact.copy(alloc)?,
@@ -47,7 +50,7 @@ fn copy_at(alloc: Global, built: &Built, place: u32) -> Result<BuiltFile, NoMemo
 /// The files that a file depends on, of those that were built, in compile order.
 pub(crate) fn built_below(alloc: Global, entry: &Entry, built: &Built) -> Result<Built, NoMemory>
     requires before { All (λ dep. dep < length built.now) entry.now.deps }
-    requires few { length entry.now.deps ≤ 4096 }
+    requires few { length entry.now.deps ≤ FILE_LIMIT }
     ensures { IfOk result (λ below. below ≡ filter_map (slice_get built.now) entry.now.deps) }
 {
     let mut below = Built::new(alloc);
@@ -64,14 +67,16 @@ fn add_copy(
     built: &mut Built,
 ) -> Result<(), NoMemory>
     requires name { FitsName entry.now.name }
-    requires artefact { length artefact.now ≤ 262144 }
-    requires room { length built.old < 4096 }
-    ensures { OnOk result (built.new ≡ built.old ++ (record { name = entry.now.name; artefact = artefact.now }) ∷ []) }
+    requires artefact { length artefact.now ≤ ARTEFACT_LIMIT }
+    requires room { length built.old < FILE_LIMIT }
+    ensures { OnOk result
+        (built.new ≡ built.old ++ (record { name = entry.now.name; artefact = artefact.now }) ∷
+        []) }
 {
     add_built(alloc, entry, Text::from_slice(alloc, artefact)?, built)
 }
 
-/// Puts a file with its recorded artefact behind those that were built before.
+/// Puts a file with its recorded artefact after those that were built before.
 pub(crate) fn add_recorded<K: Records>(
     alloc: Global,
     entry: &Entry,
@@ -79,9 +84,10 @@ pub(crate) fn add_recorded<K: Records>(
     built: &mut Built,
 ) -> Result<(), NoMemory>
     requires name { FitsName entry.now.name }
-    requires room { length built.old < 4096 }
+    requires room { length built.old < FILE_LIMIT }
     requires recorded { is_some (K.latest_of store.now entry.now.name) ≡ true }
-    ensures { OnOk result (AddsRecorded (K.latest_of store.now entry.now.name) entry.now built.old built.new) }
+    ensures { OnOk result
+        (AddsRecorded (K.latest_of store.now entry.now.name) entry.now built.old built.new) }
 {
     match store.artefact(&entry.name) {
         Some(artefact) => add_copy(alloc, entry, artefact, built),
@@ -95,13 +101,16 @@ fn commit<K: Records, D: Disk>(
     disk: &mut D,
     prepared: K::Prepared,
 ) -> Result<(), StoreFault>
-    requires whole { K.broken store.old ≡ false }
+    requires usable { K.broken store.old ≡ false }
     requires ready { K.is_ready store.old prepared }
-    requires stands { D.tells → K.stands store.old (D.moments disk.old).now }
-    ensures kept { Keeps (is_ok result) (K.latest_of store.old) (K.latest_of store.new) D.tells K.records_of (D.moments disk.old) (D.moments disk.new) (K.record_of prepared ∷ []) }
-    ensures stands { D.tells → OnFalse (is_store_broken result) (K.stands store.new (D.moments disk.new).now) }
+    requires in_step { D.tells → K.in_step store.old (D.moments disk.old).now }
+    ensures kept { CommitsRecords (is_ok result) (K.latest_of store.old) (K.latest_of store.new)
+        D.tells K.records_of (D.moments disk.old) (D.moments disk.new) (K.record_of prepared ∷ []) }
+    ensures in_step { D.tells →
+        OnFalse (is_store_broken result) (K.in_step store.new (D.moments disk.new).now) }
     ensures broken { K.broken store.new ≡ is_store_broken result }
-    ensures cause { StoreCounts result (D.failed_disk_calls disk.old) (D.failed_disk_calls disk.new) }
+    ensures cause { StoreCounts result (D.failed_disk_calls disk.old)
+        (D.failed_disk_calls disk.new) }
 {
     match store.commit(disk, prepared) {
         Ok(()) => Ok(()),
@@ -109,7 +118,7 @@ fn commit<K: Records, D: Disk>(
     }
 }
 
-/// Keeps what a compiler gave for the file at a place.
+/// Keeps what a compiler gave for the file at a position.
 pub(crate) fn keep<K: Records, D: Disk>(
     alloc: Global,
     graph: &Graph,
@@ -118,15 +127,19 @@ pub(crate) fn keep<K: Records, D: Disk>(
     store: &mut K,
     disk: &mut D,
 ) -> Result<(), StoreFault>
-    requires place { at < length graph.now }
-    requires artefact { length artefact.now ≤ 262144 }
+    requires position { at < length graph.now }
+    requires artefact { length artefact.now ≤ ARTEFACT_LIMIT }
     requires recorded { All (IsRecorded (K.latest_of store.old) graph.now) (deps_at graph.now at) }
-    requires whole { K.broken store.old ≡ false }
-    requires stands { D.tells → K.stands store.old (D.moments disk.old).now }
-    ensures kept { Keeps (is_ok result) (K.latest_of store.old) (K.latest_of store.new) D.tells K.records_of (D.moments disk.old) (D.moments disk.new) (record_at graph.now at artefact.now ∷ []) }
-    ensures stands { D.tells → OnFalse (is_store_broken result) (K.stands store.new (D.moments disk.new).now) }
+    requires usable { K.broken store.old ≡ false }
+    requires in_step { D.tells → K.in_step store.old (D.moments disk.old).now }
+    ensures kept { CommitsRecords (is_ok result) (K.latest_of store.old) (K.latest_of store.new)
+        D.tells K.records_of (D.moments disk.old) (D.moments disk.new)
+        (record_at graph.now at artefact.now ∷ []) }
+    ensures in_step { D.tells →
+        OnFalse (is_store_broken result) (K.in_step store.new (D.moments disk.new).now) }
     ensures broken { K.broken store.new ≡ is_store_broken result }
-    ensures cause { StoreCounts result (D.failed_disk_calls disk.old) (D.failed_disk_calls disk.new) }
+    ensures cause { StoreCounts result (D.failed_disk_calls disk.old)
+        (D.failed_disk_calls disk.new) }
 {
     let prepared = store.prepare(alloc, graph, at, artefact)?;
     commit(store, disk, prepared)

@@ -1,6 +1,8 @@
+//! One child, from its start to its end.
+
 ghost use Rattle.std.specs.Prelude.{◌≡◌, [], ◌∷◌, IfOk};
 ghost use Rattle.vr_outside.specs.Children.{FitsExit};
-ghost use Rattle.compile_loop.specs.Children.{EndsChild, RunsChild, ChildStarts, ChildLosses};
+ghost use Rattle.compile_loop.specs.Children.{EndsOneChild, RunsChild, ChildStarts, ChildLosses};
 
 use crate::faults::ChildFault;
 use std::alloc::Global;
@@ -12,7 +14,9 @@ fn end_child<P: Procs>(alloc: Global, ticket: u64, procs: &mut P) -> Result<Exit
     requires { P.running procs.old ≡ ticket ∷ [] }
     ensures running { P.running procs.new ≡ [] }
     ensures size { IfOk result FitsExit }
-    ensures journal { P.tells → EndsChild (P.answer procs.old) ticket result (P.journal procs.old) (P.journal procs.new) }
+    ensures journal { P.tells →
+        EndsOneChild (P.answer procs.old) ticket result (P.journal procs.old)
+        (P.journal procs.new) }
     ensures same { P.answer procs.new ≡ P.answer procs.old }
     ensures starts { ChildStarts result (P.failed_starts procs.old) (P.failed_starts procs.new) }
     ensures losses { ChildLosses result (P.lost_children procs.old) (P.lost_children procs.new) }
@@ -33,7 +37,9 @@ pub fn run_child<P: Procs>(
     requires { P.running procs.old ≡ [] }
     ensures running { P.running procs.new ≡ [] }
     ensures size { IfOk result FitsExit }
-    ensures journal { P.tells → RunsChild (P.answer procs.old) request.now result (P.journal procs.old) (P.journal procs.new) }
+    ensures journal { P.tells →
+        RunsChild (P.answer procs.old) request.now result (P.journal procs.old)
+        (P.journal procs.new) }
     ensures same { P.answer procs.new ≡ P.answer procs.old }
     ensures starts { ChildStarts result (P.failed_starts procs.old) (P.failed_starts procs.new) }
     ensures losses { ChildLosses result (P.lost_children procs.old) (P.lost_children procs.new) }

@@ -1,3 +1,5 @@
+//! Why a build or a child did not end by itself.
+
 ghost use Rattle.std.specs.Prelude.{◌≡◌};
 ghost use Rattle.compile_loop.specs.declared.faults.BuildFault.TheVariants.{NoMemory as out_of_memory};
 

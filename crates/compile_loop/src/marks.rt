@@ -1,3 +1,5 @@
+//! The marks of all files, by what is fresh and where a build stopped.
+
 ghost use Rattle.std.specs.Prelude.{◌≡◌, ◌+◌, ◌<◌, ◌++◌, ◌∷◌, map, take, drop, length, IfOk, OnOk};
 ghost use Rattle.compile_loop.specs.Builds.{made_mark, left_mark, marks_by, Reaches};
 
@@ -34,7 +36,7 @@ fn add_made(marks: &mut MarkList, needs: &[Need]) -> Result<(), NoMemory>
     Ok(())
 }
 
-/// Adds the marks of files behind a refused one.
+/// Adds the marks of files after a refused one.
 fn add_left(marks: &mut MarkList, needs: &[Need]) -> Result<(), NoMemory>
     ensures { OnOk result (marks.new ≡ marks.old ++ map left_mark needs.now) }
 {
@@ -44,16 +46,23 @@ fn add_left(marks: &mut MarkList, needs: &[Need]) -> Result<(), NoMemory>
     Ok(())
 }
 
-/// The marks of a build that stopped at a place.
-fn stopped(alloc: Global, needs: &[Need], place: usize, refused: Mark) -> Result<MarkList, NoMemory>
-    requires { place < length needs.now }
+/// The marks of a build that stopped at a position.
+fn stopped(
+    alloc: Global,
+    needs: &[Need],
+    position: usize,
+    refused: Mark,
+) -> Result<MarkList, NoMemory>
+    requires { position < length needs.now }
     ensures count { IfOk result (λ marks. length marks ≡ length needs.now) }
-    ensures marks { IfOk result (λ marks. marks ≡ map made_mark (take place needs.now) ++ (refused ∷ map left_mark (drop (place + 1) needs.now))) }
+    ensures marks { IfOk result
+        (λ marks. marks ≡ map made_mark (take position needs.now) ++
+        (refused ∷ map left_mark (drop (position + 1) needs.now))) }
 {
     let mut marks = MarkList::new(alloc);
-    add_made(&mut marks, &needs[..place])?;
+    add_made(&mut marks, &needs[..position])?;
     marks.push(refused)?;
-    add_left(&mut marks, &needs[place + 1..])?;
+    add_left(&mut marks, &needs[position + 1..])?;
     Ok(marks)
 }
 
@@ -67,16 +76,16 @@ fn all_made(alloc: Global, needs: &[Need]) -> Result<MarkList, NoMemory>
     Ok(marks)
 }
 
-/// The marks of all files, by the place that was reached and the step that was the last.
+/// The marks of all files, by the position that was reached and the step that was the last.
 pub(crate) fn marks_at(
     alloc: Global,
     needs: &[Need],
-    place: usize,
+    position: usize,
     step: &Step,
 ) -> Result<MarkList, NoMemory>
-    requires { Reaches (length needs.now) place step.now }
+    requires { Reaches (length needs.now) position step.now }
     ensures count { IfOk result (λ marks. length marks ≡ length needs.now) }
-    ensures marks { IfOk result (λ marks. marks ≡ marks_by needs.now place step.now) }
+    ensures marks { IfOk result (λ marks. marks ≡ marks_by needs.now position step.now) }
 {
     match step {
         Step::Made => all_made(alloc, needs),
@@ -85,7 +94,7 @@ pub(crate) fn marks_at(
             stopped(
                 alloc,
                 needs,
-                place,
+                position,
                 Mark::Refused {
                     code: *code,
                     output,

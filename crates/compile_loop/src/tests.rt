@@ -1,3 +1,5 @@
+//! Builds over a disk and children in memory.
+
 ghost use Rattle.std.specs.Prelude.{◌≡◌, ◌<◌, [], length, IfOk};
 
 use crate::{BuildEnd, BuildFault, build};
@@ -9,7 +11,7 @@ use std::test::Fail;
 use vr_base::{
     Exit, Graph, Items, Mark, MaybeText, NoMemory, Numbers, Positions, Request, Text, TextList,
 };
-use vr_memory::{Answer, AnswerList, MemDisk, ScriptProcs, have_sizes};
+use vr_memory::{Answer, AnswerList, MemDisk, ScriptProcs, can_answer};
 use vr_outside::{Record, Records, Side, write_durably};
 
 /// A side with the record of `a.vhd` of library `lib`, whose text is `x` and whose artefact is `y`.
@@ -81,7 +83,7 @@ fn script(
 ) -> Result<ScriptProcs, NoMemory> {
     let mut answers: AnswerList = Items::new(alloc);
     answers.push(answer(alloc, code)?)?;
-    assert!(rt; have_sizes(&answers));
+    assert!(rt; can_answer(&answers));
     let picks = Positions::new(alloc);
     Ok(ScriptProcs::new(alloc, answers, picks, numbers(alloc, failing)?))
 }

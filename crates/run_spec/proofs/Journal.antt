@@ -1,38 +1,123 @@
--- A build's journal, part after part.
-use Rattle.std.proofs.Common.{◌≡◌, ℕ, ◌||◌, ◌&&◌, not, eqb, List, Option, Some, None, cond, inl, inr, sym, ◌∙◌, [], ◌∷◌, ◌++◌, length, refl, ap}
-use Rattle.std.proofs.lemmas.List.{drop_at}
+-- A build's journal, part after part: what has happened, its moves and its requests.
+use Rattle.std.proofs.Common.{◌≡◌, ℕ, Bool, ◌||◌, ◌&&◌, not, eqb, List, map, Option, Some, None, cond, inl, inr, sym, subst, ◌∙◌, [], ◌∷◌, ◌++◌, length, refl, ap}
+use Rattle.std.specs.Prelude.{slice_get, is_some, is_none}
+use Rattle.std.specs.List.{list_any, list_all}
+use Rattle.std.proofs.Math.Path.{fun_ext}
+use Rattle.std.proofs.lemmas.List.{drop_at, map_push, map-append, append-nil, append_assoc}
 use Rattle.std.proofs.lemmas.Bool.{eq-eqb, ne_eqb, cond-true, cond-false, cases_Bool}
 use Rattle.vr_base.specs.declared.child.Request.{Request}
 use Rattle.vr_base.specs.declared.child.Exit.{Exit}
 use Rattle.vr_base.specs.declared.child.Event.{Event}
 use Rattle.vr_base.specs.declared.child.Event.TheVariants.{Started, Ended, Gone}
-use Rattle.run_spec.specs.ChildJournal.{Setting, Book, after, after_all, Lawful, Greedy, Answered, since, next_start, starts_of, exit_at, End}
+use Rattle.run_spec.specs.Moves.{Job, RunningChild, Core, empty_core, Move, is_made_so_far, is_startable, position_of, without_child, ended_child, after_move, after_moves, LawfulMoves, GreedyMoves}
+use Rattle.run_spec.specs.ChildJournal.{Setting, Run, End, Book, empty_book, exit_at, output_at, artefact_so_far, deps_of, job_of, child_of_run, child_of_end, core_of, next_position, run_of, others_of, end_of, after, after_all, book_of, move_of, moves_after, moves_of, AreRequested, EachAfter, HasFreshTicket, HoldsAnswer, Answered, Lawful, Greedy, since, starts_of}
 
 pub after_all-append : (s : Setting) (b : Book) (xs ys : List Event) → after_all s b (xs ++ ys) ≡ after_all s (after_all s b xs) ys
 unfolding after_all
 after_all-append s b [] ys = refl
 after_all-append s b (x ∷ xs) ys = after_all-append s (after s b x) xs ys
 
-pub Lawful-append : (s : Setting) (b : Book) (xs ys : List Event) → Lawful s b xs → Lawful s (after_all s b xs) ys → Lawful s b (xs ++ ys)
-unfolding Lawful after_all
-Lawful-append s b [] ys h k = k
-Lawful-append s b (Started t r ∷ xs) ys h k = (h.0, Lawful-append s (after s b (Started t r)) xs ys h.1 k)
-Lawful-append s b (Ended t e ∷ xs) ys h k = Lawful-append s (after s b (Ended t e)) xs ys h k
-Lawful-append s b (Gone t ∷ xs) ys h k = Lawful-append s (after s b (Gone t)) xs ys h k
+-- the children that run, and that have ended, after an end
+running_without : (ticket : ℕ) (runs : List Run) → map child_of_run (others_of ticket runs) ≡ without_child ticket (map child_of_run runs)
+running_without ticket [] = refl
+running_without ticket (run ∷ runs) =
+    elim (cases_Bool (eqb run.ticket ticket)) [
+      | inl t ↦ rw t refl
+      | inr f ↦ rw f (ap (λ (children : List RunningChild). child_of_run run ∷ children) (running_without ticket runs))
+    ]
 
-pub Greedy-append : (s : Setting) (b : Book) (xs ys : List Event) → Greedy s b xs → Greedy s (after_all s b xs) ys → Greedy s b (xs ++ ys)
-unfolding Greedy after_all
-Greedy-append s b [] ys h k = k
-Greedy-append s b (Started t r ∷ xs) ys h k = Greedy-append s (after s b (Started t r)) xs ys h k
-Greedy-append s b (Ended t e ∷ xs) ys h k = (h.0, Greedy-append s (after s b (Ended t e)) xs ys h.1 k)
-Greedy-append s b (Gone t ∷ xs) ys h k = (h.0, Greedy-append s (after s b (Gone t)) xs ys h.1 k)
+ended_is : (ticket : ℕ) (runs : List Run) (exit : Exit) → map child_of_end (end_of (run_of ticket runs) exit) ≡ ended_child (position_of ticket (map child_of_run runs)) (eqb exit.code 0)
+ended_is ticket [] exit = refl
+ended_is ticket (run ∷ runs) exit =
+    elim (cases_Bool (eqb run.ticket ticket)) [
+      | inl t ↦ rw t refl
+      | inr f ↦ rw f (ended_is ticket runs exit)
+    ]
 
-pub Answered-append : (answer : Request → Exit) (s : Setting) (b : Book) (xs ys : List Event) → Answered answer s b xs → Answered answer s (after_all s b xs) ys → Answered answer s b (xs ++ ys)
-unfolding Answered after_all
-Answered-append answer s b [] ys h k = k
-Answered-append answer s b (Started t r ∷ xs) ys h k = Answered-append answer s (after s b (Started t r)) xs ys h k
-Answered-append answer s b (Ended t e ∷ xs) ys h k = (h.0, Answered-append answer s (after s b (Ended t e)) xs ys h.1 k)
-Answered-append answer s b (Gone t ∷ xs) ys h k = Answered-append answer s (after s b (Gone t)) xs ys h k
+-- what has happened after an event is what has happened after its move
+pub core_after : (s : Setting) (b : Book) (event : Event) → core_of (after s b event) ≡ after_move (job_of s) (core_of b) (move_of s b event)
+unfolding after after_move
+core_after s b (Started t r) = rw map_push refl
+core_after s b (Ended t e) = rw (running_without t b.runs, map-append child_of_end b.ends (end_of (run_of t b.runs) e), ended_is t b.runs e) refl
+core_after s b (Gone t) = rw (running_without t b.runs) refl
+
+pub core_after_all : (s : Setting) (b : Book) (xs : List Event) → core_of (after_all s b xs) ≡ after_moves (job_of s) (core_of b) (moves_after s b xs)
+unfolding after_all after_moves moves_after
+core_after_all s b [] = refl
+core_after_all s b (x ∷ xs) = core_after_all s (after s b x) xs ∙ ap (λ (core : Core). after_moves (job_of s) core (moves_after s (after s b x) xs)) (core_after s b x)
+
+-- a file is made where it has an artefact
+good_end : (ends : List End) (k : ℕ) → list_any (λ end. eqb end.position k && end.ok) (map child_of_end ends) ≡ is_some (output_at ends k)
+unfolding output_at
+good_end [] k = refl
+good_end (end ∷ ends) k =
+    elim (cases_Bool (eqb end.position k && eqb end.exit.code 0)) [
+      | inl t ↦ rw t refl
+      | inr f ↦ rw f (good_end ends k)
+    ]
+
+pub made_so_far : (s : Setting) (b : Book) (k : ℕ) → is_made_so_far (job_of s) (core_of b) k ≡ is_some (artefact_so_far s b.ends k)
+unfolding artefact_so_far output_at
+made_so_far s b k = from (s.recorded k) refl where
+  from : (recorded : Option (List ℕ)) → s.recorded k ≡ recorded → is_made_so_far (job_of s) (core_of b) k ≡ is_some (artefact_so_far s b.ends k)
+  from (Some artefact) e = rw e refl
+  from None e = rw e (good_end b.ends k)
+
+-- a file may be started where it wasn't, has no artefact, and all that it depends on has one
+pub startable_is : (s : Setting) (b : Book) (k : ℕ) →
+    is_startable (job_of s) (core_of b) k ≡
+    (not (list_any (λ other. eqb other k) b.taken) && is_none (artefact_so_far s b.ends k) && list_all (λ dep. is_some (artefact_so_far s b.ends dep)) (deps_of (slice_get s.graph k)))
+unfolding is_startable
+startable_is s b k =
+    let same : is_made_so_far (job_of s) (core_of b) ≡ (λ position. is_some (artefact_so_far s b.ends position)) = fun_ext (made_so_far s b) in
+    ap (λ (made : ℕ → Bool). not (list_any (λ other. eqb other k) b.taken) && not (made k) && list_all made (deps_of (slice_get s.graph k))) same
+
+-- two parts
+pub moves-append : (s : Setting) (b : Book) (xs ys : List Event) → moves_after s b (xs ++ ys) ≡ moves_after s b xs ++ moves_after s (after_all s b xs) ys
+unfolding after_all moves_after
+moves-append s b [] ys = refl
+moves-append s b (x ∷ xs) ys = ap (λ (moves : List Move). move_of s b x ∷ moves) (moves-append s (after s b x) xs ys)
+
+LawfulMoves-append : (job : Job) (core : Core) (xs ys : List Move) → LawfulMoves job core xs → LawfulMoves job (after_moves job core xs) ys → LawfulMoves job core (xs ++ ys)
+unfolding LawfulMoves after_moves
+LawfulMoves-append job core [] ys h k = k
+LawfulMoves-append job core (x ∷ xs) ys h k = (h.0, LawfulMoves-append job (after_move job core x) xs ys h.1 k)
+
+GreedyMoves-append : (job : Job) (core : Core) (xs ys : List Move) → GreedyMoves job core xs → GreedyMoves job (after_moves job core xs) ys → GreedyMoves job core (xs ++ ys)
+unfolding GreedyMoves after_moves
+GreedyMoves-append job core [] ys h k = k
+GreedyMoves-append job core (x ∷ xs) ys h k = (h.0, GreedyMoves-append job (after_move job core x) xs ys h.1 k)
+
+AreRequested-append : (s : Setting) (b : Book) (xs ys : List Event) → AreRequested s b xs → AreRequested s (after_all s b xs) ys → AreRequested s b (xs ++ ys)
+unfolding AreRequested after_all
+AreRequested-append s b [] ys h k = k
+AreRequested-append s b (x ∷ xs) ys h k = (h.0, AreRequested-append s (after s b x) xs ys h.1 k)
+
+pub EachAfter-append : (P : List Event → Event → Type 0) (before xs ys : List Event) → EachAfter P before xs → EachAfter P (before ++ xs) ys → EachAfter P before (xs ++ ys)
+unfolding EachAfter
+EachAfter-append P before [] ys h k = subst (λ (l : List Event). EachAfter P l ys) (append-nil before) k
+EachAfter-append P before (x ∷ xs) ys h k = (h.0, EachAfter-append P (before ++ x ∷ []) xs ys h.1 (subst (λ (l : List Event). EachAfter P l ys) (sym (append_assoc before (x ∷ []) xs)) k))
+
+-- more events after lawful ones
+pub lawful_more : (s : Setting) (events more : List Event) → Lawful s events →
+    LawfulMoves (job_of s) (core_of (book_of s events)) (moves_after s (book_of s events) more) → AreRequested s (book_of s events) more → EachAfter HasFreshTicket events more →
+    Lawful s (events ++ more)
+lawful_more s events more lawful moves requests tickets = record {
+  moves = subst (LawfulMoves (job_of s) empty_core) (sym (moves-append s empty_book events more))
+      (LawfulMoves-append (job_of s) empty_core (moves_of s events) (moves_after s (book_of s events) more) lawful.moves
+      (subst (λ (core : Core). LawfulMoves (job_of s) core (moves_after s (book_of s events) more)) (core_after_all s empty_book events) moves));
+  requests = AreRequested-append s empty_book events more lawful.requests requests;
+  tickets = EachAfter-append HasFreshTicket [] events more lawful.tickets tickets;
+}
+
+pub greedy_more : (s : Setting) (events more : List Event) → Greedy s events → GreedyMoves (job_of s) (core_of (book_of s events)) (moves_after s (book_of s events) more) → Greedy s (events ++ more)
+greedy_more s events more greedy moves =
+    subst (GreedyMoves (job_of s) empty_core) (sym (moves-append s empty_book events more))
+    (GreedyMoves-append (job_of s) empty_core (moves_of s events) (moves_after s (book_of s events) more) greedy
+    (subst (λ (core : Core). GreedyMoves (job_of s) core (moves_after s (book_of s events) more)) (core_after_all s empty_book events) moves))
+
+pub answered_more : (answer : Request → Exit) (events more : List Event) → Answered answer events → EachAfter (HoldsAnswer answer) events more → Answered answer (events ++ more)
+answered_more answer events more answered then = EachAfter-append (HoldsAnswer answer) [] events more answered then
 
 -- what was added to a journal
 pub since-added : (old added : List Event) → since old (old ++ added) ≡ added
@@ -43,8 +128,8 @@ unfolding after_all
 after_two s b x y = refl
 
 -- one child has run where none ran
-pub after_run : (s : Setting) (b : Book) (t i : ℕ) (r : Request) (e : Exit) → b.runs ≡ [] → next_start s b ≡ Some i →
-    after s (after s b (Started t r)) (Ended t e) ≡ record { taken = b.taken ++ i ∷ []; runs = []; ends = b.ends ++ (record { place = i; exit = e }) ∷ []; halted = b.halted || (not s.keep && not (eqb e.code 0)) }
+pub after_run : (s : Setting) (b : Book) (t i : ℕ) (r : Request) (e : Exit) → b.runs ≡ [] → next_position s b ≡ Some i →
+    after s (after s b (Started t r)) (Ended t e) ≡ record { taken = b.taken ++ i ∷ []; runs = []; ends = b.ends ++ (record { position = i; request = r; exit = e }) ∷ []; halted = b.halted || (not s.keep_going && not (eqb e.code 0)) }
 unfolding after
 after_run s b t i r e idle next = rw (next, idle, eq-eqb t t refl) refl
 
@@ -58,16 +143,48 @@ no_exit : {X : Type 0} (e : X) → ◌≡◌ {A = Option X} (Some e) None → �
 no_exit e h = cc
 
 -- one more end
-pub exit_at-pushed : (ends : List End) (i : ℕ) (e : Exit) → exit_at ends i ≡ None → exit_at (ends ++ (record { place = i; exit = e }) ∷ []) i ≡ Some e
+pub exit_at-pushed : (ends : List End) (i : ℕ) (r : Request) (e : Exit) → exit_at ends i ≡ None → exit_at (ends ++ (record { position = i; request = r; exit = e }) ∷ []) i ≡ Some e
 unfolding exit_at
-exit_at-pushed [] i e h = cond-true (eqb i i) (Some e) None (eq-eqb i i refl)
-exit_at-pushed (end ∷ ends) i e h =
-    elim (cases_Bool (eqb end.place i)) [
-      | inl t ↦ absurd (no_exit end.exit (sym (cond-true (eqb end.place i) (Some end.exit) (exit_at ends i) t) ∙ h))
-      | inr f ↦ cond-false (eqb end.place i) (Some end.exit) (exit_at (ends ++ (record { place = i; exit = e }) ∷ []) i) f ∙ exit_at-pushed ends i e (sym (cond-false (eqb end.place i) (Some end.exit) (exit_at ends i) f) ∙ h)
+exit_at-pushed [] i r e h = cond-true (eqb i i) (Some e) None (eq-eqb i i refl)
+exit_at-pushed (end ∷ ends) i r e h =
+    elim (cases_Bool (eqb end.position i)) [
+      | inl t ↦ absurd (no_exit end.exit (sym (cond-true (eqb end.position i) (Some end.exit) (exit_at ends i) t) ∙ h))
+      | inr f ↦ cond-false (eqb end.position i) (Some end.exit) (exit_at (ends ++ (record { position = i; request = r; exit = e }) ∷ []) i) f ∙ exit_at-pushed ends i r e (sym (cond-false (eqb end.position i) (Some end.exit) (exit_at ends i) f) ∙ h)
     ]
 
-pub exit_at-push_other : (ends : List End) (i k : ℕ) (e : Exit) → (i ≡ k → ⊥) → exit_at (ends ++ (record { place = i; exit = e }) ∷ []) k ≡ exit_at ends k
+pub exit_at-push_other : (ends : List End) (i k : ℕ) (r : Request) (e : Exit) → (i ≡ k → ⊥) → exit_at (ends ++ (record { position = i; request = r; exit = e }) ∷ []) k ≡ exit_at ends k
 unfolding exit_at
-exit_at-push_other [] i k e h = cond-false (eqb i k) (Some e) None (ne_eqb i k h)
-exit_at-push_other (end ∷ ends) i k e h = ap (cond (eqb end.place k) (Some end.exit)) (exit_at-push_other ends i k e h)
+exit_at-push_other [] i k r e h = cond-false (eqb i k) (Some e) None (ne_eqb i k h)
+exit_at-push_other (end ∷ ends) i k r e h = ap (cond (eqb end.position k) (Some end.exit)) (exit_at-push_other ends i k r e h)
+
+-- what was printed, with one more end
+pub output_at-pushed : (ends : List End) (end : End) (k : ℕ) → output_at ends k ≡ None → output_at (ends ++ end ∷ []) k ≡ cond (eqb end.position k && eqb end.exit.code 0) (Some end.exit.output) None
+unfolding output_at
+output_at-pushed [] end k h = refl
+output_at-pushed (first ∷ ends) end k h =
+    elim (cases_Bool (eqb first.position k && eqb first.exit.code 0)) [
+      | inl t ↦ absurd (no_exit first.exit.output (sym (cond-true (eqb first.position k && eqb first.exit.code 0) (Some first.exit.output) (output_at ends k) t) ∙ h))
+      | inr f ↦
+          cond-false (eqb first.position k && eqb first.exit.code 0) (Some first.exit.output) (output_at (ends ++ end ∷ []) k) f
+          ∙ output_at-pushed ends end k (sym (cond-false (eqb first.position k && eqb first.exit.code 0) (Some first.exit.output) (output_at ends k) f) ∙ h)
+    ]
+
+pub output_at-push_other : (ends : List End) (end : End) (k : ℕ) → (end.position ≡ k → ⊥) → output_at (ends ++ end ∷ []) k ≡ output_at ends k
+unfolding output_at
+output_at-push_other [] end k h = rw (ne_eqb end.position k h) refl
+output_at-push_other (first ∷ ends) end k h = ap (cond (eqb first.position k && eqb first.exit.code 0) (Some first.exit.output)) (output_at-push_other ends end k h)
+
+-- no end, nothing printed
+pub no_output : (ends : List End) (k : ℕ) → exit_at ends k ≡ None → output_at ends k ≡ None
+unfolding exit_at output_at
+no_output [] k h = refl
+no_output (end ∷ ends) k h =
+    elim (cases_Bool (eqb end.position k)) [
+      | inl t ↦ absurd (no_exit end.exit (sym (cond-true (eqb end.position k) (Some end.exit) (exit_at ends k) t) ∙ h))
+      | inr f ↦ rw f (no_output ends k (sym (cond-false (eqb end.position k) (Some end.exit) (exit_at ends k) f) ∙ h))
+    ]
+
+-- no child runs
+pub no_runs : (runs : List Run) → map child_of_run runs ≡ [] → runs ≡ []
+no_runs [] h = refl
+no_runs (run ∷ runs) h = let nothing : ⊥ = cc in absurd nothing

@@ -1,5 +1,7 @@
+-- The lemmas.
 pub mod Places
 pub mod Journal
-pub mod OneFinding
+pub mod Steps
+pub mod Parts
 pub mod SameViews
 pub mod RecordedArtefacts

@@ -47,7 +47,7 @@ module _ (latest_of : FileName → Option Record) (graph : List Entry) (at : ℕ
 
   found : (here : Option Entry) (artefact : List ℕ) → slice_get graph at ≡ here → option_and_then of_file here ≡ Some artefact → (recorded : IsRecorded latest_of graph at) × (recorded.artefact ≡ artefact)
   found None artefact is h = absurd (none_is_none artefact h)
-  found (Some entry) artefact is h = (record { entry = entry; stands = is; artefact = artefact; is = of_latest (view graph at) (latest_of entry.name) artefact h }, refl)
+  found (Some entry) artefact is h = (record { entry = entry; is_entry = is; artefact = artefact; is = of_latest (view graph at) (latest_of entry.name) artefact h }, refl)
 
   -- what is recorded is the artefact of a current record
   pub record_of_recorded : (artefact : List ℕ) → recorded_at latest_of graph at ≡ Some artefact → (recorded : IsRecorded latest_of graph at) × (recorded.artefact ≡ artefact)
@@ -58,7 +58,7 @@ module _ (latest_of : FileName → Option Record) (graph : List Entry) (at : ℕ
   pub recorded_of_record : (recorded : IsRecorded latest_of graph at) → recorded_at latest_of graph at ≡ Some recorded.artefact
   unfolding recorded_at
   recorded_of_record recorded =
-      ap (option_and_then of_file) recorded.stands ∙ ap (option_and_then (artefact_for (view graph at))) recorded.is ∙ of_record (view graph at) recorded.artefact
+      ap (option_and_then of_file) recorded.is_entry ∙ ap (option_and_then (artefact_for (view graph at))) recorded.is ∙ of_record (view graph at) recorded.artefact
 
   none_from : (here : Option (List ℕ)) → recorded_at latest_of graph at ≡ here → (IsRecorded latest_of graph at → ⊥) → here ≡ None
   none_from None is h = refl

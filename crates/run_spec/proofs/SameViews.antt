@@ -33,7 +33,7 @@ same_entries a b =
           ap (λ (n : FileName). record { name = n; command = a.command; text = a.text; deps = a.deps }) (name.0 first.0)
           ∙ ap (λ (words : List (List ℕ)). record { name = b.name; command = words; text = a.text; deps = a.deps }) (command.0 first.1)
           ∙ ap (λ (bytes : List ℕ). record { name = b.name; command = b.command; text = bytes; deps = a.deps }) (text.0 middle.1)
-          ∙ ap (λ (places : List ℕ). record { name = b.name; command = b.command; text = b.text; deps = places }) (deps.0 last.1),
+          ∙ ap (λ (positions : List ℕ). record { name = b.name; command = b.command; text = b.text; deps = positions }) (deps.0 last.1),
       λ e.
           and_from _ _ (and_from _ _ (and_from _ _ (name.1 (ap (λ (x : Entry). x.name) e)) (command.1 (ap (λ (x : Entry). x.command) e))) (text.1 (ap (λ (x : Entry). x.text) e)))
           (deps.1 (ap (λ (x : Entry). x.deps) e)),

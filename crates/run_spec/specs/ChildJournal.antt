@@ -1,7 +1,7 @@
 -- The journal of a build: which file is started when, over which artefacts.
-use Rattle.std.specs.Prelude.{◌≡◌, ℕ, zero, suc, ◌<◌, nat_le, Bool, true, false, not, ◌&&◌, ◌||◌, ◌==◌, if◌then◌else◌, IsTrue, List, [], ◌∷◌, ◌++◌, length, slice_get, drop, Option, Some, None, is_some, is_none, unwrap_or}
+use Rattle.std.specs.Prelude.{◌≡◌, ℕ, Bool, true, false, not, ◌&&◌, ◌||◌, ◌==◌, if◌then◌else◌, List, [], ◌∷◌, ◌++◌, length, map, slice_get, drop, Option, Some, None, is_none, unwrap_or}
 use Rattle.std.specs.Option.{option_map, option_and_then}
-use Rattle.std.specs.List.{list_any, list_all, filter_map}
+use Rattle.std.specs.List.{list_any, filter_map}
 use Rattle.vr_base.specs.declared.graph.Entry.{Entry}
 use Rattle.vr_base.specs.declared.graph.BuiltFile.{BuiltFile}
 use Rattle.vr_base.specs.declared.child.Request.{Request}
@@ -9,6 +9,8 @@ use Rattle.vr_base.specs.declared.child.Exit.{Exit}
 use Rattle.vr_base.specs.declared.child.Event.{Event}
 use Rattle.vr_base.specs.declared.child.Event.TheVariants.{Started, Ended, Gone}
 use Rattle.vr_base.specs.Jobs.{compile_request}
+use Rattle.vr_outside.specs.Children.{started_with, IsFresh}
+use Rattle.run_spec.specs.Moves.{Job, RunningChild, EndedChild, Core, empty_core, Move, Starts, Ends, Loses, next_start, LawfulMoves, GreedyMoves, IsFinished}
 
 -- what a build works on: the graph, the recorded artefact of each file whose record is current, how many
 -- children run at once, and whether it goes on after a refusal
@@ -16,17 +18,18 @@ pub record Setting : Type 0 where
   pub graph : List Entry
   pub recorded : ℕ → Option (List ℕ)
   pub slots : ℕ
-  pub keep : Bool
+  pub keep_going : Bool
 
--- a running child: its ticket, the place of its file, and what it was started with
+-- a running child: its ticket, the position of its file, and what it was started with
 pub record Run : Type 0 where
   pub ticket : ℕ
-  pub place : ℕ
+  pub position : ℕ
   pub request : Request
 
--- a child that has ended: the place of its file, and its exit
+-- a child that has ended: the position of its file, what it was started with, and its exit
 pub record End : Type 0 where
-  pub place : ℕ
+  pub position : ℕ
+  pub request : Request
   pub exit : Exit
 
 -- what has happened in a build so far
@@ -39,52 +42,63 @@ pub record Book : Type 0 where
 abbrev pub empty_book : Book
 empty_book = record { taken = []; runs = []; ends = []; halted = false }
 
--- the exit of the file at a place
+-- the exit of the first child of the file at a position that has ended
 unfoldable pub exit_at : List End → ℕ → Option Exit
-exit_at [] place = None
-exit_at (end ∷ ends) place = if end.place == place then Some end.exit else exit_at ends place
+exit_at [] position = None
+exit_at (end ∷ ends) position = if end.position == position then Some end.exit else exit_at ends position
 
--- a compiler that ended with code 0 made what it printed
-abbrev pub artefact_of : Exit → Option (List ℕ)
-artefact_of exit = if exit.code == 0 then Some exit.output else None
+-- what the first child of the file at a position printed that ended with code 0
+unfoldable pub output_at : List End → ℕ → Option (List ℕ)
+output_at [] position = None
+output_at (end ∷ ends) position = if end.position == position && end.exit.code == 0 then Some end.exit.output else output_at ends position
 
 abbrev pub or_else : Option (List ℕ) → Option (List ℕ) → Option (List ℕ)
 or_else None other = other
 or_else (Some artefact) other = Some artefact
 
--- the artefact that the file at a place has by now: the recorded one, or what its child made
-unfoldable pub made : Setting → Book → ℕ → Option (List ℕ)
-made setting book place = or_else (setting.recorded place) (option_and_then artefact_of (exit_at book.ends place))
+-- the artefact that the file at a position has after these ends: the recorded one, or what a compiler printed that ended with code 0
+unfoldable pub artefact_so_far : Setting → List End → ℕ → Option (List ℕ)
+artefact_so_far setting ends position = or_else (setting.recorded position) (output_at ends position)
 
 abbrev pub deps_of : Option Entry → List ℕ
 deps_of None = []
 deps_of (Some entry) = entry.deps
 
--- the file at a place has no current record, wasn't started, and all that it depends on is made
-unfoldable pub is_startable : Setting → Book → ℕ → Bool
-is_startable setting book place =
-    not (list_any (λ other. other == place) book.taken) && is_none (setting.recorded place)
-    && list_all (λ dep. is_some (made setting book dep)) (deps_of (slice_get setting.graph place))
+-- what the order of a build follows from: a file is due that has no artefact before any child has ended
+abbrev pub job_of : Setting → Job
+job_of setting = record {
+  count = length setting.graph;
+  deps = λ position. deps_of (slice_get setting.graph position);
+  is_due = λ position. is_none (artefact_so_far setting [] position);
+  slots = setting.slots;
+  keep_going = setting.keep_going;
+}
 
--- the first place of the next so many that passes
-unfoldable pub first_from : (ℕ → Bool) → ℕ → ℕ → Option ℕ
-first_from test place zero = None
-first_from test place (suc n) = if test place then Some place else first_from test (suc place) n
+-- a running and an ended child, apart from its request and its exit
+abbrev pub child_of_run : Run → RunningChild
+child_of_run run = record { ticket = run.ticket; position = run.position }
 
--- the least place of a file that may be started
-unfoldable pub next_start : Setting → Book → Option ℕ
-next_start setting book = first_from (is_startable setting book) 0 (length setting.graph)
+abbrev pub child_of_end : End → EndedChild
+child_of_end end = record { position = end.position; ok = end.exit.code == 0 }
 
--- the file at a place with its artefact
+-- what has happened, apart from requests and exits
+abbrev pub core_of : Book → Core
+core_of book = record { taken = book.taken; running = map child_of_run book.runs; ended = map child_of_end book.ends; halted = book.halted }
+
+-- the file at a position with its artefact
 abbrev pub built_file : Option Entry → Option (List ℕ) → Option BuiltFile
 built_file (Some entry) (Some artefact) = Some (record { name = entry.name; artefact = artefact })
 built_file (Some entry) None = None
 built_file None artefact = None
 
--- what a compiler is started with for the file at a place
-unfoldable pub request_at : Setting → Book → ℕ → Option Request
-request_at setting book place =
-    option_map (λ entry. compile_request entry (filter_map (λ dep. built_file (slice_get setting.graph dep) (made setting book dep)) entry.deps)) (slice_get setting.graph place)
+-- what a compiler is started with for the file at a position, after these ends
+unfoldable pub request_at : Setting → List End → ℕ → Option Request
+request_at setting ends position =
+    option_map (λ entry. compile_request entry (filter_map (λ dep. built_file (slice_get setting.graph dep) (artefact_so_far setting ends dep)) entry.deps)) (slice_get setting.graph position)
+
+-- the position of the file that the next start is of
+abbrev pub next_position : Setting → Book → Option ℕ
+next_position setting book = next_start (job_of setting) (core_of book)
 
 -- the running child of a ticket
 abbrev pub run_of : ℕ → List Run → Option Run
@@ -99,15 +113,15 @@ others_of ticket (run ∷ runs) = if run.ticket == ticket then runs else run ∷
 -- the end of a run
 abbrev pub end_of : Option Run → Exit → List End
 end_of None exit = []
-end_of (Some run) exit = record { place = run.place; exit = exit } ∷ []
+end_of (Some run) exit = record { position = run.position; request = run.request; exit = exit } ∷ []
 
 -- what has happened after one more event
 unfoldable pub after : Setting → Book → Event → Book
 after setting book (Started ticket request) =
-    let place = unwrap_or (next_start setting book) 0 in
-    record { taken = book.taken ++ place ∷ []; runs = book.runs ++ (record { ticket = ticket; place = place; request = request }) ∷ []; ends = book.ends; halted = book.halted }
+    let position = unwrap_or (next_position setting book) 0 in
+    record { taken = book.taken ++ position ∷ []; runs = book.runs ++ (record { ticket = ticket; position = position; request = request }) ∷ []; ends = book.ends; halted = book.halted }
 after setting book (Ended ticket exit) =
-    record { taken = book.taken; runs = others_of ticket book.runs; ends = book.ends ++ end_of (run_of ticket book.runs) exit; halted = book.halted || (not setting.keep && not (exit.code == 0)) }
+    record { taken = book.taken; runs = others_of ticket book.runs; ends = book.ends ++ end_of (run_of ticket book.runs) exit; halted = book.halted || (not setting.keep_going && not (exit.code == 0)) }
 after setting book (Gone ticket) =
     record { taken = book.taken; runs = others_of ticket book.runs; ends = book.ends; halted = true }
 
@@ -116,42 +130,68 @@ unfoldable pub after_all : Setting → Book → List Event → Book
 after_all setting book [] = book
 after_all setting book (event ∷ events) = after_all setting (after setting book event) events
 
--- a start takes a free slot, comes while the build isn't halted, and asks for the least file that may be started
-pub record IsStart (setting : Setting) (book : Book) (request : Request) : Type 0 where
-  pub free : length book.runs < setting.slots
-  pub goes_on : book.halted ≡ false
-  pub least : option_and_then (request_at setting book) (next_start setting book) ≡ Some request
+-- what has happened after events, from the start
+abbrev pub book_of : Setting → List Event → Book
+book_of setting events = after_all setting empty_book events
 
--- each start is one
-unfoldable pub Lawful : Setting → Book → List Event → Type 0
-Lawful setting book [] = Unit {0}
-Lawful setting book (Started ticket request ∷ events) = IsStart setting book request × Lawful setting (after setting book (Started ticket request)) events
-Lawful setting book (Ended ticket exit ∷ events) = Lawful setting (after setting book (Ended ticket exit)) events
-Lawful setting book (Gone ticket ∷ events) = Lawful setting (after setting book (Gone ticket)) events
+-- the artefact that the file at a position has after events
+abbrev pub artefact_after : Setting → List Event → ℕ → Option (List ℕ)
+artefact_after setting events position = artefact_so_far setting (book_of setting events).ends position
 
--- nothing may be started: all slots are taken, no file may be started, or the build is halted
-abbrev pub must_wait : Setting → Book → Bool
-must_wait setting book = nat_le setting.slots (length book.runs) || is_none (next_start setting book) || book.halted
+-- the move of an event
+abbrev pub move_of : Setting → Book → Event → Move
+move_of setting book (Started ticket request) = Starts (unwrap_or (next_position setting book) 0) ticket
+move_of setting book (Ended ticket exit) = Ends ticket (exit.code == 0)
+move_of setting book (Gone ticket) = Loses ticket
 
--- a child's end is asked for only where nothing may be started
-unfoldable pub Greedy : Setting → Book → List Event → Type 0
-Greedy setting book [] = Unit {0}
-Greedy setting book (Started ticket request ∷ events) = Greedy setting (after setting book (Started ticket request)) events
-Greedy setting book (Ended ticket exit ∷ events) = IsTrue (must_wait setting book) × Greedy setting (after setting book (Ended ticket exit)) events
-Greedy setting book (Gone ticket ∷ events) = IsTrue (must_wait setting book) × Greedy setting (after setting book (Gone ticket)) events
+-- the moves of events
+unfoldable pub moves_after : Setting → Book → List Event → List Move
+moves_after setting book [] = []
+moves_after setting book (event ∷ events) = move_of setting book event ∷ moves_after setting (after setting book event) events
 
--- no child runs, and no file may be started or the build is halted
-pub record IsFinished (setting : Setting) (book : Book) : Type 0 where
-  pub idle : book.runs ≡ []
-  pub over : IsTrue (is_none (next_start setting book) || book.halted)
+abbrev pub moves_of : Setting → List Event → List Move
+moves_of setting events = moves_after setting empty_book events
 
--- each end holds the answer to what its child was started with
-unfoldable pub Answered : (Request → Exit) → Setting → Book → List Event → Type 0
-Answered answer setting book [] = Unit {0}
-Answered answer setting book (Started ticket request ∷ events) = Answered answer setting (after setting book (Started ticket request)) events
-Answered answer setting book (Ended ticket exit ∷ events) =
-    (option_map (λ run. answer run.request) (run_of ticket book.runs) ≡ Some exit) × Answered answer setting (after setting book (Ended ticket exit)) events
-Answered answer setting book (Gone ticket ∷ events) = Answered answer setting (after setting book (Gone ticket)) events
+-- a start is made with what its file's compiler is started with, over the artefacts so far
+abbrev pub IsRequested : Setting → Book → Event → Type 0
+IsRequested setting book (Started ticket request) = option_and_then (request_at setting book.ends) (next_position setting book) ≡ Some request
+IsRequested setting book (Ended ticket exit) = Unit {0}
+IsRequested setting book (Gone ticket) = Unit {0}
+
+unfoldable pub AreRequested : Setting → Book → List Event → Type 0
+AreRequested setting book [] = Unit {0}
+AreRequested setting book (event ∷ events) = IsRequested setting book event × AreRequested setting (after setting book event) events
+
+-- each event is as is said of it and of the events before it
+unfoldable pub EachAfter : (List Event → Event → Type 0) → List Event → List Event → Type 0
+EachAfter IsSo before [] = Unit {0}
+EachAfter IsSo before (event ∷ events) = IsSo before event × EachAfter IsSo (before ++ event ∷ []) events
+
+-- a start's ticket is none that was given before
+abbrev pub HasFreshTicket : List Event → Event → Type 0
+HasFreshTicket before (Started ticket request) = IsFresh before ticket
+HasFreshTicket before (Ended ticket exit) = Unit {0}
+HasFreshTicket before (Gone ticket) = Unit {0}
+
+-- The events' moves are lawful, each start has the request of its file, and no ticket is given twice.
+pub record Lawful (setting : Setting) (events : List Event) : Type 0 where
+  pub moves : LawfulMoves (job_of setting) empty_core (moves_of setting events)
+  pub requests : AreRequested setting empty_book events
+  pub tickets : EachAfter HasFreshTicket [] events
+
+-- a child's end is asked for only where nothing is to be started
+abbrev pub Greedy : Setting → List Event → Type 0
+Greedy setting events = GreedyMoves (job_of setting) empty_core (moves_of setting events)
+
+-- an end holds the answer to what its ticket was started with
+abbrev pub HoldsAnswer : (Request → Exit) → List Event → Event → Type 0
+HoldsAnswer answer before (Started ticket request) = Unit {0}
+HoldsAnswer answer before (Ended ticket exit) = option_map answer (started_with ticket before) ≡ Some exit
+HoldsAnswer answer before (Gone ticket) = Unit {0}
+
+-- each end holds the answer to what its ticket was started with
+abbrev pub Answered : (Request → Exit) → List Event → Type 0
+Answered answer events = EachAfter (HoldsAnswer answer) [] events
 
 -- the end of a child was lost
 abbrev pub is_gone : Event → Bool
@@ -161,9 +201,9 @@ is_gone (Gone ticket) = true
 
 -- the events of a build that ended by itself
 pub record IsWhole (setting : Setting) (events : List Event) : Type 0 where
-  pub lawful : Lawful setting empty_book events
-  pub greedy : Greedy setting empty_book events
-  pub finished : IsFinished setting (after_all setting empty_book events)
+  pub lawful : Lawful setting events
+  pub greedy : Greedy setting events
+  pub finished : IsFinished (job_of setting) (core_of (book_of setting events))
   pub none_lost : list_any is_gone events ≡ false
 
 -- what the journal has since it was old

@@ -7,7 +7,7 @@ use Rattle.vr_base.specs.declared.graph.BuiltFile.{BuiltFile}
 use Rattle.vr_base.specs.declared.child.Request.{Request}
 use Rattle.vr_base.specs.declared.child.Exit.{Exit}
 use Rattle.vr_base.specs.Jobs.{compile_request}
-use Rattle.run_spec.specs.PresentGraph.{below}
+use Rattle.vr_base.specs.PresentGraph.{below}
 
 -- what becomes of a file: an artefact, a refusal, or a file below it was refused
 pub data Result : Type 0 where
@@ -37,7 +37,7 @@ is_free results entry = list_all (λ dep. is_some (built_of (slice_get results d
 abbrev pub next_result : (Request → Exit) → List Result → Entry → Result
 next_result answer results entry = if is_free results entry then result_of entry (answer (compile_request entry (built_below results entry))) else Blocked
 
--- what becomes of the files that are left, after those
+-- what becomes of the files that remain, after those
 unfoldable pub results_after : (Request → Exit) → List Result → List Entry → List Result
 results_after answer results [] = results
 results_after answer results (entry ∷ entries) = results_after answer (results ++ next_result answer results entry ∷ []) entries
@@ -45,14 +45,14 @@ results_after answer results (entry ∷ entries) = results_after answer (results
 abbrev pub clean_build : (Request → Exit) → List Entry → List Result
 clean_build answer graph = results_after answer [] graph
 
--- what a clean build asks of the compiler for the file at a place; nothing where a file below it isn't made
+-- what a clean build asks of the compiler for the file at a position; nothing where a file below it isn't made
 abbrev pub clean_request : (Request → Exit) → List Entry → ℕ → Option Request
-clean_request answer graph place =
-    option_and_then (λ entry. if is_free (clean_build answer graph) entry then Some (compile_request entry (built_below (clean_build answer graph) entry)) else None) (slice_get graph place)
+clean_request answer graph position =
+    option_and_then (λ entry. if is_free (clean_build answer graph) entry then Some (compile_request entry (built_below (clean_build answer graph) entry)) else None) (slice_get graph position)
 
--- what a clean build asks of the compiler for the file at a place, where nothing is recorded of it
+-- what a clean build asks of the compiler for the file at a position, where nothing is recorded of it
 abbrev pub request_unless : (Request → Exit) → List Entry → (ℕ → Option (List ℕ)) → ℕ → Option Request
-request_unless answer graph recorded place = if is_none (recorded place) then clean_request answer graph place else None
+request_unless answer graph recorded position = if is_none (recorded position) then clean_request answer graph position else None
 
 -- what a clean build asks of the compiler for the files of which nothing is recorded, in compile order
 abbrev pub stale_requests : (Request → Exit) → List Entry → (ℕ → Option (List ℕ)) → List Request
@@ -61,5 +61,5 @@ stale_requests answer graph recorded = filter_map (request_unless answer graph r
 -- what is recorded of each file is what a clean build makes
 abbrev pub RecordsClean : (Request → Exit) → List Entry → (ℕ → Option (List ℕ)) → Type 0
 RecordsClean answer graph recorded =
-    (place : ℕ) (artefact : List ℕ) (entry : Entry) → recorded place ≡ Some artefact → slice_get graph place ≡ Some entry →
-    slice_get (clean_build answer graph) place ≡ Some (Made (record { name = entry.name; artefact = artefact }))
+    (position : ℕ) (artefact : List ℕ) (entry : Entry) → recorded position ≡ Some artefact → slice_get graph position ≡ Some entry →
+    slice_get (clean_build answer graph) position ≡ Some (Made (record { name = entry.name; artefact = artefact }))

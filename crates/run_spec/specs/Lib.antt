@@ -1,9 +1,8 @@
-pub mod PresentGraph
+-- The definitions.
+pub mod Moves
 pub mod ChildJournal
+pub mod JournalParts
 pub mod CleanBuild
 pub mod Marks
-pub mod Texts
-pub mod Csv
-pub mod Findings
 pub mod Recorded
 pub mod Faithful

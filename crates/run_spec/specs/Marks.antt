@@ -1,5 +1,5 @@
 -- What became of each file of a build, by its journal.
-use Rattle.std.specs.Prelude.{ℕ, Bool, ◌==◌, false, true, if◌then◌else◌, List, [], ◌∷◌, length, map, slice_get, Option, Some, None}
+use Rattle.std.specs.Prelude.{ℕ, Bool, false, true, if◌then◌else◌, List, [], ◌∷◌, length, map, slice_get, Option, Some, None}
 use Rattle.vr_base.specs.declared.graph.Entry.{Entry}
 use Rattle.vr_base.specs.declared.file.FileName.{FileName}
 use Rattle.vr_base.specs.declared.child.Event.{Event}
@@ -7,23 +7,27 @@ use Rattle.vr_base.specs.declared.child.Exit.{Exit}
 use Rattle.vr_base.specs.declared.outcome.Mark.{Mark}
 use Rattle.vr_base.specs.declared.outcome.Mark.TheVariants.{Fresh, Compiled, Refused, Skipped, Left}
 use Rattle.vr_base.specs.declared.child.Request.{Request}
-use Rattle.run_spec.specs.PresentGraph.{below}
+use Rattle.vr_base.specs.PresentGraph.{below}
 use Rattle.run_spec.specs.CleanBuild.{Result, Made, Blocked, clean_build}
 use Rattle.run_spec.specs.CleanBuild as clean
-use Rattle.run_spec.specs.ChildJournal.{Setting, Book, empty_book, after_all, exit_at}
+use Rattle.run_spec.specs.ChildJournal.{Setting, End, exit_at, artefact_so_far, book_of}
 
-abbrev pub mark_of : Bool → Option (List ℕ) → Option Exit → Mark
-mark_of keep (Some artefact) exit = Fresh
-mark_of keep None (Some exit) = if exit.code == 0 then Compiled else Refused exit.code exit.output
-mark_of keep None None = if keep then Skipped else Left
+-- What became of a file, by whether a child of it has ended and whether there is an artefact of it: compiled with both;
+-- refused with an end alone; fresh with an artefact alone; with neither it waits for a file that isn't made, or was
+-- left when the build stopped.
+abbrev pub mark_of : Bool → Option Exit → Option (List ℕ) → Mark
+mark_of keep_going (Some exit) (Some artefact) = Compiled
+mark_of keep_going (Some exit) None = Refused exit.code exit.output
+mark_of keep_going None (Some artefact) = Fresh
+mark_of keep_going None None = if keep_going then Skipped else Left
 
--- the mark of the file at a place
-abbrev pub mark_at : Setting → Book → ℕ → Mark
-mark_at setting book place = mark_of setting.keep (setting.recorded place) (exit_at book.ends place)
+-- the mark of the file at a position after these ends
+abbrev pub mark_at : Setting → List End → ℕ → Mark
+mark_at setting ends position = mark_of setting.keep_going (exit_at ends position) (artefact_so_far setting ends position)
 
 -- the marks of all files, by what happened
 abbrev pub marks_of : Setting → List Event → List Mark
-marks_of setting events = map (mark_at setting (after_all setting empty_book events)) (below (length setting.graph))
+marks_of setting events = map (mark_at setting (book_of setting events).ends) (below (length setting.graph))
 
 -- what a clean build says of a file
 abbrev pub steady_mark : Option (List ℕ) → Option Result → Mark
@@ -35,7 +39,7 @@ steady_mark None None = Skipped
 
 -- the marks that a clean build says, whatever the order of ends: fresh where something is recorded
 abbrev pub steady_marks : (Request → Exit) → List Entry → (ℕ → Option (List ℕ)) → List Mark
-steady_marks answer graph recorded = map (λ place. steady_mark (recorded place) (slice_get (clean_build answer graph) place)) (below (length graph))
+steady_marks answer graph recorded = map (λ position. steady_mark (recorded position) (slice_get (clean_build answer graph) position)) (below (length graph))
 
 abbrev pub is_refused : Mark → Bool
 is_refused Fresh = false

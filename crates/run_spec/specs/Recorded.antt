@@ -21,6 +21,6 @@ is_same_view a b = pointwise is_same_entry a b
 abbrev pub artefact_for : List Entry → Record → Option (List ℕ)
 artefact_for present kept = if is_same_view kept.view present then Some kept.artefact else None
 
--- the artefact of the latest record of the file at a place, where that record has the file's present view
+-- the artefact of the latest record of the file at a position, where that record has the file's present view
 unfoldable pub recorded_at : (FileName → Option Record) → List Entry → ℕ → Option (List ℕ)
 recorded_at latest_of graph at = option_and_then (λ entry. option_and_then (artefact_for (view graph at)) (latest_of entry.name)) (slice_get graph at)

@@ -1,7 +1,7 @@
-//! What a run does, as definitions: the reading of words and sources, the present graph, the compiler function,
-//! the clean build, the journal of children, the marks of files, the printed texts, and the causes of answers.
+//! What a build is, as definitions: the journal of its children, the clean build, the marks of files, what is recorded
+//! of a file, and which disks are faithful; with laws of what is recorded.
 #![tactic(auto)]
 
 mod laws;
 
-pub use laws::{laws_of_recorded, one_scanner, some_scanner};
+pub use laws::laws_of_recorded;

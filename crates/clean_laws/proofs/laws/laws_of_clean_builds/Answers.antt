@@ -1,3 +1,4 @@
+-- Answers to the goals of `laws_of_clean_builds`.
 use Rattle.clean_laws.proofs.CleanViews.{clean_view}
 use Rattle.clean_laws.proofs.TrueRecords.{records_clean, true_record, latest-latest_alone}
 use Rattle.clean_laws.proofs.laws.laws_of_clean_builds.Goals as goal

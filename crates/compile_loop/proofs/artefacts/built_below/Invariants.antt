@@ -1,3 +1,4 @@
+-- What holds at each turn of the loop of `built_below`.
 use Rattle.std.proofs.Common.{◌≡◌, ◌≤◌, length, take}
 use Rattle.std.specs.Prelude.{slice_get}
 use Rattle.std.specs.List.{filter_map}

@@ -1,3 +1,4 @@
+-- Answers to the goals of `build_in_order`.
 use Rattle.std.proofs.Common.{refl}
 use Rattle.std.proofs.lemmas.Result.{err_from_is_err_and}
 use Rattle.compile_loop.proofs.Keeping.{keeps_none, keeps_weaker}
@@ -7,7 +8,7 @@ use Rattle.compile_loop.proofs.builds.build_in_order.Goals as goal
 pub returns-in_err-plan-clause-told : goal.returns-in_err-plan-clause-told
 returns-in_err-plan-clause-told g c =
     let p = err_from_is_err_and c.from_residual.result c.from_residual.ensures.1 in
-    rw p.1 (λ tells. lawful_at_first _ _ _ _ (keeps_none _ _ _ _ _ _ (λ name. refl) (λ told. g.met.K.Records.durable _ _ (c.requires.stands told))))
+    rw p.1 (λ tells. lawful_at_first _ _ _ _ (keeps_none _ _ _ _ _ _ (λ name. refl) (λ told. g.met.K.Records.durable _ _ (c.requires.in_step told))))
 
 pub returns-in_err-end_of-clause-told : goal.returns-in_err-end_of-clause-told
 returns-in_err-end_of-clause-told g c =

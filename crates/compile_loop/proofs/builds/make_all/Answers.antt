@@ -1,3 +1,4 @@
+-- Answers to the goals of `make_all`.
 use Rattle.std.proofs.Common.{true, ◌≡◌, ℕ, ◌+◌, ◌<◌, ◌≤◌, List, ◌∷◌, [], ◌++◌, length, get_or, Some, None, refl, sym, ap, subst, ◌∙◌, arith}
 use Rattle.std.specs.Prelude.{All, slice_get}
 use Rattle.std.proofs.lemmas.Bool.{false≢true}
@@ -15,6 +16,7 @@ use Rattle.compile_loop.proofs.Keeping.{keeps_none, keeps_weaker, keeps_then}
 use Rattle.compile_loop.proofs.Marking.{needs_agree, stale_at}
 use Rattle.compile_loop.proofs.Building.{built_at_first, cut_here, all_then, fresh_then, cut_then, made_then, refused_then}
 use Rattle.compile_loop.proofs.builds.make_all.Goals as goal
+use Rattle.vr_base.specs.declared.limits.TheConstants.{FILE_LIMIT}
 
 pub loop-at-init : goal.loop-at-init
 loop-at-init g c = record {
@@ -24,10 +26,10 @@ loop-at-init g c = record {
   starts = refl;
   losses = refl;
   disks = refl;
-  whole = c.requires.whole;
+  whole = c.requires.usable;
   holds = holds_at_first _ _;
-  stands = c.requires.stands;
-  told = λ tells. built_at_first _ _ _ _ _ c.requires.none (keeps_none true _ _ _ _ _ (λ name. refl) (λ told. g.met.K.Records.durable _ _ (c.requires.stands told)));
+  in_step = c.requires.in_step;
+  told = λ tells. built_at_first _ _ _ _ _ c.requires.none (keeps_none true _ _ _ _ _ (λ name. refl) (λ told. g.met.K.Records.durable _ _ (c.requires.in_step told)));
 }
 
 pub add_recorded-requires-clause-name : goal.add_recorded-requires-clause-name
@@ -65,7 +67,7 @@ loop-at-preserved-then-is_fresh g c =
       disks = i.disks;
       whole = i.whole;
       holds = holds_fresh c.args.graph.now (g.K.Records.latest_of c.args.store.now) (g.K.Records.latest_of c.loop-at.store) c.loop-at.at i.holds recorded;
-      stands = i.stands;
+      in_step = i.in_step;
       told = λ tells. fresh_then _ c.args.graph.now (recorded_at (g.K.Records.latest_of c.args.store.now) c.args.graph.now) c.loop-at.built c.loop-at.at i.count c.get-entry.result.now at _ _ recorded.artefact c.add_recorded.new.built _
           (recorded_of_record (g.K.Records.latest_of c.args.store.now) c.args.graph.now c.loop-at.at recorded) then (i.told tells);
     }
@@ -86,7 +88,7 @@ compile-requires-clause-few g c =
     let at : slice_get c.args.graph.now c.loop-at.at ≡ Some c.get-entry.result.now = c.get-entry.ensures.entry in
     let few : length c.get-entry.result.now.deps ≤ c.loop-at.at = few_deps c.args.graph.now c.loop-at.at c.get-entry.result.now (entry_is c.args.graph.now c.loop-at.at c.get-entry.result.now c.get-entry.ensures.graph at) in
     let lt : c.loop-at.at < length c.args.graph.now = slice_get_within c.args.graph.now c.loop-at.at c.get-entry.result.now at in
-    let short : length c.args.graph.now ≤ 4096 = c.get-entry.ensures.graph.few in
+    let short : length c.args.graph.now ≤ FILE_LIMIT = c.get-entry.ensures.graph.few in
     omega (arith, few, lt, short)
 
 pub compile-requires-clause-recorded : goal.compile-requires-clause-recorded
@@ -137,7 +139,7 @@ loop-at-preserved g c =
       disks = c.in_ok-compile.ensures.disks ∙ i.disks;
       whole = c.in_ok-compile.ensures.broken;
       holds = holds_kept c.args.graph.now (g.K.Records.latest_of c.args.store.now) (g.K.Records.latest_of c.loop-at.store) c.loop-at.at i.holds c.get-entry.ensures.graph c.get-entry.result.now at file.1 (g.K.Records.latest_of c.compile.new.store) file.2;
-      stands = c.in_ok-compile.ensures.stands;
+      in_step = c.in_ok-compile.ensures.in_step;
       told = λ tells. made_then _ c.args.graph.now (recorded_at (g.K.Records.latest_of c.args.store.now) c.args.graph.now) c.loop-at.built c.loop-at.at i.count c.get-entry.result.now at _ _ _ stale before _ _ _
           (λ more next one two. keeps_then _ _ _ _ _ _ _ _ more next true one two)
           (i.told tells) c.compile.new.built (rw (c.in-Made.is, i.same) at (c.in_ok-compile.ensures.told tells));

@@ -1,3 +1,4 @@
+-- Answers to the goals of `run_child`.
 use Rattle.compile_loop.proofs.OneChild.{adds_nothing, child_runs}
 use Rattle.compile_loop.proofs.children.run_child.Goals as goal
 

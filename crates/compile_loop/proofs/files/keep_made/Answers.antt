@@ -1,3 +1,4 @@
+-- Answers to the goals of `keep_made`.
 use Rattle.std.proofs.lemmas.Result.{err_from_is_err_and}
 use Rattle.compile_loop.proofs.Keeping.{keeps_weaker}
 use Rattle.compile_loop.proofs.files.keep_made.Goals as goal

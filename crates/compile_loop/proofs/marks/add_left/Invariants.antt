@@ -1,3 +1,4 @@
+-- What holds at each turn of the loop of `add_left`.
 use Rattle.std.proofs.Common.{◌≡◌, ◌++◌, map, take}
 use Rattle.compile_loop.specs.Builds.{left_mark}
 use Rattle.compile_loop.proofs.marks.add_left.Given as goal

@@ -1,3 +1,4 @@
+-- What holds at each turn of the loop of `add_made`.
 use Rattle.std.proofs.Common.{◌≡◌, ◌++◌, map, take}
 use Rattle.compile_loop.specs.Builds.{made_mark}
 use Rattle.compile_loop.proofs.marks.add_made.Given as goal

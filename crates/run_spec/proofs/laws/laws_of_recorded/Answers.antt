@@ -1,3 +1,4 @@
+-- Answers to the goals of `laws_of_recorded`.
 use Rattle.run_spec.proofs.SameViews.{same_views}
 use Rattle.run_spec.proofs.RecordedArtefacts.{record_of_recorded, recorded_of_record, none_recorded, none_at_stale}
 use Rattle.run_spec.proofs.laws.laws_of_recorded.Goals as goal

@@ -1,0 +1,88 @@
+-- A lawful journal of a build has compilers' events alone, and none where the graph has no file.
+use Rattle.std.proofs.Common.{◌≡◌, ℕ, Bool, false, not, eqb, List, Option, Some, None, inl, inr, sym, ◌∙◌, [], ◌∷◌, length, refl, ap}
+use Rattle.std.specs.Prelude.{slice_get, filter}
+use Rattle.std.specs.Option.{option_map, option_and_then}
+use Rattle.std.specs.List.{filter_map}
+use Rattle.std.proofs.lemmas.Bool.{cond-true, cond-false, cases_Bool, false≢true}
+use Rattle.std.proofs.lemmas.Option.{none-some}
+use Rattle.vr_base.specs.declared.graph.Entry.{Entry}
+use Rattle.vr_base.specs.declared.child.Request.{Request}
+use Rattle.vr_base.specs.declared.child.Event.{Event}
+use Rattle.vr_base.specs.declared.child.Event.TheVariants.{Started, Ended, Gone}
+use Rattle.vr_base.specs.Jobs.{compile_request}
+use Rattle.vr_outside.specs.Children.{started_with}
+use Rattle.run_spec.specs.Moves.{first_from, next_start, is_startable, LawfulMoves}
+use Rattle.run_spec.specs.ChildJournal.{Setting, End, Book, empty_book, artefact_so_far, built_file, job_of, core_of, next_position, request_at, after, moves_after, AreRequested, Lawful}
+use Rattle.run_spec.specs.JournalParts.{is_test, is_test_event, compile_part, test_part}
+
+-- without a file nothing can be started
+no_start : (s : Setting) (b : Book) → s.graph ≡ [] → next_position s b ≡ None
+unfolding next_start first_from
+no_start s b e = ap (λ (graph : List Entry). first_from (is_startable (job_of s) (core_of b)) 0 (length graph)) e
+
+-- so nothing happens
+pub no_event : (s : Setting) (events : List Event) → s.graph ≡ [] → Lawful s events → events ≡ []
+unfolding LawfulMoves moves_after AreRequested
+no_event s [] e lawful = refl
+no_event s (Started t r ∷ events) e lawful = absurd (none-some r (sym (ap (option_and_then (request_at s [])) (no_start s empty_book e)) ∙ lawful.requests.0))
+no_event s (Ended t x ∷ events) e lawful = absurd (false≢true lawful.moves.0)
+no_event s (Gone t ∷ events) e lawful = absurd (false≢true lawful.moves.0)
+
+-- a compiler is started without a path for results
+plain_from : (s : Setting) (ends : List End) (entry : Option Entry) (r : Request) →
+    option_map (λ entry. compile_request entry (filter_map (λ dep. built_file (slice_get s.graph dep) (artefact_so_far s ends dep)) entry.deps)) entry ≡ Some r → is_test (Some r) ≡ false
+plain_from s ends None r h = absurd (none-some r h)
+plain_from s ends (Some entry) r h = ap is_test (sym h)
+
+plain : (s : Setting) (ends : List End) (next : Option ℕ) (r : Request) → option_and_then (request_at s ends) next ≡ Some r → is_test (Some r) ≡ false
+unfolding request_at
+plain s ends None r h = absurd (none-some r h)
+plain s ends (Some position) r h = plain_from s ends (slice_get s.graph position) r h
+
+no_test : (s : Setting) (b : Book) (events : List Event) → AreRequested s b events → (ticket : ℕ) → is_test (started_with ticket events) ≡ false
+unfolding AreRequested
+no_test s b [] requested ticket = refl
+no_test s b (Started t r ∷ events) requested ticket =
+    elim (cases_Bool (eqb t ticket)) [
+      | inl here ↦ ap is_test (cond-true (eqb t ticket) (Some r) (started_with ticket events) here) ∙ plain s b.ends (next_position s b) r requested.0
+      | inr other ↦ ap is_test (cond-false (eqb t ticket) (Some r) (started_with ticket events) other) ∙ no_test s (after s b (Started t r)) events requested.1 ticket
+    ]
+no_test s b (Ended t e ∷ events) requested ticket = no_test s (after s b (Ended t e)) events requested.1 ticket
+no_test s b (Gone t ∷ events) requested ticket = no_test s (after s b (Gone t)) events requested.1 ticket
+
+module _ (journal : List Event) where
+  one_more : (event : Event) (events : List Event) → is_test_event journal event ≡ false →
+      (filter (λ other. not (is_test_event journal other)) events ≡ events) × (filter (is_test_event journal) events ≡ []) →
+      (filter (λ other. not (is_test_event journal other)) (event ∷ events) ≡ event ∷ events) × (filter (is_test_event journal) (event ∷ events) ≡ [])
+  one_more event events plain rest = (
+    cond-true (not (is_test_event journal event)) _ _ (ap not plain) ∙ ap (λ (l : List Event). event ∷ l) rest.0,
+    cond-false (is_test_event journal event) _ _ plain ∙ rest.1,
+  )
+
+  parts_from : ((ticket : ℕ) → is_test (started_with ticket journal) ≡ false) → (s : Setting) (b : Book) (events : List Event) → AreRequested s b events →
+      (filter (λ event. not (is_test_event journal event)) events ≡ events) × (filter (is_test_event journal) events ≡ [])
+  unfolding AreRequested
+  parts_from none s b [] requested = (refl, refl)
+  parts_from none s b (Started t r ∷ events) requested = one_more (Started t r) events (plain s b.ends (next_position s b) r requested.0) (parts_from none s (after s b (Started t r)) events requested.1)
+  parts_from none s b (Ended t e ∷ events) requested = one_more (Ended t e) events (none t) (parts_from none s (after s b (Ended t e)) events requested.1)
+  parts_from none s b (Gone t ∷ events) requested = one_more (Gone t) events (none t) (parts_from none s (after s b (Gone t)) events requested.1)
+
+-- all events of a build are compilers', and none is a test's
+pub build_parts : (s : Setting) (events : List Event) → Lawful s events → (compile_part events ≡ events) × (test_part events ≡ [])
+build_parts s events lawful = parts_from events (no_test s empty_book events lawful.requests) s empty_book events lawful.requests
+
+-- where no event is a test's all are compilers'
+filter_rest : {X : Type 0} (test : X → Bool) (xs : List X) → filter test xs ≡ [] → filter (λ x. not (test x)) xs ≡ xs
+filter_rest test [] none = refl
+filter_rest {X} test (x ∷ xs) none =
+    elim (cases_Bool (test x)) [
+      | inl t ↦ absurd (not_empty x (filter test xs) (sym (cond-true (test x) (x ∷ filter test xs) (filter test xs) t) ∙ none))
+      | inr f ↦
+          cond-true (not (test x)) (x ∷ filter (λ y. not (test y)) xs) (filter (λ y. not (test y)) xs) (ap not f)
+          ∙ ap (λ (l : List X). x ∷ l) (filter_rest test xs (sym (cond-false (test x) (x ∷ filter test xs) (filter test xs) f) ∙ none))
+    ] where
+      not_empty : (y : X) (ys : List X) → y ∷ ys ≡ [] → ⊥
+      not_empty y ys e = cc
+
+pub all_compiled : (events : List Event) → test_part events ≡ [] → compile_part events ≡ events
+all_compiled events none = filter_rest (is_test_event events) events none

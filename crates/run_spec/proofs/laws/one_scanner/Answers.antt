@@ -1,5 +1,0 @@
-use Rattle.run_spec.proofs.OneFinding.{one_finding}
-use Rattle.run_spec.proofs.laws.one_scanner.Goals as goal
-
-pub returns : goal.returns
-returns c = λ scan other is is_other text. one_finding text (scan text) (other text) (is text) (is_other text)
