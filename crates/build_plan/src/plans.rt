@@ -1,10 +1,12 @@
+//! The plan of a build.
+
 ghost use Rattle.std.specs.Prelude.{◌≡◌, ◌↔◌, ◌≤◌, IsTrue, length, IfOk};
 ghost use Rattle.vr_outside.specs.declared.records.Need.TheVariants.{Stale};
 ghost use Rattle.vr_outside.specs.Records.{AreNeeds};
 ghost use Rattle.build_plan.specs.Stale.{IsStaleList};
 
 use std::alloc::Global;
-use vr_base::{Graph, NoMemory, Positions};
+use vr_base::{FILE_LIMIT, Graph, NoMemory, Positions};
 use vr_outside::{Need, Needs, Records};
 
 /// Which files of a graph have to be compiled.
@@ -12,7 +14,7 @@ use vr_outside::{Need, Needs, Records};
 pub struct BuildPlan {
     /// One need for each file, in order.
     pub needs: Needs,
-    /// The positions of the stale files, rising.
+    /// The positions of the stale files, rising. Builds of one child walk the needs; builds of several will walk these.
     pub stale: Positions,
 }
 
@@ -24,7 +26,7 @@ fn is_stale(need: Need) -> bool
 
 /// The positions of the stale files, rising.
 pub(crate) fn stale_positions(alloc: Global, needs: &Needs) -> Result<Positions, NoMemory>
-    requires { length needs.now ≤ 4096 }
+    requires { length needs.now ≤ FILE_LIMIT }
     ensures { IfOk result (λ stale. IsStaleList stale needs.now) }
 {
     let mut stale = Positions::new(alloc);
@@ -44,7 +46,7 @@ pub fn plan<K: Records>(alloc: Global, graph: &Graph, store: &K) -> Result<Build
 {
     let needs = store.needs(alloc, graph)?;
     // A graph has few files, so that their positions are small.
-    prove!(graph.len() <= 4096);
+    prove!(graph.len() <= FILE_LIMIT as u64);
     let stale = stale_positions(alloc, &needs)?;
     Ok(BuildPlan { needs, stale })
 }

@@ -1,3 +1,5 @@
+//! The positions of the stale files of three.
+
 use crate::plans::stale_positions;
 use std::test::Fail;
 use vr_outside::{Need, Needs};

@@ -1,4 +1,4 @@
--- A kept file is the file at its place of a view where its numbers, read as positions, give the file of the graph.
+-- A kept file is the file with its number in a view where its numbers, read as positions, give the file of the graph.
 use Rattle.std.proofs.Common.{◌≡◌, ℕ, ◌+◌, ◌<◌, List, [], ◌∷◌, ◌++◌, length, get_or, Some, sym, ap, subst, ◌∙◌, arith}
 use Rattle.std.specs.Prelude.{All, Contains, slice_get, slice_index}
 use Rattle.std.specs.List.Sorted.{IsStrictlyIncreasing}
@@ -41,7 +41,7 @@ module _ (graph : List Entry) (at : ℕ) (own : Entry) (deps : List ℕ) (valid 
       ∙ length-viewed graph at own lt
       ∙ ap (λ (n : ℕ). n + 1) (ap (λ (e : Entry). length e.deps) (get_or_from_slice_get graph at own own found) ∙ ap length (sym own_deps))
 
-  -- a place of the view, and where its file stands in the graph
+  -- a number in the view, and the position of its file in the graph
   module _ (place position : ℕ) (l : place < length (view graph at)) (is : position ≡ slice_index (deps ++ at ∷ []) place) where
     positions : viewed graph at ≡ deps ++ at ∷ []
     positions = viewed_of graph at own found ∙ ap (λ (ds : List ℕ). ds ++ at ∷ []) (sym own_deps)
@@ -57,7 +57,7 @@ module _ (graph : List Entry) (at : ℕ) (own : Entry) (deps : List ℕ) (valid 
     stands = subst (λ (p : ℕ). p < length graph) (sym is_viewed) ((viewed_is_part graph at valid lt).within place 0 here)
 
     module _ (entry kept : Entry) (is_entry : slice_get graph position ≡ Some entry) (before : All (λ number. number < place) kept.deps) where
-      -- the file there, with its new numbers, is the file at the place
+      -- the file there, with its new numbers, is the file with this number
       file_at : get_or (view graph at) place no_entry ≡ renumbered (viewed graph at) entry
       file_at =
           get_or-part graph (viewed graph at) (viewed_is_part graph at valid lt) place no_entry here
@@ -70,7 +70,7 @@ module _ (graph : List Entry) (at : ℕ) (own : Entry) (deps : List ℕ) (valid 
           (ap (λ (p : ℕ). get_or graph p no_entry) (sym is_viewed) ∙ get_or_from_slice_get graph position entry no_entry is_entry)
           ((viewed_is_part graph at valid lt).closed place 0 here no_entry)
 
-      -- a kept file whose numbers stand for that file's dependencies is the file at the place
+      -- a kept file whose numbers are those of that file's dependencies is the file with this number
       pub is_file : with_numbers (deps ++ at ∷ []) kept ≡ entry → slice_get (view graph at) place ≡ Some kept
       is_file same =
           slice_get-get_or (view graph at) place no_entry l
@@ -79,7 +79,7 @@ module _ (graph : List Entry) (at : ℕ) (own : Entry) (deps : List ℕ) (valid 
           ∙ ap (renumbered (viewed graph at)) (sym same ∙ ap (λ (ps : List ℕ). with_numbers ps kept) (sym positions))
           ∙ renumbered_kept (viewed graph at) kept (viewed_is_part graph at valid lt).rising (λ k d m. omega (arith, before k d m, here)))
 
-      -- and the file at the place has such numbers
+      -- and the file with this number has such numbers
       pub has_numbers : slice_get (view graph at) place ≡ Some kept → with_numbers (deps ++ at ∷ []) kept ≡ entry
       has_numbers file =
           ap (λ (ps : List ℕ). with_numbers ps kept) (sym positions)

@@ -1,3 +1,4 @@
+-- The lemmas of this crate.
 pub mod KeptFiles
 pub mod ListedGraph
 pub mod Numbering

@@ -9,10 +9,11 @@ use Rattle.vr_base.specs.declared.project.ProjectFile.{ProjectFile}
 use Rattle.vr_base.specs.declared.project.Project.{Project}
 use Rattle.vr_base.specs.Graphs.{IsEntryAt, IsGraph}
 use Rattle.vr_base.specs.Projects.{IsProject}
-use Rattle.vr_base.proofs.GraphFronts.{IsGraph-front}
-use Rattle.run_spec.specs.PresentGraph.{below, listed_entry, listed_from, listed, IsListed}
-use Rattle.run_spec.proofs.Places.{length-below, get_or-below}
+use Rattle.vr_base.proofs.GraphPrefixes.{IsGraph-prefix}
+use Rattle.vr_base.specs.PresentGraph.{below, listed_entry, listed_from, listed, IsListed}
+use Rattle.vr_base.proofs.Below.{length-below, get_or-below}
 use Rattle.source_view.specs.Listed.{AreTexts}
+use Rattle.vr_base.specs.declared.limits.TheConstants.{FILE_LIMIT}
 
 pub listed_no_text : (place : ℕ) (files : List ProjectFile) → listed_from place files [] ≡ []
 unfolding listed_from
@@ -66,7 +67,7 @@ text_sum place (file ∷ files) (text ∷ texts) =
     rw (sum_by-cons (λ (e : Entry). length e.text) (listed_entry place file text) (listed_from (suc place) files texts), sum_by-cons (λ (t : List ℕ). length t) text texts)
     (omega (arith, text_sum (suc place) files texts))
 
-module _ (project : Project) (texts : List (List ℕ)) (is : IsProject project) (few : length project.files ≤ 4096) (are : AreTexts project.files texts) where
+module _ (project : Project) (texts : List (List ℕ)) (is : IsProject project) (few : length project.files ≤ FILE_LIMIT) (are : AreTexts project.files texts) where
   count : length (listed project.files texts) ≡ length project.files
   count = length-listed_from 0 project.files texts (omega (arith, are.each)) ∙ are.each
 
@@ -114,10 +115,10 @@ module _ (project : Project) (texts : List (List ℕ)) (is : IsProject project) 
   pub push_is_graph : (done more : List (List ℕ)) (text : List ℕ) → done ++ (text ∷ more) ≡ texts → IsGraph (listed project.files (done ++ text ∷ []))
   push_is_graph done more text e =
       let whole : (done ++ text ∷ []) ++ more ≡ texts = append_assoc done (text ∷ []) more ∙ e in
-      IsGraph-front (listed project.files (done ++ text ∷ [])) (listed_from (0 + length (done ++ text ∷ [])) (drop (length (done ++ text ∷ [])) project.files) more)
+      IsGraph-prefix (listed project.files (done ++ text ∷ [])) (listed_from (0 + length (done ++ text ∷ [])) (drop (length (done ++ text ∷ [])) project.files) more)
       (subst IsGraph (ap (listed project.files) (sym whole) ∙ listed_from-append 0 project.files (done ++ text ∷ []) more) listed_is_graph)
 
-  -- the file at the place after those that are done
+  -- the file at the position after those that are done
   pub next_file : (files : List ProjectFile) (done more : List (List ℕ)) (text : List ℕ) (graph : List Entry) (place : ℕ) → files ≡ project.files → graph ≡ listed files done → done ++ (text ∷ more) ≡ texts → place ≡ length graph
       → (place < length files) × ((file : ProjectFile) (entry : Entry) → file ≡ get_or files place file → entry ≡ listed_entry place file text → IsGraph (graph ++ entry ∷ []) × (graph ++ entry ∷ [] ≡ listed files (done ++ text ∷ [])))
   next_file files done more text graph place same so_far whole at =

@@ -1,4 +1,4 @@
--- Rising positions, and the place of each among them.
+-- Rising positions, and the number of each among them.
 use Rattle.std.proofs.Common.{◌≡◌, ℕ, zero, suc, ◌+◌, ◌<◌, ◌≤◌, eqb, List, [], ◌∷◌, length, map, get_or, set, drop, drop-cons, sym, ap, subst, ◌∙◌, arith, inl, inr}
 use Rattle.std.specs.Prelude.{All, Contains, sum_by}
 use Rattle.std.specs.List.Sorted.{IsStrictlyIncreasing}
@@ -10,7 +10,7 @@ use Rattle.vr_base.specs.View.{place_in}
 use Rattle.source_view.specs.Numbers.{IsNumbered}
 
 module _ (positions : List ℕ) (rising : IsStrictlyIncreasing positions) where
-  -- each position has its own place
+  -- each position has its own number
   pub place_at : (k d : ℕ) → k < length positions → place_in positions (get_or positions k d) ≡ k
   place_at k d lt =
       let same : get_or positions k d ≡ get_or positions k 0 = get_or_default positions k d 0 lt in
@@ -27,7 +27,7 @@ module _ (positions : List ℕ) (rising : IsStrictlyIncreasing positions) where
   pub get_or-place : (x d : ℕ) → Contains positions x → get_or positions (place_in positions x) d ≡ x
   get_or-place x d in_it = ap (λ (k : ℕ). get_or positions k d) (place_of x in_it) ∙ get_or_default positions in_it.0 d x in_it.1 ∙ in_it.2
 
-  -- a lower position has a lower place
+  -- a lower position has a lower number
   pub place_lower : (x y : ℕ) → Contains positions x → Contains positions y → x < y → place_in positions x < place_in positions y
   place_lower x y in_x in_y less =
       let at_x : get_or positions in_x.0 0 ≡ x = get_or_default positions in_x.0 0 x in_x.1 ∙ in_x.2 in

@@ -9,7 +9,7 @@ module _ (positions : List ℕ) (rising : IsStrictlyIncreasing positions) where
   pub before_later : (i j : ℕ) → i < j → j < length positions → get_or positions i 0 < get_or positions j 0
   before_later i j a b = AllPairs-from_increasing positions rising i j 0 a b
 
-  -- a position is at least its place
+  -- a position is at least its number
   pub place_le : (k : ℕ) → k < length positions → k ≤ get_or positions k 0
   place_le zero lt = omega arith
   place_le (suc k) lt = omega (arith, place_le k (omega arith), before_later k (suc k) (omega arith) lt)

@@ -9,7 +9,7 @@ use Rattle.std.proofs.lemmas.Option.{slice_get-get_or, get_or_from_slice_get}
 use Rattle.vr_base.specs.declared.graph.Entry.{Entry}
 use Rattle.vr_base.specs.Graphs.{IsGraph}
 use Rattle.vr_base.specs.View.{IsView}
-use Rattle.vr_base.proofs.GraphFronts.{IsGraph-front}
+use Rattle.vr_base.proofs.GraphPrefixes.{IsGraph-prefix}
 use Rattle.vr_base.specs.View.{place_in, renumbered, part, viewed, view}
 use Rattle.source_view.specs.Numbers.{IsNumbered, with_numbers}
 use Rattle.source_view.proofs.Numbering.{place_at, place_of, place_within, get_or-place, place_lower}
@@ -200,7 +200,7 @@ module _ (graph : List Entry) (at : ℕ) (valid : IsGraph graph) (lt : at < leng
       let here : get_or (view graph at) i no_entry ≡ copy = get_or-part graph (viewed graph at) is_part i no_entry l ∙ ap (λ (n : ℕ). renumbered (viewed graph at) (get_or graph n no_entry)) (sym at_0) ∙ ap (renumbered (viewed graph at)) same_entry ∙ sym renumber in
       let within_view : i < length (view graph at) = omega (arith, length-part graph (viewed graph at) is_part) in
       let more : take i (view graph at) ++ copy ∷ [] ≡ take (i + 1) (view graph at) = ap (λ (e : Entry). take i (view graph at) ++ e ∷ []) (sym here) ∙ sym (take_more (view graph at) i no_entry within_view) in
-      (subst IsGraph (sym more) (IsGraph-front (take (i + 1) (view graph at)) (drop (i + 1) (view graph at)) (subst IsGraph (sym (take-append-drop (i + 1) (view graph at))) (view_is_graph graph at valid lt))), more)
+      (subst IsGraph (sym more) (IsGraph-prefix (take (i + 1) (view graph at)) (drop (i + 1) (view graph at)) (subst IsGraph (sym (take-append-drop (i + 1) (view graph at))) (view_is_graph graph at valid lt))), more)
 
 -- the positions of a view, as the code makes them
 pub viewed_of : (graph : List Entry) (at : ℕ) (entry : Entry) → slice_get graph at ≡ Some entry → viewed graph at ≡ entry.deps ++ at ∷ []

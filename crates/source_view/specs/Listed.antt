@@ -1,8 +1,9 @@
 -- The texts of the files of a listed project.
 use Rattle.std.specs.Prelude.{◌≡◌, ℕ, ◌≤◌, List, length, sum_by}
 use Rattle.vr_base.specs.declared.project.ProjectFile.{ProjectFile}
+use Rattle.vr_base.specs.declared.limits.TheConstants.{PROJECT_TEXT_LIMIT}
 
--- one text for each file, of at most 2,097,152 bytes together
+-- one text for each file, all together within the limit of a project's texts
 pub record AreTexts (files : List ProjectFile) (texts : List (List ℕ)) : Type 0 where
   pub each : length texts ≡ length files
-  pub small : sum_by (λ text. length text) texts ≤ 2097152
+  pub small : sum_by (λ text. length text) texts ≤ PROJECT_TEXT_LIMIT

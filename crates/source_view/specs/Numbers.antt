@@ -4,7 +4,7 @@ use Rattle.vr_base.specs.declared.graph.Entry.{Entry}
 
 -- a table that has the new numbers of the first positions
 abbrev pub IsNumbered : List ℕ → List ℕ → ℕ → Type 0
-IsNumbered table positions count = (place : ℕ) → place < count → slice_index table (slice_index positions place) ≡ place
+IsNumbered table positions count = (number : ℕ) → number < count → slice_index table (slice_index positions number) ≡ number
 
 -- a file whose dependencies have the numbers of a table
 abbrev pub with_numbers : List ℕ → Entry → Entry

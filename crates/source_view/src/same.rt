@@ -1,13 +1,8 @@
+//! Whether two views are the same.
+
 ghost use Rattle.std.specs.Prelude.{◌≡◌, ◌↔◌, IsTrue};
 
-use vr_base::{Entry, FileName, Graph, TextList};
-
-/// Whether two files have the same library and the same path.
-pub fn same_name(a: &FileName, b: &FileName) -> bool
-    ensures { IsTrue result ↔ (a.now ≡ b.now) }
-{
-    a.path.same(&b.path) && a.library.same(&b.library)
-}
+use vr_base::{Entry, Graph, TextList};
 
 /// Whether two lists have the same words in the same order.
 pub fn same_words(a: &TextList, b: &TextList) -> bool
@@ -31,12 +26,13 @@ fn same_entry(a: &Entry, b: &Entry) -> bool
     ensures { IsTrue result ↔ (a.now ≡ b.now) }
 {
     a.deps.as_slice() == b.deps.as_slice()
-        && same_name(&a.name, &b.name)
+        && a.name == b.name
         && same_words(&a.command, &b.command)
         && a.text.same(&b.text)
 }
 
-/// Whether two views are the same: the same files in the same order, with the same texts, words and dependencies.
+/// Whether two views are the same: the same files in the same order, with the same texts, words and dependencies. No
+/// crate calls it yet: `is_view_of` compares without making a view.
 pub fn same_view(a: &Graph, b: &Graph) -> bool
     ensures { IsTrue result ↔ (a.now ≡ b.now) }
 {

@@ -1,3 +1,5 @@
+//! The view of a file, and the laws of views.
+
 ghost use Rattle.std.specs.Prelude.{◌≡◌, ℕ, List, ◌+◌, ◌<◌, ◌≤◌, length, map, All, slice_index, slice_index_or, IfOk};
 ghost use Rattle.std.specs.List.Sorted.{IsStrictlyIncreasing};
 ghost use Rattle.vr_base.specs.declared.graph.Entry.{Entry};
@@ -6,9 +8,9 @@ ghost use Rattle.vr_base.specs.View.{viewed, view, IsView};
 ghost use Rattle.source_view.specs.Numbers.{IsNumbered, with_numbers};
 
 use std::alloc::Global;
-use vr_base::{Entry, Graph, NoMemory, Positions};
+use vr_base::{Entry, FILE_LIMIT, Graph, NoMemory, Positions};
 
-/// Where the files of a view stand in the graph, rising.
+/// The positions of the files of a view in the graph, rising.
 fn positions_of(alloc: Global, graph: &Graph, at: u32) -> Result<Vec<u32>, NoMemory>
     requires { at < length graph.now }
     ensures { IfOk result (λ positions. positions.items ≡ viewed graph.now at) }
@@ -22,9 +24,10 @@ fn positions_of(alloc: Global, graph: &Graph, at: u32) -> Result<Vec<u32>, NoMem
 fn numbers_of(alloc: Global, count: usize, positions: &[u32]) -> Result<Vec<u32>, NoMemory>
     requires rising { IsStrictlyIncreasing positions.now }
     requires within { All (λ position. position < count) positions.now }
-    requires few { count ≤ 4096 }
+    requires few { count ≤ FILE_LIMIT }
     ensures count { IfOk result (λ table. length table.items ≡ count) }
-    ensures numbers { IfOk result (λ table. IsNumbered table.items positions.now (length positions.now)) }
+    ensures numbers { IfOk result
+        (λ table. IsNumbered table.items positions.now (length positions.now)) }
 {
     let mut table = vec![in alloc; 0; count]?;
     for number in 0..positions.len() {
@@ -78,12 +81,19 @@ pub fn view_of(alloc: Global, graph: &Graph, at: u32) -> Result<Graph, NoMemory>
 /// What holds of the views of a graph, however they are made.
 pub fn laws_of_views()
     // A view is a graph whose last file depends on all others.
-    ensures graph { (graph : List Entry) (at : ℕ) → IsGraph graph → at < length graph → IsGraph (view graph at) }
-    ensures whole { (graph : List Entry) (at : ℕ) → IsGraph graph → at < length graph → IsView (view graph at) }
+    ensures graph { (graph : List Entry) (at : ℕ) → IsGraph graph → at < length graph →
+        IsGraph (view graph at) }
+    ensures whole { (graph : List Entry) (at : ℕ) → IsGraph graph → at < length graph →
+        IsView (view graph at) }
     // The view of a file within a view is its view in the graph,
-    ensures within { (graph : List Entry) (at place : ℕ) → IsGraph graph → at < length graph → place < length (view graph at) → view (view graph at) place ≡ view graph (slice_index (viewed graph at) place) }
+    ensures within { (graph : List Entry) (at number : ℕ) → IsGraph graph → at < length graph →
+        number < length (view graph at) →
+        view (view graph at) number ≡ view graph (slice_index (viewed graph at) number) }
     // and so the view of the last file within a view is the view itself.
-    ensures last { (graph : List Entry) (at last : ℕ) → IsGraph graph → at < length graph → last + 1 ≡ length (view graph at) → view (view graph at) last ≡ view graph at }
+    ensures last { (graph : List Entry) (at last : ℕ) → IsGraph graph → at < length graph →
+        last + 1 ≡ length (view graph at) → view (view graph at) last ≡ view graph at }
     // The last file of a view is the file that is viewed, but for the numbers of its dependencies.
-    ensures file { (graph : List Entry) (at last : ℕ) (other : Entry) → IsGraph graph → at < length graph → last + 1 ≡ length (view graph at) → (slice_index_or (view graph at) last other).name ≡ (slice_index_or graph at other).name }
+    ensures file { (graph : List Entry) (at last : ℕ) (other : Entry) → IsGraph graph →
+        at < length graph → last + 1 ≡ length (view graph at) →
+        (slice_index_or (view graph at) last other).name ≡ (slice_index_or graph at other).name }
 {}

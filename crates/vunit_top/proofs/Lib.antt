@@ -1,9 +1,5 @@
-pub mod Utf8Test
-pub mod Splits
-pub mod NewNames
-pub mod CsvProject
+-- The lemmas.
 pub mod Texts
-pub mod ReportLoops
 pub mod Tops
 pub mod Faults
 pub mod OverStore

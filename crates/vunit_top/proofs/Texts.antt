@@ -8,17 +8,17 @@ use Rattle.vunit_top.specs.Sources.{Gives}
 use Rattle.vunit_top.specs.declared.sources.ReadStop.{ReadStop}
 use Rattle.vunit_top.specs.declared.sources.ReadStop.TheVariants as stop
 
--- texts that were read stand before those that follow
-abbrev pub behind : List (List ℕ) → Result (List (List ℕ)) Reading → Result (List (List ℕ)) Reading
-behind texts (Ok more) = Ok (texts ++ more)
-behind texts (Err reading) = Err reading
+-- texts that were read come before those that follow
+abbrev pub after : List (List ℕ) → Result (List (List ℕ)) Reading → Result (List (List ℕ)) Reading
+after texts (Ok more) = Ok (texts ++ more)
+after texts (Err reading) = Err reading
 
-behind_more : (texts : List (List ℕ)) (text : List ℕ) (more : Result (List (List ℕ)) Reading) → behind texts (before_others text more) ≡ behind (texts ++ text ∷ []) more
-behind_more texts text (Err reading) = refl
-behind_more texts text (Ok more) = ap (λ (all : List (List ℕ)). Ok all) (sym (append_assoc texts (text ∷ []) more))
+after_more : (texts : List (List ℕ)) (text : List ℕ) (more : Result (List (List ℕ)) Reading) → after texts (before_others text more) ≡ after (texts ++ text ∷ []) more
+after_more texts text (Err reading) = refl
+after_more texts text (Ok more) = ap (λ (all : List (List ℕ)). Ok all) (sym (append_assoc texts (text ∷ []) more))
 
 module _ (tree : List ℕ → Option (List ℕ)) (before : ℕ) (files : List ProjectFile) (i : ℕ) (file : ProjectFile) (texts : List (List ℕ)) (whole : Result (List (List ℕ)) Reading) (lt : i < length files) (is : file ≡ get_or files i file)
-    (h : behind texts (texts_of tree before (drop i files)) ≡ whole) where
+    (h : after texts (texts_of tree before (drop i files)) ≡ whole) where
   abbrev others : List ℕ → Result (List (List ℕ)) Reading
   others text = texts_of tree (before + length text) (drop (i + 1) files)
 
@@ -27,16 +27,16 @@ module _ (tree : List ℕ → Option (List ℕ)) (before : ℕ) (files : List Pr
   next_text = ap (texts_of tree before) (drop_more files i file lt ∙ ap (λ (f : ProjectFile). f ∷ drop (i + 1) files) (sym is))
 
   -- one more file is read
-  pub text_then : (text : List ℕ) → text_of file.name before (read_end (tree file.name.path) bounds.text) ≡ Ok text → behind (texts ++ text ∷ []) (texts_of tree (before + length text) (drop (i + 1) files)) ≡ whole
+  pub text_then : (text : List ℕ) → text_of file.name before (read_end (tree file.name.path) bounds.text) ≡ Ok text → after (texts ++ text ∷ []) (texts_of tree (before + length text) (drop (i + 1) files)) ≡ whole
   text_then text got =
-      sym (behind_more texts text (others text))
-      ∙ ap (λ (one : Result (List ℕ) Reading). behind texts (and_others others one)) (sym got)
-      ∙ ap (behind texts) (sym next_text) ∙ h
+      sym (after_more texts text (others text))
+      ∙ ap (λ (one : Result (List ℕ) Reading). after texts (and_others others one)) (sym got)
+      ∙ ap (after texts) (sym next_text) ∙ h
 
   no_text : (reading : Reading) → text_of file.name before (read_end (tree file.name.path) bounds.text) ≡ Err reading → whole ≡ Err reading
   no_text reading none =
-      sym h ∙ ap (behind texts) next_text
-      ∙ ap (λ (one : Result (List ℕ) Reading). behind texts (and_others others one)) none
+      sym h ∙ ap (after texts) next_text
+      ∙ ap (λ (one : Result (List ℕ) Reading). after texts (and_others others one)) none
 
   -- a file gives no text
   pub no_text_then : (fault : ReadStop) → Gives (text_of file.name before (read_end (tree file.name.path) bounds.text)) (Err fault) → Gives whole (Err fault)
@@ -46,7 +46,7 @@ module _ (tree : List ℕ → Option (List ℕ)) (before : ℕ) (files : List Pr
   no_text_then stop.NoMemory none = tt
 
 -- all files are read
-pub all_texts : (tree : List ℕ → Option (List ℕ)) (before : ℕ) (files : List ProjectFile) (i : ℕ) (texts : List (List ℕ)) (whole : Result (List (List ℕ)) Reading) → length files ≤ i → behind texts (texts_of tree before (drop i files)) ≡ whole → whole ≡ Ok texts
+pub all_texts : (tree : List ℕ → Option (List ℕ)) (before : ℕ) (files : List ProjectFile) (i : ℕ) (texts : List (List ℕ)) (whole : Result (List (List ℕ)) Reading) → length files ≤ i → after texts (texts_of tree before (drop i files)) ≡ whole → whole ≡ Ok texts
 unfolding texts_of
 all_texts tree before files i texts whole le h =
-    sym h ∙ ap (λ (fs : List ProjectFile). behind texts (texts_of tree before fs)) (drop_all i files le) ∙ ap (λ (all : List (List ℕ)). Ok all) (append-nil texts)
+    sym h ∙ ap (λ (fs : List ProjectFile). after texts (texts_of tree before fs)) (drop_all i files le) ∙ ap (λ (all : List (List ℕ)). Ok all) (append-nil texts)

@@ -5,7 +5,7 @@ use Rattle.vr_base.specs.declared.outcome.Outcome.{Outcome}
 use Rattle.vr_base.specs.declared.outcome.Outcome.TheVariants as outcome
 use Rattle.vr_outside.specs.Counts.{Rose}
 
--- After each answer of a part that only puts: a fault of the output was counted, and else its count stands.
+-- After each answer of a part that only puts: a fault of the output was counted, and else its count is unchanged.
 abbrev pub OutCauses : Outcome → ℕ → ℕ → Type 0
 OutCauses (outcome.OutsideFault which.Tree) old new = ⊥
 OutCauses (outcome.OutsideFault which.Disk) old new = ⊥

@@ -13,9 +13,11 @@ use Rattle.vr_outside.specs.declared.tree.ReadEnd.{ReadEnd}
 use Rattle.vr_outside.specs.declared.tree.ReadEnd.TheVariants as read
 use Rattle.vr_outside.specs.Trees.{read_end}
 use Rattle.std.specs.Str.{bytes_eq}
-use Rattle.run_spec.specs.Csv.{csv_project}
-use Rattle.run_spec.specs.PresentGraph.{listed}
-use Rattle.run_spec.specs.Findings.{Finding, first_fault}
+use Rattle.project_file.specs.Csv.{csv_project}
+use Rattle.vr_base.specs.PresentGraph.{listed}
+use Rattle.scan_spec.specs.Scans.{Finding}
+use Rattle.vunit_top.specs.Findings.{first_fault}
+use Rattle.vr_base.specs.declared.limits.TheConstants.{PROJECT_TEXT_LIMIT, TEXT_LIMIT}
 
 -- The words are no command line; the program is a child; the sources are refused; a quantity is over its limit,
 -- which is this number; or this graph is to be compiled.
@@ -33,17 +35,17 @@ pub record Bounds : Type 0 where
   pub total : ℕ
 
 abbrev pub bounds : Bounds
-bounds = record { files = 128; text = 4194304; total = 2097152 }
+bounds = record { files = 128; text = TEXT_LIMIT; total = PROJECT_TEXT_LIMIT }
 
 -- a text, where it and those before it have no more bytes together than they may
-abbrev pub text_behind : ℕ → List ℕ → Result (List ℕ) Reading
-text_behind before text = if nat_le (before + length text) bounds.total then Ok text else Err (Over limit.TotalBytes bounds.total)
+abbrev pub text_after : ℕ → List ℕ → Result (List ℕ) Reading
+text_after before text = if nat_le (before + length text) bounds.total then Ok text else Err (Over limit.TotalBytes bounds.total)
 
--- the text of a file behind texts of so many bytes, or why nothing is compiled
+-- the text of a file after texts of so many bytes, or why nothing is compiled
 abbrev pub text_of : FileName → ℕ → ReadEnd → Result (List ℕ) Reading
 text_of name before read.Absent = Err (Stops (refusal.AbsentFile name))
 text_of name before read.TooLong = Err (Over limit.TextBytes bounds.text)
-text_of name before (read.Got text) = text_behind before text
+text_of name before (read.Got text) = text_after before text
 
 -- a text is put before those that follow it
 abbrev pub before_others : List ℕ → Result (List (List ℕ)) Reading → Result (List (List ℕ)) Reading
@@ -54,7 +56,7 @@ abbrev pub and_others : (List ℕ → Result (List (List ℕ)) Reading) → Resu
 and_others others (Ok text) = before_others text (others text)
 and_others others (Err reading) = Err reading
 
--- the texts of the files behind texts of so many bytes; or what the first file says, in project order, that gives no text
+-- the texts of the files after texts of so many bytes; or what the first file says, in project order, that gives no text
 unfoldable pub texts_of : (List ℕ → Option (List ℕ)) → ℕ → List ProjectFile → Result (List (List ℕ)) Reading
 texts_of tree before [] = Ok []
 texts_of tree before (file ∷ files) =

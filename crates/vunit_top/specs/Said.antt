@@ -1,29 +1,28 @@
 -- What a run answers and puts, and what each of its answers comes of.
 use Rattle.std.specs.Prelude.{◌≡◌, ◌⊎◌, ℕ, ◌<◌, nat_le, true, false, if◌then◌else◌, List, [], ◌++◌, length, Option, is_some}
-use Rattle.std.specs.List.{list_any}
 use Rattle.vr_base.specs.declared.graph.Entry.{Entry}
 use Rattle.vr_base.specs.declared.child.Request.{Request}
 use Rattle.vr_base.specs.declared.child.Exit.{Exit}
 use Rattle.vr_base.specs.declared.child.Event.{Event}
 use Rattle.vr_base.specs.declared.outcome.Mark.{Mark}
-use Rattle.vr_base.specs.declared.outcome.Refusal.TheVariants as refusal
 use Rattle.vr_base.specs.declared.outcome.Which.TheVariants as which
 use Rattle.vr_base.specs.declared.outcome.Outcome.{Outcome}
 use Rattle.vr_base.specs.declared.outcome.Outcome.TheVariants as outcome
 use Rattle.vr_outside.specs.Counts.{Rose}
-use Rattle.vr_outside.specs.Streams.{AddsFront}
+use Rattle.vr_outside.specs.Streams.{AddsPrefix}
 use Rattle.vr_base.specs.declared.file.FileName.{FileName}
 use Rattle.vr_outside.specs.declared.records.Record.{Record}
 use Rattle.vr_outside.specs.Disks.{DiskState, Image, IsImage, Moments, EachImage, reads_of}
-use Rattle.vr_outside.specs.Records.{latest, IsKeptOf, IsRecorded}
+use Rattle.vr_outside.specs.Records.{latest, IsAllOrLatest, IsRecorded}
 use Rattle.record_store.specs.Stored.{records_in}
-use Rattle.run_spec.specs.ChildJournal.{Setting, Book}
-use Rattle.run_spec.specs.ChildJournal as journal
+use Rattle.run_spec.specs.ChildJournal.{Setting, Lawful, Answered, IsWhole, artefact_after}
+use Rattle.run_spec.specs.JournalParts.{compile_part, test_part}
 use Rattle.run_spec.specs.CleanBuild.{stale_requests}
 use Rattle.run_spec.specs.Recorded.{recorded_at}
-use Rattle.run_spec.specs.Marks.{marks_of, steady_marks, is_refused, refused_files}
+use Rattle.run_spec.specs.Marks.{marks_of, steady_marks}
 use Rattle.compile_loop.specs.Commits.{setting_of, commits}
-use Rattle.run_spec.specs.Texts.{shown_bytes, build_text, refusal_text, limit_text, usage_text, bad_request}
+use Rattle.run_report.specs.Outcomes.{build_outcome}
+use Rattle.run_report.specs.Texts.{shown_bytes, build_text, refusal_text, limit_text, usage_text, bad_request}
 use Rattle.vunit_top.specs.Reading.{Reading, Bad, Child, Stops, Over, Go}
 
 -- an answer, and the text that is put with it
@@ -39,14 +38,16 @@ latest_in disk name = latest name (records_in (reads_of disk))
 abbrev pub one_at_a_time : (FileName → Option Record) → List Entry → Setting
 one_at_a_time latest_of graph = setting_of latest_of graph 1 false
 
--- what has happened in such a build
-abbrev pub book_of : (FileName → Option Record) → List Entry → List Event → Book
-book_of latest_of graph events = journal.after_all (one_at_a_time latest_of graph) journal.empty_book events
+-- the graph that a reading gives, which has no file where nothing is to be compiled
+abbrev pub graph_of : Reading → List Entry
+graph_of (Go graph) = graph
+graph_of reading = []
 
--- a build is done, or the compiler refused these files
-abbrev pub build_outcome : List Entry → List Mark → Outcome
-build_outcome graph marks = if list_any is_refused marks then outcome.Refused (refusal.Compiler (refused_files graph marks)) else outcome.Done
+-- the build of a reading
+abbrev pub build_of : (FileName → Option Record) → Reading → Setting
+build_of latest_of reading = one_at_a_time latest_of (graph_of reading)
 
+-- what a build of these marks answers, and its text
 abbrev pub build_said : List Entry → List Mark → Said
 build_said graph marks = record { outcome = build_outcome graph marks; text = build_text shown_bytes graph marks }
 
@@ -64,47 +65,37 @@ said latest_of Bad input events = record { outcome = outcome.BadWords; text = us
 said latest_of Child input events = child_said input
 said latest_of (Stops reason) input events = record { outcome = outcome.Refused reason; text = refusal_text reason }
 said latest_of (Over limit number) input events = record { outcome = outcome.OverLimit limit; text = limit_text limit number }
-said latest_of (Go graph) input events = build_said graph (marks_of (one_at_a_time latest_of graph) events)
+said latest_of (Go graph) input events = build_said graph (marks_of (one_at_a_time latest_of graph) (compile_part events))
 
--- At each answer but a fault and want of memory that is the answer, and its text was put. After want of memory
--- nothing was put. After a fault nothing was put, but for a front of the text where the output failed.
+-- At each answer but a fault and out of memory that is the answer, and its text was put. After out of memory
+-- nothing was put. After a fault nothing was put, but for a prefix of the text where the output failed.
 abbrev pub Says : Outcome → Said → List ℕ → List ℕ → Type 0
 Says outcome.NoMemory s old new = new ≡ old
-Says (outcome.OutsideFault which.Out) s old new = AddsFront s.text old new
+Says (outcome.OutsideFault which.Out) s old new = AddsPrefix s.text old new
 Says (outcome.OutsideFault other) s old new = new ≡ old
 Says answer s old new = (answer ≡ s.outcome) × (new ≡ old ++ s.text)
 
--- what happened to children, where there are any: each start is lawful
-abbrev pub IsLawful : (FileName → Option Record) → Reading → List Event → Type 0
-IsLawful latest_of (Go graph) events = journal.Lawful (one_at_a_time latest_of graph) journal.empty_book events
-IsLawful latest_of Bad events = events ≡ []
-IsLawful latest_of Child events = events ≡ []
-IsLawful latest_of (Stops reason) events = events ≡ []
-IsLawful latest_of (Over limit number) events = events ≡ []
+-- The events of compilers are a lawful journal of the build, and there are no others. So there are none where the
+-- reading gives no graph.
+pub record IsLawful (latest_of : FileName → Option Record) (reading : Reading) (events : List Event) : Type 0 where
+  pub lawful : Lawful (build_of latest_of reading) (compile_part events)
+  pub only_compiles : test_part events ≡ []
 
 -- each end is the answer to what its child was started with
 abbrev pub IsAnswered : (Request → Exit) → (FileName → Option Record) → Reading → List Event → Type 0
-IsAnswered answer latest_of (Go graph) events = journal.Answered answer (one_at_a_time latest_of graph) journal.empty_book events
-IsAnswered answer latest_of Bad events = events ≡ []
-IsAnswered answer latest_of Child events = events ≡ []
-IsAnswered answer latest_of (Stops reason) events = events ≡ []
-IsAnswered answer latest_of (Over limit number) events = events ≡ []
+IsAnswered answer latest_of reading events = Answered answer events
 
 -- the build ended by itself: lawful, greedy and finished, and no child was lost
 abbrev pub EndsByItself : (FileName → Option Record) → Reading → List Event → Type 0
-EndsByItself latest_of (Go graph) events = journal.IsWhole (one_at_a_time latest_of graph) events
-EndsByItself latest_of Bad events = events ≡ []
-EndsByItself latest_of Child events = events ≡ []
-EndsByItself latest_of (Stops reason) events = events ≡ []
-EndsByItself latest_of (Over limit number) events = events ≡ []
+EndsByItself latest_of reading events = IsWhole (build_of latest_of reading) (compile_part events)
 
--- no fault and no want of memory
+-- no fault and no out of memory
 abbrev pub IsSaid : Outcome → Type 0
 IsSaid outcome.NoMemory = ⊥
 IsSaid (outcome.OutsideFault which) = ⊥
 IsSaid answer = Unit {0}
 
--- What children were started with is a front of what a clean build asks for the files of which nothing is recorded,
+-- What children were started with is a prefix of what a clean build asks for the files of which nothing is recorded,
 -- and all of it where the build ended by itself. So each compiler is handed the artefacts that the clean build makes.
 pub record IsClean (answer : Request → Exit) (graph : List Entry) (recorded : ℕ → Option (List ℕ)) (result : Outcome) (starts : List Request) : Type 0 where
   pub left : List Request
@@ -112,51 +103,44 @@ pub record IsClean (answer : Request → Exit) (graph : List Entry) (recorded : 
   pub none_left : IsSaid result → left ≡ []
 
 abbrev pub AsksCleanly : (Request → Exit) → (FileName → Option Record) → Reading → Outcome → List Request → Type 0
-AsksCleanly answer latest_of (Go graph) result starts = IsClean answer graph (recorded_at latest_of graph) result starts
-AsksCleanly answer latest_of Bad result starts = starts ≡ []
-AsksCleanly answer latest_of Child result starts = starts ≡ []
-AsksCleanly answer latest_of (Stops reason) result starts = starts ≡ []
-AsksCleanly answer latest_of (Over limit number) result starts = starts ≡ []
+AsksCleanly answer latest_of reading result starts = IsClean answer (graph_of reading) (recorded_at latest_of (graph_of reading)) result starts
 
--- where no file was refused, the marks are those that a clean build says
+-- where the build is done, the marks are those that a clean build says
 abbrev pub IsSteady : (Request → Exit) → (FileName → Option Record) → Reading → Outcome → List Event → Type 0
-IsSteady answer latest_of (Go graph) outcome.Done events = marks_of (one_at_a_time latest_of graph) events ≡ steady_marks answer graph (recorded_at latest_of graph)
-IsSteady answer latest_of (Go graph) result events = Unit {0}
-IsSteady answer latest_of reading result events = Unit {0}
+IsSteady answer latest_of reading result events =
+    result ≡ outcome.Done → marks_of (build_of latest_of reading) (compile_part events) ≡ steady_marks answer (graph_of reading) (recorded_at latest_of (graph_of reading))
 
--- in whatever a stop leaves, the latest record of the file at a place has its present view
-abbrev pub IsKept : DiskState → List Entry → ℕ → Type 0
-IsKept disk graph place = EachImage (λ image. IsRecorded (λ name. latest name (records_in image)) graph place) disk
+-- in whatever a stop can leave, the latest record of the file at a position has its present view
+abbrev pub IsDurablyRecorded : DiskState → List Entry → ℕ → Type 0
+IsDurablyRecorded disk graph position = EachImage (λ image. IsRecorded (λ name. latest name (records_in image)) graph position) disk
 
 -- each file that is made by the end is kept: those whose record was current, and those that were compiled
-abbrev pub KeepsMade : (FileName → Option Record) → Reading → Outcome → List Event → DiskState → Type 0
-KeepsMade latest_of (Go graph) result events disk =
-    IsSaid result → (place : ℕ) → place < length graph → is_some (journal.made (one_at_a_time latest_of graph) (book_of latest_of graph events) place) ≡ true → IsKept disk graph place
-KeepsMade latest_of reading result events disk = Unit {0}
+abbrev pub RecordsMade : (FileName → Option Record) → Reading → Outcome → List Event → DiskState → Type 0
+RecordsMade latest_of reading result events disk =
+    IsSaid result → (position : ℕ) → position < length (graph_of reading) → is_some (artefact_after (build_of latest_of reading) (compile_part events) position) ≡ true →
+    IsDurablyRecorded disk (graph_of reading) position
 
 -- where the build is done, each file is made
-abbrev pub MakesAll : (FileName → Option Record) → Reading → Outcome → List Event → Type 0
-MakesAll latest_of (Go graph) outcome.Done events = (place : ℕ) → place < length graph → is_some (journal.made (one_at_a_time latest_of graph) (book_of latest_of graph events) place) ≡ true
-MakesAll latest_of (Go graph) result events = Unit {0}
-MakesAll latest_of reading result events = Unit {0}
+abbrev pub AllAreBuilt : (FileName → Option Record) → Reading → Outcome → List Event → Type 0
+AllAreBuilt latest_of reading result events =
+    result ≡ outcome.Done → (position : ℕ) → position < length (graph_of reading) → is_some (artefact_after (build_of latest_of reading) (compile_part events) position) ≡ true
 
 -- what the children of a run gave, as records, in order of their ends
 abbrev pub given : (FileName → Option Record) → Reading → List Event → List Record
-given latest_of (Go graph) events = commits (one_at_a_time latest_of graph) events
-given latest_of reading events = []
+given latest_of reading events = commits (build_of latest_of reading) (compile_part events)
 
--- What a stop leaves of a run: the records from before with a front of what was given. They are all the records of an
+-- What a stop can leave of a run: the records from before with a prefix of what was given. They are all the records of an
 -- image from before, or the latest alone, and once something was given those that reads gave before.
 pub record HasGiven (old : DiskState) (more : List Record) (image : Image) : Type 0 where
   pub before : Image
   pub was : IsImage old before
   pub base : List Record
-  pub kept : IsKeptOf (records_in before) base
-  pub front : List Record
+  pub kept : IsAllOrLatest (records_in before) base
+  pub prefix : List Record
   pub left : List Record
-  pub all : more ≡ front ++ left
-  pub are : records_in image ≡ base ++ front
-  pub opened : (front ≡ []) ⊎ (before ≡ reads_of old)
+  pub all : more ≡ prefix ++ left
+  pub are : records_in image ≡ base ++ prefix
+  pub opened : (prefix ≡ []) ⊎ (before ≡ reads_of old)
 
 -- the disk isn't touched where there is no graph to build
 abbrev pub LeavesDisk : Reading → Moments → Moments → Type 0
@@ -172,8 +156,8 @@ pub record Counts : Type 0 where
   pub out : ℕ
   pub input : ℕ
 
--- A fault of an object is answered only where its count rose. After any answer but a fault and want of memory
--- all counts stand.
+-- A fault of an object is answered only where its count rose. After any answer but a fault and out of memory
+-- all counts are unchanged.
 abbrev pub Causes : Outcome → Counts → Counts → Type 0
 Causes outcome.NoMemory old new = Unit {0}
 Causes (outcome.OutsideFault which.Tree) old new = Rose old.tree new.tree

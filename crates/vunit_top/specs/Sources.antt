@@ -1,12 +1,12 @@
 -- What is read of a tree.
-use Rattle.std.specs.Prelude.{◌≡◌, ℕ, List, Result, Ok, Err}
-use Rattle.vr_base.specs.declared.graph.Entry.{Entry}
+use Rattle.std.specs.Prelude.{◌≡◌, ℕ, Result, Ok, Err}
 use Rattle.vr_outside.specs.Counts.{Counted}
 use Rattle.vunit_top.specs.Reading.{Reading, Stops, Over, Go}
 use Rattle.vunit_top.specs.declared.sources.ReadStop.{ReadStop}
+use Rattle.vunit_top.specs.declared.sources.ScannedGraph.{ScannedGraph}
 use Rattle.vunit_top.specs.declared.sources.ReadStop.TheVariants as stop
 
--- what was read is what there is to read; after a fault and want of memory nothing is owed
+-- what was read is what there is to read; after a fault and out of memory nothing is owed
 abbrev pub Gives : {T : Type 0} → Result T Reading → Result T ReadStop → Type 0
 Gives whole (Ok value) = whole ≡ Ok value
 Gives whole (Err (stop.Refused reason)) = whole ≡ Err (Stops reason)
@@ -14,15 +14,15 @@ Gives whole (Err (stop.Over limit number)) = whole ≡ Err (Over limit number)
 Gives whole (Err stop.Failed) = Unit {0}
 Gives whole (Err stop.NoMemory) = Unit {0}
 
--- the reading is what was read: a graph, a refusal, or a limit that is passed; after a fault and want of memory nothing is owed
-abbrev pub Leads : Reading → Result (List Entry) ReadStop → Type 0
-Leads whole (Ok graph) = whole ≡ Go graph
-Leads whole (Err (stop.Refused reason)) = whole ≡ Stops reason
-Leads whole (Err (stop.Over limit number)) = whole ≡ Over limit number
-Leads whole (Err stop.Failed) = Unit {0}
-Leads whole (Err stop.NoMemory) = Unit {0}
+-- the reading is what was read: a graph, a refusal, or a limit that is passed; after a fault and out of memory nothing is owed
+abbrev pub LeadsTo : Reading → Result ScannedGraph ReadStop → Type 0
+LeadsTo whole (Ok read) = whole ≡ Go read.graph
+LeadsTo whole (Err (stop.Refused reason)) = whole ≡ Stops reason
+LeadsTo whole (Err (stop.Over limit number)) = whole ≡ Over limit number
+LeadsTo whole (Err stop.Failed) = Unit {0}
+LeadsTo whole (Err stop.NoMemory) = Unit {0}
 
--- After each answer: the tree's fault was counted, and else its count stands.
+-- After each answer: the tree's fault was counted, and else its count is unchanged.
 abbrev pub ReadCounts : {T : Type 0} → Result T ReadStop → ℕ → ℕ → Type 0
 ReadCounts (Ok value) before now = now ≡ before
 ReadCounts (Err (stop.Refused reason)) before now = now ≡ before

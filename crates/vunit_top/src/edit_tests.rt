@@ -3,8 +3,8 @@
 mod tables;
 
 use self::tables::{
-    A, A1, ABC, ALL, B1, BX, C, DONE, LIBRARIES, LISTINGS, NOTES, Part, REFUSALS, REFUSED,
-    Sequence, Step, TEXTS,
+    A, A1, ABC, ALL, B1, BX, C, DONE, End, LIBRARIES, LISTINGS, Part, REFUSALS, REFUSED, Step,
+    TEXTS,
 };
 use crate::test_parts::{
     add_answer, add_file, is, numbers, put_short, run_over, script_of, texts, tree_of,
@@ -34,8 +34,10 @@ fn source(alloc: Global, part: &Part) -> Result<Vec<u8>, NoMemory> {
     text.extend_from_slice(b" is\nend package ")?;
     text.extend_from_slice(name)?;
     text.extend_from_slice(b";\n")?;
-    for note in &NOTES[..NOTES.len().min(*number)] {
-        text.extend_from_slice(note)?;
+    for note in 1..=*number {
+        text.extend_from_slice(b"-- child: note ")?;
+        text.push(b'0' + (note % 10) as u8)?;
+        text.push(b'\n')?;
     }
     Ok(text)
 }
@@ -58,7 +60,7 @@ fn put_name(out: &mut Vec<u8>, part: &Part) -> Result<(), NoMemory> {
     put_short(out, part.1)
 }
 
-/// What the compiler of a file behind others is handed.
+/// What the compiler of a file after others is handed.
 fn input(alloc: Global, before: &[Part], part: &Part) -> Result<Text, NoMemory> {
     let mut bytes = Vec::from_slice(alloc, b"VRC1")?;
     put_name(&mut bytes, part)?;
@@ -138,31 +140,31 @@ fn run(
     })
 }
 
-/// Whether this is the request of the compiler of the file at a place, if there is one.
+/// Whether this is the request of the compiler of the file at a position, if there is one.
 fn is_request_of(
     alloc: Global,
     request: &Request,
     parts: &[Part],
-    place: Option<&usize>,
+    position: Option<&usize>,
 ) -> Result<bool, NoMemory> {
-    let Some(place) = place else {
+    let Some(position) = position else {
         return Ok(false);
     };
-    let Some(part) = parts.get(*place) else {
+    let Some(part) = parts.get(*position) else {
         return Ok(false);
     };
-    let input = input(alloc, &parts[..*place], part)?;
+    let input = input(alloc, &parts[..*position], part)?;
     Ok(is(request.input.bytes(), input.bytes()))
 }
 
-/// Whether the compilers of the files at these places were started, in order, and no more.
+/// Whether the compilers of the files at these positions were started, in order, and no more.
 fn are_started(
     alloc: Global,
     journal: &[Event],
     parts: &[Part],
-    places: &[usize],
+    positions: &[usize],
 ) -> Result<bool, NoMemory> {
-    let mut wanted = places.iter();
+    let mut wanted = positions.iter();
     for event in journal {
         if let Event::Started { ticket: _, request } = event {
             if !is_request_of(alloc, request, parts, wanted.next())? {
@@ -177,12 +179,12 @@ fn is_name_of(name: &FileName, part: &Part) -> bool {
     is(name.library.bytes(), part.0) && is(name.path.bytes(), part.1)
 }
 
-/// Whether these are the names of one file alone, which is that at the last of these places.
-fn names_last(files: &[FileName], parts: &[Part], places: &[usize]) -> bool {
-    let Some(place) = places.last() else {
+/// Whether these are the names of one file alone, which is that at the last of these positions.
+fn names_last(files: &[FileName], parts: &[Part], positions: &[usize]) -> bool {
+    let Some(position) = positions.last() else {
         return false;
     };
-    match (files, parts.get(*place)) {
+    match (files, parts.get(*position)) {
         ([name], Some(part)) => is_name_of(name, part),
         _ => false,
     }
@@ -190,11 +192,11 @@ fn names_last(files: &[FileName], parts: &[Part], places: &[usize]) -> bool {
 
 /// Whether a run ended so.
 fn ends_so(outcome: &Outcome, step: &Step) -> bool {
-    let (parts, places, end) = step;
+    let (parts, positions, end) = step;
     match outcome {
         Outcome::Done => *end == DONE,
         Outcome::Refused(Refusal::Compiler { files }) => {
-            *end == REFUSED && names_last(files.as_slice(), parts, places)
+            *end == REFUSED && names_last(files.as_slice(), parts, positions)
         }
         _ => false,
     }
@@ -210,19 +212,123 @@ fn empty_disk(alloc: Global, failing: &[u64]) -> Result<MemDisk, NoMemory> {
     Ok(MemDisk::new(alloc, numbers(alloc, failing)?))
 }
 
-/// Goes through a sequence.
-fn follow(rt: &impl Abort, alloc: Global, row: usize, sequence: &[Step]) -> Result<(), Fail> {
-    let mut disk = empty_disk(alloc, &[])?;
-    for (turn, step) in sequence.iter().enumerate() {
-        let ran = run(rt, alloc, step.0, &[], &mut disk)?;
-        assert!(rt; goes_so(alloc, &ran, step)?, "sequence {row}, run {turn}");
-    }
-    Ok(())
+/// A run as a line of a table says it.
+#[derive(Drop)]
+struct Planned {
+    parts: Vec<Part<'static>>,
+    positions: Vec<usize>,
+    end: Option<End>,
 }
 
-fn follow_all(rt: &impl Abort, alloc: Global, sequences: &[Sequence]) -> Result<(), Fail> {
-    for (row, sequence) in sequences.iter().enumerate() {
-        follow(rt, alloc, row, sequence)?;
+/// The path that a letter names.
+fn path_of(letter: u8) -> Option<&'static [u8]> {
+    let path: &'static [u8] = match letter {
+        b'A' => b"a.vhd",
+        b'B' => b"b.vhd",
+        b'C' => b"c.vhd",
+        b'D' => b"d.vhd",
+        _ => return None,
+    };
+    Some(path)
+}
+
+/// The number of a text, by what comes after a letter.
+fn number_of(word: &[u8]) -> Option<usize> {
+    match word {
+        [] => Some(0),
+        b"1" => Some(1),
+        b"2" => Some(2),
+        b"3" => Some(3),
+        b"X" => Some(4),
+        b"Y" => Some(5),
+        _ => None,
+    }
+}
+
+/// The file that a word names.
+fn part_of(word: &[u8]) -> Option<Part<'static>> {
+    match word {
+        [b'O', letter, number @ ..] => Some((b"other", path_of(*letter)?, number_of(number)?)),
+        [letter, number @ ..] => Some((b"lib", path_of(*letter)?, number_of(number)?)),
+        [] => None,
+    }
+}
+
+/// The position that a word names.
+fn position_of(word: &[u8]) -> Option<usize> {
+    match word {
+        b"0" => Some(0),
+        b"1" => Some(1),
+        b"2" => Some(2),
+        b"3" => Some(3),
+        _ => None,
+    }
+}
+
+/// Takes a word up. Whether it is one of a table.
+fn take_word(planned: &mut Planned, word: &[u8]) -> Result<bool, NoMemory> {
+    if let Some(part) = part_of(word) {
+        planned.parts.push(part)?;
+        return Ok(true);
+    }
+    if let Some(position) = position_of(word) {
+        planned.positions.push(position)?;
+        return Ok(true);
+    }
+    if is(word, b"done") {
+        planned.end = Some(DONE);
+        return Ok(true);
+    }
+    if is(word, b"refused") {
+        planned.end = Some(REFUSED);
+        return Ok(true);
+    }
+    Ok(is(word, b">"))
+}
+
+/// The run that a line says.
+fn read_plan(rt: &impl Abort, alloc: Global, line: &[u8]) -> Result<Planned, Fail> {
+    let mut planned = Planned {
+        parts: Vec::new(alloc),
+        positions: Vec::new(alloc),
+        end: None,
+    };
+    for word in line.split(|byte| *byte == b' ') {
+        assert!(rt; take_word(&mut planned, word)?, "no word of a table");
+    }
+    Ok(planned)
+}
+
+/// Whether a run over a disk goes as it is planned.
+fn goes_as_planned(
+    rt: &impl Abort,
+    alloc: Global,
+    planned: &Planned,
+    disk: &mut MemDisk,
+) -> Result<bool, NoMemory> {
+    let Some(end) = planned.end else {
+        return Ok(false);
+    };
+    let step = (planned.parts.as_slice(), planned.positions.as_slice(), end);
+    let ran = run(rt, alloc, step.0, &[], disk)?;
+    goes_so(alloc, &ran, &step)
+}
+
+/// Goes through the runs of a table.
+fn follow_all(rt: &impl Abort, alloc: Global, table: &[u8]) -> Result<(), Fail> {
+    let mut disk = empty_disk(alloc, &[])?;
+    for (row, line) in table.split(|byte| *byte == b'\n').enumerate() {
+        match line {
+            [] => disk = empty_disk(alloc, &[])?,
+            [b'#', ..] => {}
+            _ => {
+                let planned = read_plan(rt, alloc, line)?;
+                assert!(rt;
+                    goes_as_planned(rt, alloc, &planned, &mut disk)?,
+                    "line {row}"
+                );
+            }
+        }
     }
     Ok(())
 }
@@ -292,7 +398,7 @@ fn tells_so(
 }
 
 #[test]
-fn an_edited_file_and_those_behind_it_are_compiled(rt: HostRuntime) -> Result<(), Fail> {
+fn an_edited_file_and_those_after_it_are_compiled(rt: HostRuntime) -> Result<(), Fail> {
     let mut disk = empty_disk(rt.alloc(), &[])?;
     for (turn, told) in TOLD.iter().enumerate() {
         assert!(rt; tells_so(&rt, rt.alloc(), told, &mut disk)?, "run {turn}");
@@ -301,7 +407,7 @@ fn an_edited_file_and_those_behind_it_are_compiled(rt: HostRuntime) -> Result<()
 }
 
 /// A run over an empty disk that ends in a fault, and the next one over that disk, which is done: the calls of the
-/// disk and of the children that fail in the first, the object that is named, the places of the files that the first
+/// disk and of the children that fail in the first, the object that is named, the positions of the files that the first
 /// compiles, and of those that the next does.
 type Fault<'a> = (&'a [u64], &'a [u64], Which, &'a [usize], &'a [usize]);
 
@@ -365,9 +471,9 @@ static FAULTS: &[Fault] = &[
     LAST_LOST,
 ];
 
-/// Whether a run ended in the fault of this object, and compiled the files at these places.
-fn fails_so(alloc: Global, ran: &Ran, which: Which, places: &[usize]) -> Result<bool, NoMemory> {
-    let started = are_started(alloc, ran.procs.journal().as_slice(), ABC, places)?;
+/// Whether a run ended in the fault of this object, and compiled the files at these positions.
+fn fails_so(alloc: Global, ran: &Ran, which: Which, positions: &[usize]) -> Result<bool, NoMemory> {
+    let started = are_started(alloc, ran.procs.journal().as_slice(), ABC, positions)?;
     Ok(started && matches!(ran.outcome, Outcome::OutsideFault(named) if named == which))
 }
 

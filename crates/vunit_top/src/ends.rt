@@ -1,10 +1,13 @@
+//! What a run puts, and what it then answers.
+
 ghost use Rattle.std.specs.Prelude.{◌≡◌, length};
-ghost use Rattle.vunit_top.specs.Said.{Says, IsSaid, said, build_said, build_outcome};
-ghost use Rattle.run_spec.specs.Texts.{refusal_text, limit_text, usage_text};
+ghost use Rattle.run_report.specs.Outcomes.{build_outcome};
+ghost use Rattle.vunit_top.specs.Said.{Says, IsSaid, said, build_said};
+ghost use Rattle.run_report.specs.Texts.{refusal_text, limit_text, usage_text};
 ghost use Rattle.vunit_top.specs.Reading.{Bad};
 ghost use Rattle.vunit_top.specs.Ends.{OutCauses};
 
-use crate::report::{build_outcome, build_text, limit_text, refusal_text};
+use run_report::{build_outcome, build_text, limit_text, refusal_text};
 use std::alloc::Global;
 use vr_base::{Graph, Limit, MarkList, Outcome, Refusal, Which};
 use vr_outside::{Sink, SinkFault};
@@ -17,7 +20,9 @@ static USAGE: [u8; 140] =
 pub fn say<O: Sink>(text: &[u8], answer: Outcome, out: &mut O) -> Outcome
     requires { IsSaid answer }
     ensures answer { IsSaid result → result ≡ answer }
-    ensures said { O.tells → Says result (record { outcome = answer; text = text.now }) (O.contents out.old) (O.contents out.new) }
+    ensures said { O.tells →
+        Says result (record { outcome = answer; text = text.now })
+        (O.contents out.old) (O.contents out.new) }
     ensures cause { OutCauses result (O.failed_puts out.old) (O.failed_puts out.new) }
 {
     match out.put(text) {
@@ -27,9 +32,11 @@ pub fn say<O: Sink>(text: &[u8], answer: Outcome, out: &mut O) -> Outcome
 }
 
 /// Puts the usage text.
-#[tactic(auto, unfolding(run_spec::specs::Texts::usage_text))]
+#[tactic(auto, unfolding(run_report::specs::Texts::usage_text))]
 pub fn say_usage<O: Sink>(out: &mut O) -> Outcome
-    ensures said { O.tells → Says result (record { outcome = Outcome.BadWords; text = usage_text }) (O.contents out.old) (O.contents out.new) }
+    ensures said { O.tells →
+        Says result (record { outcome = Outcome.BadWords; text = usage_text })
+        (O.contents out.old) (O.contents out.new) }
     ensures cause { OutCauses result (O.failed_puts out.old) (O.failed_puts out.new) }
 {
     say(&USAGE, Outcome::BadWords, out)
@@ -37,7 +44,9 @@ pub fn say_usage<O: Sink>(out: &mut O) -> Outcome
 
 /// Puts the text of a refusal that isn't the compiler's.
 pub fn say_refusal<O: Sink>(alloc: Global, refusal: Refusal, out: &mut O) -> Outcome
-    ensures said { O.tells → Says result (record { outcome = Outcome.Refused refusal; text = refusal_text refusal }) (O.contents out.old) (O.contents out.new) }
+    ensures said { O.tells →
+        Says result (record { outcome = Outcome.Refused refusal; text = refusal_text refusal })
+        (O.contents out.old) (O.contents out.new) }
     ensures cause { OutCauses result (O.failed_puts out.old) (O.failed_puts out.new) }
 {
     match refusal_text(alloc, &refusal) {
@@ -48,7 +57,9 @@ pub fn say_refusal<O: Sink>(alloc: Global, refusal: Refusal, out: &mut O) -> Out
 
 /// Puts that a quantity is over this limit.
 pub fn say_limit<O: Sink>(alloc: Global, limit: Limit, number: u64, out: &mut O) -> Outcome
-    ensures said { O.tells → Says result (record { outcome = Outcome.OverLimit limit; text = limit_text limit number }) (O.contents out.old) (O.contents out.new) }
+    ensures said { O.tells →
+        Says result (record { outcome = Outcome.OverLimit limit; text = limit_text limit number })
+        (O.contents out.old) (O.contents out.new) }
     ensures cause { OutCauses result (O.failed_puts out.old) (O.failed_puts out.new) }
 {
     match limit_text(alloc, limit, number) {
@@ -61,7 +72,9 @@ pub fn say_limit<O: Sink>(alloc: Global, limit: Limit, number: u64, out: &mut O)
 pub fn say_build<O: Sink>(alloc: Global, graph: &Graph, marks: &MarkList, out: &mut O) -> Outcome
     requires { length marks.now ≡ length graph.now }
     ensures answer { IsSaid result → result ≡ build_outcome graph.now marks.now }
-    ensures said { O.tells → Says result (build_said graph.now marks.now) (O.contents out.old) (O.contents out.new) }
+    ensures said { O.tells →
+        Says result (build_said graph.now marks.now)
+        (O.contents out.old) (O.contents out.new) }
     ensures cause { OutCauses result (O.failed_puts out.old) (O.failed_puts out.new) }
 {
     match (

@@ -1,11 +1,8 @@
-//! The top call.
+//! The top call: what the words and the sources say is read and done, and what became of it is put.
 #![tactic(auto)]
 
 mod building;
-mod csv;
 mod ends;
-mod parts;
-mod report;
 mod scanning;
 mod sources;
 mod top;

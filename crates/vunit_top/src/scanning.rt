@@ -1,91 +1,117 @@
-ghost use Rattle.std.specs.Prelude.{◌≡◌, ℕ, ◌≤◌, List, length, IfOk, Some};
-ghost use Rattle.scan_spec.specs.Units.{AreTokensOf};
-ghost use Rattle.run_spec.specs.Findings.{Finding, IsScanner, refusal_of, first_fault};
-ghost use Rattle.source_view.specs.Listed.{AreTexts};
+//! The scans of the files of a project, or the refusal of the first file that has a fault.
 
+ghost use Rattle.std.specs.Prelude.{◌≡◌, ◌≤◌, ℕ, List, length, IfOk};
+ghost use Rattle.scan_spec.specs.Units.{AreTokensOf};
+ghost use Rattle.scan_spec.specs.Scans.{Finding, IsScanner, AreScansOf};
+ghost use Rattle.source_view.specs.Listed.{AreTexts};
+ghost use Rattle.vunit_top.specs.Findings.{first_fault};
+ghost use Rattle.vunit_top.specs.Scanning.{ScansFile, ScansUpTo};
+ghost use Rattle.vunit_top.specs.Sources.{ReadCounts};
+
+use crate::sources::ReadStop;
 use std::alloc::Global;
 use vhdl_lex::scan_tokens;
 use vhdl_units::outline;
-use vr_base::{FileName, LexFault, NoMemory, ProjectFile, Refusal, Text, Tokens, UnitFault};
+use vr_base::{
+    FileName, LexFault, NoMemory, ProjectFile, Refusal, Scan, Scans, TEXT_LIMIT, Text, TokenList,
+    Tokens, UnitFault,
+};
 
 /// A refusal of a file for a lexical fault.
-fn lexical(alloc: Global, file: &FileName, fault: LexFault) -> Result<Option<Refusal>, NoMemory>
-    ensures { IfOk result (λ refusal. refusal ≡ Some (Refusal.Lex file.now fault)) }
+fn lexical(alloc: Global, file: &FileName, fault: LexFault) -> Result<Refusal, NoMemory>
+    ensures { IfOk result (λ refusal. refusal ≡ Refusal.Lex file.now fault) }
 {
-    Ok(Some(Refusal::Lex {
+    Ok(Refusal::Lex {
         file: file.copy(alloc)?,
         fault,
-    }))
+    })
 }
 
 /// A refusal of a file for a fault of the unit grammar.
-fn grammatical(
-    alloc: Global,
-    file: &FileName,
-    fault: UnitFault,
-) -> Result<Option<Refusal>, NoMemory>
-    ensures { IfOk result (λ refusal. refusal ≡ Some (Refusal.Units file.now fault)) }
+fn grammatical(alloc: Global, file: &FileName, fault: UnitFault) -> Result<Refusal, NoMemory>
+    ensures { IfOk result (λ refusal. refusal ≡ Refusal.Units file.now fault) }
 {
-    Ok(Some(Refusal::Units {
+    Ok(Refusal::Units {
         file: file.copy(alloc)?,
         fault,
-    }))
+    })
 }
 
-/// What is wrong with the design units of a file.
-fn fault_of_units(
-    alloc: Global,
-    file: &FileName,
-    text: &[u8],
-    tokens: &Tokens,
-) -> Result<Option<Refusal>, NoMemory>
-    requires tokens { AreTokensOf text.now tokens.now }
-    requires small { length text.now ≤ 4194304 }
-    ensures { IfOk result (λ refusal. (scan : List ℕ → Finding) → IsScanner scan → refusal ≡ refusal_of file.now (scan text.now)) }
+/// The same tokens, in no more room than they need: the scanner reserves by the length of the text.
+fn without_spare_room(tokens: Tokens) -> Tokens
+    ensures { result ≡ tokens }
 {
-    match outline(alloc, text, tokens) {
-        Ok(_units) => Ok(None),
-        Err(UnitFault::NoMemory) => Err(NoMemory),
-        Err(UnitFault::NotUnit { at }) => grammatical(alloc, file, UnitFault::NotUnit { at }),
-        Err(UnitFault::NotEnded { at }) => grammatical(alloc, file, UnitFault::NotEnded { at }),
+    let Tokens { list, comments } = tokens;
+    let mut list = list.into_vec();
+    list.shrink_to_fit();
+    Tokens {
+        list: TokenList::from_vec(list),
+        comments,
     }
 }
 
-/// What is wrong with a file, if anything is: its lexical fault, or its fault of the unit grammar.
-fn fault_of(alloc: Global, file: &FileName, text: &[u8]) -> Result<Option<Refusal>, NoMemory>
-    requires { length text.now ≤ 4194304 }
-    ensures { IfOk result (λ refusal. (scan : List ℕ → Finding) → IsScanner scan → refusal ≡ refusal_of file.now (scan text.now)) }
+/// The scan of a file whose tokens are known, or its refusal for a fault of the unit grammar.
+fn scan_units(alloc: Global, file: &FileName, text: &[u8], tokens: Tokens) -> Result<Scan, ReadStop>
+    requires tokens { AreTokensOf text.now tokens }
+    requires small { length text.now ≤ TEXT_LIMIT }
+    ensures scan { ScansFile file.now text.now result }
+    ensures cause { (count : ℕ) → ReadCounts result count count }
+{
+    match outline(alloc, text, &tokens) {
+        Ok(units) => Ok(Scan { tokens, units }),
+        Err(UnitFault::NoMemory) => Err(ReadStop::NoMemory),
+        Err(UnitFault::NotUnit { at }) => Err(ReadStop::Refused(grammatical(
+            alloc,
+            file,
+            UnitFault::NotUnit { at },
+        )?)),
+        Err(UnitFault::NotEnded { at }) => Err(ReadStop::Refused(grammatical(
+            alloc,
+            file,
+            UnitFault::NotEnded { at },
+        )?)),
+    }
+}
+
+/// The scan of a file, or its refusal for its lexical fault or its fault of the unit grammar.
+fn scan_file(alloc: Global, file: &FileName, text: &[u8]) -> Result<Scan, ReadStop>
+    requires { length text.now ≤ TEXT_LIMIT }
+    ensures scan { ScansFile file.now text.now result }
+    ensures cause { (count : ℕ) → ReadCounts result count count }
 {
     match scan_tokens(alloc, text) {
-        Ok(tokens) => fault_of_units(alloc, file, text, &tokens),
-        Err(LexFault::NoMemory) => Err(NoMemory),
-        Err(LexFault::UnclosedString { at }) => {
-            lexical(alloc, file, LexFault::UnclosedString { at })
-        }
-        Err(LexFault::UnclosedExtended { at }) => {
-            lexical(alloc, file, LexFault::UnclosedExtended { at })
-        }
-        Err(LexFault::UnclosedComment { at }) => {
-            lexical(alloc, file, LexFault::UnclosedComment { at })
-        }
+        Ok(tokens) => scan_units(alloc, file, text, without_spare_room(tokens)),
+        Err(LexFault::NoMemory) => Err(ReadStop::NoMemory),
+        Err(LexFault::UnclosedString { at }) => Err(ReadStop::Refused(lexical(
+            alloc,
+            file,
+            LexFault::UnclosedString { at },
+        )?)),
+        Err(LexFault::UnclosedExtended { at }) => Err(ReadStop::Refused(lexical(
+            alloc,
+            file,
+            LexFault::UnclosedExtended { at },
+        )?)),
+        Err(LexFault::UnclosedComment { at }) => Err(ReadStop::Refused(lexical(
+            alloc,
+            file,
+            LexFault::UnclosedComment { at },
+        )?)),
     }
 }
 
-/// The refusal of the first file that has a fault, in project order.
-pub fn first_fault(
-    alloc: Global,
-    files: &[ProjectFile],
-    texts: &[Text],
-) -> Result<Option<Refusal>, NoMemory>
+/// The scans of the files, one a file, in project order; or the refusal of the first file that has a fault.
+pub fn scans_of(alloc: Global, files: &[ProjectFile], texts: &[Text]) -> Result<Scans, ReadStop>
     requires { AreTexts files.now texts.now }
-    ensures { IfOk result (λ refusal. (scan : List ℕ → Finding) → IsScanner scan → refusal ≡ first_fault scan files.now texts.now) }
+    ensures scans { IfOk result (AreScansOf texts.now) }
+    ensures fault { (scan : List ℕ → Finding) → IsScanner scan →
+        ScansUpTo (first_fault scan files.now texts.now) result }
+    ensures cause { (count : ℕ) → ReadCounts result count count }
 {
+    let mut scans = Scans::new(alloc);
     for i in 0..files.len() {
-        let name = &files[i].name;
-        match fault_of(alloc, name, texts[i].bytes())? {
-            None => {}
-            Some(refusal) => return Ok(Some(refusal)),
-        }
+        let scan = scan_file(alloc, &files[i].name, texts[i].bytes())?;
+        scans.push(scan)?;
     }
-    Ok(None)
+    Ok(scans)
 }

@@ -1,20 +1,25 @@
+//! What is read of a tree: the texts of a project, their scans and their graph; or why nothing is compiled.
+
 ghost use Rattle.std.specs.Prelude.{◌≡◌, ◌+◌, ◌≤◌, length, codes, List, ℕ, IfOk};
 ghost use Rattle.vr_base.specs.Projects.{IsProject};
-ghost use Rattle.vr_outside.specs.Trees.{read_end, IsWithin};
-ghost use Rattle.run_spec.specs.PresentGraph.{listed, IsListed};
-ghost use Rattle.run_spec.specs.Csv.{csv_project};
-ghost use Rattle.run_spec.specs.Findings.{Finding, IsScanner, first_fault};
-ghost use Rattle.vunit_top.specs.Reading.{Stops, Over, bounds, text_behind, text_of, texts_of, go_unless, sources_reading, listing_reading, csv_reading, toml_reading, project_reading};
+ghost use Rattle.vr_outside.specs.Trees.{read_end, FitsReadLimit};
+ghost use Rattle.vr_base.specs.PresentGraph.{listed};
+ghost use Rattle.project_file.specs.Csv.{csv_project};
+ghost use Rattle.scan_spec.specs.Scans.{Finding, IsScanner};
+ghost use Rattle.vunit_top.specs.Findings.{first_fault};
+ghost use Rattle.vunit_top.specs.Scanning.{IsScannedGraph};
+ghost use Rattle.vunit_top.specs.Reading.{Stops, Over, bounds, text_after, text_of, texts_of, go_unless, sources_reading, listing_reading, csv_reading, toml_reading, project_reading};
 ghost use Rattle.source_view.specs.Listed.{AreTexts};
-ghost use Rattle.vunit_top.specs.Sources.{Gives, Leads, ReadCounts, IsPlain};
+ghost use Rattle.vunit_top.specs.Sources.{Gives, LeadsTo, ReadCounts, IsPlain};
 ghost use Rattle.vunit_top.specs.declared.sources.ReadStop.TheVariants.{NoMemory as out_of_memory};
 
-use crate::csv::read_csv_project;
-use crate::scanning::first_fault;
+use crate::scanning::scans_of;
+use project_file::read_csv_project;
 use source_view::listed_graph;
 use std::alloc::Global;
 use vr_base::{
-    FileName, Graph, Limit, NoMemory, Project, ProjectFault, ProjectFile, Refusal, Text, TextList,
+    FILE_LIMIT, FileName, Graph, Limit, NoMemory, PROJECT_TEXT_LIMIT, Project, ProjectFault,
+    ProjectFile, Refusal, Scans, TEXT_LIMIT, Text, TextList,
 };
 use vr_outside::{ReadEnd, Tree, TreeFault};
 
@@ -37,6 +42,13 @@ impl From<NoMemory> for ReadStop {
     }
 }
 
+/// What is read of a project: its graph, and the scans of the files of the graph, in its order.
+#[derive(Drop)]
+pub struct ScannedGraph {
+    pub graph: Graph,
+    pub scans: Scans,
+}
+
 /// What is read of the file of a path, up to a limit.
 fn read_file<T: Tree>(
     alloc: Global,
@@ -44,7 +56,7 @@ fn read_file<T: Tree>(
     path: &Text,
     limit: u64,
 ) -> Result<ReadEnd, ReadStop>
-    ensures size { IfOk result (IsWithin limit) }
+    ensures size { IfOk result (FitsReadLimit limit) }
     ensures bytes { T.tells → IfOk result (λ end. end ≡ read_end (T.file tree.old path.now) limit) }
     ensures stop { IsPlain result }
     ensures same { T.file tree.new ≡ T.file tree.old }
@@ -58,19 +70,19 @@ fn read_file<T: Tree>(
 }
 
 /// The most bytes of a project file, and of each file of a project.
-const MOST_TEXT: u64 = 4194304;
+const MOST_TEXT: u64 = TEXT_LIMIT as u64;
 
 /// The most bytes of all files of a project together.
-const MOST_TOTAL: u64 = 2097152;
+const MOST_TOTAL: u64 = PROJECT_TEXT_LIMIT as u64;
 
 /// The most files of a project.
 const MOST_FILES: u64 = 128;
 
-/// A text behind texts of so many bytes, where they have no more together than they may.
-fn text_behind(before: u64, text: Text) -> Result<Text, ReadStop>
-    requires { before ≤ 2097152 }
-    ensures text { Gives (text_behind before text) result }
-    ensures size { IfOk result (λ text. before + length text ≤ 2097152) }
+/// A text after texts of so many bytes, where they have no more together than they may.
+fn text_after(before: u64, text: Text) -> Result<Text, ReadStop>
+    requires { before ≤ PROJECT_TEXT_LIMIT }
+    ensures text { Gives (text_after before text) result }
+    ensures size { IfOk result (λ text. before + length text ≤ PROJECT_TEXT_LIMIT) }
     ensures cause { (count : ℕ) → ReadCounts result count count }
 {
     if text.bytes().len() as u64 > MOST_TOTAL - before {
@@ -88,23 +100,25 @@ fn absent_file(alloc: Global, name: &FileName) -> Result<Refusal, NoMemory>
     })
 }
 
-/// The text of a file, behind texts of so many bytes, or why there is none.
+/// The text of a file, after texts of so many bytes, or why there is none.
 fn text_of<T: Tree>(
     alloc: Global,
     tree: &mut T,
     name: &FileName,
     before: u64,
 ) -> Result<Text, ReadStop>
-    requires { before ≤ 2097152 }
-    ensures text { T.tells → Gives (text_of name.now before (read_end (T.file tree.old name.now.path) bounds.text)) result }
-    ensures size { IfOk result (λ text. before + length text ≤ 2097152) }
+    requires { before ≤ PROJECT_TEXT_LIMIT }
+    ensures text { T.tells →
+        let read = read_end (T.file tree.old name.now.path) bounds.text in
+        Gives (text_of name.now before read) result }
+    ensures size { IfOk result (λ text. before + length text ≤ PROJECT_TEXT_LIMIT) }
     ensures same { T.file tree.new ≡ T.file tree.old }
     ensures cause { ReadCounts result (T.failed_reads tree.old) (T.failed_reads tree.new) }
 {
     match read_file(alloc, tree, &name.path, MOST_TEXT)? {
         ReadEnd::Absent => Err(ReadStop::Refused(absent_file(alloc, name)?)),
         ReadEnd::TooLong => Err(ReadStop::Over(Limit::TextBytes, MOST_TEXT)),
-        ReadEnd::Got(text) => text_behind(before, text),
+        ReadEnd::Got(text) => text_after(before, text),
     }
 }
 
@@ -129,26 +143,37 @@ fn texts_of<T: Tree>(
     Ok(texts)
 }
 
-/// The graph of a project whose texts are read, unless a file has a fault.
-fn scanned_graph(alloc: Global, project: &Project, texts: TextList) -> Result<Graph, ReadStop>
+/// The graph of a project whose texts are read, and their scans, unless a file has a fault. Texts exist once: they are
+/// lent until the scans are there, and then moved into the graph.
+fn scanned_graph(
+    alloc: Global,
+    project: &Project,
+    texts: TextList,
+) -> Result<ScannedGraph, ReadStop>
     requires project { IsProject project.now }
-    requires few { length project.now.files ≤ 4096 }
+    requires few { length project.now.files ≤ FILE_LIMIT }
     requires texts { AreTexts project.now.files texts }
-    ensures graph { (scan : List ℕ → Finding) → IsScanner scan → Leads (go_unless (first_fault scan project.now.files texts) (listed project.now.files texts)) result }
-    ensures listed { IfOk result IsListed }
+    ensures graph { (scan : List ℕ → Finding) → IsScanner scan →
+        let fault = first_fault scan project.now.files texts in
+        LeadsTo (go_unless fault (listed project.now.files texts)) result }
+    ensures form { IfOk result IsScannedGraph }
     ensures cause { (count : ℕ) → ReadCounts result count count }
 {
-    match first_fault(alloc, project.files.as_slice(), texts.as_slice())? {
-        None => Ok(listed_graph(alloc, project, texts)?),
-        Some(reason) => Err(ReadStop::Refused(reason)),
-    }
+    let scans = scans_of(alloc, project.files.as_slice(), texts.as_slice())?;
+    let graph = listed_graph(alloc, project, texts)?;
+    Ok(ScannedGraph { graph, scans })
 }
 
 /// The graph of a project whose files are read.
-fn read_sources<T: Tree>(alloc: Global, tree: &mut T, project: &Project) -> Result<Graph, ReadStop>
+fn read_sources<T: Tree>(
+    alloc: Global,
+    tree: &mut T,
+    project: &Project,
+) -> Result<ScannedGraph, ReadStop>
     requires { IsProject project.now }
-    ensures graph { (scan : List ℕ → Finding) → IsScanner scan → T.tells → Leads (sources_reading scan (T.file tree.old) project.now.files) result }
-    ensures listed { IfOk result IsListed }
+    ensures graph { (scan : List ℕ → Finding) → IsScanner scan → T.tells →
+        LeadsTo (sources_reading scan (T.file tree.old) project.now.files) result }
+    ensures form { IfOk result IsScannedGraph }
     ensures same { T.file tree.new ≡ T.file tree.old }
     ensures cause { ReadCounts result (T.failed_reads tree.old) (T.failed_reads tree.new) }
 {
@@ -160,10 +185,15 @@ fn read_sources<T: Tree>(alloc: Global, tree: &mut T, project: &Project) -> Resu
 }
 
 /// The graph of the project that the bytes of a project file list.
-fn read_listing<T: Tree>(alloc: Global, tree: &mut T, bytes: &Text) -> Result<Graph, ReadStop>
-    requires { length bytes.now ≤ 4194304 }
-    ensures graph { (scan : List ℕ → Finding) → IsScanner scan → T.tells → Leads (listing_reading scan (T.file tree.old) (csv_project bytes.now)) result }
-    ensures listed { IfOk result IsListed }
+fn read_listing<T: Tree>(
+    alloc: Global,
+    tree: &mut T,
+    bytes: &Text,
+) -> Result<ScannedGraph, ReadStop>
+    requires { length bytes.now ≤ TEXT_LIMIT }
+    ensures graph { (scan : List ℕ → Finding) → IsScanner scan → T.tells →
+        LeadsTo (listing_reading scan (T.file tree.old) (csv_project bytes.now)) result }
+    ensures form { IfOk result IsScannedGraph }
     ensures same { T.file tree.new ≡ T.file tree.old }
     ensures cause { ReadCounts result (T.failed_reads tree.old) (T.failed_reads tree.new) }
 {
@@ -177,9 +207,11 @@ fn read_listing<T: Tree>(alloc: Global, tree: &mut T, bytes: &Text) -> Result<Gr
 }
 
 /// The graph of the project in a tree that has no `vunit.toml`.
-fn read_csv<T: Tree>(alloc: Global, tree: &mut T) -> Result<Graph, ReadStop>
-    ensures graph { (scan : List ℕ → Finding) → IsScanner scan → T.tells → Leads (csv_reading scan (T.file tree.old) (read_end (T.file tree.old (codes "vunit.csv")) bounds.text)) result }
-    ensures listed { IfOk result IsListed }
+fn read_csv<T: Tree>(alloc: Global, tree: &mut T) -> Result<ScannedGraph, ReadStop>
+    ensures graph { (scan : List ℕ → Finding) → IsScanner scan → T.tells →
+        LeadsTo (csv_reading scan (T.file tree.old)
+        (read_end (T.file tree.old (codes "vunit.csv")) bounds.text)) result }
+    ensures form { IfOk result IsScannedGraph }
     ensures same { T.file tree.new ≡ T.file tree.old }
     ensures cause { ReadCounts result (T.failed_reads tree.old) (T.failed_reads tree.new) }
 {
@@ -193,9 +225,10 @@ fn read_csv<T: Tree>(alloc: Global, tree: &mut T) -> Result<Graph, ReadStop>
 
 /// The graph of the project in a tree, or what is wrong with its sources. Each file is read once.
 #[tactic(auto, unfolding(crate::specs::Reading::project_reading))]
-pub fn read_project<T: Tree>(alloc: Global, tree: &mut T) -> Result<Graph, ReadStop>
-    ensures graph { (scan : List ℕ → Finding) → IsScanner scan → T.tells → Leads (project_reading scan (T.file tree.old)) result }
-    ensures listed { IfOk result IsListed }
+pub fn read_project<T: Tree>(alloc: Global, tree: &mut T) -> Result<ScannedGraph, ReadStop>
+    ensures graph { (scan : List ℕ → Finding) → IsScanner scan → T.tells →
+        LeadsTo (project_reading scan (T.file tree.old)) result }
+    ensures form { IfOk result IsScannedGraph }
     ensures same { T.file tree.new ≡ T.file tree.old }
     ensures cause { ReadCounts result (T.failed_reads tree.old) (T.failed_reads tree.new) }
 {

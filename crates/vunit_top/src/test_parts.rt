@@ -8,7 +8,7 @@ use vr_base::{
     Request, Text, TextList,
 };
 use vr_memory::{
-    Answer, AnswerList, MemDisk, MemSink, MemSource, MemTree, ScriptProcs, have_paths, have_sizes,
+    Answer, AnswerList, MemDisk, MemSink, MemSource, MemTree, ScriptProcs, can_answer, have_paths,
 };
 
 pub(crate) fn is(bytes: &[u8], wanted: &[u8]) -> bool {
@@ -48,10 +48,10 @@ pub(crate) fn tree_of(
     failing: &[u64],
 ) -> Result<MemTree, NoMemory> {
     assert!(rt; have_paths(&files));
-    Ok(MemTree::new(files, numbers(alloc, failing)?))
+    Ok(MemTree::new(alloc, files, numbers(alloc, failing)?))
 }
 
-/// Writes a text behind its length as four bytes, the low one first; the texts of the tests are short.
+/// Writes a text after its length as four bytes, the low one first; the texts of the tests are short.
 pub(crate) fn put_short(out: &mut Vec<u8>, text: &[u8]) -> Result<(), NoMemory> {
     out.push((text.len() % 256) as u8)?;
     out.extend_from_slice(&[0, 0, 0])?;
@@ -88,7 +88,7 @@ pub(crate) fn script_of(
     answers: AnswerList,
     failing: &[u64],
 ) -> Result<ScriptProcs, NoMemory> {
-    assert!(rt; have_sizes(&answers));
+    assert!(rt; can_answer(&answers));
     Ok(ScriptProcs::new(
         alloc,
         answers,

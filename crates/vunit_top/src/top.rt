@@ -1,12 +1,14 @@
+//! The top call: reads words and sources, builds, and puts what became of it.
+
 ghost use Rattle.std.specs.Prelude.{◌≡◌, ◌++◌, [], ℕ, List};
 ghost use Rattle.vr_outside.specs.Disks.{AtAnyMoment};
 ghost use Rattle.record_store.specs.Stored.{records_in};
 ghost use Rattle.run_spec.specs.Faithful.{IsFaithful, IsFaithfulDisk};
-ghost use Rattle.run_spec.specs.PresentGraph.{IsListed};
+ghost use Rattle.vr_base.specs.PresentGraph.{IsListed};
 ghost use Rattle.run_spec.specs.ChildJournal.{since, starts_of};
-ghost use Rattle.run_spec.specs.Findings.{Finding, IsScanner};
+ghost use Rattle.scan_spec.specs.Scans.{Finding, IsScanner};
 ghost use Rattle.vunit_top.specs.Reading.{Go, reading, project_reading};
-ghost use Rattle.vunit_top.specs.Said.{Says, IsSaid, Causes, IsLawful, IsAnswered, AsksCleanly, IsSteady, KeepsMade, MakesAll, LeavesDisk, EndsByItself, HasGiven, latest_in, given, said, child_said};
+ghost use Rattle.vunit_top.specs.Said.{Says, IsSaid, Causes, IsLawful, IsAnswered, AsksCleanly, IsSteady, RecordsMade, AllAreBuilt, LeavesDisk, EndsByItself, HasGiven, latest_in, given, said, child_said};
 
 use crate::building::build_over;
 use crate::ends::{say, say_build, say_limit, say_refusal, say_usage};
@@ -22,10 +24,26 @@ const INPUT_BYTES: u64 = 2147483648;
 
 /// Takes the input of a child, and answers its code.
 fn run_as_child<I: Source, O: Sink>(alloc: Global, input: &mut I, out: &mut O) -> Outcome
-    ensures said { I.tells → O.tells → Says result (child_said (I.left input.old)) (O.contents out.old) (O.contents out.new) }
-    ensures cause { (tree disk start child : ℕ) → Causes result
-        (record { tree = tree; disk = disk; start = start; child = child; out = O.failed_puts out.old; input = I.failed_takes input.old })
-        (record { tree = tree; disk = disk; start = start; child = child; out = O.failed_puts out.new; input = I.failed_takes input.new }) }
+    ensures said { I.tells → O.tells →
+        Says result (child_said (I.left input.old)) (O.contents out.old) (O.contents out.new) }
+    ensures cause { (tree disk start child : ℕ) →
+        Causes result
+        (record {
+          tree = tree;
+          disk = disk;
+          start = start;
+          child = child;
+          out = O.failed_puts out.old;
+          input = I.failed_takes input.old;
+        })
+        (record {
+          tree = tree;
+          disk = disk;
+          start = start;
+          child = child;
+          out = O.failed_puts out.new;
+          input = I.failed_takes input.new;
+        }) }
 {
     match input.take(alloc, INPUT_BYTES) {
         Ok(TakeEnd::Got(_)) => Outcome::Child(0),
@@ -46,20 +64,65 @@ fn run_build<D: Disk, P: Procs, O: Sink>(
     requires listed { IsListed graph.now }
     requires idle { P.running procs.old ≡ [] }
     ensures running { P.running procs.new ≡ [] }
-    ensures kept { P.tells → (P.journal procs.new ≡ P.journal procs.old ++ since (P.journal procs.old) (P.journal procs.new)) }
-    ensures lawful { D.tells → P.tells → IsLawful (latest_in (D.moments disk.old).now) (Go graph.now) (since (P.journal procs.old) (P.journal procs.new)) }
-    ensures answered { D.tells → P.tells → IsAnswered (P.answer procs.old) (latest_in (D.moments disk.old).now) (Go graph.now) (since (P.journal procs.old) (P.journal procs.new)) }
-    ensures whole { D.tells → P.tells → IsSaid result → EndsByItself (latest_in (D.moments disk.old).now) (Go graph.now) (since (P.journal procs.old) (P.journal procs.new)) }
-    ensures starts { D.tells → P.tells → IsFaithfulDisk (P.answer procs.old) records_in (D.moments disk.old).now → AsksCleanly (P.answer procs.old) (latest_in (D.moments disk.old).now) (Go graph.now) result (starts_of (since (P.journal procs.old) (P.journal procs.new))) }
-    ensures steady { D.tells → P.tells → IsFaithfulDisk (P.answer procs.old) records_in (D.moments disk.old).now → IsSteady (P.answer procs.old) (latest_in (D.moments disk.old).now) (Go graph.now) result (since (P.journal procs.old) (P.journal procs.new)) }
-    ensures made { D.tells → P.tells → IsFaithfulDisk (P.answer procs.old) records_in (D.moments disk.old).now → MakesAll (latest_in (D.moments disk.old).now) (Go graph.now) result (since (P.journal procs.old) (P.journal procs.new)) }
-    ensures records { D.tells → P.tells → KeepsMade (latest_in (D.moments disk.old).now) (Go graph.now) result (since (P.journal procs.old) (P.journal procs.new)) (D.moments disk.new).now }
-    ensures given { D.tells → P.tells → AtAnyMoment (D.moments disk.old) (D.moments disk.new) (HasGiven (D.moments disk.old).now (given (latest_in (D.moments disk.old).now) (Go graph.now) (since (P.journal procs.old) (P.journal procs.new)))) }
-    ensures faithful { D.tells → P.tells → IsFaithfulDisk (P.answer procs.old) records_in (D.moments disk.old).now → AtAnyMoment (D.moments disk.old) (D.moments disk.new) (IsFaithful (P.answer procs.old) records_in) }
-    ensures said { (input : List ℕ) → D.tells → P.tells → O.tells → Says result (said (latest_in (D.moments disk.old).now) (Go graph.now) input (since (P.journal procs.old) (P.journal procs.new))) (O.contents out.old) (O.contents out.new) }
-    ensures cause { (tree input : ℕ) → Causes result
-        (record { tree = tree; disk = D.failed_disk_calls disk.old; start = P.failed_starts procs.old; child = P.lost_children procs.old; out = O.failed_puts out.old; input = input })
-        (record { tree = tree; disk = D.failed_disk_calls disk.new; start = P.failed_starts procs.new; child = P.lost_children procs.new; out = O.failed_puts out.new; input = input }) }
+    ensures kept { P.tells →
+        (P.journal procs.new
+        ≡ P.journal procs.old ++ since (P.journal procs.old) (P.journal procs.new)) }
+    ensures lawful { D.tells → P.tells →
+        IsLawful (latest_in (D.moments disk.old).now) (Go graph.now)
+        (since (P.journal procs.old) (P.journal procs.new)) }
+    ensures answered { D.tells → P.tells →
+        IsAnswered (P.answer procs.old) (latest_in (D.moments disk.old).now) (Go graph.now)
+        (since (P.journal procs.old) (P.journal procs.new)) }
+    ensures whole { D.tells → P.tells → IsSaid result →
+        EndsByItself (latest_in (D.moments disk.old).now) (Go graph.now)
+        (since (P.journal procs.old) (P.journal procs.new)) }
+    ensures starts { D.tells → P.tells →
+        IsFaithfulDisk (P.answer procs.old) records_in (D.moments disk.old).now →
+        AsksCleanly (P.answer procs.old) (latest_in (D.moments disk.old).now) (Go graph.now) result
+        (starts_of (since (P.journal procs.old) (P.journal procs.new))) }
+    ensures steady { D.tells → P.tells →
+        IsFaithfulDisk (P.answer procs.old) records_in (D.moments disk.old).now →
+        IsSteady (P.answer procs.old) (latest_in (D.moments disk.old).now) (Go graph.now) result
+        (since (P.journal procs.old) (P.journal procs.new)) }
+    ensures made { D.tells → P.tells →
+        IsFaithfulDisk (P.answer procs.old) records_in (D.moments disk.old).now →
+        AllAreBuilt (latest_in (D.moments disk.old).now) (Go graph.now) result
+        (since (P.journal procs.old) (P.journal procs.new)) }
+    ensures records { D.tells → P.tells →
+        RecordsMade (latest_in (D.moments disk.old).now) (Go graph.now) result
+        (since (P.journal procs.old) (P.journal procs.new)) (D.moments disk.new).now }
+    ensures given { D.tells → P.tells →
+        AtAnyMoment (D.moments disk.old) (D.moments disk.new)
+        (HasGiven (D.moments disk.old).now
+        (given (latest_in (D.moments disk.old).now) (Go graph.now)
+        (since (P.journal procs.old) (P.journal procs.new)))) }
+    ensures faithful { D.tells → P.tells →
+        IsFaithfulDisk (P.answer procs.old) records_in (D.moments disk.old).now →
+        AtAnyMoment (D.moments disk.old) (D.moments disk.new)
+        (IsFaithful (P.answer procs.old) records_in) }
+    ensures said { (input : List ℕ) → D.tells → P.tells → O.tells →
+        Says result
+        (said (latest_in (D.moments disk.old).now) (Go graph.now) input
+        (since (P.journal procs.old) (P.journal procs.new))) (O.contents out.old)
+        (O.contents out.new) }
+    ensures cause { (tree input : ℕ) →
+        Causes result
+        (record {
+          tree = tree;
+          disk = D.failed_disk_calls disk.old;
+          start = P.failed_starts procs.old;
+          child = P.lost_children procs.old;
+          out = O.failed_puts out.old;
+          input = input;
+        })
+        (record {
+          tree = tree;
+          disk = D.failed_disk_calls disk.new;
+          start = P.failed_starts procs.new;
+          child = P.lost_children procs.new;
+          out = O.failed_puts out.new;
+          input = input;
+        }) }
 {
     match build_over(alloc, graph, disk, procs) {
         Ok(end) => say_build(alloc, graph, &end.marks, out),
@@ -80,24 +143,77 @@ fn run_compile<T: Tree, D: Disk, P: Procs, O: Sink>(
 ) -> Outcome
     requires { P.running procs.old ≡ [] }
     ensures running { P.running procs.new ≡ [] }
-    ensures kept { P.tells → (P.journal procs.new ≡ P.journal procs.old ++ since (P.journal procs.old) (P.journal procs.new)) }
-    ensures lawful { (scan : List ℕ → Finding) → IsScanner scan → T.tells → D.tells → P.tells → IsLawful (latest_in (D.moments disk.old).now) (project_reading scan (T.file tree.old)) (since (P.journal procs.old) (P.journal procs.new)) }
-    ensures answered { (scan : List ℕ → Finding) → IsScanner scan → T.tells → D.tells → P.tells → IsAnswered (P.answer procs.old) (latest_in (D.moments disk.old).now) (project_reading scan (T.file tree.old)) (since (P.journal procs.old) (P.journal procs.new)) }
-    ensures whole { (scan : List ℕ → Finding) → IsScanner scan → T.tells → D.tells → P.tells → IsSaid result → EndsByItself (latest_in (D.moments disk.old).now) (project_reading scan (T.file tree.old)) (since (P.journal procs.old) (P.journal procs.new)) }
-    ensures starts { (scan : List ℕ → Finding) → IsScanner scan → T.tells → D.tells → P.tells → IsFaithfulDisk (P.answer procs.old) records_in (D.moments disk.old).now → AsksCleanly (P.answer procs.old) (latest_in (D.moments disk.old).now) (project_reading scan (T.file tree.old)) result (starts_of (since (P.journal procs.old) (P.journal procs.new))) }
-    ensures steady { (scan : List ℕ → Finding) → IsScanner scan → T.tells → D.tells → P.tells → IsFaithfulDisk (P.answer procs.old) records_in (D.moments disk.old).now → IsSteady (P.answer procs.old) (latest_in (D.moments disk.old).now) (project_reading scan (T.file tree.old)) result (since (P.journal procs.old) (P.journal procs.new)) }
-    ensures made { (scan : List ℕ → Finding) → IsScanner scan → T.tells → D.tells → P.tells → IsFaithfulDisk (P.answer procs.old) records_in (D.moments disk.old).now → MakesAll (latest_in (D.moments disk.old).now) (project_reading scan (T.file tree.old)) result (since (P.journal procs.old) (P.journal procs.new)) }
-    ensures records { (scan : List ℕ → Finding) → IsScanner scan → T.tells → D.tells → P.tells → KeepsMade (latest_in (D.moments disk.old).now) (project_reading scan (T.file tree.old)) result (since (P.journal procs.old) (P.journal procs.new)) (D.moments disk.new).now }
-    ensures given { (scan : List ℕ → Finding) → IsScanner scan → T.tells → D.tells → P.tells → AtAnyMoment (D.moments disk.old) (D.moments disk.new) (HasGiven (D.moments disk.old).now (given (latest_in (D.moments disk.old).now) (project_reading scan (T.file tree.old)) (since (P.journal procs.old) (P.journal procs.new)))) }
-    ensures faithful { D.tells → P.tells → IsFaithfulDisk (P.answer procs.old) records_in (D.moments disk.old).now → AtAnyMoment (D.moments disk.old) (D.moments disk.new) (IsFaithful (P.answer procs.old) records_in) }
-    ensures untouched { (scan : List ℕ → Finding) → IsScanner scan → T.tells → D.tells → LeavesDisk (project_reading scan (T.file tree.old)) (D.moments disk.old) (D.moments disk.new) }
-    ensures said { (input : List ℕ) → (scan : List ℕ → Finding) → IsScanner scan → T.tells → D.tells → P.tells → O.tells → Says result (said (latest_in (D.moments disk.old).now) (project_reading scan (T.file tree.old)) input (since (P.journal procs.old) (P.journal procs.new))) (O.contents out.old) (O.contents out.new) }
-    ensures cause { (input : ℕ) → Causes result
-        (record { tree = T.failed_reads tree.old; disk = D.failed_disk_calls disk.old; start = P.failed_starts procs.old; child = P.lost_children procs.old; out = O.failed_puts out.old; input = input })
-        (record { tree = T.failed_reads tree.new; disk = D.failed_disk_calls disk.new; start = P.failed_starts procs.new; child = P.lost_children procs.new; out = O.failed_puts out.new; input = input }) }
+    ensures kept { P.tells →
+        (P.journal procs.new
+        ≡ P.journal procs.old ++ since (P.journal procs.old) (P.journal procs.new)) }
+    ensures lawful { (scan : List ℕ → Finding) → IsScanner scan → T.tells → D.tells → P.tells →
+        IsLawful (latest_in (D.moments disk.old).now) (project_reading scan (T.file tree.old))
+        (since (P.journal procs.old) (P.journal procs.new)) }
+    ensures answered { (scan : List ℕ → Finding) → IsScanner scan → T.tells → D.tells → P.tells →
+        IsAnswered (P.answer procs.old) (latest_in (D.moments disk.old).now)
+        (project_reading scan (T.file tree.old))
+        (since (P.journal procs.old) (P.journal procs.new)) }
+    ensures whole { (scan : List ℕ → Finding) → IsScanner scan → T.tells → D.tells → P.tells →
+        IsSaid result →
+        EndsByItself (latest_in (D.moments disk.old).now) (project_reading scan (T.file tree.old))
+        (since (P.journal procs.old) (P.journal procs.new)) }
+    ensures starts { (scan : List ℕ → Finding) → IsScanner scan → T.tells → D.tells → P.tells →
+        IsFaithfulDisk (P.answer procs.old) records_in (D.moments disk.old).now →
+        AsksCleanly (P.answer procs.old) (latest_in (D.moments disk.old).now)
+        (project_reading scan (T.file tree.old)) result
+        (starts_of (since (P.journal procs.old) (P.journal procs.new))) }
+    ensures steady { (scan : List ℕ → Finding) → IsScanner scan → T.tells → D.tells → P.tells →
+        IsFaithfulDisk (P.answer procs.old) records_in (D.moments disk.old).now →
+        IsSteady (P.answer procs.old) (latest_in (D.moments disk.old).now)
+        (project_reading scan (T.file tree.old)) result
+        (since (P.journal procs.old) (P.journal procs.new)) }
+    ensures made { (scan : List ℕ → Finding) → IsScanner scan → T.tells → D.tells → P.tells →
+        IsFaithfulDisk (P.answer procs.old) records_in (D.moments disk.old).now →
+        AllAreBuilt (latest_in (D.moments disk.old).now) (project_reading scan (T.file tree.old))
+        result (since (P.journal procs.old) (P.journal procs.new)) }
+    ensures records { (scan : List ℕ → Finding) → IsScanner scan → T.tells → D.tells → P.tells →
+        RecordsMade (latest_in (D.moments disk.old).now) (project_reading scan (T.file tree.old))
+        result (since (P.journal procs.old) (P.journal procs.new)) (D.moments disk.new).now }
+    ensures given { (scan : List ℕ → Finding) → IsScanner scan → T.tells → D.tells → P.tells →
+        AtAnyMoment (D.moments disk.old) (D.moments disk.new)
+        (HasGiven (D.moments disk.old).now
+        (given (latest_in (D.moments disk.old).now)
+        (project_reading scan (T.file tree.old))
+        (since (P.journal procs.old) (P.journal procs.new)))) }
+    ensures faithful { D.tells → P.tells →
+        IsFaithfulDisk (P.answer procs.old) records_in (D.moments disk.old).now →
+        AtAnyMoment (D.moments disk.old) (D.moments disk.new)
+        (IsFaithful (P.answer procs.old) records_in) }
+    ensures untouched { (scan : List ℕ → Finding) → IsScanner scan → T.tells → D.tells →
+        LeavesDisk (project_reading scan (T.file tree.old)) (D.moments disk.old)
+        (D.moments disk.new) }
+    ensures said { (input : List ℕ) → (scan : List ℕ → Finding) → IsScanner scan → T.tells →
+        D.tells → P.tells → O.tells →
+        Says result
+        (said (latest_in (D.moments disk.old).now) (project_reading scan (T.file tree.old))
+        input (since (P.journal procs.old) (P.journal procs.new))) (O.contents out.old)
+        (O.contents out.new) }
+    ensures cause { (input : ℕ) →
+        Causes result
+        (record {
+          tree = T.failed_reads tree.old;
+          disk = D.failed_disk_calls disk.old;
+          start = P.failed_starts procs.old;
+          child = P.lost_children procs.old;
+          out = O.failed_puts out.old;
+          input = input;
+        })
+        (record {
+          tree = T.failed_reads tree.new;
+          disk = D.failed_disk_calls disk.new;
+          start = P.failed_starts procs.new;
+          child = P.lost_children procs.new;
+          out = O.failed_puts out.new;
+          input = input;
+        }) }
 {
     match read_project(alloc, tree) {
-        Ok(graph) => run_build(alloc, &graph, disk, procs, out),
+        Ok(read) => run_build(alloc, &read.graph, disk, procs, out),
         Err(ReadStop::Refused(reason)) => say_refusal(alloc, reason, out),
         Err(ReadStop::Over(limit, number)) => say_limit(alloc, limit, number, out),
         Err(ReadStop::Failed) => Outcome::OutsideFault(Which::Tree),
@@ -132,40 +248,91 @@ pub fn run_vunit<I: Source, T: Tree, D: Disk, P: Procs, O: Sink>(
     // The journal has grown at its end alone. What was added is a lawful journal of the graph that words and
     // sources say, over the latest records that reads of the disk gave, on every answer: each start is of the first
     // file that has no current record and wasn't started. Without a graph nothing was added.
-    ensures kept { P.tells → (P.journal procs.new ≡ P.journal procs.old ++ since (P.journal procs.old) (P.journal procs.new)) }
-    ensures lawful { (scan : List ℕ → Finding) → IsScanner scan → T.tells → D.tells → P.tells → IsLawful (latest_in (D.moments disk.old).now) (reading scan words.now (T.file tree.old)) (since (P.journal procs.old) (P.journal procs.new)) }
-    ensures answered { (scan : List ℕ → Finding) → IsScanner scan → T.tells → D.tells → P.tells → IsAnswered (P.answer procs.old) (latest_in (D.moments disk.old).now) (reading scan words.now (T.file tree.old)) (since (P.journal procs.old) (P.journal procs.new)) }
+    ensures kept { P.tells →
+        (P.journal procs.new
+        ≡ P.journal procs.old ++ since (P.journal procs.old) (P.journal procs.new)) }
+    ensures lawful { (scan : List ℕ → Finding) → IsScanner scan → T.tells → D.tells → P.tells →
+        IsLawful (latest_in (D.moments disk.old).now) (reading scan words.now (T.file tree.old))
+        (since (P.journal procs.old) (P.journal procs.new)) }
+    ensures answered { (scan : List ℕ → Finding) → IsScanner scan → T.tells → D.tells → P.tells →
+        IsAnswered (P.answer procs.old) (latest_in (D.moments disk.old).now)
+        (reading scan words.now (T.file tree.old))
+        (since (P.journal procs.old) (P.journal procs.new)) }
 
-    // Where neither a fault nor want of memory is answered, it is greedy and finished too, and no child was lost.
-    ensures whole { (scan : List ℕ → Finding) → IsScanner scan → T.tells → D.tells → P.tells → IsSaid result → EndsByItself (latest_in (D.moments disk.old).now) (reading scan words.now (T.file tree.old)) (since (P.journal procs.old) (P.journal procs.new)) }
+    // Where neither a fault nor out of memory is answered, it is greedy and finished too, and no child was lost.
+    ensures whole { (scan : List ℕ → Finding) → IsScanner scan → T.tells → D.tells → P.tells →
+        IsSaid result →
+        EndsByItself (latest_in (D.moments disk.old).now) (reading scan words.now (T.file tree.old))
+        (since (P.journal procs.old) (P.journal procs.new)) }
 
     // From a disk of true records: children are started with what a clean build asks of its compilers for the files
     // that have no current record, in its order, and no more. Where the build is done, each file is made, and the
     // marks are those that a clean build says.
-    ensures starts { (scan : List ℕ → Finding) → IsScanner scan → T.tells → D.tells → P.tells → IsFaithfulDisk (P.answer procs.old) records_in (D.moments disk.old).now → AsksCleanly (P.answer procs.old) (latest_in (D.moments disk.old).now) (reading scan words.now (T.file tree.old)) result (starts_of (since (P.journal procs.old) (P.journal procs.new))) }
-    ensures made { (scan : List ℕ → Finding) → IsScanner scan → T.tells → D.tells → P.tells → IsFaithfulDisk (P.answer procs.old) records_in (D.moments disk.old).now → MakesAll (latest_in (D.moments disk.old).now) (reading scan words.now (T.file tree.old)) result (since (P.journal procs.old) (P.journal procs.new)) }
-    ensures steady { (scan : List ℕ → Finding) → IsScanner scan → T.tells → D.tells → P.tells → IsFaithfulDisk (P.answer procs.old) records_in (D.moments disk.old).now → IsSteady (P.answer procs.old) (latest_in (D.moments disk.old).now) (reading scan words.now (T.file tree.old)) result (since (P.journal procs.old) (P.journal procs.new)) }
+    ensures starts { (scan : List ℕ → Finding) → IsScanner scan → T.tells → D.tells → P.tells →
+        IsFaithfulDisk (P.answer procs.old) records_in (D.moments disk.old).now →
+        AsksCleanly (P.answer procs.old) (latest_in (D.moments disk.old).now)
+        (reading scan words.now (T.file tree.old)) result
+        (starts_of (since (P.journal procs.old) (P.journal procs.new))) }
+    ensures made { (scan : List ℕ → Finding) → IsScanner scan → T.tells → D.tells → P.tells →
+        IsFaithfulDisk (P.answer procs.old) records_in (D.moments disk.old).now →
+        AllAreBuilt (latest_in (D.moments disk.old).now) (reading scan words.now (T.file tree.old))
+        result (since (P.journal procs.old) (P.journal procs.new)) }
+    ensures steady { (scan : List ℕ → Finding) → IsScanner scan → T.tells → D.tells → P.tells →
+        IsFaithfulDisk (P.answer procs.old) records_in (D.moments disk.old).now →
+        IsSteady (P.answer procs.old) (latest_in (D.moments disk.old).now)
+        (reading scan words.now (T.file tree.old)) result
+        (since (P.journal procs.old) (P.journal procs.new)) }
 
-    // At the end of a build that ended by itself, in whatever a stop leaves, each file that is made has a record of its
+    // At the end of a build that ended by itself, in whatever a stop can leave, each file that is made has a record of its
     // present view.
-    ensures records { (scan : List ℕ → Finding) → IsScanner scan → T.tells → D.tells → P.tells → KeepsMade (latest_in (D.moments disk.old).now) (reading scan words.now (T.file tree.old)) result (since (P.journal procs.old) (P.journal procs.new)) (D.moments disk.new).now }
+    ensures records { (scan : List ℕ → Finding) → IsScanner scan → T.tells → D.tells → P.tells →
+        RecordsMade (latest_in (D.moments disk.old).now) (reading scan words.now (T.file tree.old))
+        result (since (P.journal procs.old) (P.journal procs.new)) (D.moments disk.new).now }
 
-    // At any moment, on every answer, a stop leaves the records from before with a front of what the children gave. If
-    // whatever a stop left before had true records alone, so has whatever a stop leaves.
-    ensures given { (scan : List ℕ → Finding) → IsScanner scan → T.tells → D.tells → P.tells → AtAnyMoment (D.moments disk.old) (D.moments disk.new) (HasGiven (D.moments disk.old).now (given (latest_in (D.moments disk.old).now) (reading scan words.now (T.file tree.old)) (since (P.journal procs.old) (P.journal procs.new)))) }
-    ensures faithful { D.tells → P.tells → IsFaithfulDisk (P.answer procs.old) records_in (D.moments disk.old).now → AtAnyMoment (D.moments disk.old) (D.moments disk.new) (IsFaithful (P.answer procs.old) records_in) }
+    // At any moment, on every answer, a stop can leave the records from before with a prefix of what the children gave. If
+    // whatever a stop could leave before had true records alone, so has whatever a stop can leave.
+    ensures given { (scan : List ℕ → Finding) → IsScanner scan → T.tells → D.tells → P.tells →
+        AtAnyMoment (D.moments disk.old) (D.moments disk.new)
+        (HasGiven (D.moments disk.old).now
+        (given (latest_in (D.moments disk.old).now)
+        (reading scan words.now (T.file tree.old))
+        (since (P.journal procs.old) (P.journal procs.new)))) }
+    ensures faithful { D.tells → P.tells →
+        IsFaithfulDisk (P.answer procs.old) records_in (D.moments disk.old).now →
+        AtAnyMoment (D.moments disk.old) (D.moments disk.new)
+        (IsFaithful (P.answer procs.old) records_in) }
 
     // Where words and sources give no graph, the disk isn't touched, on every answer.
-    ensures untouched { (scan : List ℕ → Finding) → IsScanner scan → T.tells → D.tells → LeavesDisk (reading scan words.now (T.file tree.old)) (D.moments disk.old) (D.moments disk.new) }
+    ensures untouched { (scan : List ℕ → Finding) → IsScanner scan → T.tells → D.tells →
+        LeavesDisk (reading scan words.now (T.file tree.old)) (D.moments disk.old)
+        (D.moments disk.new) }
 
     // The answer and the text that is put are those that words, sources, records, input and journal say.
-    ensures said { (scan : List ℕ → Finding) → IsScanner scan → I.tells → T.tells → D.tells → P.tells → O.tells →
-        Says result (said (latest_in (D.moments disk.old).now) (reading scan words.now (T.file tree.old)) (I.left input.old) (since (P.journal procs.old) (P.journal procs.new))) (O.contents out.old) (O.contents out.new) }
+    ensures said { (scan : List ℕ → Finding) → IsScanner scan → I.tells → T.tells → D.tells →
+        P.tells → O.tells →
+        Says result
+        (said (latest_in (D.moments disk.old).now) (reading scan words.now (T.file tree.old))
+        (I.left input.old) (since (P.journal procs.old) (P.journal procs.new)))
+        (O.contents out.old) (O.contents out.new) }
 
-    // A fault is answered only where its count rose; after any other answer but want of memory all counts stand.
+    // A fault is answered only where its count rose; after any other answer but out of memory all counts are unchanged.
     ensures cause { Causes result
-        (record { tree = T.failed_reads tree.old; disk = D.failed_disk_calls disk.old; start = P.failed_starts procs.old; child = P.lost_children procs.old; out = O.failed_puts out.old; input = I.failed_takes input.old })
-        (record { tree = T.failed_reads tree.new; disk = D.failed_disk_calls disk.new; start = P.failed_starts procs.new; child = P.lost_children procs.new; out = O.failed_puts out.new; input = I.failed_takes input.new }) }
+        (record {
+          tree = T.failed_reads tree.old;
+          disk = D.failed_disk_calls disk.old;
+          start = P.failed_starts procs.old;
+          child = P.lost_children procs.old;
+          out = O.failed_puts out.old;
+          input = I.failed_takes input.old;
+        })
+        (record {
+          tree = T.failed_reads tree.new;
+          disk = D.failed_disk_calls disk.new;
+          start = P.failed_starts procs.new;
+          child = P.lost_children procs.new;
+          out = O.failed_puts out.new;
+          input = I.failed_takes input.new;
+        }) }
 {
     if begins_as_child(words) {
         return run_as_child(alloc, input, out);

@@ -1,3 +1,4 @@
+-- What remains to be proved of `stale_positions`.
 use Rattle.std.proofs.Common.{◌≡◌, List, ℕ, ◌+◌, get_or, Some, refl, subst, sym, ap, ◌∙◌}
 use Rattle.std.specs.Prelude.{slice_get}
 use Rattle.std.proofs.lemmas.Bool.{false≢true}

@@ -1,3 +1,4 @@
+-- What the loops of `stale_positions` keep, and why they end.
 use Rattle.build_plan.proofs.StalePositions.{IsStaleBelow}
 use Rattle.build_plan.proofs.plans.stale_positions.Given as goal
 

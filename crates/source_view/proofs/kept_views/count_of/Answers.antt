@@ -1,3 +1,4 @@
+-- What remains to be proved of `count_of`.
 use Rattle.std.proofs.Common.{arith}
 use Rattle.source_view.proofs.KeptFiles.{count_is}
 use Rattle.source_view.proofs.kept_views.count_of.Goals as goal

@@ -1,6 +1,7 @@
+-- What the loops of `listed_graph` keep, and why they end.
 use Rattle.std.proofs.Common.{◌≡◌, ◌++◌}
 use Rattle.std.specs.Vec.Iter.{into_iter_items}
-use Rattle.run_spec.specs.PresentGraph.{listed}
+use Rattle.vr_base.specs.PresentGraph.{listed}
 use Rattle.source_view.proofs.listed.listed_graph.Given as goal
 
 abbrev pub invariant-loop-text : goal.invariant-loop-text

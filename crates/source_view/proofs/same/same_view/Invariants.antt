@@ -1,3 +1,4 @@
+-- What the loops of `same_view` keep, and why they end.
 use Rattle.std.proofs.Common.{◌≡◌, take}
 use Rattle.source_view.proofs.same.same_view.Given as goal
 

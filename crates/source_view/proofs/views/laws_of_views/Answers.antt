@@ -1,3 +1,4 @@
+-- What remains to be proved of `laws_of_views`.
 use Rattle.source_view.proofs.ViewLaws.{view_is_graph, view_is_whole, view_of_view, view_of_last, name_of_last}
 use Rattle.source_view.proofs.views.laws_of_views.Goals as goal
 

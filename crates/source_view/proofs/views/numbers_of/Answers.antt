@@ -1,3 +1,4 @@
+-- What remains to be proved of `numbers_of`.
 use Rattle.std.proofs.Common.{◌<◌, subst, sym, ◌∙◌, arith, ℕ}
 use Rattle.std.specs.Prelude.{All}
 use Rattle.std.proofs.lemmas.List.{length-set}

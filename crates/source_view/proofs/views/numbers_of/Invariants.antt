@@ -1,3 +1,4 @@
+-- What the loops of `numbers_of` keep, and why they end.
 use Rattle.std.proofs.Common.{◌≡◌, length}
 use Rattle.source_view.specs.Numbers.{IsNumbered}
 use Rattle.source_view.proofs.views.numbers_of.Given as goal

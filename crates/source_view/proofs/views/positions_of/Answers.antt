@@ -1,3 +1,4 @@
+-- What remains to be proved of `positions_of`.
 use Rattle.std.proofs.Common.{ap, sym, ◌∙◌, List, ℕ, ◌++◌, ◌∷◌, []}
 use Rattle.source_view.proofs.ViewLaws.{viewed_of}
 use Rattle.source_view.proofs.views.positions_of.Goals as goal

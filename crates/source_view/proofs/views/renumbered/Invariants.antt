@@ -1,3 +1,4 @@
+-- What the loops of `renumbered` keep, and why they end.
 use Rattle.std.proofs.Common.{◌≡◌, map, take}
 use Rattle.std.specs.Prelude.{slice_index}
 use Rattle.source_view.proofs.views.renumbered.Given as goal

@@ -1,3 +1,4 @@
+-- What the loops of `view_of` keep, and why they end.
 use Rattle.std.proofs.Common.{◌≡◌, take}
 use Rattle.vr_base.specs.View.{view}
 use Rattle.source_view.proofs.views.view_of.Given as goal

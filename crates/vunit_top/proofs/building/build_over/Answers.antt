@@ -1,5 +1,5 @@
 use Rattle.vunit_top.proofs.Tops.{since_itself}
-use Rattle.record_store.specs.Stored.{record_at}
+use Rattle.record_store.specs.Stored.{record_of_payload}
 use Rattle.record_store.specs.StoreLaws.{store_durable, store_held}
 use Rattle.vunit_top.proofs.OverStore.{not_opened, opened, unless_failed}
 use Rattle.vunit_top.proofs.building.build_over.Goals as goal
@@ -7,14 +7,14 @@ use Rattle.vunit_top.proofs.building.build_over.Goals as goal
 pub returns-in-Ok-clause-told : goal.returns-in-Ok-clause-told
 returns-in-Ok-clause-told g c = λ tells runs.
     let made = c.build.ensures in
-    let opening = c.in-Ok.ensures.stands tells in
+    let opening = c.in-Ok.ensures.in_step tells in
     opened (g.P.Procs.answer c.args.procs.now) c.args.graph.now c.len.ensures.graph (g.D.Disk.moments c.args.disk.now) (g.D.Disk.moments c.from_disk.new.disk) (g.D.Disk.moments c.build.new.disk)
     (g.met.D.Disk.sound c.args.disk.now) (g.met.D.Disk.sound c.from_disk.new.disk)
     (c.from_disk.ensures.any_moment tells) (c.in-Ok.ensures.records tells)
-    (record_at c.in-Ok.store.index) (record_at c.build.new.store.index) (record { durable = store_durable _ _ _ opening; held = λ name. store_held _ _ _ name opening })
+    (record_of_payload c.in-Ok.store.index) (record_of_payload c.build.new.store.index) (record { durable = store_durable _ _ _ opening; held = λ name. store_held _ _ _ name opening })
     c.build.result _
     (made.lawful runs) (made.answered runs) (made.whole runs) (made.marks runs) (made.recorded runs)
-    (unless_failed c.build.result (λ stands. record { durable = store_durable _ _ _ stands; held = λ name. store_held _ _ _ name stands }) (made.stands tells))
+    (unless_failed c.build.result (λ in_step. record { durable = store_durable _ _ _ in_step; held = λ name. store_held _ _ _ name in_step }) (made.in_step tells))
     (made.any_moment runs tells)
 
 pub returns-in-Err-NoMemory-clause-told : goal.returns-in-Err-NoMemory-clause-told

@@ -1,8 +1,16 @@
-use Rattle.std.proofs.Common.{◌≡◌, length, subst, sym, arith}
-use Rattle.run_spec.specs.PresentGraph.{IsListed}
+use Rattle.std.proofs.Common.{◌≡◌, ◌∙◌, List, ℕ, length, ap, subst, sym, arith}
+use Rattle.vr_base.specs.PresentGraph.{IsListed, listed}
 use Rattle.source_view.proofs.ListedGraph.{listed_is_listed}
+use Rattle.scan_spec.specs.Scans.{AreScansOf}
+use Rattle.vunit_top.specs.Scanning.{texts_in}
+use Rattle.vunit_top.proofs.Faults.{texts_listed}
 use Rattle.vunit_top.proofs.sources.scanned_graph.Goals as goal
 
-pub returns-in_ok-listed_graph-in-None-clause-listed : goal.returns-in_ok-listed_graph-in-None-clause-listed
-returns-in_ok-listed_graph-in-None-clause-listed c =
-    subst IsListed (sym c.in_ok-listed_graph-in-None.ensures) (listed_is_listed c.args.project.now.files c.args.texts (let same : length c.args.texts ≡ length c.args.project.now.files = c.requires.texts.each in omega arith))
+pub returns-clause-form : goal.returns-clause-form
+returns-clause-form c =
+    let same : length c.args.texts ≡ length c.args.project.now.files = c.requires.texts.each in
+    let texts : c.args.texts ≡ texts_in c.in_ok-graph.graph = sym (ap texts_in c.in_ok-graph.ensures ∙ texts_listed c.args.project.now.files c.args.texts 0 same) in
+    record {
+      listed = subst IsListed (sym c.in_ok-graph.ensures) (listed_is_listed c.args.project.now.files c.args.texts (omega arith));
+      scans = subst (λ (ts : List (List ℕ)). AreScansOf ts c.in_ok-scans.scans) (c.as_slice-2.ensures ∙ texts) c.in_ok-scans.ensures.scans;
+    }

@@ -1,0 +1,111 @@
+-- A project file of lines, each a library, a comma and a path.
+use Rattle.std.specs.Prelude.{ℕ, ◌+◌, nat_le, Bool, true, false, not, ◌&&◌, ◌||◌, ◌==◌, if◌then◌else◌, List, [], ◌∷◌, ◌++◌, length, map, reverse, count_by, codes, Option, Some, None, Result, Ok, Err}
+use Rattle.std.specs.List.{list_any, list_all, slice_split, before_first, after_first}
+use Rattle.std.specs.Option.{option_and_then, option_map_or}
+use Rattle.std.specs.Char.{is_ascii_alphabetic, is_ascii_digit, to_ascii_lowercase}
+use Rattle.std.specs.Str.{is_utf8, bytes_eq}
+use Rattle.std.specs.Str.Lines.{lines}
+use Rattle.vr_base.specs.declared.file.FileName.{FileName}
+use Rattle.vr_base.specs.declared.project.Project.{Project}
+use Rattle.vr_base.specs.declared.project.ProjectFile.{ProjectFile}
+use Rattle.vr_base.specs.declared.project.ProjectFault.{ProjectFault}
+use Rattle.vr_base.specs.declared.project.ProjectFault.TheVariants.{BadLine}
+use Rattle.vr_base.specs.declared.limits.TheConstants.{LIBRARY_LIMIT, PATH_LIMIT}
+use Rattle.vr_base.specs.Names.{has_name}
+
+-- an ASCII letter, a digit or an underscore
+abbrev pub is_library_byte : ℕ → Bool
+is_library_byte byte = is_ascii_alphabetic byte || is_ascii_digit byte || byte == 95
+
+abbrev pub begins_with_letter : List ℕ → Bool
+begins_with_letter [] = false
+begins_with_letter (byte ∷ bytes) = is_ascii_alphabetic byte
+
+-- a letter, followed by letters, digits and underscores, at most 64 bytes
+abbrev pub is_library : List ℕ → Bool
+is_library name = begins_with_letter name && list_all is_library_byte name && nat_le (length name) LIBRARY_LIMIT
+
+-- no component of a path is empty, `.` or `..`
+abbrev pub is_component : List ℕ → Bool
+is_component part = not (bytes_eq part []) && not (bytes_eq part (46 ∷ [])) && not (bytes_eq part (46 ∷ 46 ∷ []))
+
+-- no control byte: those below the space, and 127
+abbrev pub is_path_byte : ℕ → Bool
+is_path_byte byte = nat_le 32 byte && not (byte == 127)
+
+-- 1 to 1,024 bytes, none of them a control byte
+abbrev pub has_path_bytes : List ℕ → Bool
+has_path_bytes path = nat_le 1 (length path) && nat_le (length path) PATH_LIMIT && list_all is_path_byte path
+
+-- its components, between slashes
+abbrev pub has_components : List ℕ → Bool
+has_components path = list_all is_component (slice_split (λ byte. byte == 47) path)
+
+-- a path: UTF-8, of path bytes, with components
+abbrev pub is_path : List ℕ → Bool
+is_path path = has_path_bytes path && has_components path && is_utf8 path
+
+-- a space or a tab
+abbrev pub is_line_blank : ℕ → Bool
+is_line_blank byte = byte == 32 || byte == 9
+
+-- the bytes after the blanks at their beginning
+abbrev pub without_blanks : List ℕ → List ℕ
+without_blanks [] = []
+without_blanks (byte ∷ bytes) = if is_line_blank byte then without_blanks bytes else byte ∷ bytes
+
+-- the bytes without blanks at either end
+abbrev pub trim : List ℕ → List ℕ
+trim bytes = reverse (without_blanks (reverse (without_blanks bytes)))
+
+-- one comma, no double quote, a library and a path
+abbrev pub names_file : List ℕ → List ℕ → List ℕ → Bool
+names_file line library path = count_by (λ byte. byte == 44) line == 1 && not (list_any (λ byte. byte == 34) line) && is_library library && is_path path
+
+-- the file that a line names: its library is before the comma, and its path after it
+unfoldable pub csv_file_of : List ℕ → Option FileName
+csv_file_of line =
+    let library = trim (before_first (λ byte. byte == 44) line) in
+    let path = trim (after_first (λ byte. byte == 44) line) in
+    if names_file line library path then Some (record { library = map to_ascii_lowercase library; path = path }) else None
+
+-- a name that can't be added: its library is `work`, or it came before
+unfoldable pub is_refused_name : List FileName → FileName → Bool
+is_refused_name before name = bytes_eq name.library (codes "work") || has_name before name
+
+-- the file that a line adds
+unfoldable pub added_by : List FileName → List ℕ → Option FileName
+added_by before line = option_and_then (λ name. if is_refused_name before name then None else Some name) (csv_file_of line)
+
+-- the files of the lines that remain, after those before them; line numbers count from 1
+unfoldable pub files_after : List FileName → ℕ → List (List ℕ) → Result (List FileName) ProjectFault
+files_after before number [] = Ok before
+files_after before number (line ∷ rest) =
+    if bytes_eq line [] then files_after before (number + 1) rest
+    else option_map_or (λ name. files_after (before ++ name ∷ []) (number + 1) rest) (added_by before line) (Err (BadLine number))
+
+-- the files that the bytes list, or the first bad line
+abbrev pub csv_files : List ℕ → Result (List FileName) ProjectFault
+csv_files bytes = files_after [] 1 (lines bytes)
+
+-- the command of a listed file: the program itself, as a child
+abbrev pub listed_command : List (List ℕ)
+listed_command = codes "@self" ∷ codes "child-analyse" ∷ []
+
+abbrev pub listed_simulator : List (List ℕ)
+listed_simulator = codes "@self" ∷ codes "child-bench" ∷ []
+
+abbrev pub listed_file : FileName → ProjectFile
+listed_file name = record { name = name; command = listed_command }
+
+-- the project of listed files
+abbrev pub listed_project : List FileName → Project
+listed_project names = record { files = map listed_file names; simulator = listed_simulator; external = []; bodies = false; depends = []; listed = true }
+
+abbrev pub project_of : Result (List FileName) ProjectFault → Result Project ProjectFault
+project_of (Ok names) = Ok (listed_project names)
+project_of (Err fault) = Err fault
+
+-- the project of the bytes, or the first bad line
+abbrev pub csv_project : List ℕ → Result Project ProjectFault
+csv_project bytes = project_of (csv_files bytes)

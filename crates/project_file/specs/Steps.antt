@@ -1,0 +1,18 @@
+-- What the lines of a project file add.
+use Rattle.std.specs.Prelude.{◌≡◌, ℕ, ◌+◌, List, ◌∷◌, Result, Ok, Err}
+use Rattle.vr_base.specs.declared.file.FileName.{FileName}
+use Rattle.vr_base.specs.declared.project.ProjectFault.{ProjectFault}
+use Rattle.vr_base.specs.declared.project.ProjectFault.TheVariants as problem
+use Rattle.project_file.specs.Csv.{files_after}
+
+-- one more line of a project file, after the files of those before it
+abbrev pub TakesLine : List FileName → ℕ → List ℕ → Result (Unit {0}) ProjectFault → List FileName → Type 0
+TakesLine old number line (Ok done) new = (rest : List (List ℕ)) → files_after old number (line ∷ rest) ≡ files_after new (number + 1) rest
+TakesLine old number line (Err problem.NoMemory) new = Unit {0}
+TakesLine old number line (Err (problem.BadLine at)) new = (rest : List (List ℕ)) → files_after old number (line ∷ rest) ≡ Err (problem.BadLine at)
+
+-- what is read is what the bytes say, unless memory ran out
+abbrev pub ReadsStep : {T : Type 0} → Result T ProjectFault → Result T ProjectFault → Type 0
+ReadsStep said (Ok read) = said ≡ Ok read
+ReadsStep said (Err problem.NoMemory) = Unit {0}
+ReadsStep said (Err (problem.BadLine at)) = said ≡ Err (problem.BadLine at)

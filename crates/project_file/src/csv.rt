@@ -1,0 +1,308 @@
+//! A project file of lines, each a library, a comma and a path.
+
+ghost use Rattle.std.specs.Prelude.{◌≡◌, ◌==◌, ◌+◌, ◌<◌, ◌≤◌, ◌^◌, [], ◌∷◌, length, map, reverse, count_by, List, IfOk, OnOk};
+ghost use Rattle.std.specs.List.{list_all, list_any, slice_split, before_first, after_first};
+ghost use Rattle.std.specs.Char.{to_ascii_lowercase};
+ghost use Rattle.std.specs.Str.{is_utf8, bytes_eq};
+ghost use Rattle.std.specs.Str.Lines.{lines};
+ghost use Rattle.project_file.specs.Csv.{is_library, is_library_byte, is_path, is_path_byte, is_component, has_components, has_path_bytes, begins_with_letter, is_line_blank, without_blanks, trim, names_file, csv_file_of, added_by, csv_files, csv_project, listed_file, listed_project};
+ghost use Rattle.vr_base.specs.declared.file.FileName.{FileName};
+ghost use Rattle.vr_base.specs.Projects.{IsProject};
+ghost use Rattle.name_set.specs.Names.{Holds};
+ghost use Rattle.project_file.specs.NewNames.{AddsName, Admits};
+ghost use Rattle.project_file.specs.Steps.{TakesLine, ReadsStep};
+
+use crate::parts::{cut_at, next_line, sides};
+use name_set::NameSet;
+use std::alloc::Global;
+use vr_base::{
+    FileList, FileName, LIBRARY_LIMIT, NoMemory, PATH_LIMIT, PairList, Project, ProjectFault,
+    ProjectFile, ProjectFileList, Text, TextList,
+};
+
+/// Whether two texts have the same bytes.
+fn is_same(a: &[u8], b: &[u8]) -> bool
+    ensures { result ≡ bytes_eq a.now b.now }
+{
+    a == b
+}
+
+fn begins_with_letter(name: &[u8]) -> bool
+    ensures { result ≡ begins_with_letter name.now }
+{
+    match name {
+        [first, ..] => first.is_ascii_alphabetic(),
+        [] => false,
+    }
+}
+
+fn is_library_byte(byte: u8) -> bool
+    ensures { result ≡ is_library_byte byte }
+{
+    byte.is_ascii_alphabetic() || byte.is_ascii_digit() || byte == b'_'
+}
+
+fn all_library_bytes(name: &[u8]) -> bool
+    ensures { result ≡ list_all is_library_byte name.now }
+{
+    name.iter().all(|byte| is_library_byte(*byte))
+}
+
+fn is_library(name: &[u8]) -> bool
+    ensures { result ≡ is_library name.now }
+{
+    begins_with_letter(name) && all_library_bytes(name) && name.len() <= LIBRARY_LIMIT
+}
+
+fn is_path_byte(byte: u8) -> bool
+    ensures { result ≡ is_path_byte byte }
+{
+    b' ' <= byte && byte != b'\x7f'
+}
+
+fn is_component(part: &[u8]) -> bool
+    ensures { result ≡ is_component part.now }
+{
+    !is_same(part, b"") && !is_same(part, b".") && !is_same(part, b"..")
+}
+
+fn is_utf8(bytes: &[u8]) -> bool
+    ensures { result ≡ is_utf8 bytes.now }
+{
+    str::from_utf8(bytes).is_ok()
+}
+
+fn has_components(path: &[u8]) -> bool
+    ensures { result ≡ has_components path.now }
+{
+    let mut rest = path;
+    while let Some((part, others)) = cut_at(rest, b'/') {
+        if !is_component(part) {
+            return false;
+        }
+        rest = others;
+    }
+    is_component(rest)
+}
+
+fn all_path_bytes(path: &[u8]) -> bool
+    ensures { result ≡ list_all is_path_byte path.now }
+{
+    path.iter().all(|byte| is_path_byte(*byte))
+}
+
+fn has_path_bytes(path: &[u8]) -> bool
+    ensures { result ≡ has_path_bytes path.now }
+{
+    1 <= path.len() && path.len() <= PATH_LIMIT && all_path_bytes(path)
+}
+
+fn is_path(path: &[u8]) -> bool
+    ensures { result ≡ is_path path.now }
+{
+    has_path_bytes(path) && has_components(path) && is_utf8(path)
+}
+
+fn is_line_blank(byte: u8) -> bool
+    ensures { result ≡ is_line_blank byte }
+{
+    byte == b' ' || byte == b'\t'
+}
+
+fn without_blanks(bytes: &[u8]) -> &[u8]
+    ensures { result.now ≡ without_blanks bytes.now }
+{
+    let mut rest = bytes;
+    while let [first, others @ ..] = rest {
+        if !is_line_blank(*first) {
+            return rest;
+        }
+        rest = others;
+    }
+    rest
+}
+
+fn without_blanks_after(bytes: &[u8]) -> &[u8]
+    ensures { result.now ≡ reverse (without_blanks (reverse bytes.now)) }
+{
+    let mut rest = bytes;
+    while let [others @ .., last] = rest {
+        if !is_line_blank(*last) {
+            return rest;
+        }
+        rest = others;
+    }
+    rest
+}
+
+/// The bytes in lower case.
+fn to_lower_case(alloc: Global, bytes: &[u8]) -> Result<Text, NoMemory>
+    ensures { IfOk result (λ text. text ≡ map to_ascii_lowercase bytes.now) }
+{
+    let mut lowered = Vec::new(alloc);
+    for byte in bytes {
+        lowered.push(byte.to_ascii_lowercase())?;
+    }
+    Ok(Text::from_vec(lowered))
+}
+
+fn trim(bytes: &[u8]) -> &[u8]
+    ensures { result.now ≡ trim bytes.now }
+{
+    without_blanks_after(without_blanks(bytes))
+}
+
+fn count_of(bytes: &[u8], mark: u8) -> usize
+    ensures { result ≡ count_by (λ byte. byte == mark) bytes.now }
+{
+    bytes.iter().filter(|byte| **byte == mark).count()
+}
+
+fn has_byte(bytes: &[u8], mark: u8) -> bool
+    ensures { result ≡ list_any (λ byte. byte == mark) bytes.now }
+{
+    bytes.iter().any(|byte| *byte == mark)
+}
+
+/// Whether a line names a file, by its two sides.
+fn names_file(line: &[u8], library: &[u8], path: &[u8]) -> bool
+    ensures { result ≡ names_file line.now library.now path.now }
+{
+    count_of(line, b',') == 1 && !has_byte(line, b'"') && is_library(library) && is_path(path)
+}
+
+/// The file that a line names.
+#[tactic(auto, unfolding(crate::specs::Csv::csv_file_of))]
+fn csv_file_of(alloc: Global, line: &[u8]) -> Result<Option<FileName>, NoMemory>
+    ensures { IfOk result (λ name. name ≡ csv_file_of line.now) }
+{
+    let (before, after) = sides(line, b',');
+    let library = trim(before);
+    let path = trim(after);
+    if !names_file(line, library, path) {
+        return Ok(None);
+    }
+    Ok(Some(FileName {
+        library: to_lower_case(alloc, library)?,
+        path: Text::from_slice(alloc, path)?,
+    }))
+}
+
+/// Whether a name may be added to those before it, which the set holds. It then holds this name too.
+#[tactic(auto, unfolding(crate::specs::Csv::is_refused_name))]
+fn admit(seen: &mut NameSet, name: &FileName) -> Result<bool, NoMemory>
+    ensures { IfOk result (λ admitted. (before : List FileName) → Holds seen.old before →
+        Admits seen.new before name.now admitted) }
+{
+    if is_same(name.library.bytes(), b"work") {
+        return Ok(false);
+    }
+    Ok(seen.add(name)?)
+}
+
+/// The file that a line adds to those before it, which the set holds.
+#[tactic(auto, unfolding(crate::specs::Csv::added_by))]
+fn added_by(alloc: Global, seen: &mut NameSet, line: &[u8]) -> Result<Option<FileName>, NoMemory>
+    ensures { IfOk result (λ name. (before : List FileName) → Holds seen.old before →
+        AddsName seen.new before (added_by before line.now) name) }
+{
+    match csv_file_of(alloc, line)? {
+        None => Ok(None),
+        Some(name) => {
+            if admit(seen, &name)? {
+                Ok(Some(name))
+            } else {
+                Ok(None)
+            }
+        }
+    }
+}
+
+/// Takes one line, after the files of those before it.
+#[tactic(auto, unfolding(crate::specs::Csv::files_after))]
+fn take_line(
+    alloc: Global,
+    files: &mut FileList,
+    seen: &mut NameSet,
+    number: u32,
+    line: &[u8],
+) -> Result<(), ProjectFault>
+    ensures taken { Holds seen.old files.old →
+        TakesLine files.old number line.now result files.new }
+    ensures seen { Holds seen.old files.old → OnOk result (Holds seen.new files.new) }
+{
+    if line.is_empty() {
+        return Ok(());
+    }
+    match added_by(alloc, seen, line)? {
+        Some(name) => Ok(files.push(name)?),
+        None => Err(ProjectFault::BadLine { line: number }),
+    }
+}
+
+/// The files that the bytes list, or the first bad line.
+fn read_files(alloc: Global, bytes: &[u8]) -> Result<FileList, ProjectFault>
+    requires { length bytes.now < 2 ^ 31 }
+    ensures { ReadsStep (csv_files bytes.now) result }
+{
+    let mut files = FileList::new(alloc);
+    let mut seen = NameSet::new(alloc);
+    let mut rest = bytes;
+    let mut number = 1;
+    'lines: loop {
+        match next_line(rest) {
+            None => return Ok(files),
+            Some((line, after)) => {
+                take_line(alloc, &mut files, &mut seen, number, line)?;
+                rest = after;
+                number += 1;
+            }
+        }
+    }
+}
+
+/// The words of a command.
+fn words(alloc: Global, first: &[u8], second: &[u8]) -> Result<TextList, NoMemory>
+    ensures { IfOk result (λ words. words ≡ first.now ∷ second.now ∷ []) }
+{
+    let mut words = TextList::new(alloc);
+    words.push(Text::from_slice(alloc, first)?)?;
+    words.push(Text::from_slice(alloc, second)?)?;
+    Ok(words)
+}
+
+/// The files with the command of a listed file.
+fn with_commands(alloc: Global, names: FileList) -> Result<ProjectFileList, NoMemory>
+    ensures { IfOk result (λ files. files ≡ map listed_file names) }
+{
+    let mut files = ProjectFileList::new(alloc);
+    for name in names.into_vec() {
+        let command = words(alloc, b"@self", b"child-analyse")?;
+        files.push(ProjectFile { name, command })?;
+    }
+    Ok(files)
+}
+
+fn listed_project(alloc: Global, names: FileList) -> Result<Project, NoMemory>
+    ensures { IfOk result (λ project. project ≡ listed_project names) }
+{
+    Ok(Project {
+        files: with_commands(alloc, names)?,
+        simulator: words(alloc, b"@self", b"child-bench")?,
+        external: TextList::new(alloc),
+        bodies: false,
+        depends: PairList::new(alloc),
+        listed: true,
+    })
+}
+
+/// The project that the bytes of a project file of lines say, or the first bad line. Lines end at a line feed, and
+/// a carriage return before it is dropped.
+pub fn read_csv_project(alloc: Global, bytes: &[u8]) -> Result<Project, ProjectFault>
+    requires { length bytes.now < 2 ^ 31 }
+    ensures project { ReadsStep (csv_project bytes.now) result }
+    ensures valid { IfOk result IsProject }
+{
+    let names = read_files(alloc, bytes)?;
+    Ok(listed_project(alloc, names)?)
+}

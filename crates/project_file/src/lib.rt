@@ -1,0 +1,10 @@
+//! Project files: the project that the bytes of one say, or its first bad line.
+#![tactic(auto)]
+
+mod csv;
+mod parts;
+
+pub use csv::read_csv_project;
+
+#[cfg(test)]
+mod tests;

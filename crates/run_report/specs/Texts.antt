@@ -1,0 +1,162 @@
+-- The texts that are put. Each line ends with a line feed.
+use Rattle.std.specs.Prelude.{ℕ, ◌-◌, ◌==◌, ◌||◌, if◌then◌else◌, List, [], ◌∷◌, ◌++◌, length, take, slice_index, codes}
+use Rattle.std.specs.Fmt.{decimal}
+use Rattle.std.specs.List.{list_any}
+use Rattle.vr_base.specs.declared.graph.Entry.{Entry}
+use Rattle.vr_base.specs.declared.file.FileName.{FileName}
+use Rattle.vr_base.specs.declared.lexical.LexFault.{LexFault}
+use Rattle.vr_base.specs.declared.lexical.LexFault.TheVariants as lex
+use Rattle.vr_base.specs.declared.design.UnitFault.{UnitFault}
+use Rattle.vr_base.specs.declared.design.UnitFault.TheVariants as unit
+use Rattle.vr_base.specs.declared.project.ProjectFault.{ProjectFault}
+use Rattle.vr_base.specs.declared.project.ProjectFault.TheVariants as fault
+use Rattle.vr_base.specs.declared.outcome.Mark.{Mark}
+use Rattle.vr_base.specs.declared.outcome.Mark.TheVariants.{Fresh, Compiled, Refused, Skipped, Left}
+use Rattle.vr_base.specs.declared.outcome.Refusal.{Refusal}
+use Rattle.vr_base.specs.declared.outcome.Refusal.TheVariants as refusal
+use Rattle.vr_base.specs.declared.outcome.Limit.{Limit}
+use Rattle.vr_base.specs.declared.outcome.Limit.TheVariants as limit
+use Rattle.run_spec.specs.Marks.{is_refused, is_compiled}
+
+-- a line feed where the bytes aren't empty and don't end with one
+abbrev pub line_end : List ℕ → List ℕ
+line_end bytes = if length bytes == 0 || slice_index bytes (length bytes - 1) == 10 then [] else 10 ∷ []
+
+-- the first bytes of what a child printed, up to a limit, as whole lines
+abbrev pub shown : ℕ → List ℕ → List ℕ
+shown limit output = take limit output ++ line_end (take limit output)
+
+-- how much of what a child printed is shown
+abbrev pub shown_bytes : ℕ
+shown_bytes = 4096
+
+-- the line of a file, up to the word that says what became of it
+unfoldable pub compiling : Entry → List ℕ
+compiling entry = codes "Compiling into " ++ (entry.name.library ++ (codes ": " ++ entry.name.path))
+
+unfoldable pub passed : List ℕ
+passed = codes " passed" ++ 10 ∷ []
+
+unfoldable pub failed : List ℕ
+failed = codes " failed" ++ 10 ∷ []
+
+unfoldable pub skipped : List ℕ
+skipped = codes " skipped" ++ 10 ∷ []
+
+-- what is put of a file
+abbrev pub file_text : ℕ → Entry → Mark → List ℕ
+file_text limit entry Fresh = []
+file_text limit entry Compiled = compiling entry ++ passed
+file_text limit entry (Refused code output) = compiling entry ++ (failed ++ shown limit output)
+file_text limit entry Skipped = compiling entry ++ skipped
+file_text limit entry Left = []
+
+-- what is put of all files, in compile order
+unfoldable pub files_text : ℕ → List Entry → List Mark → List ℕ
+files_text limit [] marks = []
+files_text limit (entry ∷ entries) [] = []
+files_text limit (entry ∷ entries) (mark ∷ marks) = file_text limit entry mark ++ files_text limit entries marks
+
+unfoldable pub compile_failed : List ℕ
+compile_failed = codes "Compile failed" ++ 10 ∷ []
+
+unfoldable pub compile_passed : List ℕ
+compile_passed = codes "Compile passed" ++ 10 ∷ []
+
+unfoldable pub not_needed : List ℕ
+not_needed = codes "Re-compile not needed" ++ 10 ∷ []
+
+-- the last line: what became of the whole build
+abbrev pub build_line : List Mark → List ℕ
+build_line marks = if list_any is_refused marks then compile_failed else if list_any is_compiled marks then compile_passed else not_needed
+
+-- what is put of a build
+abbrev pub build_text : ℕ → List Entry → List Mark → List ℕ
+build_text limit graph marks = files_text limit graph marks ++ build_line marks
+
+-- what begins each line that says why nothing was done
+unfoldable pub program : List ℕ
+program = codes "vunit_run: "
+
+unfoldable pub bad_line : List ℕ
+bad_line = codes "vunit.csv: bad line "
+
+unfoldable pub no_project : List ℕ
+no_project = codes "no vunit.toml and no vunit.csv"
+
+unfoldable pub not_built : List ℕ
+not_built = codes "not built yet"
+
+abbrev pub fault_words : ProjectFault → List ℕ
+fault_words fault.NoMemory = []
+fault_words (fault.BadLine line) = bad_line ++ decimal line
+
+-- a file, as it is named after the program's name
+unfoldable pub file_words : FileName → List ℕ
+file_words file = file.library ++ (codes ", " ++ file.path)
+
+unfoldable pub unclosed_string : List ℕ
+unclosed_string = codes ": unclosed string at "
+
+unfoldable pub unclosed_extended : List ℕ
+unclosed_extended = codes ": unclosed extended identifier at "
+
+unfoldable pub unclosed_comment : List ℕ
+unclosed_comment = codes ": unclosed comment at "
+
+abbrev pub lex_words : LexFault → List ℕ
+lex_words lex.NoMemory = []
+lex_words (lex.UnclosedString at) = unclosed_string ++ decimal at
+lex_words (lex.UnclosedExtended at) = unclosed_extended ++ decimal at
+lex_words (lex.UnclosedComment at) = unclosed_comment ++ decimal at
+
+unfoldable pub is_absent : List ℕ
+is_absent = codes " is absent"
+
+unfoldable pub no_unit : List ℕ
+no_unit = codes ": no design unit at "
+
+unfoldable pub not_ended : List ℕ
+not_ended = codes ": design unit not ended at "
+
+abbrev pub unit_words : UnitFault → List ℕ
+unit_words unit.NoMemory = []
+unit_words (unit.NotUnit at) = no_unit ++ decimal at
+unit_words (unit.NotEnded at) = not_ended ++ decimal at
+
+abbrev pub refusal_words : Refusal → List ℕ
+refusal_words refusal.NoProject = no_project
+refusal_words (refusal.Project fault) = fault_words fault
+refusal_words (refusal.AbsentFile file) = file_words file ++ is_absent
+refusal_words (refusal.Lex file fault) = file_words file ++ lex_words fault
+refusal_words (refusal.Units file fault) = file_words file ++ unit_words fault
+refusal_words (refusal.Compiler files) = []
+refusal_words refusal.NotBuilt = not_built
+
+-- what is put of a refusal that isn't the compiler's
+abbrev pub refusal_text : Refusal → List ℕ
+refusal_text reason = program ++ (refusal_words reason ++ 10 ∷ [])
+
+unfoldable pub over_limit : List ℕ
+over_limit = codes "over limit: "
+
+-- the quantity that is over its limit
+unfoldable pub limit_words : Limit → List ℕ
+limit_words limit.Slots = codes "slots "
+limit_words limit.Names = codes "names "
+limit_words limit.Files = codes "files "
+limit_words limit.TextBytes = codes "text bytes "
+limit_words limit.TotalBytes = codes "total bytes "
+limit_words limit.Tests = codes "tests "
+
+-- what is put where a quantity is over this limit
+unfoldable pub limit_text : Limit → ℕ → List ℕ
+limit_text over number = program ++ (over_limit ++ (limit_words over ++ (decimal number ++ 10 ∷ [])))
+
+-- what is put where the words aren't a command line of the program
+unfoldable pub usage_text : List ℕ
+usage_text = codes "usage: vunit_run [-lfkvq] [--compile] [--fail-fast] [--clean] [--exit-0] [-x FILE] [-p N] [--export-json FILE] [--generate N] [PATTERN ...]" ++ 10 ∷ []
+
+-- what a child puts whose input is over the limit
+unfoldable pub bad_request : List ℕ
+bad_request = codes "bad request" ++ 10 ∷ []

@@ -1,7 +1,0 @@
-use Rattle.std.proofs.Common.{◌∷◌, ap, sym, ◌∙◌, List, ℕ}
-use Rattle.std.specs.Str.Lines.{lines}
-use Rattle.vunit_top.proofs.Splits.{lines_first}
-use Rattle.vunit_top.proofs.parts.next_line.Goals as goal
-
-pub returns-in-Some-clause-lines : goal.returns-in-Some-clause-lines
-returns-in-Some-clause-lines c = lines_first c.args.bytes.now c.in-Some.line.now c.in-Some.rest.now c.in-Some.ensures.parts ∙ ap (λ (line : List ℕ). line ∷ lines c.in-Some.rest.now) (sym c.without_return.ensures)
