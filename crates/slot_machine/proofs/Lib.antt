@@ -1,0 +1,7 @@
+-- The lemmas.
+pub mod WordBits
+pub mod Times
+pub mod CoreSteps
+pub mod ChildLists
+pub mod MachineSteps
+pub mod NewMachine

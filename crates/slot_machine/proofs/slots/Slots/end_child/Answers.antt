@@ -1,0 +1,50 @@
+-- What remains to be proved of `end_child`.
+use Rattle.std.proofs.Common.{refl, sym, ap, subst, ◌∙◌, ◌+◌, ◌<◌, Some, List, length, map}
+use Rattle.std.proofs.lemmas.List.Edits.{length-remove}
+use Rattle.std.specs.Prelude.{Contains}
+use Rattle.run_spec.specs.Moves.{position_of, without_child}
+use Rattle.slot_machine.specs.Machines.{running_child, files_of, tickets_of, without_ticket}
+use Rattle.slot_machine.specs.declared.child.Child.{Child}
+use Rattle.slot_machine.proofs.ChildLists.{IsFirst, first_position, first_without, first_ticket}
+use Rattle.slot_machine.proofs.MachineSteps.{in_step_as, nearer_after_end}
+use Rattle.slot_machine.proofs.slots.Slots.end_child.Goals as goal
+
+first : (c : goal.After-self-1) → IsFirst c.args.self.now.children.items c.args.ticket c.remove-child.result c.index_of-at.result
+first c =
+    subst (λ (children : List Child). IsFirst children c.args.ticket c.remove-child.result c.index_of-at.result) c.as_slice.ensures.value
+    (c.index_of-at.ensures.within, c.index_of-at.ensures.found c.remove-child.result, λ k lt. c.index_of-at.ensures.first k c.remove-child.result lt)
+
+pub index_of-at-requires : goal.index_of-at-requires
+unfolding tickets_of
+index_of-at-requires c = subst (λ (children : List Child). Contains (map (λ (child : Child). child.ticket) children) c.args.ticket) (sym c.as_slice.ensures.value) c.requires
+
+pub returns-clause-within : goal.returns-clause-within
+unfolding files_of
+returns-clause-within c =
+    subst (λ (child : Child). child.position < length c.args.self.now.waiting.items) (sym c.remove-child.ensures.value) (c.args.self.now.inside c.index_of-at.result c.remove-child.result (first c).0)
+
+pub returns-clause-position : goal.returns-clause-position
+returns-clause-position c job core step =
+    ap (position_of c.args.ticket) step.running ∙ first_position c.args.self.now.children.items c.args.ticket c.remove-child.result c.index_of-at.result (first c)
+    ∙ ap (λ (child : Child). Some child.position) (sym c.remove-child.ensures.value)
+
+pub returns-clause-in_step : goal.returns-clause-in_step
+returns-clause-in_step c job core step =
+    in_step_as c.args.self.now _ job core (without_ticket c.args.ticket core) refl refl refl refl refl refl (λ k. refl) (λ k. refl)
+    (ap (without_child c.args.ticket) step.running ∙ first_without c.args.self.now.children.items c.args.ticket c.remove-child.result c.index_of-at.result (first c)
+    ∙ ap (λ (xs : List Child). map running_child xs) (sym c.remove-child.ensures.items)) step.halted step
+
+pub returns-clause-files : goal.returns-clause-files
+unfolding files_of
+returns-clause-files c = refl
+
+pub returns-clause-tickets : goal.returns-clause-tickets
+unfolding tickets_of
+returns-clause-tickets c =
+    ap (λ (xs : List Child). map (λ (child : Child). child.ticket) xs) c.remove-child.ensures.items
+    ∙ sym (first_ticket c.args.self.now.children.items c.args.ticket c.remove-child.result c.index_of-at.result (first c))
+
+pub returns-clause-nearer : goal.returns-clause-nearer
+returns-clause-nearer c =
+    nearer_after_end c.args.self.now _ refl
+    (ap (λ (xs : List Child). length xs + 1) c.remove-child.ensures.items ∙ length-remove c.args.self.now.children.items c.index_of-at.result (first c).0) refl
