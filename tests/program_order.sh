@@ -1,0 +1,70 @@
+#!/bin/sh
+# Of several things that are wrong with a project the first is named: lines before the number of files, that before any
+# file; file by file whether it is there, its own bytes and the bytes so far; and all files before any is scanned.
+command -v python3 >/dev/null || { echo "python3 is missing"; exit 77; }
+exec python3 - "$VUNIT_RUN" <<'EOF'
+import os, shutil, subprocess, sys
+
+program = sys.argv[1]
+LISTING = b"lib,a.vhd\nlib,b.vhd\nlib,c.vhd\n"
+PACKAGE = b"package a is\nend package a;\n"
+
+
+def check(answer, files):
+    shutil.rmtree("project", ignore_errors=True)
+    os.mkdir("project")
+    for path, text in files.items():
+        with open(os.path.join("project", path), "wb") as file:
+            file.write(text)
+    ran = subprocess.run([program, "--compile"], cwd="project", stdin=subprocess.DEVNULL, capture_output=True)
+    status, text = answer
+    if (ran.returncode, ran.stdout) != (status, b"vunit_run: " + text + b"\n"):
+        sizes = {path: (len(text), text[:60]) for path, text in files.items()}
+        sys.exit(f"{sizes}: it is {ran.returncode, ran.stdout} and not {answer}")
+
+
+# The first bad line, also after one of more files than there may be, and also where its fault is one of the last bytes.
+names = [b"lib,%s\n" % (b"a" * (row + 1)) for row in range(129)]
+for text, csv in [
+    (b"bad line 129", b"".join(names[:128]) + b"lib"),
+    (b"bad line 130", b"".join(names) + b"lib"),
+    (b"bad line 4", b"\r\n\n lib\t, a.vhd \r\nlib,b.vhd\r"),
+    (b"bad line 2", b"lib,a.vhd\n  \nlib\n"),
+    (b"bad line 1", b"\xef\xbb\xbflib,a.vhd\n"),
+]:
+    check((1, b"vunit.csv: " + text), {"vunit.csv": csv})
+check((1, b"lib, b.vhd is absent"), {"vunit.csv": LISTING, "a.vhd": b"foo"})
+
+# The second of three files is no VHDL at file level; the third isn't either, and is never named.
+for second, text in [
+    (b"foo", b"no design unit at 0"),
+    (b"entity e is", b"design unit not ended at 0"),
+    (b'package b is "abc', b"unclosed string at 13"),
+    (b"\n\\abc\n", b"unclosed extended identifier at 1"),
+    (b"entity e is end; /* end;", b"unclosed comment at 17"),
+    (b"entity e is end;\nend;", b"no design unit at 17"),
+]:
+    check((1, b"lib, b.vhd: " + text), {"vunit.csv": LISTING, "a.vhd": PACKAGE, "b.vhd": second, "c.vhd": b"foo"})
+
+# The bytes of vunit.csv, of a.vhd and of b.vhd, where it is there; c.vhd is no design unit.
+TEXT, TOTAL = (5, b"over limit: text bytes 4194304"), (5, b"over limit: total bytes 2097152")
+SCANNED, ABSENT = (1, b"lib, c.vhd: no design unit at 0"), (1, b"lib, b.vhd is absent")
+for csv, a, b, answer in [
+    (4194305, 0, 0, TEXT),
+    (4194304, 0, 0, SCANNED),
+    (30, 4194305, None, TEXT),
+    (30, 1000000, 4194305, TEXT),
+    (30, 4194304, None, TOTAL),
+    (30, 2097153, 4194305, TOTAL),
+    (30, 2097152, None, ABSENT),
+    (30, 2097152, 0, TOTAL),
+    (30, 2097149, 0, SCANNED),
+    (30, 0, 2097149, SCANNED),
+    (30, 1000000, 1097149, SCANNED),
+    (30, 1000000, 1097150, TOTAL),
+]:
+    files = {"vunit.csv": LISTING.ljust(csv, b"\n"), "a.vhd": b" " * a, "c.vhd": b"foo"}
+    if b is not None:
+        files["b.vhd"] = b" " * b
+    check(answer, files)
+EOF

@@ -1,0 +1,41 @@
+# An output that can't be written is a fault with status 3, which standard error names; the input is left alone.
+. "$TOP/tests/support/program.sh"
+project vunit.csv 'lib,a.vhd\n' a.vhd 'package a is end;\n'
+
+# Compares status and standard error of the last run with those of a fault of the output.
+faulty() {
+    if [ "$(cat status)" != 3 ] || [ "$(cat err)" != "vunit_run: fault of out" ]; then
+        echo "$1: status $(cat status), and on standard error:"
+        cat err
+        failures=$((failures + 1))
+    fi
+}
+
+"$VUNIT_RUN" --compile >&- 2>err
+echo $? >status
+faulty "a closed output"
+{
+    # (the reader is gone by then)
+    sleep 0.5
+    "$VUNIT_RUN" --compile 2>err
+    echo $? >status
+} | :
+faulty "a pipe that nobody reads"
+if [ -c /dev/full ]; then
+    "$VUNIT_RUN" --compile >/dev/full 2>err
+    echo $? >status
+    faulty "a full disk"
+fi
+"$VUNIT_RUN" --frob >&- 2>err
+echo $? >status
+faulty "a closed output for the usage text"
+
+status=0
+printf 'one\ntwo\n' | { "$VUNIT_RUN" --compile >out && cat >rest; } || status=$?
+if [ "$status" != 0 ] || [ "$(cat rest)" != "one
+two" ]; then
+    echo "status $status, and of the input is left: $(cat rest)"
+    failures=$((failures + 1))
+fi
+
+[ "$failures" -eq 0 ]

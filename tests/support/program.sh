@@ -1,0 +1,37 @@
+# What the tests of the program share. VUNIT_RUN is the program; each project is a new folder.
+set -u
+usage='usage: vunit_run [-lfkvq] [--compile] [--fail-fast] [--clean] [--exit-0] [-x FILE] [-p N] [--export-json FILE] [--generate N] [PATTERN ...]'
+failures=0
+count=0
+
+# Makes a new project and goes there: each pair of words is a path and a text, in which printf's escapes count.
+project() {
+    count=$((count + 1))
+    mkdir -p "$room/$count"
+    cd "$room/$count" || exit 1
+    while [ $# -gt 1 ]; do
+        # shellcheck disable=SC2059
+        printf "$2" >"$1"
+        shift 2
+    done
+}
+
+# Runs the program with the words from the fourth on, and compares status and standard output; standard error is to be empty.
+expect() {
+    name=$1
+    printf '%s\n' "$3" >"$room/wanted"
+    [ -n "$3" ] || : >"$room/wanted"
+    wanted=$2
+    shift 3
+    status=0
+    "$VUNIT_RUN" "$@" >"$room/out" 2>"$room/err" </dev/null || status=$?
+    if [ "$status" -ne "$wanted" ] || ! cmp -s "$room/wanted" "$room/out" || [ -s "$room/err" ]; then
+        echo "$name: status $status, and not $wanted; wanted and printed (at most 20 lines), and standard error:"
+        for text in wanted out err; do head -n 20 "$room/$text"; echo "--"; done
+        failures=$((failures + 1))
+    fi
+}
+
+room=$PWD
+# (a launcher may build the program first, which it tells on standard error)
+"$VUNIT_RUN" --no-word-of-the-program >/dev/null || [ $? -eq 2 ] || exit 1
