@@ -17,5 +17,8 @@ pub mod Replacing
 pub mod Fresh
 pub mod Emptying
 pub mod Resetting
+pub mod Buffers
+pub mod Lives
 pub mod Openings
 pub mod Readings
+pub mod Resting

@@ -1,10 +1,10 @@
 -- What a journal knows of its disk.
-use Rattle.std.specs.Prelude.{◌≡◌, ◌≢◌, ◌⊎◌, ℕ, ◌+◌, ◌<◌, ◌^◌, Bool, List, [], ◌∷◌, ◌++◌, ◌-◌, length, take, drop, All, Some, None}
+use Rattle.std.specs.Prelude.{◌≡◌, ◌≢◌, ◌⊎◌, ℕ, ◌+◌, ◌<◌, ◌^◌, Bool, List, [], ◌∷◌, ◌++◌, ◌-◌, length, take, drop, All, Option, Some, None, Result, OnOk}
 use Rattle.std.specs.List.{flat_map}
 use Rattle.vr_base.specs.Bytes.{text_bytes}
 use Rattle.vr_outside.specs.declared.disk.Side.{Side}
 use Rattle.vr_outside.specs.declared.disk.Side.TheVariants.{A, B}
-use Rattle.vr_outside.specs.Disks.{DiskState, Image, IsImage, image_side, reads_of, settled_disk}
+use Rattle.vr_outside.specs.Disks.{DiskState, Goes, Image, IsImage, Moments, image_side, reads_of, settled_disk}
 use Rattle.gate_journal.specs.Payloads.{counting, generation_of, block, payload_at, payloads, payloads_in, side_bytes}
 
 -- A journal: its form, the side that counts with its generation, the number of its bytes up to and with the closed
@@ -55,6 +55,31 @@ pub record HasPayloadsOf (form : ℕ) (disk : DiskState) (image : Image) : Type 
   pub before : Image
   pub was : IsImage disk before
   pub same : payloads form image ≡ payloads form before
+
+-- A side counts, and the gate after its last payload isn't open.
+pub record IsHealthy (form : ℕ) (image : Image) : Type 0 where
+  pub live : Side
+  pub counts : counting form image ≡ Some live
+  pub count : ℕ
+  pub closed : HasClosedGateAt count (payloads form image) (image_side live image)
+
+-- Nothing was written: no image was added at any moment, and a call that answered Ok left what reads gave.
+pub record Rests {T E : Type 0} (result : Result T E) (old new : Moments) : Type 0 where
+  pub goes : Goes old.now old new
+  pub same : OnOk result (new.now ≡ settled_disk (reads_of old.now))
+
+-- a journal of this side and this generation
+pub record CountsAs (side : Side) (generation : ℕ) (journal : JournalState) : Type 0 where
+  pub live : journal.live ≡ side
+  pub generation_is : journal.generation ≡ generation
+
+-- The journal of an image is of the side that counts, with its generation; where none counts, of A and 1.
+abbrev pub OpensAt : Image → Option Side → JournalState → Type 0
+OpensAt image None journal = CountsAs A 1 journal
+OpensAt image (Some side) journal = CountsAs side (generation_of (image_side side image)) journal
+
+abbrev pub OpensAs : ℕ → Image → JournalState → Type 0
+OpensAs form image journal = OpensAt image (counting form image) journal
 
 -- a side that is ready to be written: its form, its generation and its payloads
 pub record SideContent : Type 0 where

@@ -1,4 +1,6 @@
 -- The definitions.
 pub mod Payloads
+pub mod Places
+pub mod Headers
 pub mod Journals
 pub mod Steps

@@ -5,7 +5,7 @@ ghost use Rattle.vr_base.specs.Bytes.{text_bytes};
 ghost use Rattle.vr_outside.specs.Counts.{DiskCounts};
 ghost use Rattle.vr_outside.specs.Disks.{reads_of, IsEither, AtAnyMoment, NeverLoses};
 ghost use Rattle.gate_journal.specs.Payloads.{payloads};
-ghost use Rattle.gate_journal.specs.Journals.{IsInStep, IsWithTwo, other_side};
+ghost use Rattle.gate_journal.specs.Journals.{IsInStep, CountsAs, IsWithTwo, other_side};
 ghost use Rattle.gate_journal.specs.Steps.{Went, last_moment, committing, resetting};
 
 use crate::layout::empty_side;
@@ -109,6 +109,7 @@ impl Journal {
             payloads self.old.form image
             ≡ payloads self.old.form (reads_of (D.moments disk.old).now)
             ++ ready ∷ []) }
+        ensures counts { CountsAs self.old.live self.old.generation self.new }
         ensures form { self.new.form ≡ self.old.form }
         ensures broken { self.new.broken ≡ is_err result }
         ensures cause { DiskCounts result (D.failed_disk_calls disk.old)
@@ -186,6 +187,8 @@ impl Journal {
         ensures loses { D.tells →
             NeverLoses (D.moments disk.old) (D.moments disk.new)
             (λ image. payloads self.old.form image ≡ side.payloads) }
+        ensures counts { OnOk result
+            (CountsAs (other_side self.old.live) (self.old.generation + 1) self.new) }
         ensures form { self.new.form ≡ self.old.form }
         ensures broken { self.new.broken ≡ is_err result }
         ensures cause { DiskCounts result (D.failed_disk_calls disk.old)
@@ -223,6 +226,7 @@ impl Journal {
         ensures loses { D.tells →
             NeverLoses (D.moments disk.old) (D.moments disk.new)
             (λ image. payloads self.old.form image ≡ []) }
+        ensures counts { OnOk result (CountsAs (other_side self.old.live) 1 self.new) }
         ensures form { self.new.form ≡ self.old.form }
         ensures broken { self.new.broken ≡ is_err result }
         ensures cause { DiskCounts result (D.failed_disk_calls disk.old)

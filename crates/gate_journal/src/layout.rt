@@ -1,8 +1,8 @@
 // How a side begins: a byte that says whether it is live, the mark, the form, the generation, and the first gate.
-ghost use Rattle.std.specs.Prelude.{◌≡◌, ◌^◌, ◌<◌, ◌∷◌, [], length, All, Some, None, true, IfOk, IfSome, if◌then◌else◌};
-ghost use Rattle.std.specs.Option.{option_map};
-ghost use Rattle.vr_outside.specs.Disks.{image_side};
-ghost use Rattle.gate_journal.specs.Payloads.{mark, is_live, generation_of, counting, side_bytes};
+ghost use Rattle.std.specs.Prelude.{◌≡◌, ℕ, ◌^◌, ◌<◌, ◌≤◌, ◌∷◌, List, [], length, take, min, All, Some, None, IfOk, IfSome, if◌then◌else◌};
+ghost use Rattle.vr_outside.specs.Disks.{Image};
+ghost use Rattle.gate_journal.specs.Payloads.{mark, is_live, generation_of, side_bytes};
+ghost use Rattle.gate_journal.specs.Headers.{header_in, headers_in, IsFoundLive};
 
 use crate::Payloads;
 use byte_codec::ByteWriter;
@@ -13,11 +13,26 @@ use vr_outside::Side;
 /// Where the first gate stands.
 pub const FIRST_GATE: usize = 18;
 
-/// The side that counts, and its generation.
-#[derive(Drop)]
+/// What a live side says of itself: its generation, and the number of its bytes.
+#[derive(Clone, Copy)]
+pub struct Header {
+    pub generation: u64,
+    pub len: u64,
+}
+
+/// The same of each side that is live.
+#[derive(Clone, Copy)]
+pub struct Headers {
+    pub a: Option<Header>,
+    pub b: Option<Header>,
+}
+
+/// The side that counts, its generation, and the number of its bytes.
+#[derive(Clone, Copy)]
 pub struct Live {
     pub side: Side,
     pub generation: u64,
+    pub len: u64,
 }
 
 /// What a live side of a form begins with.
@@ -40,32 +55,50 @@ fn live_generation(form: u8, bytes: &[u8]) -> Option<u64>
     ]))
 }
 
-/// The side that counts: the live one of the higher generation, and A where both have the same.
-#[tactic(auto, unfolding(crate::specs::Payloads::counting))]
-pub fn counting(form: u8, a: &[u8], b: &[u8]) -> Option<Live>
-    ensures side { option_map (λ live. live.side) result
-        ≡ counting form (record { a = a.now; b = b.now }) }
-    ensures generation { IfSome result
-        (λ live.
-        live.generation
-        ≡ generation_of (image_side live.side (record { a = a.now; b = b.now }))) }
-    ensures live { IfSome result
-        (λ live. is_live form (image_side live.side (record { a = a.now; b = b.now })) ≡ true) }
+/// What a side says of itself, by its length and its first 19 bytes, or all of them where there are fewer.
+pub fn header_of(form: u8, len: u64, first: &[u8]) -> Option<Header>
+    requires { length first.now ≡ min len 19 }
+    ensures header { (bytes : List ℕ) →
+        length bytes ≡ len → first.now ≡ take 19 bytes → result ≡ header_in form bytes }
+    ensures long { IfSome result (λ live. 19 ≤ live.len) }
 {
-    match (live_generation(form, a), live_generation(form, b)) {
-        (Some(first), Some(second)) if first < second => Some(Live {
-            side: Side::B,
-            generation: second,
-        }),
-        (Some(generation), _) => Some(Live {
-            side: Side::A,
-            generation,
-        }),
-        (None, Some(generation)) => Some(Live {
-            side: Side::B,
-            generation,
-        }),
-        (None, None) => None,
+    match live_generation(form, first) {
+        Some(generation) => Some(Header { generation, len }),
+        None => None,
+    }
+}
+
+/// The side that counts: the live one of the higher generation, and A where both have the same.
+pub fn live_side(headers: Headers) -> Option<Live>
+    ensures counts { (form : ℕ) → (image : Image) →
+        headers ≡ headers_in form image → IsFoundLive form image result }
+    ensures long { IfSome headers.a (λ live. 19 ≤ live.len) →
+        IfSome headers.b (λ live. 19 ≤ live.len) → IfSome result (λ live. 19 ≤ live.len) }
+{
+    let Some(first) = headers.a else {
+        let Some(second) = headers.b else {
+            return None;
+        };
+        return Some(live_as(Side::B, second));
+    };
+    let Some(second) = headers.b else {
+        return Some(live_as(Side::A, first));
+    };
+    if first.generation < second.generation {
+        return Some(live_as(Side::B, second));
+    }
+    Some(live_as(Side::A, first))
+}
+
+/// A side that counts.
+fn live_as(side: Side, header: Header) -> Live
+    ensures { result
+        ≡ record { side = side; generation = header.generation; len = header.len } }
+{
+    Live {
+        side,
+        generation: header.generation,
+        len: header.len,
     }
 }
 

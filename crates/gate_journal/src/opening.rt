@@ -1,15 +1,17 @@
 //! Opening a journal over whatever a disk holds.
 
-ghost use Rattle.std.specs.Prelude.{◌≡◌, ◌≤◌, false, None, Some, true, length, IfOk};
+ghost use Rattle.std.specs.Prelude.{◌≡◌, ◌≤◌, [], false, None, length, IfOk, IfSome, OnOk};
 ghost use Rattle.vr_outside.specs.Counts.{StoreCounts};
 ghost use Rattle.vr_outside.specs.Disks.{reads_of, settled_disk, image_side, AtAnyMoment, OpensWith};
-ghost use Rattle.gate_journal.specs.Payloads.{payloads, counting, is_live, generation_of};
-ghost use Rattle.gate_journal.specs.Journals.{IsInStep, HasPayloadsOf};
+ghost use Rattle.vr_outside.specs.declared.disk.Side.TheVariants.{A};
+ghost use Rattle.gate_journal.specs.Payloads.{payloads, counting, generation_of, side_bytes};
+ghost use Rattle.gate_journal.specs.Journals.{IsInStep, HasPayloadsOf, IsHealthy, Rests, OpensAs, CountsAs};
+ghost use Rattle.gate_journal.specs.Headers.{headers_in, IsLiveOf};
 
-use crate::layout::{Live, counting, empty_side};
+use crate::layout::{Headers, Live, empty_side, live_side};
 use crate::making::make_side;
 use crate::parsing::{Found, find_payloads};
-use crate::sides::{Sides, read_sides};
+use crate::sides::{read_first, read_headers};
 use crate::{Journal, Payloads};
 use std::alloc::Global;
 use vr_outside::{Disk, Side, StoreFault, write_durably};
@@ -22,7 +24,8 @@ pub struct Opened {
 }
 
 impl Journal {
-    /// Opens the journal of a form on a disk, whatever the disk holds: that denotes some payloads, possibly none.
+    /// Opens the journal of a form on a disk, whatever the disk holds: that denotes some payloads, possibly none. It
+    /// reads how each side begins, and then the side that counts alone.
     pub fn from_disk<D: Disk>(alloc: Global, disk: &mut D, form: u8) -> Result<Opened, StoreFault>
         // At any moment, after a fault too, a stop can leave the payloads of an image at entry.
         ensures any_moment { D.tells →
@@ -32,6 +35,10 @@ impl Journal {
         ensures opens { D.tells →
             OpensWith (D.moments disk.old) (D.moments disk.new)
             (λ image. payloads form image ≡ payloads form (reads_of (D.moments disk.old).now)) }
+        // Where a side counts and its last gate is closed, nothing is written.
+        ensures rests { D.tells →
+            IsHealthy form (reads_of (D.moments disk.old).now) →
+            Rests result (D.moments disk.old) (D.moments disk.new) }
         ensures in_step { D.tells →
             IfOk result (λ opened. IsInStep opened.journal (D.moments disk.new).now) }
         ensures payloads { D.tells →
@@ -40,13 +47,23 @@ impl Journal {
         ensures held { D.tells →
             IfOk result
             (λ opened. payloads form (reads_of (D.moments disk.new).now) ≡ opened.payloads) }
+        // The side that counts goes on counting; where none does, it is A, of generation 1.
+        ensures counts { D.tells →
+            IfOk result
+            (λ opened. OpensAs form (reads_of (D.moments disk.old).now) opened.journal) }
+        // Where none counts, A is made without payloads, and B stays.
+        ensures fresh { D.tells →
+            counting form (reads_of (D.moments disk.old).now) ≡ None →
+            OnOk result
+            (reads_of (D.moments disk.new).now
+            ≡ record { a = side_bytes form 1 []; b = (reads_of (D.moments disk.old).now).b }) }
         ensures form { IfOk result (λ opened. opened.journal.form ≡ form) }
         ensures usable { IfOk result (λ opened. opened.journal.broken ≡ false) }
         ensures cause { StoreCounts result (D.failed_disk_calls disk.old)
             (D.failed_disk_calls disk.new) }
     {
-        let sides = read_sides(alloc, disk)?;
-        open_sides(alloc, disk, form, &sides)
+        let headers = read_headers(alloc, disk, form)?;
+        open_sides(alloc, disk, form, headers)
     }
 }
 
@@ -55,30 +72,40 @@ fn open_sides<D: Disk>(
     alloc: Global,
     disk: &mut D,
     form: u8,
-    sides: &Sides,
+    headers: Headers,
 ) -> Result<Opened, StoreFault>
     requires settled { D.tells →
-        (D.moments disk.old).now
-        ≡ settled_disk (record { a = sides.now.a.items; b = sides.now.b.items }) }
+        (D.moments disk.old).now ≡ settled_disk (reads_of (D.moments disk.old).now) }
+    requires headers { D.tells → headers ≡ headers_in form (reads_of (D.moments disk.old).now) }
+    requires a_long { IfSome headers.a (λ live. 19 ≤ live.len) }
+    requires b_long { IfSome headers.b (λ live. 19 ≤ live.len) }
     ensures any_moment { D.tells →
         AtAnyMoment (D.moments disk.old) (D.moments disk.new)
         (λ image. payloads form image ≡ payloads form (reads_of (D.moments disk.old).now)) }
+    ensures rests { D.tells →
+        IsHealthy form (reads_of (D.moments disk.old).now) →
+        Rests result (D.moments disk.old) (D.moments disk.new) }
     ensures in_step { D.tells →
         IfOk result (λ opened. IsInStep opened.journal (D.moments disk.new).now) }
     ensures payloads { D.tells →
         IfOk result
         (λ opened. opened.payloads ≡ payloads form (reads_of (D.moments disk.old).now)) }
+    ensures counts { D.tells →
+        IfOk result
+        (λ opened. OpensAs form (reads_of (D.moments disk.old).now) opened.journal) }
+    ensures fresh { D.tells →
+        counting form (reads_of (D.moments disk.old).now) ≡ None →
+        OnOk result
+        (reads_of (D.moments disk.new).now
+        ≡ record { a = side_bytes form 1 []; b = (reads_of (D.moments disk.old).now).b }) }
     ensures form { IfOk result (λ opened. opened.journal.form ≡ form) }
     ensures usable { IfOk result (λ opened. opened.journal.broken ≡ false) }
     ensures cause { StoreCounts result (D.failed_disk_calls disk.old)
         (D.failed_disk_calls disk.new) }
 {
-    match counting(form, &sides.a, &sides.b) {
+    match live_side(headers) {
         None => begin(alloc, disk, form),
-        Some(live) => match live.side {
-            Side::A => open(alloc, disk, form, live, sides.a.as_slice()),
-            Side::B => open(alloc, disk, form, live, sides.b.as_slice()),
-        },
+        Some(live) => open(alloc, disk, form, live),
     }
 }
 
@@ -95,6 +122,11 @@ fn begin<D: Disk>(alloc: Global, disk: &mut D, form: u8) -> Result<Opened, Store
     ensures payloads { D.tells →
         IfOk result
         (λ opened. opened.payloads ≡ payloads form (reads_of (D.moments disk.old).now)) }
+    ensures fresh { D.tells →
+        OnOk result
+        (reads_of (D.moments disk.new).now
+        ≡ record { a = side_bytes form 1 []; b = (reads_of (D.moments disk.old).now).b }) }
+    ensures counts { IfOk result (λ opened. CountsAs A 1 opened.journal) }
     ensures form { IfOk result (λ opened. opened.journal.form ≡ form) }
     ensures usable { IfOk result (λ opened. opened.journal.broken ≡ false) }
     ensures cause { StoreCounts result (D.failed_disk_calls disk.old)
@@ -107,36 +139,66 @@ fn begin<D: Disk>(alloc: Global, disk: &mut D, form: u8) -> Result<Opened, Store
     })
 }
 
-/// Opens the side that counts: reads its payloads, and closes the gate after them.
-fn open<D: Disk>(
-    alloc: Global,
-    disk: &mut D,
-    form: u8,
-    live: Live,
-    bytes: &[u8],
-) -> Result<Opened, StoreFault>
-    requires size { 19 ≤ length bytes.now }
+/// Reads the side that counts, into one buffer, and opens it.
+fn open<D: Disk>(alloc: Global, disk: &mut D, form: u8, live: Live) -> Result<Opened, StoreFault>
+    requires size { 19 ≤ live.len }
     requires settled { D.tells →
         (D.moments disk.old).now ≡ settled_disk (reads_of (D.moments disk.old).now) }
-    requires counts { D.tells → counting form (reads_of (D.moments disk.old).now) ≡ Some live.side }
-    requires generation { live.generation ≡ generation_of bytes.now }
-    requires bytes { D.tells →
-        image_side live.side (reads_of (D.moments disk.old).now) ≡ bytes.now }
+    requires live { D.tells → IsLiveOf form (reads_of (D.moments disk.old).now) live }
     ensures any_moment { D.tells →
         AtAnyMoment (D.moments disk.old) (D.moments disk.new)
         (λ image. payloads form image ≡ payloads form (reads_of (D.moments disk.old).now)) }
+    ensures rests { D.tells →
+        IsHealthy form (reads_of (D.moments disk.old).now) →
+        Rests result (D.moments disk.old) (D.moments disk.new) }
     ensures in_step { D.tells →
         IfOk result (λ opened. IsInStep opened.journal (D.moments disk.new).now) }
     ensures payloads { D.tells →
         IfOk result
         (λ opened. opened.payloads ≡ payloads form (reads_of (D.moments disk.old).now)) }
+    ensures counts { IfOk result (λ opened. CountsAs live.side live.generation opened.journal) }
+    ensures form { IfOk result (λ opened. opened.journal.form ≡ form) }
+    ensures usable { IfOk result (λ opened. opened.journal.broken ≡ false) }
+    ensures cause { StoreCounts result (D.failed_disk_calls disk.old)
+        (D.failed_disk_calls disk.new) }
+{
+    let bytes = read_first(alloc, disk, live.side, live.len)?;
+    open_bytes(alloc, disk, form, live, bytes)
+}
+
+/// Opens the side that counts, of these bytes: finds its payloads, and closes the gate after them where it is open.
+fn open_bytes<D: Disk>(
+    alloc: Global,
+    disk: &mut D,
+    form: u8,
+    live: Live,
+    bytes: Vec<u8>,
+) -> Result<Opened, StoreFault>
+    requires size { 19 ≤ length bytes.items }
+    requires settled { D.tells →
+        (D.moments disk.old).now ≡ settled_disk (reads_of (D.moments disk.old).now) }
+    requires live { D.tells → IsLiveOf form (reads_of (D.moments disk.old).now) live }
+    requires bytes { D.tells →
+        image_side live.side (reads_of (D.moments disk.old).now) ≡ bytes.items }
+    ensures any_moment { D.tells →
+        AtAnyMoment (D.moments disk.old) (D.moments disk.new)
+        (λ image. payloads form image ≡ payloads form (reads_of (D.moments disk.old).now)) }
+    ensures rests { D.tells →
+        IsHealthy form (reads_of (D.moments disk.old).now) →
+        Rests result (D.moments disk.old) (D.moments disk.new) }
+    ensures in_step { D.tells →
+        IfOk result (λ opened. IsInStep opened.journal (D.moments disk.new).now) }
+    ensures payloads { D.tells →
+        IfOk result
+        (λ opened. opened.payloads ≡ payloads form (reads_of (D.moments disk.old).now)) }
+    ensures counts { IfOk result (λ opened. CountsAs live.side live.generation opened.journal) }
     ensures form { IfOk result (λ opened. opened.journal.form ≡ form) }
     ensures usable { IfOk result (λ opened. opened.journal.broken ≡ false) }
     ensures cause { StoreCounts result (D.failed_disk_calls disk.old)
         (D.failed_disk_calls disk.new) }
 {
     let found = find_payloads(alloc, bytes)?;
-    if bytes[found.len - 1] != 1 {
+    if !found.is_open {
         return Ok(as_found(form, live, found));
     }
     write_durably(disk, live.side, found.len as u64 - 1, &[0])?;

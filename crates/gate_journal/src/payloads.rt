@@ -1,25 +1,35 @@
-//! The list of payloads.
+//! The list of payloads, as places in one buffer.
 
-ghost use Rattle.std.specs.Prelude.{◌≡◌, ◌^◌, ◌<◌, ◌++◌, ◌==◌, [], ◌∷◌, length, All, slice_get, Some, option_map, OnOk, OnErr};
+ghost use Rattle.std.specs.Prelude.{◌≡◌, ◌≤◌, ◌+◌, ◌^◌, ◌<◌, ◌++◌, ◌==◌, [], ◌∷◌, length, map, All, slice_get, Some, OnOk, OnErr};
+ghost use Rattle.gate_journal.specs.Places.{cut, IsPlaceIn};
 
 use std::alloc::Global;
 use std::marker::Model;
-use vr_base::{NoMemory, Text, TextList};
+use vr_base::NoMemory;
 
-/// Payloads of a journal, in order, each of fewer than 2^32 bytes. Contracts see their list.
+/// Where a payload is in a buffer: its first byte, and the number of its bytes.
+#[derive(Clone, Copy)]
+pub struct Place {
+    pub start: usize,
+    pub count: usize,
+}
+
+/// Payloads of a journal, in order, each of fewer than 2^32 bytes, in one buffer. Contracts see their list.
 #[derive(Drop)]
 pub struct Payloads {
-    list: TextList,
+    bytes: Vec<u8>,
+    places: Vec<Place>,
 }
 
 impl Model for Payloads {
-    ghost use Rattle.std.specs.Prelude.{List, ℕ, ◌^◌, ◌<◌, length, All};
+    ghost use Rattle.std.specs.Prelude.{List, ℕ, map, All};
+    ghost use Rattle.gate_journal.specs.Places.{cut, IsPlaceIn};
 
     ghost Value = { List (List ℕ) };
 
-    ghost view = { λ a. a.list };
+    ghost view = { λ a. map (cut a.bytes.items) a.places.items };
 
-    ghost invariant = { λ a. All (λ payload. length payload < 2 ^ 32) a.list };
+    ghost invariant = { λ a. All (IsPlaceIn a.bytes.items) a.places.items };
 }
 
 impl Payloads {
@@ -28,39 +38,63 @@ impl Payloads {
         ensures { result ≡ [] }
     {
         Payloads {
-            list: TextList::new(alloc),
+            bytes: Vec::new(alloc),
+            places: Vec::new(alloc),
         }
+    }
+
+    /// The payloads at places of a buffer, which is kept as it is.
+    pub(crate) fn of(bytes: Vec<u8>, places: Vec<Place>) -> Payloads
+        requires { All (IsPlaceIn bytes.items) places.items }
+        ensures { result ≡ map (cut bytes.items) places.items }
+    {
+        Payloads { bytes, places }
     }
 
     /// The number of payloads.
     pub fn len(&self) -> u64
         ensures { result ≡ length self.now }
     {
-        self.list.len()
+        self.places.len() as u64
     }
 
     pub fn is_empty(&self) -> bool
         ensures { result ≡ (length self.now == 0) }
     {
-        self.list.is_empty()
+        self.places.is_empty()
     }
 
-    /// The bytes of the payload at a place, counted from 0.
+    /// The bytes of the payload at a position, counted from 0, lent from the buffer.
     pub fn get(&self, i: u64) -> &[u8]
         requires { i < length self.now }
         ensures payload { slice_get self.now i ≡ Some result.now }
         ensures small { length result.now < 2 ^ 32 }
     {
-        self.list.get(i).bytes()
+        let place = self.places[i as usize];
+        slice_at(&self.bytes, place)
     }
 
-    /// Adds a payload at the end. After `NoMemory` the list is unchanged.
+    /// Adds a copy of a payload at the end. After `NoMemory` the list is unchanged.
     pub fn push(&mut self, alloc: Global, payload: &[u8]) -> Result<(), NoMemory>
         requires { length payload.now < 2 ^ 32 }
         ensures ok { OnOk result (self.new ≡ self.old ++ payload.now ∷ []) }
         ensures err { OnErr result (self.new ≡ self.old) }
     {
-        let text = Text::from_slice(alloc, payload)?;
-        self.list.push(text)
+        let place = Place {
+            start: self.bytes.len(),
+            count: payload.len(),
+        };
+        self.bytes.extend_from_slice(payload)?;
+        self.places.push(place)?;
+        Ok(())
     }
+}
+
+/// The bytes at a place.
+fn slice_at(bytes: &[u8], place: Place) -> &[u8]
+    requires { IsPlaceIn bytes.now place }
+    ensures { result.now ≡ cut bytes.now place }
+{
+    let end = place.start + place.count;
+    &bytes[place.start..end]
 }

@@ -1,24 +1,55 @@
-//! Reading both sides of a disk, after they are synced.
+//! Reading a disk, after both sides are synced: how they begin, and then one of them.
 
-ghost use Rattle.std.specs.Prelude.{◌≡◌, ◌^◌, ◌<◌, length, IfOk, OnOk};
+ghost use Rattle.std.specs.Prelude.{◌≡◌, ◌^◌, ◌<◌, ◌≤◌, length, min, IfOk, IfSome, OnOk};
 ghost use Rattle.vr_outside.specs.Counts.{StoreCounts};
-ghost use Rattle.vr_outside.specs.Disks.{side_of, reads_of, settled_disk, Goes};
+ghost use Rattle.vr_outside.specs.Disks.{side_of, bytes_at, reads_of, settled_disk, Goes};
+ghost use Rattle.gate_journal.specs.Headers.{header_in, headers_in};
 
+use crate::layout::{Header, Headers, header_of};
 use std::alloc::Global;
 use vr_outside::{Disk, Side, StoreFault};
 
-/// The bytes of both sides.
-#[derive(Drop)]
-pub struct Sides {
-    pub a: Vec<u8>,
-    pub b: Vec<u8>,
+/// So many bytes of a side, from its start on.
+pub fn read_first<D: Disk>(
+    alloc: Global,
+    disk: &mut D,
+    side: Side,
+    count: u64,
+) -> Result<Vec<u8>, StoreFault>
+    requires { D.tells → (count ≤ length (side_of side (D.moments disk.old).now).reads) }
+    ensures bytes { D.tells →
+        IfOk result
+        (λ bytes. bytes.items ≡ bytes_at 0 count (side_of side (D.moments disk.old).now).reads) }
+    ensures length { IfOk result (λ bytes. length bytes.items ≡ count) }
+    ensures same { D.tells → OnOk result ((D.moments disk.new).now ≡ (D.moments disk.old).now) }
+    ensures moments { D.tells →
+        Goes (D.moments disk.old).now (D.moments disk.old) (D.moments disk.new) }
+    ensures cause { StoreCounts result (D.failed_disk_calls disk.old)
+        (D.failed_disk_calls disk.new) }
+{
+    let mut bytes = vec![in alloc; 0; count as usize]?;
+    disk.read(side, 0, &mut bytes)?;
+    Ok(bytes)
 }
 
-/// All bytes of a side.
-fn read_side<D: Disk>(alloc: Global, disk: &mut D, side: Side) -> Result<Vec<u8>, StoreFault>
-    ensures bytes { D.tells →
-        IfOk result (λ bytes. bytes.items ≡ (side_of side (D.moments disk.old).now).reads) }
-    ensures short { IfOk result (λ bytes. length bytes.items < 2 ^ 63) }
+/// How many bytes of a side are read for its header: the first 19, or all where there are fewer.
+fn header_count(len: u64) -> u64
+    ensures { result ≡ min 19 len }
+{
+    if len < 19 { len } else { 19 }
+}
+
+/// What a side says of itself, where it is live for a form.
+fn read_header<D: Disk>(
+    alloc: Global,
+    disk: &mut D,
+    side: Side,
+    form: u8,
+) -> Result<Option<Header>, StoreFault>
+    ensures header { D.tells →
+        IfOk result
+        (λ header. header ≡ header_in form (side_of side (D.moments disk.old).now).reads) }
+    ensures long { IfOk result (λ header. IfSome header (λ live. 19 ≤ live.len)) }
     ensures same { D.tells → OnOk result ((D.moments disk.new).now ≡ (D.moments disk.old).now) }
     ensures moments { D.tells →
         Goes (D.moments disk.old).now (D.moments disk.old) (D.moments disk.new) }
@@ -26,20 +57,17 @@ fn read_side<D: Disk>(alloc: Global, disk: &mut D, side: Side) -> Result<Vec<u8>
         (D.failed_disk_calls disk.new) }
 {
     let len = disk.len(side)?;
-    let mut bytes = vec![in alloc; 0; len as usize]?;
-    disk.read(side, 0, &mut bytes)?;
-    Ok(bytes)
+    let first = read_first(alloc, disk, side, header_count(len))?;
+    Ok(header_of(form, len, &first))
 }
 
-/// Syncs both sides, and reads them. No image is added at any moment.
-pub fn read_sides<D: Disk>(alloc: Global, disk: &mut D) -> Result<Sides, StoreFault>
-    ensures bytes { D.tells →
+/// Syncs both sides, and reads how each begins. No image is added at any moment.
+pub fn read_headers<D: Disk>(alloc: Global, disk: &mut D, form: u8) -> Result<Headers, StoreFault>
+    ensures headers { D.tells →
         IfOk result
-        (λ sides.
-        record { a = sides.a.items; b = sides.b.items }
-        ≡ reads_of (D.moments disk.old).now) }
-    ensures short { IfOk result
-        (λ sides. (length sides.a.items < 2 ^ 63) × (length sides.b.items < 2 ^ 63)) }
+        (λ headers. headers ≡ headers_in form (reads_of (D.moments disk.old).now)) }
+    ensures a_long { IfOk result (λ headers. IfSome headers.a (λ live. 19 ≤ live.len)) }
+    ensures b_long { IfOk result (λ headers. IfSome headers.b (λ live. 19 ≤ live.len)) }
     ensures settled { D.tells →
         OnOk result ((D.moments disk.new).now ≡ settled_disk (reads_of (D.moments disk.old).now)) }
     ensures moments { D.tells →
@@ -49,7 +77,7 @@ pub fn read_sides<D: Disk>(alloc: Global, disk: &mut D) -> Result<Sides, StoreFa
 {
     disk.sync(Side::A)?;
     disk.sync(Side::B)?;
-    let a = read_side(alloc, disk, Side::A)?;
-    let b = read_side(alloc, disk, Side::B)?;
-    Ok(Sides { a, b })
+    let a = read_header(alloc, disk, Side::A, form)?;
+    let b = read_header(alloc, disk, Side::B, form)?;
+    Ok(Headers { a, b })
 }

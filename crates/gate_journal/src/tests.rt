@@ -146,6 +146,31 @@ fn opening_makes_a_side(rt: HostRuntime) -> Result<(), Fail> {
     Ok(())
 }
 
+/// Whether opening leaves these sides as they are.
+fn stays(alloc: Global, a: &[u8], b: &[u8]) -> Result<bool, StoreFault> {
+    let mut disk = disk(alloc, &[])?;
+    write_durably(&mut disk, Side::A, 0, a)?;
+    write_durably(&mut disk, Side::B, 0, b)?;
+    Journal::from_disk(alloc, &mut disk, 1)?;
+    Ok(disk.reads(Side::A) == a && disk.reads(Side::B) == b)
+}
+
+/// Sides of which one counts, with a closed gate at its end.
+static HEALTHY: &[(&[u8], &[u8])] = &[
+    (&EMPTY, &[]),
+    (&[], &WITH_AB),
+    (&WITH_CD, &WITH_AB),
+    (&WITH_AB, &WITH_CD),
+];
+
+#[test]
+fn opening_a_healthy_disk_writes_nothing(rt: HostRuntime) -> Result<(), Fail> {
+    for row in HEALTHY {
+        assert!(rt; stays(rt.alloc(), row.0, row.1)?);
+    }
+    Ok(())
+}
+
 #[test]
 fn a_commit_writes_the_payload_and_its_gate(rt: HostRuntime) -> Result<(), Fail> {
     let mut disk = disk(rt.alloc(), &[])?;

@@ -20,10 +20,12 @@ pub fn laws_of_records()
     ensures read { (view : List Entry) (artefact : List ℕ) → IsRecord view artefact →
         record_in (record_bytes view artefact) ≡ Some (view, artefact) }
     // Two records never have the same bytes.
-    ensures view { (view other : List Entry) (artefact other_artefact : List ℕ) → IsRecord view artefact →
-        IsRecord other other_artefact → record_bytes view artefact ≡ record_bytes other other_artefact →
+    ensures view { (view other : List Entry) (artefact other_artefact : List ℕ) →
+        IsRecord view artefact → IsRecord other other_artefact →
+        record_bytes view artefact ≡ record_bytes other other_artefact →
         view ≡ other }
-    ensures artefact { (view other : List Entry) (artefact other_artefact : List ℕ) → IsRecord view artefact →
-        IsRecord other other_artefact → record_bytes view artefact ≡ record_bytes other other_artefact →
+    ensures artefact { (view other : List Entry) (artefact other_artefact : List ℕ) →
+        IsRecord view artefact → IsRecord other other_artefact →
+        record_bytes view artefact ≡ record_bytes other other_artefact →
         artefact ≡ other_artefact }
 {}
