@@ -2,14 +2,17 @@
 //! it, so it hands out counts and no tokens or units. A caller in C must hand over at most 4,194,304 bytes.
 #![tactic(auto)]
 
-ghost use Rattle.std.specs.Prelude.{◌≡◌, ◌≤◌, length, true};
+ghost use Rattle.std.specs.Prelude.{◌≡◌, ◌≤◌, ◌%◌, ◌^◌, IfOk, false, length, true};
 ghost use Rattle.vr_base.specs.declared.lexical.LexFault.{LexFault};
-ghost use Rattle.scan_c.specs.Counts.{HasTokens, HasUnits, HasLexicalFault, IsFaulty};
+ghost use Rattle.scan_spec.specs.Scans.{IsScanOf};
+ghost use Rattle.scan_spec.specs.Units.{AreTokensOf, roles_of};
+ghost use Rattle.scan_c.specs.Counts.{HasTokens, HasUnits, HasLexicalFault, IsFaulty, IsReferred, ref_count};
 
 use std::alloc::Global;
 use vhdl_lex::scan_tokens;
-use vhdl_units::outline;
-use vr_base::{LexFault, TEXT_LIMIT, UnitFault};
+use vhdl_refs::find_refs;
+use vhdl_units::{outline, outline_by_roles, roles_of};
+use vr_base::{LexFault, NoMemory, RoleList, Scan, TEXT_LIMIT, Tokens, UnitFault};
 
 /// What a scan found: whether the text has a cut, and then how many tokens and line comments it has; or whether it has
 /// a fault. Where neither is so, there was no memory.
@@ -30,6 +33,17 @@ pub struct Outlined {
     pub whole: bool,
     pub faulty: bool,
     pub units: u64,
+}
+
+/// What a scan, the outline of its tokens and the references of its units found: whether the text has an outline, and then
+/// how many references its units have together, modulo 2^64; or whether it has a fault, lexical or of the unit grammar.
+/// Where neither is so, there was no memory.
+#[derive(Clone, Copy)]
+#[repr(C)]
+pub struct Referred {
+    pub whole: bool,
+    pub faulty: bool,
+    pub refs: u64,
 }
 
 /// Scans a text of at most 4,194,304 bytes. C declares it as
@@ -75,4 +89,106 @@ pub extern "C" fn bench_outline(alloc: Global, text: &[u8], out: &mut Outlined)
         faulty,
         units,
     };
+}
+
+/// The number of references of all units together, modulo 2^64.
+fn count_refs(alloc: Global, text: &[u8], scan: &Scan, roles: &RoleList) -> Result<u64, NoMemory>
+    requires scan { IsScanOf text.now scan.now }
+    requires small { length text.now ≤ TEXT_LIMIT }
+    requires roles { roles.now ≡ roles_of text.now scan.now.tokens.list }
+    ensures { IfOk result (λ count. count ≡ ref_count text.now scan.now % 2 ^ 64) }
+{
+    let mut count = 0;
+    for unit in 0..scan.units.len() {
+        let refs = find_refs(alloc, text, scan, roles, unit as u32)?;
+        count = refs.len().wrapping_add(count);
+    }
+    Ok(count)
+}
+
+/// Nothing is known, for want of memory.
+fn unknown() -> Referred
+    ensures { result ≡ record { whole = false; faulty = false; refs = 0 } }
+{
+    Referred {
+        whole: false,
+        faulty: false,
+        refs: 0,
+    }
+}
+
+/// There is a fault.
+fn fault_found() -> Referred
+    ensures { result ≡ record { whole = false; faulty = true; refs = 0 } }
+{
+    Referred {
+        whole: false,
+        faulty: true,
+        refs: 0,
+    }
+}
+
+/// The references of a scan.
+fn refer(alloc: Global, text: &[u8], scan: &Scan, roles: &RoleList) -> Referred
+    requires scan { IsScanOf text.now scan.now }
+    requires small { length text.now ≤ TEXT_LIMIT }
+    requires roles { roles.now ≡ roles_of text.now scan.now.tokens.list }
+    ensures { IsReferred text.now result }
+{
+    match count_refs(alloc, text, scan, roles) {
+        Ok(refs) => Referred {
+            whole: true,
+            faulty: false,
+            refs,
+        },
+        Err(_none) => unknown(),
+    }
+}
+
+/// The references of a text whose tokens are known with their roles.
+fn refer_tokens(alloc: Global, text: &[u8], tokens: Tokens, roles: &RoleList) -> Referred
+    requires tokens { AreTokensOf text.now tokens }
+    requires small { length text.now ≤ TEXT_LIMIT }
+    requires roles { roles.now ≡ roles_of text.now tokens.list }
+    ensures { IsReferred text.now result }
+{
+    match outline_by_roles(alloc, text, &tokens, roles) {
+        Ok(units) => refer(alloc, text, &Scan { tokens, units }, roles),
+        Err(UnitFault::NoMemory) => unknown(),
+        Err(_fault) => fault_found(),
+    }
+}
+
+/// The references of a text whose tokens are known.
+fn refer_cut(alloc: Global, text: &[u8], tokens: Tokens) -> Referred
+    requires tokens { AreTokensOf text.now tokens }
+    requires small { length text.now ≤ TEXT_LIMIT }
+    ensures { IsReferred text.now result }
+{
+    match roles_of(alloc, text, &tokens) {
+        Ok(roles) => refer_tokens(alloc, text, tokens, &roles),
+        Err(_none) => unknown(),
+    }
+}
+
+/// The references of a text.
+fn refer_text(alloc: Global, text: &[u8]) -> Referred
+    requires { length text.now ≤ TEXT_LIMIT }
+    ensures { IsReferred text.now result }
+{
+    match scan_tokens(alloc, text) {
+        Ok(tokens) => refer_cut(alloc, text, tokens),
+        Err(LexFault::NoMemory) => unknown(),
+        Err(_fault) => fault_found(),
+    }
+}
+
+/// Scans and outlines a text of at most 4,194,304 bytes, and finds the references of each unit. C declares it as
+/// `void bench_refs(const uint8_t *text, size_t length, struct referred *out)`.
+#[unsafe(no_mangle)]
+pub extern "C" fn bench_refs(alloc: Global, text: &[u8], out: &mut Referred)
+    requires { length text.now ≤ TEXT_LIMIT }
+    ensures { IsReferred text.now out.new }
+{
+    *out = refer_text(alloc, text);
 }

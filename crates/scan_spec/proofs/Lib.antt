@@ -11,3 +11,7 @@ pub mod Classes
 pub mod Outlines
 pub mod OneFinding
 pub mod Placed
+pub mod SomeTests
+pub mod Pigeons
+pub mod Seeing
+pub mod Backwards

@@ -120,3 +120,18 @@ module _ (text : List ℕ) (tokens : List Token) where
   follow_on lead at (item last ∷ elements) = follow_on lead (last + 1) elements
   follow_on lead at (plain kind last ∷ elements) = (refl, follow_on (last + 1) (last + 1) elements)
   follow_on lead at (owned kind before last ∷ elements) = (refl, follow_on (last + 1) (last + 1) elements)
+
+  pub units_few : (lead at : ℕ) (elements : List Element) (end : ℕ) → Follow (roles_of text tokens) at elements end → at + length (units_from text tokens lead at elements) ≤ end
+  units_few lead at [] end follow = omega (arith, follow)
+  units_few lead at (item last ∷ elements) end follow =
+      let ends = (element_after (roles_of text tokens) at (item last) follow.0).after in
+      let rest = units_few lead (last + 1) elements end follow.1 in
+      omega arith
+  units_few lead at (plain kind last ∷ elements) end follow =
+      let ends = (element_after (roles_of text tokens) at (plain kind last) follow.0).after in
+      let rest = units_few (last + 1) (last + 1) elements end follow.1 in
+      omega arith
+  units_few lead at (owned kind before last ∷ elements) end follow =
+      let ends = (element_after (roles_of text tokens) at (owned kind before last) follow.0).after in
+      let rest = units_few (last + 1) (last + 1) elements end follow.1 in
+      omega arith

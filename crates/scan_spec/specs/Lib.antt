@@ -1,6 +1,8 @@
--- The definitions: words, the token cut, the unit grammar, and where units are.
+-- The definitions: words, the token cut, the unit grammar, where units are, references and visible libraries.
 pub mod Words
 pub mod Tokens
 pub mod Units
 pub mod Scans
 pub mod UnitPlaces
+pub mod References
+pub mod Visibility

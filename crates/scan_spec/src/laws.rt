@@ -1,14 +1,16 @@
 //! Laws of the token cut and of the unit grammar, as functions with empty bodies: a caller cites one by calling it.
 
-ghost use Rattle.std.specs.Prelude.{◌≡◌, ◌<◌, ◌≤◌, ◌⊎◌, ℕ, List, length};
-ghost use Rattle.std.specs.List.{All, flat_map};
+ghost use Rattle.std.specs.Prelude.{◌≡◌, ◌<◌, ◌≤◌, ◌↔◌, ◌⊎◌, ℕ, Bool, List, Contains, IsTrue, length};
+ghost use Rattle.std.specs.List.{All, flat_map, list_any};
 ghost use Rattle.vr_base.specs.declared.lexical.LexFault.{LexFault};
 ghost use Rattle.vr_base.specs.declared.lexical.Token.{Token};
 ghost use Rattle.vr_base.specs.declared.lexical.Tokens.{Tokens};
 ghost use Rattle.vr_base.specs.declared.design.Role.{Role};
 ghost use Rattle.vr_base.specs.declared.design.UnitFault.{UnitFault};
 ghost use Rattle.scan_spec.specs.Units.{AreTokensOf, Element, IsOutline, HasUnitFault, roles_of, units_of};
+ghost use Rattle.scan_spec.specs.References.{BeginsClauseOf, IsBackAt, back_to, clause_start};
 ghost use Rattle.scan_spec.specs.UnitPlaces.{IsPlaced, FollowOn};
+ghost use Rattle.scan_spec.specs.Visibility.{AreClosed, ScopeUnit, Sets, seen_after, sees};
 ghost use Rattle.scan_spec.specs.Tokens.{Piece, IsCut, HasFault, bytes_of};
 
 /// The pieces of a cut, joined, are the text.
@@ -74,11 +76,36 @@ pub fn outline_or_fault()
 
 /// Each unit of an outline is where its token numbers say: `lead` to `first` are its context items, at `first` is its
 /// keyword, at `last` its final semicolon, and its name and owner lie between. The units follow one another: each
-/// `lead` is the token after the `last` before, so their ranges rise and are disjoint.
+/// `lead` is the token after the `last` before, so their ranges rise and are disjoint. There are no more units than tokens.
 pub fn laws_of_units()
     ensures placed { (text : List ℕ) (tokens : List Token) (elements : List Element) →
         IsOutline (roles_of text tokens) elements →
         All (IsPlaced text tokens) (units_of text tokens elements) }
     ensures ordered { (text : List ℕ) (tokens : List Token) (elements : List Element) →
         IsOutline (roles_of text tokens) elements → FollowOn 0 (units_of text tokens elements) }
+    ensures few { (text : List ℕ) (tokens : List Token) (elements : List Element) →
+        IsOutline (roles_of text tokens) elements →
+        length (units_of text tokens elements) ≤ length tokens }
+{}
+
+/// The visible libraries of the units of a list are closed, they are within all closed sets, and what is seen after any
+/// number of steps is visible: no set grows after as many steps as the definition takes.
+pub fn laws_of_visibility()
+    ensures closed { (units : List ScopeUnit) → AreClosed units (sees units) }
+    ensures least { (units : List ScopeUnit) (sets : Sets) → AreClosed units sets →
+        (user : ScopeUnit) (name : List ℕ) → Contains units user →
+        IsTrue (sees units user name) → IsTrue (sets user name) }
+    ensures enough { (units : List ScopeUnit) (steps : ℕ) (user : ScopeUnit) (name : List ℕ) →
+        Contains units user →
+        IsTrue (seen_after units steps user name) → IsTrue (sees units user name) }
+{}
+
+/// The way back from a token to the nearest that ends it: some token on it passes a test exactly where one before passes
+/// and none ends the way from there on; so a place is in a name list exactly where a `use` or a `context` is before it
+/// with no `;` between. And a clause begins where it says.
+pub fn laws_of_references()
+    ensures back { (test ends : Role → Bool) (roles : List Role) (at : ℕ) → at ≤ length roles →
+        IsTrue (list_any test (back_to ends roles at)) ↔ IsBackAt test ends roles at }
+    ensures start { (roles : List Role) (at : ℕ) → at ≤ length roles →
+        BeginsClauseOf roles (clause_start roles at) at }
 {}

@@ -9,11 +9,11 @@ ghost use Rattle.vhdl_units.specs.Standing.{IsStanding, IsAdded, GivesUnits, Giv
 
 use crate::ends::begins_at;
 use crate::marks::marks_of;
-use crate::roles::token_roles;
 use crate::stands::{Standing, stands_at};
 use crate::texts::{owned_unit, plain_unit};
+use crate::view::roles_of;
 use std::alloc::Global;
-use vr_base::{Items, TEXT_LIMIT, Token, Tokens, Unit, UnitFault, UnitList};
+use vr_base::{Items, Role, RoleList, TEXT_LIMIT, Token, Tokens, Unit, UnitFault, UnitList};
 
 /// Where an element ends, and where the context items of the next unit begin.
 #[derive(Clone, Copy)]
@@ -37,7 +37,28 @@ pub fn outline(alloc: Global, text: &[u8], tokens: &Tokens) -> Result<UnitList, 
     ensures fault { (fault : UnitFault) →
         HasUnitFault text.now tokens.now.list fault → GivesUnitFault fault result }
 {
-    read(alloc, text, tokens.list.as_slice())
+    let roles = roles_of(alloc, text, tokens)?;
+    outline_by_roles(alloc, text, tokens, &roles)
+}
+
+/// `outline` for a caller that has the roles of the tokens already, and hands them on to who reads references.
+pub fn outline_by_roles(
+    alloc: Global,
+    text: &[u8],
+    tokens: &Tokens,
+    roles: &RoleList,
+) -> Result<UnitList, UnitFault>
+    requires tokens { AreTokensOf text.now tokens.now }
+    requires small { length text.now ≤ TEXT_LIMIT }
+    requires roles { roles.now ≡ roles_of text.now tokens.now.list }
+    ensures right { Outlines text.now tokens.now.list result }
+    ensures outline { (elements : List Element) →
+        IsOutline (roles_of text.now tokens.now.list) elements →
+        GivesUnits (units_of text.now tokens.now.list elements) result }
+    ensures fault { (fault : UnitFault) →
+        HasUnitFault text.now tokens.now.list fault → GivesUnitFault fault result }
+{
+    read(alloc, text, tokens.list.as_slice(), roles.as_slice())
 }
 
 /// Adds the unit that begins at a token, if one does.
@@ -84,13 +105,12 @@ fn add_unit(
     }
 }
 
-fn read(alloc: Global, text: &[u8], tokens: &[Token]) -> Result<UnitList, UnitFault>
+fn read(alloc: Global, text: &[u8], tokens: &[Token], roles: &[Role]) -> Result<UnitList, UnitFault>
     requires lie { AllLieIn text.now tokens.now }
     requires small { length tokens.now ≤ TEXT_LIMIT }
+    requires roles { roles.now ≡ roles_of text.now tokens.now }
     ensures { Outlines text.now tokens.now result }
 {
-    let known = token_roles(alloc, text, tokens)?;
-    let roles = known.as_slice();
     let next_marks = marks_of(alloc, roles)?;
     let marks = next_marks.as_slice();
     let mut units = Vec::new(alloc);

@@ -12,7 +12,8 @@ mod stands;
 mod texts;
 mod view;
 
-pub use file::outline;
+pub use ends::role_at;
+pub use file::{outline, outline_by_roles};
 pub use view::{is_named, name_of, roles_of};
 
 #[cfg(test)]

@@ -11,6 +11,7 @@ mod limits;
 mod memory;
 mod outcome;
 mod project;
+mod refs;
 mod rooms;
 mod text;
 
@@ -27,5 +28,6 @@ pub use limits::{
 pub use memory::{DiskFailed, NoMemory};
 pub use outcome::{Limit, Mark, MarkList, Outcome, Refusal, Which};
 pub use project::{Pair, PairList, Project, ProjectFault, ProjectFile, ProjectFileList};
+pub use refs::{Ref, RefList, UnitId};
 pub use rooms::RoomItems;
 pub use text::{Text, TextList};

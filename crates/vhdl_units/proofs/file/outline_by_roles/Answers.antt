@@ -4,7 +4,7 @@ use Rattle.vr_base.specs.declared.lexical.Token.{Token}
 use Rattle.scan_spec.specs.Units.{Outlines}
 use Rattle.scan_spec.proofs.Lying.{Lie, tokens_lie, tokens_few}
 use Rattle.vhdl_units.proofs.Exact.{gives_units, gives_unit_fault}
-use Rattle.vhdl_units.proofs.file.outline.Goals as goal
+use Rattle.vhdl_units.proofs.file.outline_by_roles.Goals as goal
 
 pub read-requires-clause-lie : goal.read-requires-clause-lie
 read-requires-clause-lie c = subst (Lie (length c.args.text.now)) (sym c.as_slice.ensures) (tokens_lie c.args.text.now c.args.tokens.now c.requires.tokens)

@@ -1,0 +1,4 @@
+-- Lemmas of this crate.
+mod ClauseSteps
+mod PlaceSteps
+mod Leads

@@ -1,0 +1,13 @@
+-- What is known of the clause of a token by the tokens before it.
+use Rattle.std.specs.Prelude.{◌≡◌, ℕ, ◌≤◌, List}
+use Rattle.std.specs.List.{list_any}
+use Rattle.vr_base.specs.declared.design.Role.{Role}
+use Rattle.scan_spec.specs.References.{back_to, clause_start, ends_item, is_context_word, is_in_name_list, is_library_word, is_semicolon}
+use Rattle.vhdl_refs.specs.declared.clause.Clause.{Clause}
+
+pub record IsClauseAt (roles : List Role) (at : ℕ) (clause : Clause) : Type 0 where
+  pub lists_names : clause.lists_names ≡ is_in_name_list roles at
+  pub has_context : clause.has_context ≡ list_any is_context_word (back_to ends_item roles at)
+  pub has_library : clause.has_library ≡ list_any is_library_word (back_to is_semicolon roles at)
+  pub start : clause.start ≡ clause_start roles at
+  pub within : clause.start ≤ at

@@ -1,0 +1,2 @@
+-- What the walks of this crate keep.
+pub mod Clauses

@@ -1,0 +1,55 @@
+//! The clause of a token, as a walk over the tokens knows it.
+
+ghost use Rattle.std.specs.Prelude.{◌≡◌, ◌+◌, ◌<◌, false, length};
+ghost use Rattle.vhdl_refs.specs.Clauses.{IsClauseAt};
+
+use vhdl_units::role_at;
+use vr_base::Role;
+
+/// What the tokens of a clause so far are: those since the last `;`.
+#[derive(Clone, Copy)]
+pub struct Clause {
+    /// A `use` or a `context` is among them.
+    pub lists_names: bool,
+    /// A `context` is among them, and no `is` after it.
+    pub has_context: bool,
+    /// A `library` is among them.
+    pub has_library: bool,
+    /// The first of them.
+    pub start: usize,
+}
+
+/// A clause that begins at a token.
+pub fn clause_from(start: usize) -> Clause
+    ensures { result ≡
+        record { lists_names = false; has_context = false; has_library = false; start = start } }
+{
+    Clause {
+        lists_names: false,
+        has_context: false,
+        has_library: false,
+        start,
+    }
+}
+
+/// The clause of the next token.
+#[inline(always)]
+pub fn clause_after(clause: Clause, roles: &[Role], at: usize) -> Clause
+    requires clause { IsClauseAt roles.now at clause }
+    requires within { at < length roles.now }
+    ensures { IsClauseAt roles.now (at + 1) result }
+{
+    let mut next = clause;
+    match role_at(roles, at) {
+        Role::Semicolon => next = clause_from(at + 1),
+        Role::Is => next.has_context = false,
+        Role::Library => next.has_library = true,
+        Role::Use => next.lists_names = true,
+        Role::Context => {
+            next.lists_names = true;
+            next.has_context = true;
+        }
+        _ => {}
+    }
+    next
+}

@@ -1,0 +1,228 @@
+//! What the context items of one design unit name: libraries, and context declarations.
+
+ghost use Rattle.std.specs.Prelude.{◌≡◌, ◌+◌, ◌<◌, ◌≤◌, [], ◌∷◌, ◌++◌, if◌then◌else◌, IfOk, IsTrue, OnOk, Some, length, map, slice_get};
+ghost use Rattle.std.specs.Option.{option_map};
+ghost use Rattle.scan_spec.specs.Units.{AreTokensOf, name_of, roles_of};
+ghost use Rattle.scan_spec.specs.Scans.{IsScanOf};
+ghost use Rattle.scan_spec.specs.References.{context_end, context_refs, is_context_ref, is_in_library_clause, is_library_name, library_names, places, ref_at};
+ghost use Rattle.vhdl_refs.specs.Clauses.{IsClauseAt};
+
+use crate::clause::{Clause, clause_after};
+use crate::named::ref_at;
+use crate::places::is_reference;
+use crate::unit::unit_at;
+use crate::words::{is_comma, is_context_word, is_library_word, is_name, role_before};
+use std::alloc::Global;
+use vhdl_units::{name_of, role_at};
+use vr_base::{
+    Items, NoMemory, Ref, RefList, Role, RoleList, Scan, TEXT_LIMIT, Text, TextList, Tokens, Unit,
+    UnitKind,
+};
+
+/// Where the context items of a unit end.
+fn context_end(unit: &Unit) -> usize
+    requires { unit.now.first ≤ unit.now.last }
+    ensures value { result ≡ context_end unit.now }
+    ensures after { unit.now.first ≤ result }
+    ensures before { result ≤ unit.now.last }
+{
+    match unit.kind {
+        UnitKind::Context => unit.last as usize,
+        _ => unit.first as usize,
+    }
+}
+
+/// Whether the reference at a token, if one is there, is one to a context declaration.
+fn is_context_ref(roles: &[Role], at: usize, clause: Clause) -> bool
+    requires within { at < length roles.now }
+    requires clause { IsClauseAt roles.now at clause }
+    ensures value { result ≡ is_context_ref roles.now at }
+    ensures within { IsTrue result → at + 2 < length roles.now }
+{
+    let before = role_before(roles, at);
+    is_reference(roles, at) && (is_context_word(before) || is_comma(before)) && clause.has_context
+}
+
+/// Adds the reference to a context declaration at a token, where one is.
+fn push_context_ref(
+    alloc: Global,
+    text: &[u8],
+    tokens: &Tokens,
+    roles: &[Role],
+    at: usize,
+    clause: Clause,
+    refs: &mut Vec<Ref>,
+) -> Result<(), NoMemory>
+    requires tokens { AreTokensOf text.now tokens.now }
+    requires roles { roles.now ≡ roles_of text.now tokens.now.list }
+    requires within { at < length roles.now }
+    requires small { length roles.now ≤ TEXT_LIMIT }
+    requires clause { IsClauseAt roles.now at clause }
+    ensures { OnOk result (refs.new.items ≡ refs.old.items ++
+        (if is_context_ref roles.now at then ref_at text.now tokens.now.list at ∷ [] else [])) }
+{
+    if is_context_ref(roles, at, clause) {
+        refs.push(ref_at(alloc, text, tokens, roles, at, clause.lists_names)?)?;
+    }
+    Ok(())
+}
+
+/// Adds the references to context declarations from the start of a clause up to another token, in order.
+fn push_context_refs(
+    alloc: Global,
+    text: &[u8],
+    tokens: &Tokens,
+    roles: &[Role],
+    clause: Clause,
+    end: usize,
+    refs: &mut Vec<Ref>,
+) -> Result<(), NoMemory>
+    requires tokens { AreTokensOf text.now tokens.now }
+    requires roles { roles.now ≡ roles_of text.now tokens.now.list }
+    requires ordered { clause.start ≤ end }
+    requires within { end ≤ length roles.now }
+    requires small { length roles.now ≤ TEXT_LIMIT }
+    requires clause { IsClauseAt roles.now clause.start clause }
+    ensures { OnOk result (refs.new.items ≡ refs.old.items ++
+        map (ref_at text.now tokens.now.list)
+        (places (is_context_ref (roles_of text.now tokens.now.list)) clause.start end)) }
+{
+    let mut clause = clause;
+    for at in clause.start..end {
+        push_context_ref(alloc, text, tokens, roles, at, clause, refs)?;
+        clause = clause_after(clause, roles, at);
+    }
+    Ok(())
+}
+
+/// The references of the unit of a number in a scan to context declarations, in order (IEEE Std 1076-2008, clause 13.4).
+/// `roles` are those of the scan's tokens.
+pub fn context_refs(
+    alloc: Global,
+    text: &[u8],
+    scan: &Scan,
+    roles: &RoleList,
+    unit: u32,
+) -> Result<RefList, NoMemory>
+    requires scan { IsScanOf text.now scan.now }
+    requires small { length text.now ≤ TEXT_LIMIT }
+    requires roles { roles.now ≡ roles_of text.now scan.now.tokens.list }
+    requires unit { unit < length scan.now.units }
+    ensures { IfOk result (λ refs.
+        option_map (context_refs text.now scan.now.tokens.list) (slice_get scan.now.units unit)
+        ≡ Some refs) }
+{
+    let roles = roles.as_slice();
+    let (found, clause) = unit_at(text, scan, roles, unit);
+    let mut refs = Vec::new(alloc);
+    push_context_refs(
+        alloc,
+        text,
+        &scan.tokens,
+        roles,
+        clause,
+        context_end(found),
+        &mut refs,
+    )?;
+    Ok(Items::from_vec(refs))
+}
+
+/// Whether a token is between `library` and its `;`, of a unit whose keyword is at `first`.
+fn is_in_library_clause(roles: &[Role], first: usize, at: usize, clause: Clause) -> bool
+    requires { IsClauseAt roles.now at clause }
+    ensures { result ≡ is_in_library_clause roles.now first at }
+{
+    if at < first {
+        is_library_word(role_at(roles, clause.start))
+    } else {
+        clause.has_library
+    }
+}
+
+/// Adds the name at a token, where it is one of a library clause.
+fn push_library_name(
+    alloc: Global,
+    text: &[u8],
+    tokens: &Tokens,
+    roles: &[Role],
+    first: usize,
+    at: usize,
+    clause: Clause,
+    names: &mut Vec<Text>,
+) -> Result<(), NoMemory>
+    requires tokens { AreTokensOf text.now tokens.now }
+    requires roles { roles.now ≡ roles_of text.now tokens.now.list }
+    requires within { at < length roles.now }
+    requires clause { IsClauseAt roles.now at clause }
+    ensures { OnOk result (names.new.items ≡ names.old.items ++
+        (if is_library_name roles.now first at
+        then name_of text.now tokens.now.list at ∷ [] else [])) }
+{
+    if is_name(role_at(roles, at)) && is_in_library_clause(roles, first, at, clause) {
+        names.push(name_of(alloc, text, tokens, at)?)?;
+    }
+    Ok(())
+}
+
+/// Adds the names of library clauses from the start of a clause up to another token, in order.
+fn push_library_names(
+    alloc: Global,
+    text: &[u8],
+    tokens: &Tokens,
+    roles: &[Role],
+    first: usize,
+    clause: Clause,
+    end: usize,
+    names: &mut Vec<Text>,
+) -> Result<(), NoMemory>
+    requires tokens { AreTokensOf text.now tokens.now }
+    requires roles { roles.now ≡ roles_of text.now tokens.now.list }
+    requires ordered { clause.start ≤ end }
+    requires within { end ≤ length roles.now }
+    requires clause { IsClauseAt roles.now clause.start clause }
+    ensures { OnOk result (names.new.items ≡ names.old.items ++
+        map (name_of text.now tokens.now.list)
+        (places (is_library_name (roles_of text.now tokens.now.list) first) clause.start end)) }
+{
+    let mut clause = clause;
+    for at in clause.start..end {
+        push_library_name(alloc, text, tokens, roles, first, at, clause, names)?;
+        clause = clause_after(clause, roles, at);
+    }
+    Ok(())
+}
+
+/// The names of the library clauses of the unit of a number in a scan, in order (IEEE Std 1076-2008, clause 13.2): those
+/// of its context part, and of a context declaration those inside it too. `roles` are those of the scan's tokens.
+pub fn library_names(
+    alloc: Global,
+    text: &[u8],
+    scan: &Scan,
+    roles: &RoleList,
+    unit: u32,
+) -> Result<TextList, NoMemory>
+    requires scan { IsScanOf text.now scan.now }
+    requires small { length text.now ≤ TEXT_LIMIT }
+    requires roles { roles.now ≡ roles_of text.now scan.now.tokens.list }
+    requires unit { unit < length scan.now.units }
+    ensures { IfOk result (λ names.
+        option_map (library_names text.now scan.now.tokens.list) (slice_get scan.now.units unit)
+        ≡ Some names) }
+{
+    let roles = roles.as_slice();
+    let (found, clause) = unit_at(text, scan, roles, unit);
+    let first = found.first as usize;
+    let end = context_end(found);
+    let mut names = Vec::new(alloc);
+    push_library_names(
+        alloc,
+        text,
+        &scan.tokens,
+        roles,
+        first,
+        clause,
+        end,
+        &mut names,
+    )?;
+    Ok(Items::from_vec(names))
+}

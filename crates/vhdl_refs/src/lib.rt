@@ -1,0 +1,19 @@
+//! The references of design units to names in libraries, and the names of their library clauses.
+#![tactic(auto)]
+
+mod clause;
+mod context;
+mod find;
+mod named;
+mod places;
+mod structural;
+mod unit;
+mod uses;
+mod words;
+
+pub use context::{context_refs, library_names};
+pub use find::find_refs;
+pub use uses::uses_of_all;
+
+#[cfg(test)]
+mod tests;

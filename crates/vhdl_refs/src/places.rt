@@ -1,0 +1,46 @@
+//! Where a reference is, and of what kind it is.
+
+ghost use Rattle.std.specs.Prelude.{◌≡◌, ◌+◌, ◌<◌, IsTrue, length};
+ghost use Rattle.scan_spec.specs.References.{has_architecture, is_in_name_list, is_reference, is_strict};
+
+use crate::words::{
+    is_closing, is_comma, is_dot, is_entity_word, is_name, is_opening, precedes_unit, role_before,
+};
+use vhdl_units::role_at;
+use vr_base::Role;
+
+/// Whether a reference is at a token.
+pub fn is_reference(roles: &[Role], at: usize) -> bool
+    requires { at < length roles.now }
+    ensures value { result ≡ is_reference roles.now at }
+    ensures within { IsTrue result → at + 2 < length roles.now }
+{
+    at + 2 < roles.len()
+        && is_name(roles[at])
+        && is_dot(roles[at + 1])
+        && is_name(roles[at + 2])
+        && !is_dot(role_before(roles, at))
+}
+
+/// Whether the reference at a token is strict; the caller knows whether the token is between a `use` or a `context` and
+/// its `;`.
+pub fn is_strict(roles: &[Role], at: usize, in_name_list: bool) -> bool
+    requires { in_name_list ≡ is_in_name_list roles.now at }
+    ensures { result ≡ is_strict roles.now at }
+{
+    let before = role_before(roles, at);
+    precedes_unit(before) || (is_comma(before) && in_name_list)
+}
+
+/// Whether the reference at a token is to an entity with an architecture of it.
+pub fn has_architecture(roles: &[Role], at: usize) -> bool
+    requires { at + 2 < length roles.now }
+    ensures value { result ≡ has_architecture roles.now at }
+    ensures within { IsTrue result → at + 5 < length roles.now }
+{
+    at + 5 < roles.len()
+        && is_entity_word(role_before(roles, at))
+        && is_opening(roles[at + 3])
+        && is_name(roles[at + 4])
+        && is_closing(roles[at + 5])
+}

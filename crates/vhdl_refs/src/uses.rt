@@ -1,0 +1,74 @@
+//! The places of `use L.all` of one design unit, which names a library and no unit of it.
+
+ghost use Rattle.std.specs.Prelude.{◌≡◌, ◌+◌, ◌<◌, ◌≤◌, [], ◌∷◌, ◌++◌, if◌then◌else◌, IfOk, OnOk, Some, length, slice_get};
+ghost use Rattle.std.specs.Option.{option_map};
+ghost use Rattle.scan_spec.specs.Units.{roles_of};
+ghost use Rattle.scan_spec.specs.Scans.{IsScanOf};
+ghost use Rattle.scan_spec.specs.References.{is_use_of_all, places, uses_of_all};
+
+use crate::unit::unit_at;
+use crate::words::{is_all_word, is_dot, is_name, is_use_word, role_before};
+use std::alloc::Global;
+use vhdl_units::role_at;
+use vr_base::{Items, NoMemory, Positions, Role, RoleList, Scan, TEXT_LIMIT};
+
+/// Whether the `L` of a `use L.all` is at a token.
+fn is_use_of_all(roles: &[Role], at: usize) -> bool
+    requires { at < length roles.now }
+    ensures { result ≡ is_use_of_all roles.now at }
+{
+    is_use_word(role_before(roles, at))
+        && is_name(role_at(roles, at))
+        && is_dot(role_at(roles, at + 1))
+        && is_all_word(role_at(roles, at + 2))
+}
+
+/// Adds a token number where it is that of the `L` of a `use L.all`.
+fn push_use(roles: &[Role], at: usize, uses: &mut Vec<u32>) -> Result<(), NoMemory>
+    requires within { at < length roles.now }
+    requires small { length roles.now ≤ TEXT_LIMIT }
+    ensures { OnOk result (uses.new.items ≡ uses.old.items ++
+        (if is_use_of_all roles.now at then at ∷ [] else [])) }
+{
+    if is_use_of_all(roles, at) {
+        uses.push(at as u32)?;
+    }
+    Ok(())
+}
+
+/// Adds those from one token up to another, rising.
+fn push_uses(roles: &[Role], start: usize, end: usize, uses: &mut Vec<u32>) -> Result<(), NoMemory>
+    requires ordered { start ≤ end }
+    requires within { end ≤ length roles.now }
+    requires small { length roles.now ≤ TEXT_LIMIT }
+    ensures { OnOk result (uses.new.items ≡
+        uses.old.items ++ places (is_use_of_all roles.now) start end) }
+{
+    for at in start..end {
+        push_use(roles, at, uses)?;
+    }
+    Ok(())
+}
+
+/// The token numbers of the `L` of each `use L.all` of the unit of a number in a scan, rising (IEEE Std 1076-2008, clause
+/// 12.4). `roles` are those of the scan's tokens.
+pub fn uses_of_all(
+    alloc: Global,
+    text: &[u8],
+    scan: &Scan,
+    roles: &RoleList,
+    unit: u32,
+) -> Result<Positions, NoMemory>
+    requires scan { IsScanOf text.now scan.now }
+    requires small { length text.now ≤ TEXT_LIMIT }
+    requires roles { roles.now ≡ roles_of text.now scan.now.tokens.list }
+    requires unit { unit < length scan.now.units }
+    ensures { IfOk result (λ uses.
+        option_map (uses_of_all roles.now) (slice_get scan.now.units unit) ≡ Some uses) }
+{
+    let roles = roles.as_slice();
+    let (found, clause) = unit_at(text, scan, roles, unit);
+    let mut uses = Vec::new(alloc);
+    push_uses(roles, clause.start, found.last as usize, &mut uses)?;
+    Ok(Items::from_vec(uses))
+}

@@ -1,0 +1,131 @@
+//! What single tokens are to references.
+
+ghost use Rattle.std.specs.Prelude.{◌≡◌};
+ghost use Rattle.scan_spec.specs.Units.{is_opening, is_closing};
+ghost use Rattle.scan_spec.specs.References.{is_all_word, is_comma, is_context_word, is_dot, is_entity_word, is_for, is_library_word, is_name, is_use_word, precedes_unit, role_before};
+
+use vhdl_units::role_at;
+use vr_base::Role;
+
+/// The role of the token before a place, and before the first that of a token which no rule names.
+pub fn role_before(roles: &[Role], at: usize) -> Role
+    ensures { result ≡ role_before roles.now at }
+{
+    if at == 0 {
+        Role::Other
+    } else {
+        role_at(roles, at - 1)
+    }
+}
+
+#[inline(always)]
+pub fn is_name(role: Role) -> bool
+    ensures { result ≡ is_name role }
+{
+    match role {
+        Role::Name => true,
+        _ => false,
+    }
+}
+
+#[inline(always)]
+pub fn is_dot(role: Role) -> bool
+    ensures { result ≡ is_dot role }
+{
+    match role {
+        Role::Dot => true,
+        _ => false,
+    }
+}
+
+#[inline(always)]
+pub fn is_comma(role: Role) -> bool
+    ensures { result ≡ is_comma role }
+{
+    match role {
+        Role::Comma => true,
+        _ => false,
+    }
+}
+
+pub fn is_for(role: Role) -> bool
+    ensures { result ≡ is_for role }
+{
+    match role {
+        Role::For => true,
+        _ => false,
+    }
+}
+
+pub fn is_entity_word(role: Role) -> bool
+    ensures { result ≡ is_entity_word role }
+{
+    match role {
+        Role::Entity => true,
+        _ => false,
+    }
+}
+
+pub fn is_opening(role: Role) -> bool
+    ensures { result ≡ is_opening role }
+{
+    match role {
+        Role::Opening => true,
+        _ => false,
+    }
+}
+
+pub fn is_closing(role: Role) -> bool
+    ensures { result ≡ is_closing role }
+{
+    match role {
+        Role::Closing => true,
+        _ => false,
+    }
+}
+
+/// Whether a selected name after the word can't mean anything but a design unit or what it declares.
+pub fn precedes_unit(role: Role) -> bool
+    ensures { result ≡ precedes_unit role }
+{
+    match role {
+        Role::Use | Role::Context | Role::Entity | Role::Configuration | Role::New => true,
+        _ => false,
+    }
+}
+
+pub fn is_context_word(role: Role) -> bool
+    ensures { result ≡ is_context_word role }
+{
+    match role {
+        Role::Context => true,
+        _ => false,
+    }
+}
+
+pub fn is_library_word(role: Role) -> bool
+    ensures { result ≡ is_library_word role }
+{
+    match role {
+        Role::Library => true,
+        _ => false,
+    }
+}
+
+pub fn is_use_word(role: Role) -> bool
+    ensures { result ≡ is_use_word role }
+{
+    match role {
+        Role::Use => true,
+        _ => false,
+    }
+}
+
+pub fn is_all_word(role: Role) -> bool
+    ensures { result ≡ is_all_word role }
+{
+    match role {
+        Role::All => true,
+        _ => false,
+    }
+}
