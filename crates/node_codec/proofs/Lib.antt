@@ -1,0 +1,14 @@
+-- The lemmas.
+pub mod Examples
+pub mod Growing
+pub mod Taking
+pub mod Spelling
+pub mod Closed
+pub mod Once
+pub mod Whole
+pub mod Present
+pub mod Drafting
+pub mod Fitting
+pub mod Spanning
+pub mod Prepared
+pub mod NodeFits

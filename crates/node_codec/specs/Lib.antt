@@ -1,0 +1,7 @@
+-- The definitions.
+pub mod Nodes
+pub mod Forms
+pub mod Spans
+pub mod Shelves
+pub mod Known
+pub mod Fitting

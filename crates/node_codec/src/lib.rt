@@ -1,0 +1,11 @@
+//! The payloads of a store that keeps each text and each node once: their bytes, and what they stand for.
+#![tactic(auto)]
+
+mod laws;
+mod reading;
+
+pub use laws::{laws_of_new_nodes, laws_of_nodes, laws_of_payloads};
+pub use reading::{DraftSpans, PayloadSpans, SourceSpan, Span, read_payload};
+
+#[cfg(test)]
+mod tests;
