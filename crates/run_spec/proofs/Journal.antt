@@ -78,17 +78,17 @@ unfolding after_all moves_after
 moves-append s b [] ys = refl
 moves-append s b (x ∷ xs) ys = ap (λ (moves : List Move). move_of s b x ∷ moves) (moves-append s (after s b x) xs ys)
 
-LawfulMoves-append : (job : Job) (core : Core) (xs ys : List Move) → LawfulMoves job core xs → LawfulMoves job (after_moves job core xs) ys → LawfulMoves job core (xs ++ ys)
+pub LawfulMoves-append : (job : Job) (core : Core) (xs ys : List Move) → LawfulMoves job core xs → LawfulMoves job (after_moves job core xs) ys → LawfulMoves job core (xs ++ ys)
 unfolding LawfulMoves after_moves
 LawfulMoves-append job core [] ys h k = k
 LawfulMoves-append job core (x ∷ xs) ys h k = (h.0, LawfulMoves-append job (after_move job core x) xs ys h.1 k)
 
-GreedyMoves-append : (job : Job) (core : Core) (xs ys : List Move) → GreedyMoves job core xs → GreedyMoves job (after_moves job core xs) ys → GreedyMoves job core (xs ++ ys)
+pub GreedyMoves-append : (job : Job) (core : Core) (xs ys : List Move) → GreedyMoves job core xs → GreedyMoves job (after_moves job core xs) ys → GreedyMoves job core (xs ++ ys)
 unfolding GreedyMoves after_moves
 GreedyMoves-append job core [] ys h k = k
 GreedyMoves-append job core (x ∷ xs) ys h k = (h.0, GreedyMoves-append job (after_move job core x) xs ys h.1 k)
 
-AreRequested-append : (s : Setting) (b : Book) (xs ys : List Event) → AreRequested s b xs → AreRequested s (after_all s b xs) ys → AreRequested s b (xs ++ ys)
+pub AreRequested-append : (s : Setting) (b : Book) (xs ys : List Event) → AreRequested s b xs → AreRequested s (after_all s b xs) ys → AreRequested s b (xs ++ ys)
 unfolding AreRequested after_all
 AreRequested-append s b [] ys h k = k
 AreRequested-append s b (x ∷ xs) ys h k = (h.0, AreRequested-append s (after s b x) xs ys h.1 k)

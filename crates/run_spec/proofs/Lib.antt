@@ -5,3 +5,8 @@ pub mod Steps
 pub mod Parts
 pub mod SameViews
 pub mod RecordedArtefacts
+pub mod Prefixes
+pub mod Waiting
+pub mod RecordNames
+pub mod LatestRecords
+pub mod RunSteps

@@ -111,25 +111,25 @@ start_from : (s : Setting) (b : Book) (request : Request) → (next : Option ℕ
 start_from s b request next e now asked = let parts = now_parts s b (unwrap_or next 0) now in record { free = parts.0; goes_on = parts.1; least = asked }
 
 -- each running child's ticket was started with its request
-abbrev AreStarted : List Event → List Run → Type 0
+abbrev pub AreStarted : List Event → List Run → Type 0
 AreStarted before runs = All (λ run. started_with run.ticket before ≡ Some run.request) runs
 
-still_all : (before : List Event) (event : Event) (runs : List Run) → AreStarted before runs → AreStarted (before ++ event ∷ []) runs
+pub still_all : (before : List Event) (event : Event) (runs : List Run) → AreStarted before runs → AreStarted (before ++ event ∷ []) runs
 still_all before event runs all =
     All-weaker (λ run. started_with run.ticket before ≡ Some run.request) (λ run. started_with run.ticket (before ++ event ∷ []) ≡ Some run.request)
     (λ run is. still_started before event run.ticket run.request is) runs all
 
-started_all : (s : Setting) (before : List Event) (b : Book) (t : ℕ) (r : Request) → AreStarted before b.runs → IsFresh before t → AreStarted (before ++ Started t r ∷ []) (after s b (Started t r)).runs
+pub started_all : (s : Setting) (before : List Event) (b : Book) (t : ℕ) (r : Request) → AreStarted before b.runs → IsFresh before t → AreStarted (before ++ Started t r ∷ []) (after s b (Started t r)).runs
 unfolding after
 started_all s before b t r all fresh =
     All-push (λ run. started_with run.ticket (before ++ Started t r ∷ []) ≡ Some run.request) b.runs (record { ticket = t; position = unwrap_or (next_position s b) 0; request = r })
     (still_all before (Started t r) b.runs all) (started_is before t r fresh)
 
-ended_all : (s : Setting) (before : List Event) (b : Book) (t : ℕ) (e : Exit) → AreStarted before b.runs → AreStarted (before ++ Ended t e ∷ []) (after s b (Ended t e)).runs
+pub ended_all : (s : Setting) (before : List Event) (b : Book) (t : ℕ) (e : Exit) → AreStarted before b.runs → AreStarted (before ++ Ended t e ∷ []) (after s b (Ended t e)).runs
 unfolding after
 ended_all s before b t e all = still_all before (Ended t e) (others_of t b.runs) (All-others (λ run. started_with run.ticket before ≡ Some run.request) b.runs t all)
 
-gone_all : (s : Setting) (before : List Event) (b : Book) (t : ℕ) → AreStarted before b.runs → AreStarted (before ++ Gone t ∷ []) (after s b (Gone t)).runs
+pub gone_all : (s : Setting) (before : List Event) (b : Book) (t : ℕ) → AreStarted before b.runs → AreStarted (before ++ Gone t ∷ []) (after s b (Gone t)).runs
 unfolding after
 gone_all s before b t all = still_all before (Gone t) (others_of t b.runs) (All-others (λ run. started_with run.ticket before ≡ Some run.request) b.runs t all)
 

@@ -6,3 +6,5 @@ pub mod CleanBuild
 pub mod Marks
 pub mod Recorded
 pub mod Faithful
+pub mod Commits
+pub mod Histories

@@ -1,5 +1,6 @@
 -- What became of each file of a build, by its journal.
-use Rattle.std.specs.Prelude.{ℕ, Bool, false, true, if◌then◌else◌, List, [], ◌∷◌, length, map, slice_get, Option, Some, None}
+use Rattle.std.specs.Prelude.{◌≡◌, ◌⊎◌, ℕ, Bool, false, true, if◌then◌else◌, List, [], ◌∷◌, length, map, slice_get, Option, Some, None}
+use Rattle.std.specs.List.{list_any}
 use Rattle.vr_base.specs.declared.graph.Entry.{Entry}
 use Rattle.vr_base.specs.declared.file.FileName.{FileName}
 use Rattle.vr_base.specs.declared.child.Event.{Event}
@@ -47,6 +48,10 @@ is_refused Compiled = false
 is_refused (Refused code output) = true
 is_refused Skipped = false
 is_refused Left = false
+
+-- no refusal halts the build: it goes on after one, or no file is refused
+abbrev pub NoRefusalHalts : Setting → List Event → Type 0
+NoRefusalHalts setting events = (setting.keep_going ≡ true) ⊎ (list_any is_refused (marks_of setting events) ≡ false)
 
 abbrev pub is_compiled : Mark → Bool
 is_compiled Fresh = false

@@ -1,3 +1,5 @@
 -- The lemmas.
 pub mod MomentLaws
 pub mod ImageLaws
+pub mod CommitLaws
+pub mod PhaseLaws

@@ -4,30 +4,26 @@ use Rattle.std.specs.List.{AllByRecursion}
 use Rattle.std.proofs.Math.Seq.{drop-append_seam}
 use Rattle.std.proofs.lemmas.List.{append-nil}
 use Rattle.vr_outside.specs.Disks.{DiskState, Image, Moments, all_of, EachImage, IsWithin, Shrinks, Goes, added_since, moments_since, Follows, AtAnyMoment, StaysTrue, NeverLoses}
+use Rattle.vr_outside.specs.Commits.{last_state}
 
--- the last state of a list, or the one before it
-abbrev last_of : DiskState → List DiskState → DiskState
-last_of first [] = first
-last_of first (next ∷ later) = last_of next later
-
-last_of-append : (first middle : DiskState) (states later : List DiskState) → last_of first (states ++ middle ∷ later) ≡ last_of middle later
-last_of-append first middle [] later = refl
-last_of-append first middle (state ∷ states) later = last_of-append state middle states later
+pub last_state-append : (first middle : DiskState) (states later : List DiskState) → last_state first (states ++ middle ∷ later) ≡ last_state middle later
+last_state-append first middle [] later = refl
+last_state-append first middle (state ∷ states) later = last_state-append state middle states later
 
 -- what was added is what is listed as added
 pub added_is : (old new : Moments) (added : List DiskState) → all_of new ≡ all_of old ++ added → added_since old new ≡ added
 added_is old new added is = ap (λ (l : List DiskState). drop (length (all_of old)) l) is ∙ drop-append_seam (all_of old) added
 
-follows_by : (old new : Moments) (added : List DiskState) → all_of new ≡ all_of old ++ added → Follows old new
+pub follows_by : (old new : Moments) (added : List DiskState) → all_of new ≡ all_of old ++ added → Follows old new
 follows_by old new added is = is ∙ ap (λ (l : List DiskState). all_of old ++ l) (sym (added_is old new added is))
 
 -- the last of what was added is the present
-last_is : (old new : Moments) → Follows old new → last_of old.now (added_since old new) ≡ new.now
+pub last_is : (old new : Moments) → Follows old new → last_state old.now (added_since old new) ≡ new.now
 last_is old new follows =
     let whole : all_of new ≡ old.past ++ old.now ∷ added_since old new = follows ∙ append_assoc old.past (old.now ∷ []) (added_since old new) in
-    sym (last_of-append old.now old.now old.past (added_since old new))
-    ∙ ap (last_of old.now) (sym whole)
-    ∙ last_of-append old.now new.now new.past []
+    sym (last_state-append old.now old.now old.past (added_since old new))
+    ∙ ap (last_state old.now) (sym whole)
+    ∙ last_state-append old.now new.now new.past []
 
 -- two runs, one after the other, are a run
 pub joined_follows : (old middle new : Moments) → Follows old middle → Follows middle new → all_of new ≡ all_of old ++ (added_since old middle ++ added_since middle new)
@@ -40,39 +36,39 @@ joined_follows old middle new first second =
 pub goes_follows : (during : DiskState) (old new : Moments) → Goes during old new → Follows old new
 goes_follows during old new goes = follows_by old new goes.inside goes.added
 
-all-append : (Q : DiskState → Type 0) (xs ys : List DiskState) → AllByRecursion Q xs → AllByRecursion Q ys → AllByRecursion Q (xs ++ ys)
+pub all-append : (Q : DiskState → Type 0) (xs ys : List DiskState) → AllByRecursion Q xs → AllByRecursion Q ys → AllByRecursion Q (xs ++ ys)
 all-append Q [] ys first second = second
 all-append Q (x ∷ xs) ys first second = (first.0, all-append Q xs ys first.1 second)
 
-all_last : (Q : DiskState → Type 0) (first : DiskState) (states : List DiskState) → AllByRecursion Q (first ∷ states) → Q (last_of first states)
+pub all_last : (Q : DiskState → Type 0) (first : DiskState) (states : List DiskState) → AllByRecursion Q (first ∷ states) → Q (last_state first states)
 all_last Q first [] all = all.0
 all_last Q first (next ∷ later) all = all_last Q next later all.1
 
 -- what each image of a call has, each image inside of it has
-each_inside : (P : Image → Type 0) (during : DiskState) (inside : List DiskState) → Shrinks during inside → EachImage P during → AllByRecursion (EachImage P) inside
+pub each_inside : (P : Image → Type 0) (during : DiskState) (inside : List DiskState) → Shrinks during inside → EachImage P during → AllByRecursion (EachImage P) inside
 each_inside P during [] shrinks each = tt
 each_inside P during (state ∷ later) shrinks each =
     let here : EachImage P state = λ image is. each image (shrinks.0 image is) in
     (here, each_inside P state later shrinks.2 here)
 
-keeps_inside : (P : Image → Type 0) (during : DiskState) (inside : List DiskState) → Shrinks during inside → StaysTrue P during inside
+pub keeps_inside : (P : Image → Type 0) (during : DiskState) (inside : List DiskState) → Shrinks during inside → StaysTrue P during inside
 keeps_inside P during [] shrinks = tt
 keeps_inside P during (state ∷ later) shrinks = ((λ each image is. each image (shrinks.0 image is)), keeps_inside P state later shrinks.2)
 
 -- the first step of a list of moments may begin elsewhere
-keeps_from : (P : Image → Type 0) (first other : DiskState) (states : List DiskState) → (EachImage P first → EachImage P other) → StaysTrue P other states → StaysTrue P first states
+pub keeps_from : (P : Image → Type 0) (first other : DiskState) (states : List DiskState) → (EachImage P first → EachImage P other) → StaysTrue P other states → StaysTrue P first states
 keeps_from P first other [] to keeps = tt
 keeps_from P first other (state ∷ later) to keeps = ((λ each. keeps.0 (to each)), keeps.1)
 
-keeps-append : (P : Image → Type 0) (first : DiskState) (xs ys : List DiskState) → StaysTrue P first xs → StaysTrue P (last_of first xs) ys → StaysTrue P first (xs ++ ys)
+pub keeps-append : (P : Image → Type 0) (first : DiskState) (xs ys : List DiskState) → StaysTrue P first xs → StaysTrue P (last_state first xs) ys → StaysTrue P first (xs ++ ys)
 keeps-append P first [] ys one two = two
 keeps-append P first (x ∷ xs) ys one two = (one.0, keeps-append P x xs ys one.1 two)
 
-keeps_last : (P : Image → Type 0) (first : DiskState) (states : List DiskState) → StaysTrue P first states → EachImage P first → EachImage P (last_of first states)
+pub keeps_last : (P : Image → Type 0) (first : DiskState) (states : List DiskState) → StaysTrue P first states → EachImage P first → EachImage P (last_state first states)
 keeps_last P first [] keeps each = each
 keeps_last P first (next ∷ later) keeps each = keeps_last P next later keeps.1 (keeps.0 each)
 
-all_weaker : (P Q : Image → Type 0) (states : List DiskState) → ((image : Image) → P image → Q image) → AllByRecursion (EachImage P) states → AllByRecursion (EachImage Q) states
+pub all_weaker : (P Q : Image → Type 0) (states : List DiskState) → ((image : Image) → P image → Q image) → AllByRecursion (EachImage P) states → AllByRecursion (EachImage Q) states
 all_weaker P Q [] to all = tt
 all_weaker P Q (state ∷ states) to all = ((λ image is. to image (all.0 image is)), all_weaker P Q states to all.1)
 
@@ -132,7 +128,7 @@ kept_at_present old new P never each = subst (EachImage P) (last_is old new neve
 pub joined_losses : (old middle new : Moments) (P : Image → Type 0) → NeverLoses old middle P → NeverLoses middle new P → NeverLoses old new P
 joined_losses old middle new P first second =
     let whole = joined_follows old middle new first.follows second.follows in
-    let then : StaysTrue P (last_of old.now (added_since old middle)) (added_since middle new) = subst (λ (s : DiskState). StaysTrue P s (added_since middle new)) (sym (last_is old middle first.follows)) second.keeps in
+    let then : StaysTrue P (last_state old.now (added_since old middle)) (added_since middle new) = subst (λ (s : DiskState). StaysTrue P s (added_since middle new)) (sym (last_is old middle first.follows)) second.keeps in
     record {
       follows = follows_by old new (added_since old middle ++ added_since middle new) whole;
       keeps = subst (StaysTrue P old.now) (sym (added_is old new (added_since old middle ++ added_since middle new) whole)) (keeps-append P old.now (added_since old middle) (added_since middle new) first.keeps then);
@@ -155,19 +151,19 @@ shrinks_from : (looser state : DiskState) (inside : List DiskState) → IsWithin
 shrinks_from looser state [] within shrinks = tt
 shrinks_from looser state (next ∷ later) within shrinks = ((λ image is. within image (shrinks.0 image is)), shrinks.1, shrinks.2)
 
-shrinks-append : (during state : DiskState) (xs ys : List DiskState) → IsWithin (last_of during xs) state → Shrinks during xs → Shrinks state ys → Shrinks during (xs ++ ys)
+shrinks-append : (during state : DiskState) (xs ys : List DiskState) → IsWithin (last_state during xs) state → Shrinks during xs → Shrinks state ys → Shrinks during (xs ++ ys)
 shrinks-append during state [] ys within first second = shrinks_from during state ys within second
 shrinks-append during state (x ∷ xs) ys within first second = (first.0, first.1, shrinks-append x state xs ys within first.2 second)
 
 -- the end of a call lies within the last moment inside of it
-ends_within : (during start end : DiskState) (inside : List DiskState) → last_of start inside ≡ end → IsWithin during end → IsWithin (last_of during inside) end
+ends_within : (during start end : DiskState) (inside : List DiskState) → last_state start inside ≡ end → IsWithin during end → IsWithin (last_state during inside) end
 ends_within during start end [] is within = within
 ends_within during start end (x ∷ inside) is within = subst (λ (s : DiskState). IsWithin s end) (sym is) (λ image there. there)
 
 -- a call, and then one that adds no image, are like the first call
 pub goes_then : (during : DiskState) (old middle new : Moments) → Goes during old middle → Goes middle.now middle new → Goes during old new
 goes_then during old middle new first second =
-    let last : last_of old.now first.inside ≡ middle.now = subst (λ (l : List DiskState). last_of old.now l ≡ middle.now) (added_is old middle first.inside first.added) (last_is old middle (goes_follows during old middle first)) in
+    let last : last_state old.now first.inside ≡ middle.now = subst (λ (l : List DiskState). last_state old.now l ≡ middle.now) (added_is old middle first.inside first.added) (last_is old middle (goes_follows during old middle first)) in
     record {
       inside = first.inside ++ second.inside;
       added = second.added ∙ ap (λ (l : List DiskState). l ++ second.inside) first.added ∙ append_assoc (all_of old) first.inside second.inside;

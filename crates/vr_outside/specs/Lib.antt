@@ -5,3 +5,5 @@ pub mod Children
 pub mod Streams
 pub mod Disks
 pub mod Records
+pub mod Commits
+pub mod Phases

@@ -17,7 +17,8 @@ pub fn write_durably<D: Disk>(
     ensures fits { OnOk result (at + length bytes.now < 2 ^ 63) }
     ensures written { D.tells →
         let before = (D.moments disk.old).now in
-        OnOk result ((D.moments disk.new).now ≡ on_side side (written_through at bytes.now) before) }
+        let after = (D.moments disk.new).now in
+        OnOk result (after ≡ on_side side (written_through at bytes.now) before) }
     ensures moments { D.tells →
         let during = on_side side (writing at (length bytes.now)) (D.moments disk.old).now in
         Goes during (D.moments disk.old) (D.moments disk.new) }

@@ -6,6 +6,7 @@
 mod counts;
 mod disk;
 mod durable;
+mod laws;
 mod procs;
 mod records;
 mod streams;
@@ -14,6 +15,7 @@ mod tree;
 pub use counts::counted;
 pub use disk::{Disk, Side};
 pub use durable::{cut_durably, write_durably};
+pub use laws::{laws_of_commits, laws_of_phases};
 pub use procs::{Ended, Procs, StartFault, WaitFault};
 pub use records::{Need, Needs, Record, Records, StoreFault};
 pub use streams::{Sink, SinkFault, Source, SourceFault, TakeEnd};
