@@ -264,7 +264,7 @@ module _ (answer : Request → Exit) (setting : Setting) (graph : IsGraph settin
     pub least_clean : option_and_then (request_at setting book.ends) (next_position setting book) ≡ option_and_then (clean_request answer setting.graph) (next_position setting book)
     least_clean = least_from (next_position setting book) refl
 
-    start_from : (ticket : ℕ) (request : Request) (next : Option ℕ) → next_position setting book ≡ next → option_and_then (request_at setting book.ends) next ≡ Some request →
+    pub start_from : (ticket : ℕ) (request : Request) (next : Option ℕ) → next_position setting book ≡ next → option_and_then (request_at setting book.ends) next ≡ Some request →
         IsCleanRun answer setting (record { ticket = ticket; position = unwrap_or next 0; request = request })
     start_from ticket request None e h = absurd (none-some request h)
     start_from ticket request (Some position) e h =

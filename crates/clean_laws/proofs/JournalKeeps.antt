@@ -74,7 +74,7 @@ others_stand (run ∷ runs) ticket exit position h =
       ]
     ]
 
-ended_run : (answer : Request → Exit) (run : Option Run) (exit : Exit) → option_map (λ r. answer r.request) run ≡ Some exit → (r : Run) × (run ≡ Some r)
+pub ended_run : (answer : Request → Exit) (run : Option Run) (exit : Exit) → option_map (λ r. answer r.request) run ≡ Some exit → (r : Run) × (run ≡ Some r)
 ended_run answer None exit h = absurd (none-some exit h)
 ended_run answer (Some run) exit h = (run, refl)
 
@@ -205,7 +205,7 @@ unfolding artefact_so_far
 recorded_made setting ends position artefact e = rw e refl
 
 -- the first end at a position gives the artefact where its code is 0
-exit_output : (ends : List End) (position : ℕ) (exit : Exit) → exit_at ends position ≡ Some exit → eqb exit.code 0 ≡ true → output_at ends position ≡ Some exit.output
+pub exit_output : (ends : List End) (position : ℕ) (exit : Exit) → exit_at ends position ≡ Some exit → eqb exit.code 0 ≡ true → output_at ends position ≡ Some exit.output
 unfolding exit_at output_at
 exit_output [] position exit h z = absurd (none-some exit h)
 exit_output (end ∷ ends) position exit h z =

@@ -49,7 +49,7 @@ refused_mark : (keep_going : Bool) (exit : Exit) → is_refused (mark_of keep_go
 refused_mark keep_going exit = refl
 
 -- what is recorded is there, whatever has ended
-recorded_there : (setting : Setting) (ends : List End) (position : ℕ) (artefact : List ℕ) → setting.recorded position ≡ Some artefact → artefact_so_far setting ends position ≡ Some artefact
+pub recorded_there : (setting : Setting) (ends : List End) (position : ℕ) (artefact : List ℕ) → setting.recorded position ≡ Some artefact → artefact_so_far setting ends position ≡ Some artefact
 unfolding artefact_so_far
 recorded_there setting ends position artefact e = ap (λ (o : Option (List ℕ)). or_else o (output_at ends position)) e
 
@@ -83,7 +83,7 @@ module _ (answer : Request → Exit) (setting : Setting) (graph : IsGraph settin
       (ap built (made_clean answer setting graph clean book is end.position ended.due.entry artefact.0 ended.due.is_entry artefact.1))
 
   -- so the build was not halted
-  not_halted : book.halted ≡ false
+  pub not_halted : book.halted ≡ false
   not_halted =
       elim (cases_Bool book.halted) [
         | inl halted ↦

@@ -4,5 +4,8 @@ pub mod CleanViews
 pub mod TrueRecords
 pub mod JournalBooks
 pub mod JournalKeeps
-pub mod JournalStarts
 pub mod JournalMarks
+pub mod JournalStarted
+pub mod JournalOutcomes
+pub mod CleanCommits
+pub mod EndsOnce

@@ -126,6 +126,21 @@ true_record answer graph valid at entry artefact found free made =
           ∙ sym (map-append Made prefix (file ∷ []));
     }
 
+-- of which it suffices that it is made
+pub made_record : (answer : Request → Exit) (graph : List Entry) → IsGraph graph → (at : ℕ) (entry : Entry) (artefact : List ℕ)
+    → slice_get graph at ≡ Some entry
+    → slice_get (clean_build answer graph) at ≡ Some (Made (record { name = entry.name; artefact = artefact })) → IsTrueRecord answer (record { view = view graph at; artefact = artefact })
+made_record answer graph valid at entry artefact found made =
+    elim (cases_Bool (is_free (clean_build answer graph) entry)) [
+      | inl free ↦ true_record answer graph valid at entry artefact found free made
+      | inr blocked ↦
+          let result : slice_get (clean_build answer graph) at ≡ Some Blocked =
+          here answer graph valid at artefact entry found ∙ ap (λ (r : Result). Some r) (cond-false (is_free (clean_build answer graph) entry) _ Blocked blocked) in
+          let same : ◌≡◌ {A = Option Result} (Some Blocked) (Some (Made (record { name = entry.name; artefact = artefact }))) = sym result ∙ made in
+          let nothing : ⊥ = cc in
+          absurd nothing
+    ]
+
 or_none : (r : Option Record) → option_or r None ≡ r
 or_none None = refl
 or_none (Some kept) = refl

@@ -2,21 +2,15 @@
 use Rattle.std.proofs.Common.{◌≡◌, ◌≢◌, ℕ, suc, ◌+◌, ◌<◌, ◌≤◌, List, [], ◌∷◌, length, map, get_or, refl, sym, ap, subst, ◌∙◌, arith}
 use Rattle.std.specs.Prelude.{All, Contains, sum_by, slice_get}
 use Rattle.std.specs.List.{filter_map}
-use Rattle.std.specs.List.Sorted.{IsStrictlyIncreasing}
 use Rattle.std.proofs.lemmas.List.{length-map, get_or-map, get_or_default}
 use Rattle.std.proofs.lemmas.List.Sums.{sum_by-cons}
 use Rattle.std.proofs.lemmas.Option.{slice_get-get_or}
 use Rattle.vr_base.specs.declared.graph.Entry.{Entry}
 use Rattle.vr_base.specs.Graphs.{IsEntryAt, IsGraph}
 use Rattle.vr_base.specs.View.{place_in, renumbered, part}
+use Rattle.source_view.specs.Parts.{IsPart}
 use Rattle.source_view.proofs.Numbering.{place_of, place_within, get_or-place, place_lower, sum_of_part}
 use Rattle.source_view.proofs.Rising.{before_later, few}
-
--- rising positions of files that depend on each other alone
-pub record IsPart (graph : List Entry) (positions : List ℕ) : Type 0 where
-  pub rising : IsStrictlyIncreasing positions
-  pub within : All (λ p. p < length graph) positions
-  pub closed : All (λ p. (other : Entry) → All (Contains positions) (get_or graph p other).deps) positions
 
 pub no_entry : Entry
 no_entry = record { name = record { library = []; path = [] }; command = []; text = []; deps = [] }

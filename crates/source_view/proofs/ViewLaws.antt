@@ -13,7 +13,8 @@ use Rattle.vr_base.proofs.GraphPrefixes.{IsGraph-prefix}
 use Rattle.vr_base.specs.View.{place_in, renumbered, part, viewed, view}
 use Rattle.source_view.specs.Numbers.{IsNumbered, with_numbers}
 use Rattle.source_view.proofs.Numbering.{place_at, place_of, place_within, get_or-place, place_lower}
-use Rattle.source_view.proofs.Parts.{IsPart, no_entry, map_same, map_map, part_is, length-part, get_or-part, at_place, part_is_graph}
+use Rattle.source_view.specs.Parts.{IsPart}
+use Rattle.source_view.proofs.Parts.{no_entry, map_same, map_map, part_is, length-part, get_or-part, at_place, part_is_graph}
 
 pub viewed_is : (graph : List Entry) (at : ℕ) (d : Entry) → at < length graph → viewed graph at ≡ (get_or graph at d).deps ++ at ∷ []
 unfolding viewed

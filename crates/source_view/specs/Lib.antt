@@ -1,3 +1,4 @@
 -- The definitions of this crate.
 pub mod Listed
 pub mod Numbers
+pub mod Parts

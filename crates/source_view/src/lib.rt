@@ -1,11 +1,13 @@
 //! The graph of a project, and the views of its files.
 #![tactic(auto)]
 
+mod closed_parts;
 mod kept_views;
 mod listed;
 mod same;
 mod views;
 
+pub use closed_parts::laws_of_parts;
 pub use kept_views::is_view_of;
 pub use listed::listed_graph;
 pub use same::same_view;

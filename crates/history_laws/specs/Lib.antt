@@ -1,0 +1,3 @@
+-- The definitions.
+pub mod Rights
+pub mod Spares
