@@ -1,11 +1,14 @@
 -- The lemmas.
-mod OneChild
-mod Keeping
-mod HeldFiles
-mod Progress
-mod Marking
-mod Building
-mod Lists
-mod Added
-mod KeptAtEnd
-pub mod TrueCommits
+pub mod Latest
+mod Orderly
+mod Halting
+mod MarksThen
+mod RecordsThen
+mod EventsThen
+mod Lent
+mod Acknowledging
+mod UnderWayThen
+mod EndsThen
+mod JournalThen
+mod BeginThen
+mod WholeBuilds

@@ -1,5 +1,7 @@
 -- The definitions.
 pub mod Commits
-pub mod Children
-pub mod HasBuiltTo
-pub mod Builds
+pub mod Marks
+pub mod Requests
+pub mod Faults
+pub mod UnderWay
+pub mod Ran

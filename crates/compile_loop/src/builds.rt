@@ -1,26 +1,32 @@
-//! The build of a graph: its files in order, its marks and its faults.
+//! The build of a graph: one event a turn, until nothing is left to do and no child runs.
 
-ghost use Rattle.std.specs.Prelude.{◌≡◌, ◌↔◌, ◌++◌, ℕ, [], false, true, length, slice_get, Some, IsTrue, IfOk, OnOk};
-ghost use Rattle.std.specs.Bool.{OnTrue, OnFalse};
-ghost use Rattle.vr_outside.specs.Disks.{reads_of, AtAnyMoment};
+ghost use Rattle.std.specs.Prelude.{◌≡◌, ◌≤◌, [], false, true, ℕ, List, length, map, slice_get, Some, None, IfOk, OnOk};
+ghost use Rattle.std.specs.Bool.{OnFalse};
+ghost use Rattle.std.specs.Result.{is_ok};
+ghost use Rattle.std.specs.List.{filter_map, list_all};
 ghost use Rattle.vr_base.specs.Graphs.{IsGraph};
+ghost use Rattle.vr_base.specs.PresentGraph.{below};
 ghost use Rattle.vr_base.specs.declared.outcome.Mark.{Mark};
 ghost use Rattle.vr_outside.specs.Records.{AreNeeds, IsRecorded};
-ghost use Rattle.vr_outside.specs.declared.records.Need.TheVariants.{Fresh};
-ghost use Rattle.run_spec.specs.ChildJournal.{Lawful, Answered, IsWhole, since};
+ghost use Rattle.run_spec.specs.Moves.{Job, empty_core};
+ghost use Rattle.slot_machine.specs.Machines.{IsJobOf, IsMachineOf, tickets_of, files_of};
 ghost use Rattle.run_spec.specs.Marks.{marks_of};
-ghost use Rattle.compile_loop.specs.Commits.{CommitsRecords, HasCommitted, HasPrefix, setting_of, commits};
-ghost use Rattle.compile_loop.specs.Children.{BuildStarts, BuildLosses, BuildDisks, is_disk_failed, is_all_committed};
-ghost use Rattle.compile_loop.specs.Builds.{Reaches, BuildsAll, Builds, marks_by, whole_by, whole_of, is_made};
+ghost use Rattle.run_spec.specs.ChildJournal.{job_of};
+ghost use Rattle.run_spec.specs.Commits.{setting_of};
+ghost use Rattle.compile_loop.specs.Faults.{CountsBy, fault_of, is_all_committed};
+ghost use Rattle.compile_loop.specs.Requests.{lent_at};
+ghost use Rattle.compile_loop.specs.Ran.{BuildRan, SaysEnd, is_made};
 
-use crate::artefacts::add_recorded;
+use crate::ends::end_one;
 use crate::faults::BuildFault;
-use crate::files::{Step, compile};
-use crate::marks::marks_at;
+use crate::marks::{are_made, first_marks};
+use crate::requests::built_files;
+use crate::starts::start_one;
 use build_plan::plan;
+use slot_machine::{Slots, Step};
 use std::alloc::Global;
-use vr_base::{Built, FILE_LIMIT, Graph, MarkList, NoMemory};
-use vr_outside::{Disk, Need, Needs, Procs, Records};
+use vr_base::{Built, FILE_LIMIT, Graph, Items, Mark, MarkList, NoMemory};
+use vr_outside::{Disk, Procs, Records};
 
 /// How a build ended that no fault ended.
 #[derive(Drop)]
@@ -31,115 +37,152 @@ pub struct BuildEnd {
     pub whole: Option<Built>,
 }
 
-fn is_fresh(need: Need) -> bool
-    ensures { IsTrue result ↔ (need ≡ Fresh) }
-{
-    need == Need::Fresh
+/// A build before its first start.
+#[derive(Drop)]
+struct Begun {
+    slots: Slots,
+    marks: Vec<Mark>,
 }
 
-/// Makes the files in order until one is refused: a fresh one has its recorded artefact, a stale one is compiled.
-fn make_all<K: Records, D: Disk, P: Procs>(
+/// The machine of a build and the marks of its files, where nothing has happened yet.
+fn begin<K: Records>(
     alloc: Global,
     graph: &Graph,
-    needs: &Needs,
-    built: &mut Built,
-    store: &mut K,
-    disk: &mut D,
-    procs: &mut P,
-) -> Result<Step, BuildFault>
-    requires idle { P.running procs.old ≡ [] }
-    requires none { built.old ≡ [] }
-    requires needs { AreNeeds (K.latest_of store.old) graph.now needs.now }
-    requires usable { K.broken store.old ≡ false }
-    requires in_step { D.tells → K.in_step store.old (D.moments disk.old).now }
-    ensures running { P.running procs.new ≡ [] }
-    ensures same { P.answer procs.new ≡ P.answer procs.old }
-    ensures graph { IsGraph graph.now }
-    ensures reached { IfOk result (Reaches (length needs.now) (length built.new)) }
-    ensures told { P.tells →
-        BuildsAll (P.answer procs.old) (setting_of (K.latest_of store.old) graph.now 1 false)
-        needs.now result built.new (P.journal procs.old) (P.journal procs.new)
-        (CommitsRecords (is_all_committed result) (K.latest_of store.old) (K.latest_of store.new) D.tells
-        K.records_of (D.moments disk.old) (D.moments disk.new)) }
-    ensures in_step { D.tells →
-        OnFalse (is_disk_failed result) (K.in_step store.new (D.moments disk.new).now) }
-    ensures broken { K.broken store.new ≡ is_disk_failed result }
-    ensures starts { BuildStarts result (P.failed_starts procs.old) (P.failed_starts procs.new) }
-    ensures losses { BuildLosses result (P.lost_children procs.old) (P.lost_children procs.new) }
-    ensures disks { BuildDisks result (D.failed_disk_calls disk.old)
-        (D.failed_disk_calls disk.new) }
+    store: &K,
+    limit: u32,
+    keep_going: bool,
+) -> Result<Begun, NoMemory>
+    requires { (1 ≤ limit) × (limit ≤ 64) }
+    ensures graph { IfOk result (λ begun. IsGraph graph.now) }
+    ensures files { IfOk result (λ begun. files_of begun.slots ≡ length graph.now) }
+    ensures tickets { IfOk result (λ begun. tickets_of begun.slots ≡ []) }
+    ensures in_step { let setting = setting_of (K.latest_of store.now) graph.now limit keep_going in
+        IfOk result (λ begun. IsMachineOf begun.slots (job_of setting) empty_core) }
+    ensures marked { let setting = setting_of (K.latest_of store.now) graph.now limit keep_going in
+        IfOk result (λ begun. begun.marks.items ≡ marks_of setting []) }
 {
     prove!(graph.len() <= FILE_LIMIT as u64);
-    let count = graph.len() as u32;
-    let needs = needs.as_slice();
-    for at in 0..count {
-        let entry = graph.get(at as u64);
-        if is_fresh(needs[at as usize]) {
-            add_recorded(alloc, entry, store, built)?;
-            continue;
-        }
-        match compile(alloc, graph, at, entry, built, store, disk, procs)? {
-            Step::Made => {}
-            Step::Refused { code, output } => return Ok(Step::Refused { code, output }),
-        }
-    }
-    Ok(Step::Made)
+    let plan = plan(alloc, graph, store)?;
+    let slots = Slots::new(alloc, graph, &plan, limit, keep_going)?;
+    let marks = first_marks(alloc, plan.needs.as_slice(), keep_going)?;
+    Ok(Begun { slots, marks })
 }
 
-/// What is answered of files that were made, and of the step that was the last.
-fn end_of(alloc: Global, needs: &Needs, built: Built, step: Step) -> Result<BuildEnd, NoMemory>
-    requires { Reaches (length needs.now) (length built) step }
-    ensures count { IfOk result (λ end. length end.marks ≡ length needs.now) }
-    ensures marks { IfOk result (λ end. end.marks ≡ marks_by needs.now (length built) step) }
-    ensures whole { IfOk result (λ end. end.whole ≡ whole_by built step) }
-{
-    let marks = marks_at(alloc, needs.as_slice(), built.len() as usize, &step)?;
-    match step {
-        Step::Made => Ok(BuildEnd {
-            marks,
-            whole: Some(built),
-        }),
-        Step::Refused { code: _, output: _ } => Ok(BuildEnd { marks, whole: None }),
-    }
-}
-
-/// Builds one file after the other.
-fn build_in_order<K: Records, D: Disk, P: Procs>(
+/// Builds the graph over a store of records, and gives one mark for each file: a file whose record is current is fresh,
+/// and the others are compiled, each once all that it depends on is made. At most `limit` children run at once, from 1 to
+/// 64. What a compiler gives is committed before the next start. After a refusal nothing more is started, but with
+/// `keep_going` all that doesn't depend on a refused file. After a fault nothing more is started, and what the children
+/// give that still run is committed where it can be; the first fault is answered, but out of memory in the place of any
+/// other. No child runs in the end.
+pub fn build_marks<K: Records, D: Disk, P: Procs>(
     alloc: Global,
     graph: &Graph,
     store: &mut K,
     disk: &mut D,
     procs: &mut P,
-) -> Result<BuildEnd, BuildFault>
+    limit: u32,
+    keep_going: bool,
+) -> Result<MarkList, BuildFault>
+    requires limit { (1 ≤ limit) × (limit ≤ 64) }
     requires idle { P.running procs.old ≡ [] }
     requires usable { K.broken store.old ≡ false }
     requires in_step { D.tells → K.in_step store.old (D.moments disk.old).now }
     ensures running { P.running procs.new ≡ [] }
     ensures same { P.answer procs.new ≡ P.answer procs.old }
-    ensures graph { OnOk result (IsGraph graph.now) }
-    ensures count { IfOk result (λ end. length end.marks ≡ length graph.now) }
-    ensures told { P.tells →
-        Builds (P.answer procs.old) (setting_of (K.latest_of store.old) graph.now 1 false) result
-        (P.journal procs.old) (P.journal procs.new)
-        (CommitsRecords (is_all_committed result) (K.latest_of store.old) (K.latest_of store.new) D.tells
-        K.records_of (D.moments disk.old) (D.moments disk.new)) }
+    ensures count { IfOk result (λ marks. length marks ≡ length graph.now) }
+    ensures ran { let setting = setting_of (K.latest_of store.old) graph.now limit keep_going in
+        BuildRan P.tells D.tells (P.answer procs.old) K.records_of setting
+        (P.journal procs.old) (P.journal procs.new) (D.moments disk.old) (D.moments disk.new)
+        (K.latest_of store.old) (K.latest_of store.new) (is_ok result)
+        (is_all_committed (fault_of result) (K.broken store.new)) (K.broken store.new)
+        (λ events. IfOk result (λ marks. marks ≡ marks_of setting events)) }
+    // Of each file that is fresh or compiled the store has a record of its present view.
+    ensures recorded { IfOk result (λ marks. (position : ℕ) (mark : Mark) →
+        slice_get marks position ≡ Some mark → is_made mark ≡ true →
+        IsRecorded (K.latest_of store.new) graph.now position) }
     ensures in_step { D.tells →
-        OnFalse (is_disk_failed result) (K.in_step store.new (D.moments disk.new).now) }
-    ensures broken { K.broken store.new ≡ is_disk_failed result }
-    ensures starts { BuildStarts result (P.failed_starts procs.old) (P.failed_starts procs.new) }
-    ensures losses { BuildLosses result (P.lost_children procs.old) (P.lost_children procs.new) }
-    ensures disks { BuildDisks result (D.failed_disk_calls disk.old)
-        (D.failed_disk_calls disk.new) }
+        OnFalse (K.broken store.new) (K.in_step store.new (D.moments disk.new).now) }
+    ensures usable { OnOk result (K.broken store.new ≡ false) }
+    ensures counts { CountsBy (fault_of result) (K.broken store.new)
+        (record {
+          starts = P.failed_starts procs.old;
+          losses = P.lost_children procs.old;
+          disks = D.failed_disk_calls disk.old;
+        })
+        (record {
+          starts = P.failed_starts procs.new;
+          losses = P.lost_children procs.new;
+          disks = D.failed_disk_calls disk.new;
+        }) }
 {
-    let plan = plan(alloc, graph, store)?;
-    let mut built = Built::new(alloc);
-    let step = make_all(alloc, graph, &plan.needs, &mut built, store, disk, procs)?;
-    Ok(end_of(alloc, &plan.needs, built, step)?)
+    let Ok(
+        Begun {
+            mut slots,
+            mut marks,
+        },
+    ) = begin(alloc, graph, store, limit, keep_going)
+    else {
+        return Err(BuildFault::NoMemory);
+    };
+    let mut noted = None;
+    loop {
+        match slots.next() {
+            Step::Start(at) => start_one(alloc, graph, at, store, &mut slots, &mut noted, procs),
+            Step::Wait => end_one(
+                alloc, graph, &mut slots, &mut marks, &mut noted, store, disk, procs,
+            ),
+            Step::Finished => break,
+        }
+    }
+    match noted {
+        None => Ok(Items::from_vec(marks)),
+        Some(fault) => Err(fault),
+    }
 }
 
-/// Builds the graph over a store of records: a file whose record is current has its recorded artefact, and the others
-/// are compiled in graph order, one child at a time. What a compiler gives is kept on the disk before the next start.
-/// After a refusal nothing more is started. After `DiskFailed` the store is broken.
+/// All files with their artefacts, where each one is made.
+fn whole_of<K: Records>(
+    alloc: Global,
+    graph: &Graph,
+    marks: &[Mark],
+    store: &K,
+) -> Result<Option<Built>, NoMemory>
+    requires count { length marks.now ≡ length graph.now }
+    requires recorded { (position : ℕ) (mark : Mark) → slice_get marks.now position ≡ Some mark →
+        is_made mark ≡ true → IsRecorded (K.latest_of store.now) graph.now position }
+    ensures all { list_all is_made marks.now ≡ true → IfOk result (λ whole.
+        whole ≡ Some (filter_map (lent_at (K.latest_of store.now) graph.now)
+        (below (length graph.now)))) }
+    ensures none { list_all is_made marks.now ≡ false → IfOk result (λ whole. whole ≡ None) }
+{
+    if are_made(marks) {
+        Ok(Some(built_files(alloc, graph, store)?))
+    } else {
+        Ok(None)
+    }
+}
+
+/// The marks, and all files with their artefacts where each one is made.
+fn end_of<K: Records>(
+    alloc: Global,
+    graph: &Graph,
+    marks: MarkList,
+    store: &K,
+) -> Result<BuildEnd, NoMemory>
+    requires count { length marks ≡ length graph.now }
+    requires recorded { (position : ℕ) (mark : Mark) → slice_get marks position ≡ Some mark →
+        is_made mark ≡ true → IsRecorded (K.latest_of store.now) graph.now position }
+    ensures marks { IfOk result (λ end. end.marks ≡ marks) }
+    ensures all { list_all is_made marks ≡ true → IfOk result (λ end.
+        end.whole ≡ Some (filter_map (lent_at (K.latest_of store.now) graph.now)
+        (below (length graph.now)))) }
+    ensures none { list_all is_made marks ≡ false → IfOk result (λ end. end.whole ≡ None) }
+{
+    let whole = whole_of(alloc, graph, marks.as_slice(), store)?;
+    Ok(BuildEnd { marks, whole })
+}
+
+/// Builds the graph as `build_marks` does, and gives all files with their artefacts too where each one is made.
 pub fn build<K: Records, D: Disk, P: Procs>(
     alloc: Global,
     graph: &Graph,
@@ -149,58 +192,43 @@ pub fn build<K: Records, D: Disk, P: Procs>(
     limit: u32,
     keep_going: bool,
 ) -> Result<BuildEnd, BuildFault>
-    requires limit { limit ≡ 1 }
-    requires keep_going { keep_going ≡ false }
+    requires limit { (1 ≤ limit) × (limit ≤ 64) }
     requires idle { P.running procs.old ≡ [] }
     requires usable { K.broken store.old ≡ false }
     requires in_step { D.tells → K.in_step store.old (D.moments disk.old).now }
     ensures running { P.running procs.new ≡ [] }
     ensures same { P.answer procs.new ≡ P.answer procs.old }
     ensures count { IfOk result (λ end. length end.marks ≡ length graph.now) }
-    ensures follows { let events = since (P.journal procs.old) (P.journal procs.new) in
-        P.tells → P.journal procs.new ≡ P.journal procs.old ++ events }
-    // Each start is lawful and each end is the answer to its start, after a fault too.
-    ensures lawful { let setting = setting_of (K.latest_of store.old) graph.now limit keep_going in
-        let events = since (P.journal procs.old) (P.journal procs.new) in
-        P.tells → Lawful setting events }
-    ensures answered { let events = since (P.journal procs.old) (P.journal procs.new) in
-        P.tells → Answered (P.answer procs.old) events }
-    ensures whole { let setting = setting_of (K.latest_of store.old) graph.now limit keep_going in
-        let events = since (P.journal procs.old) (P.journal procs.new) in
-        P.tells → OnOk result (IsWhole setting events) }
-    ensures marks { let setting = setting_of (K.latest_of store.old) graph.now limit keep_going in
-        let events = since (P.journal procs.old) (P.journal procs.new) in
-        P.tells → IfOk result (λ end. end.marks ≡ marks_of setting events) }
-    ensures built { let setting = setting_of (K.latest_of store.old) graph.now limit keep_going in
-        let events = since (P.journal procs.old) (P.journal procs.new) in
-        P.tells → IfOk result (λ end. end.whole ≡ whole_of setting events) }
-    // The store knows what the ended children gave; after out of memory or a fault of the disk, a prefix of it.
-    ensures latest { let setting = setting_of (K.latest_of store.old) graph.now limit keep_going in
-        let events = since (P.journal procs.old) (P.journal procs.new) in
-        P.tells → HasCommitted (is_all_committed result) (commits setting events)
-        (K.latest_of store.old) (K.latest_of store.new) }
-    ensures records { let setting = setting_of (K.latest_of store.old) graph.now limit keep_going in
-        let events = since (P.journal procs.old) (P.journal procs.new) in
-        let before = K.records_of (reads_of (D.moments disk.old).now) in
-        P.tells → D.tells → OnTrue (is_all_committed result)
-        (K.records_of (reads_of (D.moments disk.new).now) ≡ before ++ commits setting events) }
+    ensures ran { let setting = setting_of (K.latest_of store.old) graph.now limit keep_going in
+        BuildRan P.tells D.tells (P.answer procs.old) K.records_of setting
+        (P.journal procs.old) (P.journal procs.new) (D.moments disk.old) (D.moments disk.new)
+        (K.latest_of store.old) (K.latest_of store.new) (is_ok result)
+        (is_all_committed (fault_of result) (K.broken store.new)) (K.broken store.new)
+        (λ events. IfOk result (λ end. SaysEnd setting events end.marks end.whole)) }
     // Of each file that is fresh or compiled the store has a record of its present view.
-    ensures recorded { P.tells → IfOk result (λ end. (position : ℕ) (mark : Mark) →
+    ensures recorded { IfOk result (λ end. (position : ℕ) (mark : Mark) →
         slice_get end.marks position ≡ Some mark → is_made mark ≡ true →
         IsRecorded (K.latest_of store.new) graph.now position) }
-    // At any moment, after a fault too, a stop can leave the records from before with a prefix of these.
-    ensures any_moment { let setting = setting_of (K.latest_of store.old) graph.now limit keep_going in
-        let events = since (P.journal procs.old) (P.journal procs.new) in
-        let before = K.records_of (reads_of (D.moments disk.old).now) in
-        P.tells → D.tells → AtAnyMoment (D.moments disk.old) (D.moments disk.new)
-        (λ image. HasPrefix before (commits setting events) (K.records_of image)) }
     ensures in_step { D.tells →
-        OnFalse (is_disk_failed result) (K.in_step store.new (D.moments disk.new).now) }
-    ensures broken { K.broken store.new ≡ is_disk_failed result }
-    ensures starts { BuildStarts result (P.failed_starts procs.old) (P.failed_starts procs.new) }
-    ensures losses { BuildLosses result (P.lost_children procs.old) (P.lost_children procs.new) }
-    ensures disks { BuildDisks result (D.failed_disk_calls disk.old)
-        (D.failed_disk_calls disk.new) }
+        OnFalse (K.broken store.new) (K.in_step store.new (D.moments disk.new).now) }
+    ensures usable { OnOk result (K.broken store.new ≡ false) }
+    ensures counts { CountsBy (fault_of result) (K.broken store.new)
+        (record {
+          starts = P.failed_starts procs.old;
+          losses = P.lost_children procs.old;
+          disks = D.failed_disk_calls disk.old;
+        })
+        (record {
+          starts = P.failed_starts procs.new;
+          losses = P.lost_children procs.new;
+          disks = D.failed_disk_calls disk.new;
+        }) }
 {
-    build_in_order(alloc, graph, store, disk, procs)
+    match build_marks(alloc, graph, store, disk, procs, limit, keep_going) {
+        Ok(marks) => match end_of(alloc, graph, marks, store) {
+            Ok(end) => Ok(end),
+            Err(NoMemory) => Err(BuildFault::NoMemory),
+        },
+        Err(fault) => Err(fault),
+    }
 }

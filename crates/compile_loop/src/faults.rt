@@ -1,6 +1,6 @@
-//! Why a build or a child did not end by itself.
+//! Why a build did not end by itself.
 
-ghost use Rattle.std.specs.Prelude.{◌≡◌};
+ghost use Rattle.std.specs.Prelude.{◌≡◌, Some};
 ghost use Rattle.compile_loop.specs.declared.faults.BuildFault.TheVariants.{NoMemory as out_of_memory};
 
 use vr_base::NoMemory;
@@ -21,12 +21,4 @@ impl From<NoMemory> for BuildFault {
     fn from(_: NoMemory) -> BuildFault {
         BuildFault::NoMemory
     }
-}
-
-/// Why there is no exit of a child.
-#[derive(Clone, Copy, Debug, PartialEq, Eq)]
-pub enum ChildFault {
-    NoMemory,
-    StartFailed,
-    ChildLost,
 }

@@ -1,16 +1,17 @@
-//! The build of a graph over a store of records, one child at a time: stale files are compiled in graph order, and
-//! each artefact is kept on the disk before the next file is started.
+//! The build of a graph over a store of records, with up to 64 children at once: stale files are compiled, each once all
+//! that it depends on is made, and each artefact is committed before the next start.
 #![tactic(auto)]
 
-mod artefacts;
 mod builds;
-mod children;
+mod commits;
+mod ends;
 mod faults;
-mod files;
 mod marks;
-
-pub use builds::{BuildEnd, build};
-pub use faults::BuildFault;
-
+mod notes;
+mod requests;
+mod starts;
 #[cfg(test)]
 mod tests;
+
+pub use builds::{BuildEnd, build, build_marks};
+pub use faults::BuildFault;

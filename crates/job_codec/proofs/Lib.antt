@@ -1,3 +1,4 @@
 -- The lemmas.
 pub mod Tested
 pub mod Jobs
+pub mod WrittenInput

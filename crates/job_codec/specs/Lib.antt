@@ -1,3 +1,4 @@
 -- The definitions.
 pub mod Jobs
 pub mod Reading
+pub mod Written

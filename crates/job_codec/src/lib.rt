@@ -7,7 +7,7 @@ mod writing;
 
 pub use laws::laws_of_jobs;
 pub use reading::{CompileJob, read_compile_request};
-pub use writing::compile_request;
+pub use writing::{RequestWriter, compile_request};
 
 #[cfg(test)]
 mod tests;

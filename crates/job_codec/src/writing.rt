@@ -3,46 +3,77 @@
 ghost use Rattle.std.specs.Prelude.{◌≡◌, ◌≤◌, ◌++◌, length, IfOk, OnOk};
 ghost use Rattle.vr_base.specs.Names.{FitsName};
 ghost use Rattle.vr_base.specs.Graphs.{IsBuiltFile};
-ghost use Rattle.vr_base.specs.Jobs.{built_bytes, all_built_bytes, compile_input, compile_request};
+ghost use Rattle.vr_base.specs.Jobs.{built_bytes, compile_request};
+ghost use Rattle.job_codec.specs.Written.{begun, with_file};
 
 use byte_codec::ByteWriter;
 use std::alloc::Global;
-use vr_base::{Built, BuiltFile, Entry, MaybeText, NoMemory, Request, TEXT_LIMIT, Text};
+use std::marker::Model;
+use vr_base::{
+    ARTEFACT_LIMIT, Built, Entry, FileName, MaybeText, NoMemory, Request, TEXT_LIMIT, TextList,
+};
 
-#[tactic(auto, unfolding(vr_base::specs::Jobs::built_bytes))]
-fn put_built(out: &mut ByteWriter, file: &BuiltFile) -> Result<(), NoMemory>
-    requires { IsBuiltFile file.now }
-    ensures { OnOk result (out.new ≡ out.old ++ built_bytes file.now) }
-{
-    out.name(&file.name)?;
-    out.text(file.artefact.bytes())?;
-    Ok(())
+/// What a compiler is to be started with, while the files that its file depends on are added. Contracts see the words
+/// and the input so far.
+#[derive(Drop)]
+pub struct RequestWriter {
+    command: TextList,
+    out: ByteWriter,
 }
 
-#[tactic(auto, unfolding(vr_base::specs::Jobs::all_built_bytes))]
-fn put_all_built(out: &mut ByteWriter, built: &Built) -> Result<(), NoMemory>
-    ensures { OnOk result (out.new ≡ out.old ++ all_built_bytes built.now) }
-{
-    let files = built.as_slice();
-    out.u32(files.len() as u32)?;
-    for file in files {
-        put_built(out, file)?;
+impl Model for RequestWriter {
+    ghost use Rattle.job_codec.specs.Written.{Written};
+
+    ghost Value = { Written };
+
+    ghost view = { λ a. record { command = a.command; input = a.out } };
+}
+
+impl RequestWriter {
+    /// Begins with a file, its text, and the number of the files that it depends on.
+    #[tactic(auto, unfolding(crate::specs::Written::begun_input))]
+    pub fn new(alloc: Global, entry: &Entry, count: u32) -> Result<RequestWriter, NoMemory>
+        requires name { FitsName entry.now.name }
+        requires text { length entry.now.text ≤ TEXT_LIMIT }
+        ensures { IfOk result (λ writer. writer ≡ begun entry.now count) }
+    {
+        let mut out = ByteWriter::new(alloc);
+        out.plain(b"VRC1")?;
+        out.name(&entry.name)?;
+        out.text(entry.text.bytes())?;
+        out.u32(count)?;
+        Ok(RequestWriter {
+            command: entry.command.copy(alloc)?,
+            out,
+        })
     }
-    Ok(())
-}
 
-#[tactic(auto, unfolding(vr_base::specs::Jobs::compile_input))]
-fn compile_input(alloc: Global, entry: &Entry, deps: &Built) -> Result<Text, NoMemory>
-    requires name { FitsName entry.now.name }
-    requires text { length entry.now.text ≤ TEXT_LIMIT }
-    ensures { IfOk result (λ input. input ≡ compile_input entry.now.name entry.now.text deps.now) }
-{
-    let mut out = ByteWriter::new(alloc);
-    out.plain(b"VRC1")?;
-    out.name(&entry.name)?;
-    out.text(entry.text.bytes())?;
-    put_all_built(&mut out, deps)?;
-    Ok(out.into_text())
+    /// Adds a file that it depends on, with its artefact of at most 262,144 bytes, which is copied once.
+    #[tactic(auto, unfolding(vr_base::specs::Jobs::built_bytes))]
+    pub fn add(&mut self, name: &FileName, artefact: &[u8]) -> Result<(), NoMemory>
+        requires name { FitsName name.now }
+        requires artefact { length artefact.now ≤ ARTEFACT_LIMIT }
+        ensures { OnOk result
+            (self.new ≡ with_file self.old (record { name = name.now; artefact = artefact.now })) }
+    {
+        self.out.name(name)?;
+        self.out.text(artefact)?;
+        Ok(())
+    }
+
+    /// The request. It has no path for results.
+    pub fn finish(self) -> Request
+        ensures words { result.command ≡ self.command }
+        ensures input { result.input ≡ self.input }
+        ensures results { result.results ≡ MaybeText.Nothing }
+    {
+        let RequestWriter { command, out } = self;
+        Request {
+            command,
+            input: out.into_text(),
+            results: MaybeText::Nothing,
+        }
+    }
 }
 
 /// What a compiler is started with for a file over the files that it depends on, in compile order.
@@ -51,9 +82,10 @@ pub fn compile_request(alloc: Global, entry: &Entry, deps: &Built) -> Result<Req
     requires text { length entry.now.text ≤ TEXT_LIMIT }
     ensures { IfOk result (λ request. request ≡ compile_request entry.now deps.now) }
 {
-    Ok(Request {
-        command: entry.command.copy(alloc)?,
-        input: compile_input(alloc, entry, deps)?,
-        results: MaybeText::Nothing,
-    })
+    let files = deps.as_slice();
+    let mut writer = RequestWriter::new(alloc, entry, files.len() as u32)?;
+    for file in files {
+        writer.add(&file.name, file.artefact.bytes())?;
+    }
+    Ok(writer.finish())
 }

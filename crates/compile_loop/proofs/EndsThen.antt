@@ -1,0 +1,122 @@
+-- The end of a child that is taken: refused, compiled and not committed, or compiled and to be committed.
+use Rattle.std.proofs.Common.{◌≡◌, ℕ, ◌+◌, ◌<◌, Bool, true, false, not, ◌&&◌, eqb, List, [], ◌∷◌, ◌++◌, length, take, Option, Some, None, Err, refl, sym, ap, subst, ◌∙◌}
+use Rattle.std.specs.Prelude.{is_some}
+use Rattle.std.proofs.Math.ListN.{set}
+use Rattle.std.proofs.lemmas.Bool.{and_parts, not-true, cond-true, cond-false}
+use Rattle.std.proofs.lemmas.List.{append-nil}
+use Rattle.vr_base.specs.declared.file.FileName.{FileName}
+use Rattle.vr_base.specs.declared.graph.Entry.{Entry}
+use Rattle.vr_base.specs.declared.child.Exit.{Exit}
+use Rattle.vr_base.specs.declared.child.Event.{Event}
+use Rattle.vr_base.specs.declared.child.Event.TheVariants.{Ended}
+use Rattle.vr_base.specs.declared.outcome.Mark.{Mark}
+use Rattle.vr_base.specs.declared.outcome.Mark.TheVariants.{Compiled, Refused}
+use Rattle.vr_outside.specs.declared.records.Record.{Record}
+use Rattle.vr_outside.specs.Disks.{Image, Moments}
+use Rattle.vr_outside.proofs.CommitLaws.{one_if}
+use Rattle.run_spec.specs.Moves.{Job, Core, Ends, start_now, is_running, position_of, after_move}
+use Rattle.run_spec.specs.ChildJournal.{Setting, job_of, core_of, book_of}
+use Rattle.run_spec.specs.Commits.{record_at, commit_of, commits}
+use Rattle.slot_machine.specs.declared.slots.Slots.{Slots}
+use Rattle.slot_machine.specs.Machines.{IsMachineOf}
+use Rattle.compile_loop.specs.declared.faults.BuildFault.{BuildFault}
+use Rattle.compile_loop.specs.declared.faults.BuildFault.TheVariants.{NoMemory, StartFailed, ChildLost, DiskFailed}
+use Rattle.compile_loop.specs.Commits.{latest_after, Acknowledges, HoldsFirst}
+use Rattle.compile_loop.specs.Faults.{noted_with, is_no_memory, is_all_committed, CountsCommit, is_disk_failed}
+use Rattle.compile_loop.specs.UnderWay.{Origin, setting_from, halted_if, IsUnderWay, TakesEnd}
+use Rattle.compile_loop.proofs.MarksThen.{mark_of_exit}
+use Rattle.compile_loop.proofs.RecordsThen.{record_of_good, no_record}
+use Rattle.compile_loop.proofs.Acknowledging.{all_few, acknowledges_left, acknowledges_one, holds_left, holds_one}
+use Rattle.compile_loop.proofs.UnderWayThen.{commits_ended, machine_ended, ended_under_way}
+
+-- what failed to be committed isn't among what is
+pub failed_commit : (noted : Option BuildFault) (fault : BuildFault) (before now : ℕ) → CountsCommit {T = Unit {0}} (Err fault) before now → (broken : Bool) → broken ≡ is_disk_failed {T = Unit {0}} (Err fault) →
+    is_all_committed (Some (noted_with noted fault)) broken ≡ true → false ≡ true
+failed_commit noted NoMemory before now cause broken is h = h
+failed_commit noted StartFailed before now cause broken is h = absurd cause
+failed_commit noted ChildLost before now cause broken is h = absurd cause
+failed_commit None DiskFailed before now cause broken is h = ap not (sym is) ∙ h
+failed_commit (Some NoMemory) DiskFailed before now cause broken is h = h
+failed_commit (Some StartFailed) DiskFailed before now cause broken is h = ap not (sym is) ∙ h
+failed_commit (Some ChildLost) DiskFailed before now cause broken is h = ap not (sym is) ∙ h
+failed_commit (Some DiskFailed) DiskFailed before now cause broken is h = ap not (sym is) ∙ h
+
+no_both : {A : Type 0} → false ≡ true → A
+no_both h = let nothing : ⊥ = cc in absurd nothing
+
+-- the store is usable where all is committed
+pub usable_where_all : (noted : Option BuildFault) (broken : Bool) → is_all_committed noted broken ≡ true → broken ≡ false
+usable_where_all noted broken on = not-true broken (and_parts (not (is_no_memory noted)) (not broken) on).1
+
+module _ (told : Type 0) (records_of : Image → List Record) (graph : List Entry) (from : Origin) (first : Moments) (events : List Event) (acknowledged : ℕ) (machine : Slots) (marks : List Mark) (noted : Option BuildFault)
+    (latest_of : FileName → Option Record) (broken : Bool) (moments : Moments) (is : IsUnderWay graph from events acknowledged machine marks noted latest_of broken)
+    (holds : told → HoldsFirst acknowledged broken (commits (setting_from graph from) events) records_of first moments)
+    (ticket at : ℕ) (exit : Exit) (inside : at < length graph) (machine' : Slots) where
+  abbrev s : Setting
+  s = setting_from graph from
+
+  abbrev core : Core
+  core = core_of (book_of s events)
+
+  abbrev all : Bool
+  all = is_all_committed noted broken
+
+  abbrev ended : Event
+  ended = Ended ticket exit
+
+  module _ (there : position_of ticket core.running ≡ Some at) (runs : is_running core ticket ≡ true) (greedy : start_now (job_of s) (halted_if (is_some noted) core) ≡ None)
+      (step : IsMachineOf machine' (job_of s) (after_move (job_of s) (halted_if (is_some noted) core) (Ends ticket (eqb exit.code 0)))) where
+    in_step : IsMachineOf machine' (job_of s) (halted_if (is_some noted) (core_of (book_of s (events ++ ended ∷ []))))
+    in_step = machine_ended graph from events acknowledged machine marks noted latest_of broken is ticket at exit there inside machine' step
+
+    commits_are : commits s (events ++ ended ∷ []) ≡ commits s events ++ commit_of graph at exit
+    commits_are = commits_ended graph from events acknowledged machine marks noted latest_of broken is ticket at exit there inside
+
+    pub takes_refused : eqb exit.code 0 ≡ false → TakesEnd told records_of graph from first (events ++ ended ∷ []) machine' (set marks at (Refused exit.code exit.output)) noted latest_of broken moments
+    takes_refused code =
+        let none : commits s (events ++ ended ∷ []) ≡ commits s events ++ [] = commits_are ∙ ap (λ (l : List Record). commits s events ++ l) (no_record graph at exit code) in
+        record {
+          acknowledged = acknowledged;
+          under_way = ended_under_way graph from events acknowledged machine marks noted latest_of broken is ticket at exit there inside runs greedy (Refused exit.code exit.output)
+              (sym (cond-false (eqb exit.code 0) Compiled (Refused exit.code exit.output) code)) acknowledged machine' noted latest_of broken (λ n. (n, is.usable n)) in_step
+              (acknowledges_left s events all from.latest_of latest_of acknowledged is.committed ended [] all tt none (λ on. (on, refl)));
+          images = λ t. subst (λ (l : List Record). HoldsFirst acknowledged broken l records_of first moments) (sym (none ∙ append-nil (commits s events))) (holds t);
+        }
+
+    module _ (code : eqb exit.code 0 ≡ true) where
+      abbrev one : Record
+      one = record_at graph at exit.output
+
+      commits_one_more : commits s (events ++ ended ∷ []) ≡ commits s events ++ one ∷ []
+      commits_one_more = commits_are ∙ ap (λ (l : List Record). commits s events ++ l) (record_of_good graph at exit code)
+
+      compiled_is : Compiled ≡ mark_of_exit exit
+      compiled_is = sym (cond-true (eqb exit.code 0) Compiled (Refused exit.code exit.output) code)
+
+      pub takes_uncommitted : all ≡ false → TakesEnd told records_of graph from first (events ++ ended ∷ []) machine' (set marks at Compiled) noted latest_of broken moments
+      takes_uncommitted off = record {
+        acknowledged = acknowledged;
+        under_way = ended_under_way graph from events acknowledged machine marks noted latest_of broken is ticket at exit there inside runs greedy Compiled compiled_is
+            acknowledged machine' noted latest_of broken (λ n. (n, is.usable n)) in_step
+            (acknowledges_left s events all from.latest_of latest_of acknowledged is.committed ended (one ∷ []) all tt commits_one_more (λ on. no_both (sym off ∙ on)));
+        images = λ t. subst (λ (l : List Record). HoldsFirst acknowledged broken l records_of first moments) (sym commits_one_more)
+            (holds_left acknowledged broken (commits s events) (one ∷ []) records_of first moments is.committed.few (holds t));
+      }
+
+      pub takes_commit : all ≡ true → (ok : Bool) (machine'' : Slots) (noted' : Option BuildFault) (later : FileName → Option Record) (broken' : Bool) (last : Moments) →
+          (noted' ≡ None → (noted ≡ None) × (broken' ≡ false)) → (is_all_committed noted' broken' ≡ true → ok ≡ true) →
+          ((job : Job) (c : Core) → IsMachineOf machine' job (halted_if (is_some noted) c) → IsMachineOf machine'' job (halted_if (is_some noted') c)) →
+          ((name : FileName) → later name ≡ latest_after (take (one_if ok) (one ∷ [])) latest_of name) → (told → HoldsFirst (one_if ok) broken' (one ∷ []) records_of moments last) →
+          TakesEnd told records_of graph from first (events ++ ended ∷ []) machine'' (set marks at Compiled) noted' later broken' last
+      takes_commit on ok machine'' noted' later broken' last none still halts latest images =
+          let usable : broken ≡ false = usable_where_all noted broken on in
+          let count : acknowledged ≡ length (commits s events) = all_few s events all from.latest_of latest_of acknowledged is.committed on in
+          record {
+            acknowledged = acknowledged + one_if ok;
+            under_way = ended_under_way graph from events acknowledged machine marks noted latest_of broken is ticket at exit there inside runs greedy Compiled compiled_is
+                (acknowledged + one_if ok) machine'' noted' later broken' none (halts (job_of s) (core_of (book_of s (events ++ ended ∷ []))) in_step)
+                (acknowledges_one s events all from.latest_of latest_of acknowledged is.committed ended one ok (is_all_committed noted' broken') later on tt commits_one_more latest still);
+            images = λ t. subst (λ (l : List Record). HoldsFirst (acknowledged + one_if ok) broken' l records_of first last) (sym commits_one_more)
+                (holds_one acknowledged ok broken' (commits s events) one records_of first moments last count
+                (subst (λ (b : Bool). HoldsFirst acknowledged b (commits s events) records_of first moments) usable (holds t)) (images t));
+          }

@@ -1,0 +1,37 @@
+-- The latest records of names, record after record.
+use Rattle.std.proofs.Common.{◌≡◌, ℕ, cond, List, [], ◌∷◌, ◌++◌, Option, Some, refl, sym, ap, ◌∙◌}
+use Rattle.std.specs.Prelude.{slice_get}
+use Rattle.std.proofs.lemmas.Bool.{cond-true, cond-false}
+use Rattle.vr_base.specs.declared.file.FileName.{FileName}
+use Rattle.vr_base.specs.declared.graph.Entry.{Entry}
+use Rattle.vr_base.specs.Graphs.{IsGraph}
+use Rattle.vr_outside.specs.declared.records.Record.{Record}
+use Rattle.vr_outside.specs.Records.{is_of, with_record}
+use Rattle.run_spec.proofs.RecordNames.{is_of_own, is_of_other}
+use Rattle.run_spec.specs.Commits.{record_at}
+use Rattle.compile_loop.specs.Commits.{latest_after}
+
+pub latest_after-append : (xs ys : List Record) (before : FileName → Option Record) (name : FileName) → latest_after (xs ++ ys) before name ≡ latest_after ys (latest_after xs before) name
+latest_after-append [] ys before name = refl
+latest_after-append (x ∷ xs) ys before name = latest_after-append xs ys (with_record x before) name
+
+pub latest_after-same : (xs : List Record) (before other : FileName → Option Record) → ((name : FileName) → before name ≡ other name) → (name : FileName) → latest_after xs before name ≡ latest_after xs other name
+latest_after-same [] before other same name = same name
+latest_after-same (x ∷ xs) before other same name = latest_after-same xs (with_record x before) (with_record x other) (λ n. ap (λ (o : Option Record). cond (is_of n x) (Some x) o) (same n)) name
+
+-- what is known after two steps
+pub latest_then : (xs ys : List Record) (before middle now : FileName → Option Record) → ((name : FileName) → middle name ≡ latest_after xs before name) → ((name : FileName) → now name ≡ latest_after ys middle name)
+    → (name : FileName) → now name ≡ latest_after (xs ++ ys) before name
+latest_then xs ys before middle now first second name = second name ∙ latest_after-same ys middle (latest_after xs before) first name ∙ sym (latest_after-append xs ys before name)
+
+module _ (graph : List Entry) (position : ℕ) (entry : Entry) (at : slice_get graph position ≡ Some entry) where
+  -- once it is committed it is the latest of that name
+  pub latest_here : (artefact : List ℕ) (before : FileName → Option Record) → with_record (record_at graph position artefact) before entry.name ≡ Some (record_at graph position artefact)
+  latest_here artefact before =
+      cond-true (is_of entry.name (record_at graph position artefact)) (Some (record_at graph position artefact)) (before entry.name) (is_of_own graph position entry at artefact)
+
+-- the record of another file leaves the latest record of a name as it is
+pub latest_elsewhere : (graph : List Entry) → IsGraph graph → (i j : ℕ) (e f : Entry) → slice_get graph i ≡ Some e → slice_get graph j ≡ Some f → (i ≡ j → ⊥) → (artefact : List ℕ) (before : FileName → Option Record)
+    → with_record (record_at graph i artefact) before f.name ≡ before f.name
+latest_elsewhere graph is i j e f at_i at_j differ artefact before =
+    cond-false (is_of f.name (record_at graph i artefact)) (Some (record_at graph i artefact)) (before f.name) (is_of_other graph i j artefact f is at_j differ)

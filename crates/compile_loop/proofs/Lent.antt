@@ -1,0 +1,140 @@
+-- What the store lends of files that are made, once all is committed.
+use Rattle.std.proofs.Common.{◌≡◌, ℕ, suc, ◌<◌, ◌≤◌, Bool, true, false, List, [], ◌∷◌, ◌++◌, length, get_or, take, Option, Some, None, refl, sym, ap, subst, ◌∙◌, arith, inl, inr}
+use Rattle.std.specs.Prelude.{All, slice_get, is_some}
+use Rattle.std.specs.Option.{option_map, option_and_then}
+use Rattle.std.specs.List.{filter_map, flat_map, list_all}
+use Rattle.std.proofs.lemmas.List.{take_all}
+use Rattle.std.proofs.lemmas.Map.Keys.{sorted_from_strictly_increasing}
+use Rattle.std.proofs.lemmas.Map.Views.{length-le_from_below}
+use Rattle.std.proofs.lemmas.Bool.{and_parts, false≢true}
+use Rattle.std.proofs.lemmas.List.Elements.{All-nil, All-cons, All-head, All-tail}
+use Rattle.std.proofs.lemmas.Option.{slice_get-get_or, slice_get_within, get_or_from_slice_get}
+use Rattle.vr_base.specs.declared.file.FileName.{FileName}
+use Rattle.vr_base.specs.declared.graph.Entry.{Entry}
+use Rattle.vr_base.specs.declared.graph.BuiltFile.{BuiltFile}
+use Rattle.vr_base.specs.declared.child.Request.{Request}
+use Rattle.vr_base.specs.declared.child.MaybeText.{MaybeText}
+use Rattle.vr_base.specs.declared.child.MaybeText.TheVariants.{Nothing}
+use Rattle.vr_base.specs.Graphs.{IsGraph, IsEntryAt}
+use Rattle.vr_base.specs.Jobs.{built_bytes, compile_input, compile_request}
+use Rattle.job_codec.specs.Written.{Written}
+use Rattle.job_codec.specs.Written as job
+use Rattle.job_codec.proofs.WrittenInput.{compile_input-is}
+use Rattle.vr_outside.specs.declared.records.Record.{Record}
+use Rattle.vr_outside.specs.Records.{IsRecorded, deps_at}
+use Rattle.run_spec.specs.ChildJournal.{Setting, End, deps_of, built_file, artefact_so_far, request_at}
+use Rattle.clean_laws.proofs.CleanPlaces.{filter_map-cons, filter_map-same}
+use Rattle.run_spec.specs.Commits.{record_at, commits_of}
+use Rattle.compile_loop.specs.Commits.{latest_after}
+use Rattle.compile_loop.specs.Requests.{lent_file, lent_at, lent_request}
+use Rattle.compile_loop.specs.UnderWay.{Origin, setting_from, HasRecords}
+
+-- the file at a position, with its form
+pub entry_is : (graph : List Entry) (position : ℕ) (entry : Entry) → IsGraph graph → slice_get graph position ≡ Some entry → IsEntryAt graph position entry
+entry_is graph position entry is at = subst (IsEntryAt graph position) (get_or_from_slice_get graph position entry entry at) (is.each position entry (slice_get_within graph position entry at))
+
+pub some_there : {X : Type 0} (o : Option X) → is_some o ≡ true → (x : X) × (o ≡ Some x)
+some_there None h = absurd (false≢true h)
+some_there (Some x) h = (x, refl)
+
+pub item_at : {X : Type 0} (xs : List X) (k : ℕ) → k < length xs → (x : X) × (slice_get xs k ≡ Some x)
+item_at [] k lt = absurd (omega arith)
+item_at (x ∷ xs) k lt = (get_or (x ∷ xs) k x, slice_get-get_or (x ∷ xs) k x lt)
+
+-- a test that all items pass
+pub All-from_test : {X : Type 0} (p : X → Bool) (xs : List X) → list_all p xs ≡ true → All (λ x. p x ≡ true) xs
+All-from_test p [] all = All-nil (λ x. p x ≡ true)
+All-from_test p (x ∷ xs) all = let parts = and_parts (p x) (list_all p xs) all in All-cons (λ y. p y ≡ true) x xs parts.0 (All-from_test p xs parts.1)
+
+-- what a store lends that knows the records of made files
+pub lent_same : (graph : List Entry) (latest_of : FileName → Option Record) (made : ℕ → Option (List ℕ)) (position : ℕ) (entry : Entry) (artefact : List ℕ) → slice_get graph position ≡ Some entry → made position ≡ Some artefact →
+    latest_of entry.name ≡ Some (record_at graph position artefact) → built_file (slice_get graph position) (made position) ≡ lent_at latest_of graph position
+unfolding lent_at
+lent_same graph latest_of made position entry artefact at is latest =
+    ap (λ (o : Option Entry). built_file o (made position)) at ∙ ap (built_file (Some entry)) is
+    ∙ sym (ap (option_and_then (lent_file latest_of)) at ∙ ap (option_map (λ (kept : Record). record { name = entry.name; artefact = kept.artefact })) latest)
+
+module _ (graph : List Entry) (from : Origin) (ends : List End) (latest_of : FileName → Option Record) (has : HasRecords graph from ends) (knows : (name : FileName) → latest_of name ≡ latest_after (commits_of graph ends) from.latest_of name) where
+  abbrev made : ℕ → Option (List ℕ)
+  made = artefact_so_far (setting_from graph from) ends
+
+  -- the store knows the record of a made file
+  pub knows_made : (position : ℕ) (entry : Entry) (artefact : List ℕ) → slice_get graph position ≡ Some entry → made position ≡ Some artefact → latest_of entry.name ≡ Some (record_at graph position artefact)
+  knows_made position entry artefact at is = knows entry.name ∙ has position entry artefact at is
+
+  pub made_recorded : (position : ℕ) → position < length graph → is_some (made position) ≡ true → IsRecorded latest_of graph position
+  made_recorded position lt is =
+      let entry = item_at graph position lt in
+      let artefact = some_there (made position) is in
+      record { entry = entry.0; is_entry = entry.1; artefact = artefact.0; is = knows_made position entry.0 artefact.0 entry.1 artefact.1 }
+
+  -- what it lends is the artefact so far
+  pub lent_is : (position : ℕ) → position < length graph → is_some (made position) ≡ true → built_file (slice_get graph position) (made position) ≡ lent_at latest_of graph position
+  lent_is position lt is =
+      let entry = item_at graph position lt in
+      let artefact = some_there (made position) is in
+      lent_same graph latest_of made position entry.0 artefact.0 entry.1 artefact.1 (knows_made position entry.0 artefact.0 entry.1 artefact.1)
+
+  -- what a compiler is asked over lent artefacts is what it is to be asked
+  pub request_is : IsGraph graph → (position : ℕ) → position < length graph → All (λ dep. is_some (made dep) ≡ true) (deps_of (slice_get graph position)) →
+      lent_request latest_of graph position ≡ request_at (setting_from graph from) ends position
+  unfolding request_at
+  request_is is position lt all =
+      let entry = item_at graph position lt in
+      let there : All (λ dep. is_some (made dep) ≡ true) entry.0.deps = subst (λ (o : Option Entry). All (λ dep. is_some (made dep) ≡ true) (deps_of o)) entry.1 all in
+      let before : All (λ dep. dep < position) entry.0.deps = (entry_is graph position entry.0 is entry.1).before in
+      let same : filter_map (lent_at latest_of graph) entry.0.deps ≡ filter_map (λ dep. built_file (slice_get graph dep) (made dep)) entry.0.deps =
+      filter_map-same (lent_at latest_of graph) (λ dep. built_file (slice_get graph dep) (made dep)) entry.0.deps 0
+      (λ k l. sym (lent_is (get_or entry.0.deps k 0) (omega (arith, before k 0 l, lt)) (there k 0 l))) in
+      ap (option_map (λ (e : Entry). compile_request e (filter_map (lent_at latest_of graph) e.deps))) entry.1
+      ∙ ap (λ (files : List BuiltFile). Some (compile_request entry.0 files)) same
+      ∙ sym (ap (option_map (λ (e : Entry). compile_request e (filter_map (λ dep. built_file (slice_get graph dep) (made dep)) e.deps))) entry.1)
+
+-- it depends on fewer files than come before it
+pub few_deps : (graph : List Entry) (position : ℕ) (entry : Entry) → IsEntryAt graph position entry → length entry.deps ≤ position
+few_deps graph position entry is = length-le_from_below position entry.deps (sorted_from_strictly_increasing entry.deps is.rising) is.before
+
+abbrev pub file_of : FileName → List ℕ → BuiltFile
+file_of name artefact = record { name = name; artefact = artefact }
+
+lent_from : (name : FileName) (latest : Option Record) (artefact : List ℕ) → option_map (λ (kept : Record). kept.artefact) latest ≡ Some artefact →
+    option_map {U = BuiltFile} (λ (kept : Record). record { name = name; artefact = kept.artefact }) latest ≡ Some (record { name = name; artefact = artefact })
+lent_from name None artefact h = let nothing : ⊥ = cc in absurd nothing
+lent_from name (Some kept) artefact h = let same : kept.artefact ≡ artefact = cc in ap (λ (a : List ℕ). Some (file_of name a)) same
+
+-- what the store lends for a file
+pub lent_of : (latest_of : FileName → Option Record) (graph : List Entry) (position : ℕ) (entry : Entry) (artefact : List ℕ) → slice_get graph position ≡ Some entry →
+    Some artefact ≡ option_map (λ (kept : Record). kept.artefact) (latest_of entry.name) → lent_at latest_of graph position ≡ Some (record { name = entry.name; artefact = artefact })
+unfolding lent_at
+lent_of latest_of graph position entry artefact at is = ap (option_and_then (lent_file latest_of)) at ∙ lent_from entry.name (latest_of entry.name) artefact (sym is)
+
+pub recorded_lent : (latest_of : FileName → Option Record) (graph : List Entry) (position : ℕ) → IsRecorded latest_of graph position → (file : BuiltFile) × (lent_at latest_of graph position ≡ Some file)
+recorded_lent latest_of graph position recorded =
+    (record { name = recorded.entry.name; artefact = recorded.artefact }, lent_of latest_of graph position recorded.entry recorded.artefact recorded.is_entry (sym (ap (option_map (λ (kept : Record). kept.artefact)) recorded.is)))
+
+-- as many files are lent as are recorded
+pub length_lent : (latest_of : FileName → Option Record) (graph : List Entry) (positions : List ℕ) → All (IsRecorded latest_of graph) positions → length (filter_map (lent_at latest_of graph) positions) ≡ length positions
+length_lent latest_of graph [] all = refl
+length_lent latest_of graph (position ∷ positions) all =
+    let here = recorded_lent latest_of graph position (All-head (IsRecorded latest_of graph) position positions all) in
+    ap length (filter_map-cons (lent_at latest_of graph) position positions (Some here.0) here.1)
+    ∙ ap suc (length_lent latest_of graph positions (All-tail (IsRecorded latest_of graph) position positions all))
+
+-- the request that was written over lent files
+pub lent_request_is : (latest_of : FileName → Option Record) (graph : List Entry) (position : ℕ) (entry : Entry) → slice_get graph position ≡ Some entry → (deps : List ℕ) → deps ≡ entry.deps → All (IsRecorded latest_of graph) deps →
+    (request : Request) (written begun : Written) (count : ℕ) → length deps ≤ count → begun ≡ job.begun entry (length deps) → request.command ≡ written.command → request.input ≡ written.input → request.results ≡ Nothing →
+    written.command ≡ begun.command → written.input ≡ begun.input ++ flat_map built_bytes (filter_map (lent_at latest_of graph) (take count deps)) → lent_request latest_of graph position ≡ Some request
+lent_request_is latest_of graph position entry at deps same all request written begun count enough begins words input results command bytes =
+    let files : List BuiltFile = filter_map (lent_at latest_of graph) deps in
+    let whole : take count deps ≡ deps = take_all count deps enough in
+    let number : length files ≡ length deps = length_lent latest_of graph deps all in
+    let is_input : request.input ≡ compile_input entry.name entry.text files =
+    input ∙ bytes ∙ ap (λ (l : List ℕ). begun.input ++ flat_map built_bytes (filter_map (lent_at latest_of graph) l)) whole
+    ∙ ap (λ (w : Written). w.input ++ flat_map built_bytes files) (begins ∙ ap (job.begun entry) (sym number)) ∙ compile_input-is entry.name entry.text files in
+    let is_command : request.command ≡ entry.command = words ∙ command ∙ ap (λ (w : Written). w.command) begins in
+    let is_request : request ≡ compile_request entry files =
+    ap (λ (w : List (List ℕ)). record { command = w; input = request.input; results = request.results }) is_command
+    ∙ ap (λ (i : List ℕ). record { command = entry.command; input = i; results = request.results }) is_input
+    ∙ ap (λ (r : MaybeText). record { command = entry.command; input = compile_input entry.name entry.text files; results = r }) results in
+    ap (option_map (λ (e : Entry). compile_request e (filter_map (lent_at latest_of graph) e.deps))) at
+    ∙ ap (λ (l : List ℕ). Some (compile_request entry (filter_map (lent_at latest_of graph) l))) (sym same) ∙ ap (λ (r : Request). Some r) (sym is_request)

@@ -1,0 +1,84 @@
+-- The latest records of files that are made, event after event, once all is committed.
+use Rattle.std.proofs.Common.{◌≡◌, ℕ, Bool, true, false, eqb, List, [], ◌∷◌, ◌++◌, cond, Option, Some, None, refl, sym, ap, ◌∙◌, inl, inr}
+use Rattle.std.specs.Prelude.{slice_get}
+use Rattle.std.specs.List.{flat_map}
+use Rattle.std.proofs.lemmas.Grind.{flat_map-append}
+use Rattle.std.proofs.lemmas.List.{append-nil}
+use Rattle.std.proofs.lemmas.Bool.{cases_Bool, cases_eq, cond-true, cond-false}
+use Rattle.std.proofs.lemmas.Option.{none-some, same_Some}
+use Rattle.vr_base.specs.declared.file.FileName.{FileName}
+use Rattle.vr_base.specs.declared.graph.Entry.{Entry}
+use Rattle.vr_base.specs.declared.child.Request.{Request}
+use Rattle.vr_base.specs.declared.child.Exit.{Exit}
+use Rattle.vr_base.specs.Graphs.{IsGraph}
+use Rattle.vr_base.specs.View.{view}
+use Rattle.vr_outside.specs.declared.records.Record.{Record}
+use Rattle.vr_outside.specs.Records.{with_record}
+use Rattle.run_spec.specs.ChildJournal.{Setting, End, output_at, or_else, artefact_so_far}
+use Rattle.run_spec.specs.Recorded.{recorded_at}
+use Rattle.run_spec.proofs.RecordedArtefacts.{record_of_recorded}
+use Rattle.run_spec.specs.Commits.{record_at, commit_of, commits_of}
+use Rattle.compile_loop.specs.Commits.{latest_after}
+use Rattle.compile_loop.specs.UnderWay.{Origin, setting_from, HasRecords}
+use Rattle.compile_loop.proofs.Latest.{latest_after-append, latest_here, latest_elsewhere}
+use Rattle.compile_loop.proofs.MarksThen.{artefact_here, artefact_elsewhere}
+
+-- one more end
+pub commits_then : (graph : List Entry) (ends : List End) (end : End) → commits_of graph (ends ++ end ∷ []) ≡ commits_of graph ends ++ commit_of graph end.position end.exit
+commits_then graph ends end =
+    flat_map-append (λ (e : End). commit_of graph e.position e.exit) ends (end ∷ []) ∙ ap (λ (l : List Record). commits_of graph ends ++ l) (append-nil (commit_of graph end.position end.exit))
+
+pub record_of_good : (graph : List Entry) (position : ℕ) (exit : Exit) → eqb exit.code 0 ≡ true → commit_of graph position exit ≡ record_at graph position exit.output ∷ []
+record_of_good graph position exit good = cond-true (eqb exit.code 0) (record_at graph position exit.output ∷ []) [] good
+
+pub no_record : (graph : List Entry) (position : ℕ) (exit : Exit) → eqb exit.code 0 ≡ false → commit_of graph position exit ≡ []
+no_record graph position exit bad = cond-false (eqb exit.code 0) (record_at graph position exit.output ∷ []) [] bad
+
+or_nothing : (kept : Option (List ℕ)) → or_else kept None ≡ kept
+or_nothing None = refl
+or_nothing (Some artefact) = refl
+
+module _ (graph : List Entry) (from : Origin) where
+  -- at first what is recorded is
+  pub records_at_first : HasRecords graph from []
+  unfolding artefact_so_far output_at
+  records_at_first = λ position entry artefact at is.
+      let found = record_of_recorded from.latest_of graph position artefact (sym (or_nothing (recorded_at from.latest_of graph position)) ∙ is) in
+      let same : found.0.entry ≡ entry = same_Some found.0.entry entry (sym found.0.is_entry ∙ at) in
+      ap (λ (e : Entry). from.latest_of e.name) (sym same) ∙ found.0.is ∙ ap (λ (a : List ℕ). Some (record_at graph position a)) found.1
+
+  module _ (is : IsGraph graph) (ends : List End) (has : HasRecords graph from ends) (position : ℕ) (here : Entry) (at_here : slice_get graph position ≡ Some here) (request : Request) (exit : Exit)
+      (unmade : artefact_so_far (setting_from graph from) ends position ≡ None) where
+    abbrev end : End
+    end = record { position = position; request = request; exit = exit }
+
+    latest_then : (name : FileName) → latest_after (commits_of graph (ends ++ end ∷ [])) from.latest_of name ≡ latest_after (commit_of graph position exit) (latest_after (commits_of graph ends) from.latest_of) name
+    latest_then name =
+        ap (λ (l : List Record). latest_after l from.latest_of name) (commits_then graph ends end) ∙ latest_after-append (commits_of graph ends) (commit_of graph position exit) from.latest_of name
+
+    elsewhere : (k : ℕ) (entry : Entry) → slice_get graph k ≡ Some entry → (position ≡ k → ⊥) → (made : Bool) → eqb exit.code 0 ≡ made →
+        latest_after (commit_of graph position exit) (latest_after (commits_of graph ends) from.latest_of) entry.name ≡ latest_after (commits_of graph ends) from.latest_of entry.name
+    elsewhere k entry at other true code =
+        ap (λ (l : List Record). latest_after l (latest_after (commits_of graph ends) from.latest_of) entry.name) (record_of_good graph position exit code)
+        ∙ latest_elsewhere graph is position k here entry at_here at other exit.output (latest_after (commits_of graph ends) from.latest_of)
+    elsewhere k entry at other false code = ap (λ (l : List Record). latest_after l (latest_after (commits_of graph ends) from.latest_of) entry.name) (no_record graph position exit code)
+
+    at_position : (entry : Entry) (artefact : List ℕ) (made : Bool) → slice_get graph position ≡ Some entry → eqb exit.code 0 ≡ made → cond made (Some exit.output) None ≡ Some artefact →
+        latest_after (commit_of graph position exit) (latest_after (commits_of graph ends) from.latest_of) entry.name ≡ Some (record_at graph position artefact)
+    at_position entry artefact true at code printed =
+        ap (λ (l : List Record). latest_after l (latest_after (commits_of graph ends) from.latest_of) entry.name) (record_of_good graph position exit code)
+        ∙ latest_here graph position entry at exit.output (latest_after (commits_of graph ends) from.latest_of) ∙ ap (λ (a : List ℕ). Some (record_at graph position a)) (same_Some exit.output artefact printed)
+    at_position entry artefact false at code printed = absurd (none-some artefact printed)
+
+    -- after one more end
+    pub records_then : HasRecords graph from (ends ++ end ∷ [])
+    records_then = λ k entry artefact at made.
+        latest_then entry.name ∙
+        elim (cases_eq position k) [
+          | inl same ↦
+              let there : slice_get graph position ≡ Some entry = ap (slice_get graph) same ∙ at in
+              let has_made : artefact_so_far (setting_from graph from) (ends ++ end ∷ []) position ≡ Some artefact = ap (artefact_so_far (setting_from graph from) (ends ++ end ∷ [])) same ∙ made in
+              at_position entry artefact (eqb exit.code 0) there refl (sym (artefact_here (setting_from graph from) ends position request exit unmade) ∙ has_made) ∙ ap (λ (p : ℕ). Some (record_at graph p artefact)) same
+          | inr other ↦
+              elsewhere k entry at other (eqb exit.code 0) refl ∙ has k entry artefact at (sym (artefact_elsewhere (setting_from graph from) ends position request exit unmade k other) ∙ made)
+        ]

@@ -1,0 +1,324 @@
+-- A build that is under way, and one event more.
+use Rattle.std.proofs.Common.{◌≡◌, ℕ, ◌+◌, ◌<◌, ◌≤◌, Bool, true, false, not, ◌||◌, ◌&&◌, eqb, List, map, [], ◌∷◌, ◌++◌, length, get_or, Option, Some, None, Err, refl, sym, ap, subst, ◌∙◌, arith, inl, inr}
+use Rattle.std.specs.Prelude.{All, slice_get, is_some, is_none, unwrap_or}
+use Rattle.std.specs.Option.{option_and_then, option_map_or}
+use Rattle.std.specs.Bool.{OnTrue}
+use Rattle.std.specs.List.{list_all, list_any}
+use Rattle.std.proofs.Math.ListN.{set}
+use Rattle.std.proofs.lemmas.Bool.{cases_Bool, and_parts, not-true}
+use Rattle.std.proofs.lemmas.List.{append-nil, length-map}
+use Rattle.std.proofs.lemmas.List.Elements.{All-weaker}
+use Rattle.std.proofs.lemmas.Option.{none-some, same_Some}
+use Rattle.vr_base.specs.declared.file.FileName.{FileName}
+use Rattle.vr_base.specs.declared.graph.Entry.{Entry}
+use Rattle.vr_base.specs.declared.child.Request.{Request}
+use Rattle.vr_base.specs.declared.child.Exit.{Exit}
+use Rattle.vr_base.specs.declared.child.Event.{Event}
+use Rattle.vr_base.specs.declared.child.Event.TheVariants.{Started, Ended, Gone}
+use Rattle.vr_base.specs.declared.outcome.Mark.{Mark}
+use Rattle.vr_base.specs.Graphs.{IsGraph}
+use Rattle.vr_base.specs.PresentGraph.{below}
+use Rattle.vr_base.proofs.Below.{length-below}
+use Rattle.vr_outside.specs.declared.records.Record.{Record}
+use Rattle.vr_outside.specs.declared.procs.WaitFault.{WaitFault}
+use Rattle.vr_outside.specs.declared.procs.WaitFault.TheVariants as wait
+use Rattle.vr_outside.specs.Children.{end_event}
+use Rattle.vr_outside.specs.Records.{IsRecorded, deps_at}
+use Rattle.vr_outside.proofs.CommitLaws.{one_if}
+use Rattle.run_spec.specs.Moves.{Job, Core, RunningChild, empty_core, Move, Starts, Ends, Loses, is_made_so_far, is_startable, start_now, is_running, position_of, IsLawfulMove, IsGreedyMove, after_move}
+use Rattle.run_spec.specs.ChildJournal.{Setting, Run, End, Book, job_of, core_of, child_of_run, child_of_end, next_position, request_at, run_of, deps_of, exit_at, artefact_so_far, book_of, move_of}
+use Rattle.run_spec.specs.Marks.{mark_at, marks_of}
+use Rattle.run_spec.specs.Commits.{setting_of, record_at, commit_of, commits_of, commits, ComesAfterCommits}
+use Rattle.run_spec.proofs.Journal.{made_so_far}
+use Rattle.run_spec.proofs.Steps.{now_parts}
+use Rattle.slot_machine.specs.declared.slots.Slots.{Slots}
+use Rattle.slot_machine.specs.declared.step.Step.{Step}
+use Rattle.slot_machine.specs.declared.step.Step.TheVariants.{Start, Wait, Finished}
+use Rattle.slot_machine.specs.Machines.{IsMachineOf, step_of, step_at}
+use Rattle.compile_loop.specs.declared.faults.BuildFault.{BuildFault}
+use Rattle.compile_loop.specs.declared.faults.BuildFault.TheVariants.{NoMemory, StartFailed, ChildLost, DiskFailed}
+use Rattle.compile_loop.specs.Commits.{latest_after, Acknowledges}
+use Rattle.compile_loop.specs.Faults.{first_fault, noted_with, is_no_memory, is_all_committed}
+use Rattle.compile_loop.specs.Requests.{lent_request}
+use Rattle.compile_loop.specs.UnderWay.{Origin, setting_from, halted_if, HasRecords, IsUnderWay}
+use Rattle.compile_loop.proofs.Orderly.{AreOrderly, is_end_of, found_child, startable_parts, started_now}
+use Rattle.compile_loop.proofs.Halting.{halted_not, start_while}
+use Rattle.compile_loop.proofs.EventsThen.{moves_then, greedy_then, requests_then, none_lost_then, machine_then, machine_lost, orderly, run_at, ends_then, ends_started, ends_gone}
+use Rattle.compile_loop.proofs.Lent.{entry_is, some_there, item_at, All-from_test, made_recorded, request_is}
+use Rattle.compile_loop.proofs.MarksThen.{mark_of_exit, marks_then}
+use Rattle.compile_loop.proofs.RecordsThen.{commits_then, records_then}
+use Rattle.compile_loop.proofs.Acknowledging.{knows_all, all_few, acknowledges_left, acknowledges_one}
+
+pub none_noted : (noted : Option BuildFault) → is_some noted ≡ false → noted ≡ None
+none_noted None h = refl
+none_noted (Some fault) h = let nothing : ⊥ = cc in absurd nothing
+
+pub not_noted : {A : Type 0} (fault : BuildFault) → ◌≡◌ {A = Option BuildFault} (Some fault) None → A
+not_noted fault h = let nothing : ⊥ = cc in absurd nothing
+
+no_some : {X : Type 0} (o : Option X) → is_some o ≡ false → o ≡ None
+no_some None h = refl
+no_some (Some x) h = let nothing : ⊥ = cc in absurd nothing
+
+-- no end of a file's child among the ends
+no_exit : (position : ℕ) (ends : List End) → list_any (is_end_of position) (map child_of_end ends) ≡ false → exit_at ends position ≡ None
+unfolding exit_at
+no_exit position [] h = refl
+no_exit position (end ∷ ends) h =
+    elim (cases_Bool (eqb end.position position)) [
+      | inl t ↦ absurd (true≢false (sym (rw t at h)))
+      | inr f ↦ rw f (no_exit position ends (rw f at h))
+    ] where
+      true≢false : false ≡ true → ⊥
+      true≢false e = cc
+
+-- while nothing is noted all is committed
+pub all_while : (noted : Option BuildFault) (broken : Bool) → noted ≡ None → (noted ≡ None → broken ≡ false) → is_all_committed noted broken ≡ true
+all_while noted broken none usable = ap (λ (o : Option BuildFault). is_all_committed o broken) none ∙ ap not (usable none)
+
+-- after one more fault no more is committed than before
+pub still_all : (noted : Option BuildFault) (fault : BuildFault) (broken : Bool) → is_all_committed (Some (noted_with noted fault)) broken ≡ true → is_all_committed noted broken ≡ true
+still_all noted NoMemory broken h = let nothing : ⊥ = cc in absurd nothing
+still_all None StartFailed broken h = h
+still_all None ChildLost broken h = h
+still_all None DiskFailed broken h = h
+still_all (Some first) StartFailed broken h = h
+still_all (Some first) ChildLost broken h = h
+still_all (Some first) DiskFailed broken h = h
+
+no_start : (position : ℕ) (idle : Bool) → Start position ≡ step_of None idle → ⊥
+no_start position true h = cc
+no_start position false h = cc
+
+from_step : (position : ℕ) (next : Option ℕ) (idle : Bool) → Start position ≡ step_of next idle → next ≡ Some position
+from_step position None idle h = absurd (no_start position idle h)
+from_step position (Some other) idle h = let same : position ≡ other = cc in ap (λ (p : ℕ). Some p) (sym same)
+
+-- a machine starts what is to be started now
+pub started_at : (job : Job) (core : Core) (position : ℕ) → Start position ≡ step_at job core → start_now job core ≡ Some position
+unfolding step_at
+started_at job core position is = from_step position (start_now job core) (eqb (length core.running) 0) is
+
+-- the files that a file depends on
+pub deps_same : (here : Option Entry) → option_map_or (λ entry. entry.deps) here [] ≡ deps_of here
+deps_same None = refl
+deps_same (Some entry) = refl
+
+module _ (graph : List Entry) (from : Origin) (events : List Event) (acknowledged : ℕ) (machine : Slots) (marks : List Mark) (noted : Option BuildFault) (latest_of : FileName → Option Record) (broken : Bool)
+    (is : IsUnderWay graph from events acknowledged machine marks noted latest_of broken) where
+  abbrev s : Setting
+  s = setting_from graph from
+
+  abbrev book : Book
+  book = book_of s events
+
+  abbrev core : Core
+  core = core_of book
+
+  abbrev all : Bool
+  all = is_all_committed noted broken
+
+  -- each file has a mark
+  pub marks_count : length marks ≡ length graph
+  marks_count = ap length is.marked ∙ length-map (below (length graph)) (mark_at s book.ends) ∙ length-below (length graph)
+
+  knows : all ≡ true → (name : FileName) → latest_of name ≡ latest_after (commits_of graph book.ends) from.latest_of name
+  knows on = knows_all s events all from.latest_of latest_of acknowledged is.committed on
+
+  -- of all that a file depends on there is an artefact where all of it is made
+  made_deps : (position : ℕ) → list_all (is_made_so_far (job_of s) core) (deps_of (slice_get graph position)) ≡ true → All (λ dep. is_some (artefact_so_far s book.ends dep) ≡ true) (deps_of (slice_get graph position))
+  made_deps position made =
+      All-weaker (λ dep. is_made_so_far (job_of s) core dep ≡ true) (λ dep. is_some (artefact_so_far s book.ends dep) ≡ true)
+      (λ dep h. sym (made_so_far s book dep) ∙ h) (deps_of (slice_get graph position)) (All-from_test (is_made_so_far (job_of s) core) (deps_of (slice_get graph position)) made)
+
+  -- and a record of its present view
+  recorded_deps : all ≡ true → (position : ℕ) → position < length graph → list_all (is_made_so_far (job_of s) core) (deps_of (slice_get graph position)) ≡ true → All (IsRecorded latest_of graph) (deps_at graph position)
+  recorded_deps on position lt made =
+      let entry = item_at graph position lt in
+      let deps : deps_at graph position ≡ deps_of (slice_get graph position) = deps_same (slice_get graph position) in
+      let is_entry : deps_of (slice_get graph position) ≡ entry.0.deps = ap deps_of entry.1 in
+      let before : All (λ dep. dep < position) entry.0.deps = (entry_is graph position entry.0 is.is_graph entry.1).before in
+      let there : All (λ dep. is_some (artefact_so_far s book.ends dep) ≡ true) entry.0.deps = subst (All (λ dep. is_some (artefact_so_far s book.ends dep) ≡ true)) is_entry (made_deps position made) in
+      subst (All (IsRecorded latest_of graph)) (sym (deps ∙ is_entry))
+      (λ k d l. made_recorded graph from book.ends latest_of is.recorded (knows on) (get_or entry.0.deps k d) (omega (arith, before k d l, lt)) (there k d l))
+
+  -- a file is to be started
+  module _ (at : ℕ) (start : start_now (job_of s) (halted_if (is_some noted) core) ≡ Some at) where
+    nothing_noted : noted ≡ None
+    nothing_noted = none_noted noted (start_while (job_of s) (is_some noted) core at start).0
+
+    start_here : start_now (job_of s) core ≡ Some at
+    start_here = (start_while (job_of s) (is_some noted) core at start).1
+
+    all_here : all ≡ true
+    all_here = all_while noted broken nothing_noted is.usable
+
+    deps_made : list_all (is_made_so_far (job_of s) core) (deps_of (slice_get graph at)) ≡ true
+    deps_made = (startable_parts (job_of s) core at (started_now (job_of s) core at start_here).1).2
+
+    inside : at < length graph
+    inside = (started_now (job_of s) core at start_here).0
+
+    pub start_recorded : All (IsRecorded latest_of graph) (deps_at graph at)
+    start_recorded = recorded_deps all_here at inside deps_made
+
+    next_is : next_position s book ≡ Some at
+    next_is = (now_parts s book at start_here).2
+
+    module _ (ticket : ℕ) (request : Request) (asked : lent_request latest_of graph at ≡ Some request) where
+      abbrev event : Event
+      event = Started ticket request
+
+      move_is : Starts at ticket ≡ move_of s book event
+      move_is = ap (λ (o : Option ℕ). Starts (unwrap_or o 0) ticket) (sym next_is)
+
+      requested : option_and_then (request_at s book.ends) (next_position s book) ≡ Some request
+      requested =
+          ap (option_and_then (request_at s book.ends)) next_is
+          ∙ sym (request_is graph from book.ends latest_of is.recorded (knows all_here) is.is_graph at inside (made_deps at deps_made)) ∙ asked
+
+      ends_same : (book_of s (events ++ event ∷ [])).ends ≡ book.ends
+      ends_same = ends_started s events ticket request
+
+      pub commits_started : commits s (events ++ event ∷ []) ≡ commits s events
+      commits_started = ap (commits_of graph) ends_same
+
+      in_time : length (commits s events) ≤ acknowledged
+      in_time = omega (arith, all_few s events all from.latest_of latest_of acknowledged is.committed all_here)
+
+      -- after its start
+      pub started_under_way : (machine' : Slots) → IsMachineOf machine' (job_of s) (after_move (job_of s) (halted_if (is_some noted) core) (Starts at ticket)) →
+          IsUnderWay graph from (events ++ event ∷ []) acknowledged machine' marks noted latest_of broken
+      started_under_way machine' step = record {
+        is_graph = is.is_graph;
+        moves = moves_then s events event is.moves (subst (IsLawfulMove (job_of s) core) move_is start_here);
+        requests = requests_then s events event is.requests requested;
+        greedy = λ none. greedy_then s events event (is.greedy none) tt;
+        none_lost = λ none. none_lost_then s events event (is.none_lost none) refl;
+        usable = is.usable;
+        in_step = machine_then s events machine' (is_some noted) event (Starts at ticket) move_is step;
+        marked = is.marked ∙ ap (λ (ends : List End). map (mark_at s ends) (below (length graph))) (sym ends_same);
+        recorded = subst (HasRecords graph from) (sym ends_same) is.recorded;
+        committed = acknowledges_left s events all from.latest_of latest_of acknowledged is.committed event [] all in_time (commits_started ∙ sym (append-nil (commits s events))) (λ on. (on, refl));
+      }
+
+  -- a fault halts it
+  pub halted_under_way : (machine' : Slots) (fault : BuildFault) (broken' : Bool) → IsMachineOf machine' (job_of s) (halted_if true core) → (is_all_committed (Some fault) broken' ≡ true → all ≡ true) →
+      IsUnderWay graph from events acknowledged machine' marks (Some fault) latest_of broken'
+  halted_under_way machine' fault broken' step still = record {
+    is_graph = is.is_graph;
+    moves = is.moves;
+    requests = is.requests;
+    greedy = not_noted fault;
+    none_lost = not_noted fault;
+    usable = not_noted fault;
+    in_step = step;
+    marked = is.marked;
+    recorded = is.recorded;
+    committed = record {
+      few = is.committed.few;
+      whole = weaker_all (is_all_committed (Some fault) broken') still;
+      waits = is.committed.waits;
+      latest = is.committed.latest;
+    };
+  } where
+    weaker_all : (b : Bool) → (b ≡ true → all ≡ true) → OnTrue b (acknowledged ≡ length (commits s events))
+    weaker_all true h = all_few s events all from.latest_of latest_of acknowledged is.committed (h refl)
+    weaker_all false h = tt
+
+  -- the end of a child is lost
+  pub lost_under_way : (ticket : ℕ) (machine' : Slots) (fault : BuildFault) → is_running core ticket ≡ true → IsMachineOf machine' (job_of s) (after_move (job_of s) (halted_if (is_some noted) core) (Loses ticket)) →
+      (is_all_committed (Some fault) broken ≡ true → all ≡ true) → IsUnderWay graph from (events ++ Gone ticket ∷ []) acknowledged machine' marks (Some fault) latest_of broken
+  lost_under_way ticket machine' fault runs step still =
+      let same : (book_of s (events ++ Gone ticket ∷ [])).ends ≡ book.ends = ends_gone s events ticket in
+      record {
+        is_graph = is.is_graph;
+        moves = moves_then s events (Gone ticket) is.moves runs;
+        requests = requests_then s events (Gone ticket) is.requests tt;
+        greedy = not_noted fault;
+        none_lost = not_noted fault;
+        usable = not_noted fault;
+        in_step = machine_lost s events machine' (is_some noted) true ticket step;
+        marked = is.marked ∙ ap (λ (ends : List End). map (mark_at s ends) (below (length graph))) (sym same);
+        recorded = subst (HasRecords graph from) (sym same) is.recorded;
+        committed = acknowledges_left s events all from.latest_of latest_of acknowledged is.committed (Gone ticket) [] (is_all_committed (Some fault) broken) tt (ap (commits_of graph) same ∙ sym (append-nil (commits s events))) (λ on. (still on, refl));
+      }
+
+  commits_lost : (ticket : ℕ) → commits s (events ++ Gone ticket ∷ []) ≡ commits s events
+  commits_lost ticket = ap (commits_of graph) (ends_gone s events ticket)
+
+  pub commits_fault : (fault : WaitFault) → commits s (events ++ end_event (Err fault) ∷ []) ≡ commits s events
+  commits_fault (wait.NoMemory ticket) = commits_lost ticket
+  commits_fault (wait.Lost ticket) = commits_lost ticket
+
+  -- a child ends
+  module _ (ticket at : ℕ) (exit : Exit) (there : position_of ticket core.running ≡ Some at) (inside : at < length graph) where
+    abbrev ended : Event
+    ended = Ended ticket exit
+
+    run : (r : Run) × (run_of ticket book.runs ≡ Some r) × (r.position ≡ at)
+    run = run_at ticket at book.runs there
+
+    children : AreOrderly (job_of s) core
+    children = orderly s events is.moves
+
+    unmade : artefact_so_far s book.ends at ≡ None
+    unmade =
+        let found = found_child (λ c. is_made_so_far (job_of s) core c.position ≡ false) ticket at core.running there children.unmade in
+        no_some (artefact_so_far s book.ends at) (sym (made_so_far s book at) ∙ subst (λ (p : ℕ). is_made_so_far (job_of s) core p ≡ false) found.1 found.2)
+
+    unended : exit_at book.ends at ≡ None
+    unended =
+        let found = found_child (λ c. list_any (is_end_of c.position) core.ended ≡ false) ticket at core.running there children.unended in
+        no_exit at book.ends (subst (λ (p : ℕ). list_any (is_end_of p) core.ended ≡ false) found.1 found.2)
+
+    -- all that its file depends on is recorded
+    pub end_recorded : all ≡ true → All (IsRecorded latest_of graph) (deps_at graph at)
+    end_recorded on =
+        let found = found_child (λ c. list_all (is_made_so_far (job_of s) core) ((job_of s).deps c.position) ≡ true) ticket at core.running there children.ready in
+        recorded_deps on at inside (subst (λ (p : ℕ). list_all (is_made_so_far (job_of s) core) (deps_of (slice_get graph p)) ≡ true) found.1 found.2)
+
+    abbrev end : End
+    end = record { position = at; request = run.0.request; exit = exit }
+
+    ends_are : (book_of s (events ++ ended ∷ [])).ends ≡ book.ends ++ end ∷ []
+    ends_are = ends_then s events ticket exit run.0 run.1 ∙ ap (λ (p : ℕ). book.ends ++ (record { position = p; request = run.0.request; exit = exit }) ∷ []) run.2
+
+    pub commits_ended : commits s (events ++ ended ∷ []) ≡ commits s events ++ commit_of graph at exit
+    commits_ended = ap (commits_of graph) ends_are ∙ commits_then graph book.ends end
+
+    marks_ended : (mark : Mark) → mark ≡ mark_of_exit exit → set marks at mark ≡ marks_of s (events ++ ended ∷ [])
+    marks_ended mark mark_is =
+        ap (λ (l : List Mark). set l at mark) is.marked ∙ marks_then s book.ends at run.0.request exit unmade unended (length graph) inside mark mark_is
+        ∙ ap (λ (ends : List End). map (mark_at s ends) (below (length graph))) (sym ends_are)
+
+    records_ended : HasRecords graph from (book_of s (events ++ ended ∷ [])).ends
+    records_ended =
+        let entry = item_at graph at inside in
+        subst (HasRecords graph from) (sym ends_are) (records_then graph from is.is_graph book.ends is.recorded at entry.0 entry.1 run.0.request exit unmade)
+
+    -- its machine is that of what has happened
+    pub machine_ended : (machine' : Slots) → IsMachineOf machine' (job_of s) (after_move (job_of s) (halted_if (is_some noted) core) (Ends ticket (eqb exit.code 0))) →
+        IsMachineOf machine' (job_of s) (halted_if (is_some noted) (core_of (book_of s (events ++ ended ∷ []))))
+    machine_ended machine' step = machine_then s events machine' (is_some noted) ended (Ends ticket (eqb exit.code 0)) refl step
+
+    -- after its end
+    pub ended_under_way : (runs : is_running core ticket ≡ true) (greedy : start_now (job_of s) (halted_if (is_some noted) core) ≡ None) (mark : Mark) → mark ≡ mark_of_exit exit →
+        (acknowledged' : ℕ) (machine' : Slots) (noted' : Option BuildFault) (later : FileName → Option Record) (broken' : Bool) → (noted' ≡ None → (noted ≡ None) × (broken' ≡ false)) →
+        IsMachineOf machine' (job_of s) (halted_if (is_some noted') (core_of (book_of s (events ++ ended ∷ [])))) →
+        Acknowledges s (events ++ ended ∷ []) (is_all_committed noted' broken') from.latest_of later acknowledged' →
+        IsUnderWay graph from (events ++ ended ∷ []) acknowledged' machine' (set marks at mark) noted' later broken'
+    ended_under_way runs greedy mark mark_is acknowledged' machine' noted' later broken' none step committed = record {
+      is_graph = is.is_graph;
+      moves = moves_then s events ended is.moves runs;
+      requests = requests_then s events ended is.requests tt;
+      greedy = λ n. greedy_then s events ended (is.greedy (none n).0) (start_none (none n).0);
+      none_lost = λ n. none_lost_then s events ended (is.none_lost (none n).0) refl;
+      usable = λ n. (none n).1;
+      in_step = step;
+      marked = marks_ended mark mark_is;
+      recorded = records_ended;
+      committed = committed;
+    } where
+      start_none : noted ≡ None → start_now (job_of s) core ≡ None
+      start_none n = ap (start_now (job_of s)) (sym (halted_not core)) ∙ ap (λ (o : Option BuildFault). start_now (job_of s) (halted_if (is_some o) core)) (sym n) ∙ greedy

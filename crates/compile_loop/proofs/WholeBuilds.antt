@@ -1,0 +1,334 @@
+-- A build from before its first event to its end.
+use Rattle.std.proofs.Common.{◌≡◌, ℕ, ◌<◌, ◌≤◌, Bool, true, false, not, List, [], ◌∷◌, ◌++◌, length, get_or, map, take, inl, inr, Option, Some, None, refl, sym, ap, subst, ◌∙◌, arith}
+use Rattle.std.specs.Prelude.{All, slice_get, is_none, is_some}
+use Rattle.std.specs.Bool.{OnTrue, OnFalse}
+use Rattle.std.specs.Option.{option_map}
+use Rattle.std.specs.List.{filter_map, list_all}
+use Rattle.std.proofs.lemmas.Bool.{cases_Bool, cond-true, cond-false, false≢true}
+use Rattle.std.proofs.lemmas.List.{append-nil, length-map}
+use Rattle.std.proofs.lemmas.Option.{same_Some, slice_get_within, slice_get-get_or, slice_get-map, get_or_from_slice_get}
+use Rattle.std.proofs.lemmas.List.Elements.{All-nil}
+use Rattle.vr_base.specs.declared.file.FileName.{FileName}
+use Rattle.vr_base.specs.declared.graph.Entry.{Entry}
+use Rattle.vr_base.specs.declared.child.Request.{Request}
+use Rattle.vr_base.specs.declared.child.Exit.{Exit}
+use Rattle.vr_base.specs.declared.child.Event.{Event}
+use Rattle.vr_base.specs.declared.outcome.Mark.{Mark}
+use Rattle.vr_base.specs.declared.graph.BuiltFile.{BuiltFile}
+use Rattle.vr_base.specs.Graphs.{IsGraph}
+use Rattle.vr_base.specs.PresentGraph.{below}
+use Rattle.vr_base.proofs.Below.{length-below, get_or-below}
+use Rattle.vr_outside.specs.Records.{IsRecorded}
+use Rattle.clean_laws.proofs.CleanPlaces.{filter_map-same}
+use Rattle.vr_outside.specs.declared.records.Record.{Record}
+use Rattle.vr_outside.specs.Children.{started_with}
+use Rattle.vr_outside.specs.Disks.{Image, Moments, IsDurable, reads_of}
+use Rattle.vr_outside.specs.Commits.{CommitsFirst}
+use Rattle.vr_outside.proofs.CommitLaws.{commits_nothing}
+use Rattle.run_spec.specs.Moves.{Core, empty_core, LawfulMoves, GreedyMoves, IsFinished}
+use Rattle.run_spec.specs.ChildJournal.{Setting, Run, job_of, core_of, after_all, book_of, moves_after, AreRequested, EachAfter, Lawful, exit_at, artefact_after, built_file}
+use Rattle.run_spec.specs.Marks.{mark_of, mark_at, marks_of}
+use Rattle.run_spec.specs.Commits.{record_at, commits}
+use Rattle.run_spec.proofs.Waiting.{waits_none}
+use Rattle.slot_machine.specs.declared.slots.Slots.{Slots}
+use Rattle.slot_machine.specs.Machines.{IsMachineOf}
+use Rattle.compile_loop.specs.declared.faults.BuildFault.{BuildFault}
+use Rattle.compile_loop.specs.Commits.{Acknowledges, HoldsFirst}
+use Rattle.compile_loop.specs.Faults.{is_all_committed, FaultCounts, CountsBy}
+use Rattle.compile_loop.specs.UnderWay.{Origin, setting_from, halted_if, IsUnderWay, IsJournalled, GoesOn, Goes}
+use Rattle.compile_loop.specs.Requests.{lent_at}
+use Rattle.compile_loop.specs.Ran.{BuildRan, is_made, built_by, whole_of}
+use Rattle.compile_loop.proofs.Acknowledging.{on_true, knows_all}
+use Rattle.compile_loop.proofs.Halting.{halted_not}
+use Rattle.compile_loop.proofs.Lent.{some_there, item_at, All-from_test, knows_made, made_recorded, lent_same}
+use Rattle.compile_loop.proofs.RecordsThen.{records_at_first}
+use Rattle.compile_loop.proofs.UnderWayThen.{not_noted, all_while}
+
+zero_committed : (all : Bool) → OnTrue all (◌≡◌ {A = ℕ} 0 0)
+zero_committed true = refl
+zero_committed false = tt
+
+pub on_false : {A : Type 0} (b : Bool) → A → OnFalse b A
+on_false true a = tt
+on_false false a = a
+
+-- nothing has happened yet
+pub first_under_way : (graph : List Entry) (from : Origin) (machine : Slots) (marks : List Mark) (broken : Bool) → IsGraph graph → IsMachineOf machine (job_of (setting_from graph from)) empty_core → marks ≡ marks_of (setting_from graph from) [] →
+    broken ≡ false → IsUnderWay graph from [] 0 machine marks None from.latest_of broken
+unfolding after_all moves_after LawfulMoves GreedyMoves AreRequested
+first_under_way graph from machine marks broken is step marked usable = record {
+  is_graph = is;
+  moves = tt;
+  requests = tt;
+  greedy = λ n. tt;
+  none_lost = λ n. refl;
+  usable = λ n. usable;
+  in_step = step;
+  marked = marked;
+  recorded = records_at_first graph from;
+  committed = record {
+    few = omega arith;
+    whole = zero_committed (is_all_committed None broken);
+    waits = waits_none (setting_from graph from) 0;
+    latest = λ name. refl;
+  };
+}
+
+pub first_journal : (answer : Request → Exit) (s : Setting) (journal : List Event) → IsJournalled answer s [] journal journal
+unfolding after_all EachAfter
+first_journal answer s journal = record {
+  follows = sym (append-nil journal);
+  tickets = tt;
+  answered = tt;
+  started = All-nil (λ (run : Run). started_with run.ticket [] ≡ Some run.request);
+  started_since = All-nil (λ (run : Run). started_with run.ticket journal ≡ Some run.request);
+}
+
+-- nothing is committed where each image is what reads give
+pub holds_nothing : (broken : Bool) (more : List Record) (records_of : Image → List Record) (moments : Moments) → broken ≡ false → IsDurable moments.now → HoldsFirst 0 broken more records_of moments moments
+holds_nothing broken more records_of moments usable durable = record {
+  reads = on_false broken (sym (append-nil (records_of (reads_of moments.now))));
+  images = subst (λ (b : Bool). CommitsFirst 0 b (records_of (reads_of moments.now)) more records_of moments moments) (sym usable)
+      (commits_nothing (records_of (reads_of moments.now)) more records_of moments (λ image is. ap records_of (durable image is)));
+}
+
+pub no_commits : (s : Setting) → commits s [] ≡ []
+unfolding after_all
+no_commits s = refl
+
+-- what was done before the first event: nothing
+pub ran_nothing : (tells told : Type 0) (answer : Request → Exit) (records_of : Image → List Record) (s : Setting) (journal : List Event) (moments : Moments) (before : FileName → Option Record) (broken : Bool) (Says : List Event → Type 0) →
+    broken ≡ false → (told → IsDurable moments.now) → BuildRan tells told answer records_of s journal journal moments moments before before false false broken Says
+unfolding after_all moves_after LawfulMoves AreRequested EachAfter
+ran_nothing tells told answer records_of s journal moments before broken Says usable durable = record {
+  events = [];
+  journal = λ t. sym (append-nil journal);
+  moves = tt;
+  requests = tt;
+  greedy = tt;
+  finished = tt;
+  none_lost = tt;
+  lawful = λ t. record { moves = tt; requests = tt; tickets = tt };
+  answered = λ t. tt;
+  whole = λ t. tt;
+  says = tt;
+  acknowledged = 0;
+  committed = record { few = omega arith; whole = tt; waits = waits_none s 0; latest = λ name. refl };
+  recorded = tt;
+  images = λ t. holds_nothing broken (commits s []) records_of moments usable (durable t);
+}
+
+module _ (tells told : Type 0) (answer : Request → Exit) (records_of : Image → List Record) (graph : List Entry) (from : Origin) (old : List Event) (first : Moments) (machine : Slots) (marks : List Mark)
+    (latest_of : FileName → Option Record) (broken : Bool) (new : List Event) (moments : Moments) where
+  abbrev s : Setting
+  s = setting_from graph from
+
+  -- the latest records of the files that are made
+  module _ (noted : Option BuildFault) (goes : Goes tells told answer records_of graph from old first machine marks noted latest_of broken new moments) where
+    knows_files : is_all_committed noted broken ≡ true → (position : ℕ) (entry : Entry) (artefact : List ℕ) → slice_get graph position ≡ Some entry → artefact_after s goes.events position ≡ Some artefact →
+        latest_of entry.name ≡ Some (record_at graph position artefact)
+    knows_files on position entry artefact at is =
+        knows_made graph from (book_of s goes.events).ends latest_of goes.under_way.recorded (knows_all s goes.events (is_all_committed noted broken) from.latest_of latest_of goes.acknowledged goes.under_way.committed on) position entry artefact at is
+
+    lawful_of : tells → Lawful s goes.events
+    lawful_of t = record { moves = goes.under_way.moves; requests = goes.under_way.requests; tickets = (goes.journal t).tickets }
+
+  -- a fault has ended it
+  pub ran_halted : (noted : Option BuildFault) → Goes tells told answer records_of graph from old first machine marks noted latest_of broken new moments → (Says : List Event → Type 0) →
+      BuildRan tells told answer records_of s old new first moments from.latest_of latest_of false (is_all_committed noted broken) broken Says
+  ran_halted noted goes Says = record {
+    events = goes.events;
+    journal = λ t. (goes.journal t).follows;
+    moves = goes.under_way.moves;
+    requests = goes.under_way.requests;
+    greedy = tt;
+    finished = tt;
+    none_lost = tt;
+    lawful = lawful_of noted goes;
+    answered = λ t. (goes.journal t).answered;
+    whole = λ t. tt;
+    says = tt;
+    acknowledged = goes.acknowledged;
+    committed = goes.under_way.committed;
+    recorded = on_true (is_all_committed noted broken) (knows_files noted goes);
+    images = goes.images;
+  }
+
+  -- it has ended by itself
+  pub ran_whole : (goes : Goes tells told answer records_of graph from old first machine marks None latest_of broken new moments) → IsFinished (job_of s) (halted_if false (core_of (book_of s goes.events))) → (Says : List Event → Type 0) → Says goes.events →
+      BuildRan tells told answer records_of s old new first moments from.latest_of latest_of true (is_all_committed None broken) broken Says
+  ran_whole goes finished Says says =
+      let over : IsFinished (job_of s) (core_of (book_of s goes.events)) = subst (IsFinished (job_of s)) (halted_not (core_of (book_of s goes.events))) finished in
+      record {
+        events = goes.events;
+        journal = λ t. (goes.journal t).follows;
+        moves = goes.under_way.moves;
+        requests = goes.under_way.requests;
+        greedy = goes.under_way.greedy refl;
+        finished = over;
+        none_lost = goes.under_way.none_lost refl;
+        lawful = lawful_of None goes;
+        answered = λ t. (goes.journal t).answered;
+        whole = λ t. record { lawful = lawful_of None goes t; greedy = goes.under_way.greedy refl; finished = over; none_lost = goes.under_way.none_lost refl };
+        says = says;
+        acknowledged = goes.acknowledged;
+        committed = goes.under_way.committed;
+        recorded = on_true (is_all_committed None broken) (knows_files None goes);
+        images = goes.images;
+      }
+
+-- the same, by what is noted
+module _ (tells told : Type 0) (answer : Request → Exit) (records_of : Image → List Record) (graph : List Entry) (from : Origin) (old : List Event) (first : Moments) (machine : Slots) (marks : List Mark)
+    (latest_of : FileName → Option Record) (broken : Bool) (new : List Event) (moments : Moments) where
+  pub ran_done : (noted : Option BuildFault) → noted ≡ None → (goes : Goes tells told answer records_of graph from old first machine marks noted latest_of broken new moments) →
+      IsFinished (job_of (setting_from graph from)) (halted_if (is_some noted) (core_of (book_of (setting_from graph from) goes.events))) → (said : List Mark) → said ≡ marks →
+      BuildRan tells told answer records_of (setting_from graph from) old new first moments from.latest_of latest_of true (is_all_committed None broken) broken (λ events. said ≡ marks_of (setting_from graph from) events)
+  ran_done None none goes finished said same =
+      ran_whole tells told answer records_of graph from old first machine marks latest_of broken new moments goes finished (λ events. said ≡ marks_of (setting_from graph from) events) (same ∙ goes.under_way.marked)
+  ran_done (Some fault) none goes finished said same = not_noted fault none
+
+  pub ran_fault : (noted : Option BuildFault) (fault : BuildFault) → noted ≡ Some fault → Goes tells told answer records_of graph from old first machine marks noted latest_of broken new moments → (Says : List Event → Type 0) →
+      BuildRan tells told answer records_of (setting_from graph from) old new first moments from.latest_of latest_of false (is_all_committed (Some fault) broken) broken Says
+  ran_fault noted fault is goes Says =
+      subst (λ (o : Option BuildFault). BuildRan tells told answer records_of (setting_from graph from) old new first moments from.latest_of latest_of false (is_all_committed o broken) broken Says) is
+      (ran_halted tells told answer records_of graph from old first machine marks latest_of broken new moments noted goes Says)
+
+-- no fault was counted yet
+pub counts_at_first : (broken : Bool) (first : FaultCounts) → broken ≡ false → CountsBy None broken first first
+counts_at_first broken first usable = record {
+  none_fell = record { starts = omega arith; losses = omega arith; disks = omega arith };
+  explains = refl;
+  breaks = λ b. absurd (false≢true (sym usable ∙ b));
+}
+
+-- a file that is fresh or compiled has an artefact
+marked_has : (keep_going : Bool) (exit : Option Exit) (artefact : Option (List ℕ)) → is_made (mark_of keep_going exit artefact) ≡ true → is_some artefact ≡ true
+marked_has keep_going exit (Some artefact) made = refl
+marked_has keep_going (Some exit) None made = absurd (false≢true made)
+marked_has true None None made = absurd (false≢true made)
+marked_has false None None made = absurd (false≢true made)
+
+-- the mark of a file, and its artefact where it is made
+pub mark_is : (s : Setting) (events : List Event) (position : ℕ) (mark : Mark) → slice_get (marks_of s events) position ≡ Some mark → is_made mark ≡ true → (position < length s.graph) × (is_some (artefact_after s events position) ≡ true)
+mark_is s events position mark at made =
+    let marks : ℕ → Mark = mark_at s (book_of s events).ends in
+    let inside : position < length s.graph = subst (λ (n : ℕ). position < n) (length-map (below (length s.graph)) marks ∙ length-below (length s.graph)) (slice_get_within (map marks (below (length s.graph))) position mark at) in
+    let here : slice_get (below (length s.graph)) position ≡ Some position =
+    slice_get-get_or (below (length s.graph)) position 0 (subst (λ (n : ℕ). position < n) (sym (length-below (length s.graph))) inside) ∙ ap (λ (p : ℕ). Some p) (get_or-below (length s.graph) position 0 inside) in
+    let same : marks position ≡ mark = same_Some (marks position) mark (sym (slice_get-map marks (below (length s.graph)) position ∙ ap (option_map marks) here) ∙ at) in
+    (inside, marked_has s.keep_going (exit_at (book_of s events).ends position) (artefact_after s events position) (ap is_made same ∙ made))
+
+-- each file that is fresh or compiled has a record of its present view
+pub marks_recorded : (graph : List Entry) (from : Origin) (events : List Event) (acknowledged : ℕ) (machine : Slots) (marks : List Mark) (noted : Option BuildFault) (latest_of : FileName → Option Record) (broken : Bool) → noted ≡ None →
+    IsUnderWay graph from events acknowledged machine marks noted latest_of broken →
+    (position : ℕ) (mark : Mark) → slice_get marks position ≡ Some mark → is_made mark ≡ true → IsRecorded latest_of graph position
+marks_recorded graph from events acknowledged machine marks noted latest_of broken none is position mark at made =
+    let s : Setting = setting_from graph from in
+    let on : is_all_committed noted broken ≡ true = all_while noted broken none is.usable in
+    let there = mark_is s events position mark (ap (λ (l : List Mark). slice_get l position) (sym is.marked) ∙ at) made in
+    made_recorded graph from (book_of s events).ends latest_of is.recorded (knows_all s events (is_all_committed noted broken) from.latest_of latest_of acknowledged is.committed on) position there.0 there.1
+
+module _ (tells told : Type 0) (answer : Request → Exit) (records_of : Image → List Record) (s : Setting) (old new : List Event) (first last : Moments) (before now : FileName → Option Record) where
+  -- what a build says is of what it did, where it has ended by itself
+  pub ran_says : (all broken : Bool) (Says Other : List Event → Type 0) → (ran : BuildRan tells told answer records_of s old new first last before now true all broken Says) → Other ran.events →
+      BuildRan tells told answer records_of s old new first last before now true all broken Other
+  ran_says all broken Says Other ran says = record {
+    events = ran.events;
+    journal = ran.journal;
+    moves = ran.moves;
+    requests = ran.requests;
+    greedy = ran.greedy;
+    finished = ran.finished;
+    none_lost = ran.none_lost;
+    lawful = ran.lawful;
+    answered = ran.answered;
+    whole = ran.whole;
+    says = says;
+    acknowledged = ran.acknowledged;
+    committed = ran.committed;
+    recorded = ran.recorded;
+    images = ran.images;
+  }
+
+  -- less is said where a fault ended it
+  pub ran_unsaid : (all broken : Bool) (Says Other : List Event → Type 0) → BuildRan tells told answer records_of s old new first last before now false all broken Says →
+      BuildRan tells told answer records_of s old new first last before now false all broken Other
+  ran_unsaid all broken Says Other ran = record {
+    events = ran.events;
+    journal = ran.journal;
+    moves = ran.moves;
+    requests = ran.requests;
+    greedy = tt;
+    finished = tt;
+    none_lost = tt;
+    lawful = ran.lawful;
+    answered = ran.answered;
+    whole = λ t. tt;
+    says = tt;
+    acknowledged = ran.acknowledged;
+    committed = ran.committed;
+    recorded = ran.recorded;
+    images = ran.images;
+  }
+
+  pub ran_in_vain : (all broken : Bool) (Says Other : List Event → Type 0) → BuildRan tells told answer records_of s old new first last before now true all broken Says →
+      BuildRan tells told answer records_of s old new first last before now false false broken Other
+  ran_in_vain all broken Says Other ran = record {
+    events = ran.events;
+    journal = ran.journal;
+    moves = ran.moves;
+    requests = ran.requests;
+    greedy = tt;
+    finished = tt;
+    none_lost = tt;
+    lawful = ran.lawful;
+    answered = ran.answered;
+    whole = λ t. tt;
+    says = tt;
+    acknowledged = ran.acknowledged;
+    committed = record { few = ran.committed.few; whole = tt; waits = ran.committed.waits; latest = ran.committed.latest };
+    recorded = tt;
+    images = ran.images;
+  }
+
+-- all files with their artefacts are what the store lends
+pub whole_is : (s : Setting) (events : List Event) (latest_of : FileName → Option Record) (marks : List Mark) (whole : Option (List BuiltFile)) → marks ≡ marks_of s events →
+    ((position : ℕ) (entry : Entry) (artefact : List ℕ) → slice_get s.graph position ≡ Some entry → artefact_after s events position ≡ Some artefact → latest_of entry.name ≡ Some (record_at s.graph position artefact)) →
+    (list_all is_made marks ≡ true → whole ≡ Some (filter_map (lent_at latest_of s.graph) (below (length s.graph)))) → (list_all is_made marks ≡ false → whole ≡ None) → whole ≡ whole_of s events
+whole_is s events latest_of marks whole marked knows all none =
+    elim (cases_Bool (list_all is_made marks)) [
+      | inl made ↦
+          let made_all : list_all is_made (marks_of s events) ≡ true = ap (list_all is_made) (sym marked) ∙ made in
+          all made
+          ∙ ap (λ (files : List BuiltFile). Some files)
+          (filter_map-same (lent_at latest_of s.graph) (λ position. built_file (slice_get s.graph position) (artefact_after s events position)) (below (length s.graph)) 0 (λ k lt. each made_all k (subst (λ (n : ℕ). k < n) (length-below (length s.graph)) lt)))
+          ∙ sym (cond-true (list_all is_made (marks_of s events)) (Some (built_by s events)) None made_all)
+      | inr left ↦ none left ∙ sym (cond-false (list_all is_made (marks_of s events)) (Some (built_by s events)) None (ap (list_all is_made) (sym marked) ∙ left))
+    ] where
+      each : list_all is_made (marks_of s events) ≡ true → (k : ℕ) → k < length s.graph → lent_at latest_of s.graph (get_or (below (length s.graph)) k 0) ≡ built_file (slice_get s.graph (get_or (below (length s.graph)) k 0)) (artefact_after s events (get_or (below (length s.graph)) k 0))
+      each made_all k lt =
+          let position : get_or (below (length s.graph)) k 0 ≡ k = get_or-below (length s.graph) k 0 lt in
+          let count : length (marks_of s events) ≡ length s.graph = length-map (below (length s.graph)) (mark_at s (book_of s events).ends) ∙ length-below (length s.graph) in
+          let mark = item_at (marks_of s events) k (omega (arith, lt, count)) in
+          let is : is_made mark.0 ≡ true = ap is_made (sym (get_or_from_slice_get (marks_of s events) k mark.0 mark.0 mark.1)) ∙ All-from_test is_made (marks_of s events) made_all k mark.0 (omega (arith, lt, count)) in
+          let there = mark_is s events k mark.0 mark.1 is in
+          let entry = item_at s.graph k lt in
+          let artefact = some_there (artefact_after s events k) there.1 in
+          subst (λ (p : ℕ). lent_at latest_of s.graph p ≡ built_file (slice_get s.graph p) (artefact_after s events p)) (sym position)
+          (sym (lent_same s.graph latest_of (artefact_after s events) k entry.0 artefact.0 entry.1 artefact.1 (knows k entry.0 artefact.0 entry.1 artefact.1)))
+
+-- after a start, or where it failed
+pub goes_on : (tells told : Type 0) (answer answers : Request → Exit) (records_of : Image → List Record) (graph : List Entry) (from : Origin) (old : List Event) (first : Moments) (machine machine' : Slots) (marks : List Mark) (noted noted' : Option BuildFault)
+    (latest_of : FileName → Option Record) (broken : Bool) (new new' : List Event) (moments : Moments) → answers ≡ answer →
+    (goes : Goes tells told answer records_of graph from old first machine marks noted latest_of broken new moments) →
+    (((tells → IsJournalled answers (setting_from graph from) goes.events old new) → GoesOn tells answers graph from old goes.events goes.acknowledged machine' marks noted' latest_of broken new')) →
+    Goes tells told answer records_of graph from old first machine' marks noted' latest_of broken new' moments
+goes_on tells told answer answers records_of graph from old first machine machine' marks noted noted' latest_of broken new new' moments same goes then =
+    let on = then (λ t. subst (λ (a : Request → Exit). IsJournalled a (setting_from graph from) goes.events old new) (sym same) (goes.journal t)) in
+    record {
+      events = goes.events ++ on.more;
+      acknowledged = goes.acknowledged;
+      under_way = on.under_way;
+      journal = λ t. subst (λ (a : Request → Exit). IsJournalled a (setting_from graph from) (goes.events ++ on.more) old new') same (on.journal t);
+      images = λ t. subst (λ (more : List Record). HoldsFirst goes.acknowledged broken more records_of first moments) (sym on.same) (goes.images t);
+    }

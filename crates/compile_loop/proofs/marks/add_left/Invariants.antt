@@ -1,7 +1,0 @@
--- What holds at each turn of the loop of `add_left`.
-use Rattle.std.proofs.Common.{◌≡◌, ◌++◌, map, take}
-use Rattle.compile_loop.specs.Builds.{left_mark}
-use Rattle.compile_loop.proofs.marks.add_left.Given as goal
-
-abbrev pub invariant-loop-need : goal.invariant-loop-need
-invariant-loop-need l = l.marks ≡ l.fn.marks ++ map left_mark (take l.need-index l.needs)

@@ -1,0 +1,12 @@
+-- Answers to the goals of `halt`.
+use Rattle.std.proofs.Common.{Option, sym, ap, subst, ◌∙◌, Bool}
+use Rattle.std.specs.Prelude.{is_some}
+use Rattle.slot_machine.specs.Machines.{IsMachineOf}
+use Rattle.compile_loop.specs.declared.faults.BuildFault.{BuildFault}
+use Rattle.compile_loop.specs.UnderWay.{halted_if}
+use Rattle.compile_loop.proofs.Halting.{halts_now}
+use Rattle.compile_loop.proofs.starts.halt.Goals as goal
+
+pub returns-clause-in_step : goal.returns-clause-in_step
+returns-clause-in_step c = λ job core halts is.
+    subst (IsMachineOf c.stop.new.self job) (halts_now job halts core ∙ ap (λ (o : Option BuildFault). halted_if (is_some o) core) (sym c.note.ensures)) (c.stop.ensures.in_step job (halted_if halts core) is)

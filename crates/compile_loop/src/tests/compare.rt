@@ -1,0 +1,85 @@
+//! Builds are compared with a plain build that is fed the same ends.
+
+use super::objects::Told;
+use super::plain::{Plain, Way, mark_of};
+use super::sets::{upto, with};
+use super::shapes::{Shape, letter, text};
+use std::alloc::Global;
+use vr_base::NoMemory;
+
+/// The marks of a plain build.
+pub(super) fn plain_marks(
+    alloc: Global,
+    plain: &Plain,
+    shape: &Shape,
+    stale: u8,
+    keep_going: bool,
+) -> Result<Vec<u8>, NoMemory> {
+    let mut marks = Vec::new(alloc);
+    for at in 0..shape.count {
+        marks.push(mark_of(plain, stale, keep_going, at))?;
+    }
+    Ok(marks)
+}
+
+/// The artefacts of a plain build, where each stale file was compiled.
+fn plain_whole(
+    alloc: Global,
+    plain: &Plain,
+    shape: &Shape,
+    stale: u8,
+    changed: u8,
+) -> Result<Vec<u8>, NoMemory> {
+    let mut whole = Vec::new(alloc);
+    if stale & !plain.compiled != 0 {
+        return Ok(whole);
+    }
+    for at in 0..shape.count {
+        whole.push(letter(at))?;
+        whole.push(text(changed, at))?;
+    }
+    Ok(whole)
+}
+
+/// Whether the build started and answered what the plain one did.
+pub(super) fn agree(
+    alloc: Global,
+    told: &Told,
+    plain: &Plain,
+    shape: &Shape,
+    stale: u8,
+    changed: u8,
+    way: &Way,
+) -> Result<bool, NoMemory> {
+    if told.events.as_slice() != plain.events.as_slice() {
+        return Ok(false);
+    }
+    if plain.fault.is_some() {
+        return Ok(told.fault == plain.fault);
+    }
+    let marks = plain_marks(alloc, plain, shape, stale, way.keep_going)?;
+    let whole = plain_whole(alloc, plain, shape, stale, changed)?;
+    Ok(
+        told.fault.is_none()
+            && told.marks.as_slice() == marks.as_slice()
+            && told.whole.as_slice() == whole.as_slice(),
+    )
+}
+
+/// The files of a shape whose records are current after a plain build.
+pub(super) fn recorded_after(plain: &Plain, shape: &Shape) -> u8 {
+    plain.recorded & upto(shape.count)
+}
+
+/// The files that were started.
+pub(super) fn starts_of(events: &[u8]) -> u8 {
+    let mut starts = 0;
+    let mut after_plus = false;
+    for letter in events {
+        if after_plus && *letter >= b'0' {
+            starts = with(starts, *letter - b'0');
+        }
+        after_plus = *letter == b'+';
+    }
+    starts
+}
