@@ -1,6 +1,7 @@
 -- The lemmas.
 pub mod Texts
+pub mod Asks
 pub mod Tops
 pub mod Faults
-pub mod OverStore
-pub mod BuildTruths
+mod OverStore
+pub mod RunTruths

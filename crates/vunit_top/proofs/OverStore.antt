@@ -1,13 +1,12 @@
 -- A build over a store that was opened from a disk, in terms of what the disk held before.
-use Rattle.std.proofs.Common.{◌≡◌, ℕ, ◌<◌, Bool, true, false, eqb, List, [], ◌∷◌, ◌++◌, length, Option, Some, None, Result, Ok, Err, OnOk, refl, sym, ap, subst, ◌∙◌, inl, inr}
-use Rattle.std.specs.Prelude.{All, slice_get, is_some, IfOk}
-use Rattle.std.specs.Bool.{OnFalse}
+use Rattle.std.proofs.Common.{◌≡◌, ℕ, ◌+◌, ◌-◌, ◌^◌, ◌<◌, ◌≤◌, min, le-leb, Bool, true, false, not, ◌&&◌, List, [], ◌++◌, length, Option, Some, None, Result, Ok, Err, OnOk, refl, sym, ap, subst, ◌∙◌, inl, inr}
+use Rattle.std.specs.Prelude.{slice_get, is_some, IfOk}
+use Rattle.std.specs.Bool.{OnTrue, OnFalse}
+use Rattle.std.specs.Result.{is_ok}
 use Rattle.std.specs.List.{AllByRecursion}
-use Rattle.std.specs.Option.{option_map, option_and_then}
+use Rattle.std.specs.Option.{option_map}
 use Rattle.std.proofs.Math.Path.{fun_ext}
-use Rattle.std.proofs.lemmas.Bool.{cases_Bool, cond-true, cond-false, false≢true}
-use Rattle.std.proofs.lemmas.List.{append-nil}
-use Rattle.std.proofs.lemmas.List.Elements.{All-nil, All-cons, All-head, All-tail, All-append}
+use Rattle.std.proofs.lemmas.Bool.{false≢true}
 use Rattle.std.proofs.lemmas.Option.{slice_get-map, slice_get-get_or}
 use Rattle.vr_base.specs.declared.file.FileName.{FileName}
 use Rattle.vr_base.specs.declared.graph.Entry.{Entry}
@@ -15,85 +14,72 @@ use Rattle.vr_base.specs.declared.child.Request.{Request}
 use Rattle.vr_base.specs.declared.child.Exit.{Exit}
 use Rattle.vr_base.specs.declared.child.Event.{Event}
 use Rattle.vr_base.specs.declared.outcome.Mark.{Mark}
-use Rattle.vr_base.specs.declared.outcome.Mark.TheVariants.{Compiled, Refused}
 use Rattle.vr_base.specs.Graphs.{IsGraph}
-use Rattle.vr_outside.specs.declared.records.Record.{Record}
-use Rattle.vr_outside.specs.Disks.{DiskState, Image, IsImage, IsSound, Moments, AreSound, AtAnyMoment, IsDurable, reads_of}
-use Rattle.vr_outside.specs.Records.{latest, IsAllOrLatest, HasRecordsOf, IsRecorded}
-use Rattle.vr_outside.proofs.MomentLaws.{at_present, joined_moments, weaker_moments}
-use Rattle.record_store.specs.Stored.{records_in}
 use Rattle.vr_base.specs.PresentGraph.{below}
-use Rattle.run_spec.specs.Moves.{LawfulMoves}
-use Rattle.run_spec.specs.ChildJournal.{Setting, End, AreRequested, EachAfter, moves_after, Lawful, Answered, IsWhole, book_of, artefact_after, artefact_so_far, exit_at}
-use Rattle.run_spec.specs.JournalParts.{compile_part}
-use Rattle.run_spec.proofs.Parts.{build_parts}
-use Rattle.run_spec.specs.CleanBuild.{RecordsClean}
-use Rattle.run_spec.specs.Faithful.{IsTrueRecord, IsFaithful, IsFaithfulDisk}
-use Rattle.run_spec.specs.Marks.{mark_of, mark_at, marks_of}
-use Rattle.run_spec.specs.Recorded.{recorded_at}
 use Rattle.vr_base.proofs.Below.{get_or-below, length-below}
-use Rattle.clean_laws.proofs.TrueRecords.{records_clean, latest-latest_alone, All-latest, All-latest_alone}
-use Rattle.compile_loop.specs.declared.builds.BuildEnd.{BuildEnd}
+use Rattle.vr_outside.specs.Counts.{Rose}
+use Rattle.vr_outside.specs.declared.records.Record.{Record}
+use Rattle.vr_outside.specs.Disks.{DiskState, Image, IsImage, Moments, AreSound, IsDurable, Follows, OpensWith, added_since, reads_of}
+use Rattle.vr_outside.specs.Records.{latest, IsAllOrLatest, IsRecorded}
+use Rattle.vr_outside.specs.Phases.{HasPhases, committed}
+use Rattle.vr_outside.proofs.MomentLaws.{follows_by, joined_follows}
+use Rattle.vr_outside.proofs.PhaseLaws.{open_failed, open_done, then_committed}
+use Rattle.record_store.specs.Stored.{records_in}
+use Rattle.run_spec.specs.ChildJournal.{Setting, End, IsWhole, book_of, artefact_after, artefact_so_far, exit_at, since, EachAfter}
+use Rattle.run_spec.specs.Commits.{setting_of, commits}
+use Rattle.run_spec.specs.Histories.{IsReadable}
+use Rattle.run_spec.specs.Marks.{mark_of, mark_at, marks_of}
+use Rattle.run_spec.proofs.Journal.{since-added}
+use Rattle.run_spec.proofs.Prefixes.{lawful_none}
+use Rattle.run_spec.proofs.RunSteps.{readable_since, no_commits}
+use Rattle.run_spec.proofs.Waiting.{waits_none}
+use Rattle.clean_laws.proofs.TrueRecords.{latest-latest_alone}
 use Rattle.compile_loop.specs.declared.faults.BuildFault.{BuildFault}
 use Rattle.compile_loop.specs.declared.faults.BuildFault.TheVariants as fault
-use Rattle.compile_loop.specs.Builds.{is_made}
-use Rattle.compile_loop.specs.Children.{is_disk_failed}
-use Rattle.compile_loop.specs.Commits.{setting_of, commits, HasPrefix}
-use Rattle.compile_loop.proofs.TrueCommits.{commits_true}
-use Rattle.vunit_top.specs.Reading.{Go}
-use Rattle.vunit_top.specs.Said.{latest_in, one_at_a_time, IsLawful, HasGiven, IsDurablyRecorded}
+use Rattle.compile_loop.specs.Faults.{fault_of, is_no_memory, is_all_committed}
+use Rattle.compile_loop.specs.Ran.{BuildRan, is_made}
+use Rattle.vunit_top.specs.Said.{latest_in, one_at_a_time, IsDurablyRecorded}
 use Rattle.vunit_top.specs.Building.{BuildsOver}
+use Rattle.vunit_top.specs.Runs.{has_risen}
 
-sound_last : (past : List DiskState) (now : DiskState) → AllByRecursion IsSound (past ++ now ∷ []) → IsSound now
-sound_last [] now sound = sound.0
-sound_last (state ∷ past) now sound = sound_last past now sound.1
+abbrev HasReadOf : DiskState → Image → Type 0
+HasReadOf disk image = IsAllOrLatest (records_in (reads_of disk)) (records_in image)
 
--- what reads give is an image
-pub reads_are_an_image : (moments : Moments) → AreSound moments → IsImage moments.now (reads_of moments.now)
-reads_are_an_image moments sound = let last = sound_last moments.past moments.now sound in record { a = last.a.image; b = last.b.image }
-
-kept_true : (answer : Request → Exit) (before now : List Record) → IsAllOrLatest before now → All (IsTrueRecord answer) before → All (IsTrueRecord answer) now
-kept_true answer before now (inl same) each = subst (All (IsTrueRecord answer)) (sym same) each
-kept_true answer before now (inr alone) each = subst (All (IsTrueRecord answer)) (sym alone) (All-latest_alone (IsTrueRecord answer) before each)
-
-prefix_true : (answer : Request → Exit) (prefix left : List Record) → All (IsTrueRecord answer) (prefix ++ left) → All (IsTrueRecord answer) prefix
-prefix_true answer [] left all = All-nil (IsTrueRecord answer)
-prefix_true answer (kept ∷ prefix) left all =
-    All-cons (IsTrueRecord answer) kept prefix (All-head (IsTrueRecord answer) kept (prefix ++ left) all) (prefix_true answer prefix left (All-tail (IsTrueRecord answer) kept (prefix ++ left) all))
-
--- opening leaves true records true
-pub opened_faithful : (answer : Request → Exit) (old mid : Moments) → AtAnyMoment old mid (HasRecordsOf records_in old.now) → IsFaithfulDisk answer records_in old.now → AtAnyMoment old mid (IsFaithful answer records_in)
-opened_faithful answer old mid opening faithful =
-    weaker_moments old mid (HasRecordsOf records_in old.now) (IsFaithful answer records_in) (λ image has. kept_true answer (records_in has.before) (records_in image) has.kept (faithful has.before has.was)) opening
-
--- while a store is opened nothing is given
-pub opened_given : (old mid : Moments) (more : List Record) → AtAnyMoment old mid (HasRecordsOf records_in old.now) → AtAnyMoment old mid (HasGiven old.now more)
-opened_given old mid more opening =
-    weaker_moments old mid (HasRecordsOf records_in old.now) (HasGiven old.now more)
-    (λ image has. record {
-      before = has.before;
-      was = has.was;
-      base = records_in image;
-      kept = has.kept;
-      prefix = [];
-      left = more;
-      all = refl;
-      are = sym (append-nil (records_in image));
-      opened = inl refl;
-    }) opening
+-- a build whose store could not be opened starts nothing
+pub not_opened : (answer : Request → Exit) (graph : List Entry) (why : BuildFault) (failed : Bool) (old new : Moments) (events : List Event) → events ≡ [] → IsGraph graph → AreSound new → Follows old new → OpensWith old new (HasReadOf old.now) →
+    BuildsOver answer graph (Err why) failed old new events
+unfolding EachAfter
+not_opened answer graph why failed old new events none is sound follows opens =
+    let s : Setting = one_at_a_time (latest_in old.now) graph in
+    let nothing : commits s [] ≡ [] = no_commits s in
+    subst (BuildsOver answer graph (Err why) failed old new) (sym none) (record {
+      graph_form = is;
+      lawful = lawful_none s;
+      answered = tt;
+      whole = tt;
+      marks = tt;
+      recorded = tt;
+      follows = follows;
+      readable = (readable_since old new follows sound).1;
+      acknowledged = 0;
+      phases = open_failed records_in false (commits s []) old new opens;
+      waits = waits_none s 0;
+      all = λ disk memory. ap length (sym nothing);
+    })
 
 same_latest : (name : FileName) (before now : List Record) → IsAllOrLatest before now → latest name now ≡ latest name before
 same_latest name before now (inl same) = ap (latest name) same
 same_latest name before now (inr alone) = ap (latest name) alone ∙ latest-latest_alone name before
+
+from_true : {A : Type 0} (b : Bool) → OnTrue b A → b ≡ true → A
+from_true true a is = a
+from_true false a is = absurd (false≢true is)
 
 -- a file with an artefact is marked as made
 made_mark : (keep_going : Bool) (exit : Option Exit) (artefact : Option (List ℕ)) → is_some artefact ≡ true → is_made (mark_of keep_going exit artefact) ≡ true
 made_mark keep_going None (Some artefact) is = refl
 made_mark keep_going (Some exit) (Some artefact) is = refl
 made_mark keep_going exit None is = absurd (false≢true is)
-
-marked_made : (setting : Setting) (ends : List End) (position : ℕ) → is_some (artefact_so_far setting ends position) ≡ true → is_made (mark_at setting ends position) ≡ true
-marked_made setting ends position is = made_mark setting.keep_going (exit_at ends position) (artefact_so_far setting ends position) is
 
 mark_there : (setting : Setting) (events : List Event) (position : ℕ) → position < length setting.graph → slice_get (marks_of setting events) position ≡ Some (mark_at setting (book_of setting events).ends position)
 mark_there setting events position inside =
@@ -107,106 +93,80 @@ pub record KnowsDisk (latest_of : FileName → Option Record) (disk : DiskState)
   pub durable : IsDurable disk
   pub held : (name : FileName) → latest_of name ≡ latest name (records_in (reads_of disk))
 
-kept_if_known : (graph : List Entry) (latest_of : FileName → Option Record) (disk : DiskState) → KnowsDisk latest_of disk → (position : ℕ) → IsRecorded latest_of graph position → IsDurablyRecorded disk graph position
-kept_if_known graph latest_of disk knows position recorded image is =
+durable_if_known : (graph : List Entry) (latest_of : FileName → Option Record) (disk : DiskState) → KnowsDisk latest_of disk → (position : ℕ) → IsRecorded latest_of graph position → IsDurablyRecorded disk graph position
+durable_if_known graph latest_of disk knows position recorded image is =
     subst (λ (i : Image). IsRecorded (λ name. latest name (records_in i)) graph position) (sym (knows.durable image is))
     (record { entry = recorded.entry; is_entry = recorded.is_entry; artefact = recorded.artefact; is = sym (knows.held recorded.entry.name) ∙ recorded.is })
 
-kept_at_end : (graph : List Entry) (before now : FileName → Option Record) (result : Result BuildEnd BuildFault) (events : List Event) (disk : DiskState)
-    → IfOk result (λ end. end.marks ≡ marks_of (one_at_a_time before graph) events)
-    → IfOk result (λ end. (position : ℕ) (mark : Mark) → slice_get end.marks position ≡ Some mark → is_made mark ≡ true → IsRecorded now graph position)
-    → OnFalse (is_disk_failed result) (KnowsDisk now disk)
-    → OnOk result ((position : ℕ) → position < length graph → is_some (artefact_after (one_at_a_time before graph) events position) ≡ true → IsDurablyRecorded disk graph position)
-kept_at_end graph before now (Ok end) events disk marks recorded knows = λ position inside is.
-    let mark : Mark = mark_at (one_at_a_time before graph) (book_of (one_at_a_time before graph) events).ends position in
-    kept_if_known graph now disk knows position
-    (recorded position mark (ap (λ (all : List Mark). slice_get all position) marks ∙ mark_there (one_at_a_time before graph) events position inside) (marked_made (one_at_a_time before graph) (book_of (one_at_a_time before graph) events).ends position is))
-kept_at_end graph before now (Err fault) events disk marks recorded knows = tt
+on_ok_if : (A : Type 0) (result : Result (List Mark) BuildFault) → OnTrue (is_ok result) A → OnOk result A
+on_ok_if A (Ok marks) a = a
+on_ok_if A (Err why) a = tt
 
--- a build whose store could not be opened starts nothing
-pub not_opened : (answer : Request → Exit) (graph : List Entry) (fault : BuildFault) (old new : Moments) (events : List Event) → events ≡ [] → IsGraph graph → AtAnyMoment old new (HasRecordsOf records_in old.now) → BuildsOver answer graph (Err fault) old new events
-unfolding LawfulMoves AreRequested EachAfter moves_after
-not_opened answer graph fault old new events none is opening =
-    subst (BuildsOver answer graph (Err fault) old new) (sym none) (record {
-      graph_form = is;
-      lawful = record { lawful = record { moves = tt; requests = tt; tickets = tt }; only_compiles = refl };
-      answered = tt;
-      whole = tt;
-      marks = tt;
-      kept = tt;
-      given = opened_given old new _ opening;
-      faithful = opened_faithful answer old new opening;
-    })
+if_ok_if : (P : List Mark → Type 0) (result : Result (List Mark) BuildFault) → OnTrue (is_ok result) (IfOk result P) → IfOk result P
+if_ok_if P (Ok marks) a = a
+if_ok_if P (Err why) a = tt
 
-module _ (answer : Request → Exit) (graph : List Entry) (is : IsGraph graph) (old mid new : Moments) (old_sound : AreSound old) (mid_sound : AreSound mid)
-    (opening : AtAnyMoment old mid (HasRecordsOf records_in old.now))
-    (kept : IsAllOrLatest (records_in (reads_of old.now)) (records_in (reads_of mid.now)))
-    (before now : FileName → Option Record) (knows : KnowsDisk before mid.now)
-    (result : Result BuildEnd BuildFault) (events : List Event) where
+not_no_memory : (result : Result (List Mark) BuildFault) → (result ≡ Err fault.NoMemory → ⊥) → is_no_memory (fault_of result) ≡ false
+not_no_memory (Ok marks) other = refl
+not_no_memory (Err fault.NoMemory) other = absurd (other refl)
+not_no_memory (Err fault.StartFailed) other = refl
+not_no_memory (Err fault.ChildLost) other = refl
+not_no_memory (Err fault.DiskFailed) other = refl
+
+recorded_in_end : (setting : Setting) (now : FileName → Option Record) (result : Result (List Mark) BuildFault) (events : List Event) (disk : DiskState) → IfOk result (λ marks. marks ≡ marks_of setting events)
+    → IfOk result (λ marks. (position : ℕ) (mark : Mark) → slice_get marks position ≡ Some mark → is_made mark ≡ true → IsRecorded now setting.graph position) → OnOk result (KnowsDisk now disk)
+    → OnOk result ((position : ℕ) → position < length setting.graph → is_some (artefact_after setting events position) ≡ true → IsDurablyRecorded disk setting.graph position)
+recorded_in_end setting now (Ok marks) events disk marked recorded knows = λ position inside is.
+    let mark : Mark = mark_at setting (book_of setting events).ends position in
+    durable_if_known setting.graph now disk knows position
+    (recorded position mark (ap (λ (all : List Mark). slice_get all position) marked ∙ mark_there setting events position inside) (made_mark setting.keep_going (exit_at (book_of setting events).ends position) (artefact_after setting events position) is))
+recorded_in_end setting now (Err why) events disk marked recorded knows = tt
+
+module _ (answer : Request → Exit) (graph : List Entry) (is : IsGraph graph) (old mid new : Moments) (sound : AreSound new) (first : Follows old mid) (opening : OpensWith old mid (HasReadOf old.now)) (kept : HasReadOf old.now (reads_of mid.now))
+    (before now : FileName → Option Record) (knows : KnowsDisk before mid.now) (tells told : Type 0) (t : tells) (d : told) (result : Result (List Mark) BuildFault) (old_journal journal : List Event) (broken failed : Bool) where
   latest_is : before ≡ latest_in old.now
   latest_is = fun_ext (λ name. knows.held name ∙ same_latest name (records_in (reads_of old.now)) (records_in (reads_of mid.now)) kept)
 
-  abbrev setting : Setting
-  setting = setting_of before graph 1 false
+  abbrev Ran : (FileName → Option Record) → Type 0
+  Ran latest_of =
+      BuildRan tells told answer records_in (setting_of latest_of graph 1 false) old_journal journal mid new latest_of now (is_ok result) (is_all_committed (fault_of result) broken) broken
+      (λ events. IfOk result (λ marks. marks ≡ marks_of (setting_of latest_of graph 1 false) events))
 
-  build_given : AtAnyMoment mid new (λ image. HasPrefix (records_in (reads_of mid.now)) (commits setting events) (records_in image)) → AtAnyMoment old new (HasGiven old.now (commits setting events))
-  build_given building =
-      joined_moments old mid new (HasGiven old.now (commits setting events)) (opened_given old mid (commits setting events) opening)
-      (weaker_moments mid new (λ image. HasPrefix (records_in (reads_of mid.now)) (commits setting events) (records_in image)) (HasGiven old.now (commits setting events))
-      (λ image has. record {
-        before = reads_of old.now;
-        was = reads_are_an_image old old_sound;
-        base = records_in (reads_of mid.now);
-        kept = kept;
-        prefix = has.prefix;
-        left = has.left;
-        all = has.all;
-        are = has.are;
-        opened = inr refl;
-      }) building)
+  over : Ran (latest_in old.now) → IfOk result (λ marks. (position : ℕ) (mark : Mark) → slice_get marks position ≡ Some mark → is_made mark ≡ true → IsRecorded now graph position) → OnOk result (KnowsDisk now new.now) →
+      (failed ≡ false → broken ≡ false) → BuildsOver answer graph result failed old new (since old_journal journal)
+  over ran recorded knows_now usable =
+      let second : Follows mid new = (ran.images d).images.any_moment.follows in
+      let follows : Follows old new = follows_by old new (added_since old mid ++ added_since mid new) (joined_follows old mid new first second) in
+      let events : since old_journal journal ≡ ran.events = ap (since old_journal) (ran.journal t) ∙ since-added old_journal ran.events in
+      let marked = if_ok_if _ result ran.says in
+      subst (BuildsOver answer graph result failed old new) (sym events) (record {
+        graph_form = is;
+        lawful = ran.lawful t;
+        answered = ran.answered t;
+        whole = on_ok_if _ result (ran.whole t);
+        marks = marked;
+        recorded = recorded_in_end (one_at_a_time (latest_in old.now) graph) now result ran.events new.now marked recorded knows_now;
+        follows = follows;
+        readable = (readable_since old new follows sound).1;
+        acknowledged = ran.acknowledged;
+        phases = committed broken (then_committed records_in false ran.acknowledged broken (commits (one_at_a_time (latest_in old.now) graph) ran.events) (records_in (reads_of mid.now)) old mid new first
+            (open_done records_in false old mid opening kept knows.durable) kept (ran.images d).images);
+        waits = ran.committed.waits;
+        all = λ disk memory. from_true (is_all_committed (fault_of result) broken) ran.committed.whole (both (not_no_memory result memory) (usable disk));
+      }) where
+        both : {a b : Bool} → a ≡ false → b ≡ false → (not a && not b) ≡ true
+        both x y = rw (x, y) refl
 
-  module _ (lawful : Lawful setting events) (answered : Answered answer events) where
-    build_faithful : AtAnyMoment mid new (λ image. HasPrefix (records_in (reads_of mid.now)) (commits setting events) (records_in image)) → IsFaithfulDisk answer records_in old.now → AtAnyMoment old new (IsFaithful answer records_in)
-    build_faithful building faithful =
-        let first : AtAnyMoment old mid (IsFaithful answer records_in) = opened_faithful answer old mid opening faithful in
-        let at_first : All (IsTrueRecord answer) (records_in (reads_of mid.now)) = at_present old mid (IsFaithful answer records_in) first (reads_of mid.now) (reads_are_an_image mid mid_sound) in
-        let clean : RecordsClean answer graph (recorded_at before graph) =
-        records_clean answer before graph is (λ name found is_found. All-latest (IsTrueRecord answer) name (records_in (reads_of mid.now)) found at_first (sym (knows.held name) ∙ is_found)) in
-        let more : All (IsTrueRecord answer) (commits setting events) = commits_true answer setting is clean events lawful answered in
-        let then : AtAnyMoment mid new (IsFaithful answer records_in) =
-        weaker_moments mid new (λ image. HasPrefix (records_in (reads_of mid.now)) (commits setting events) (records_in image)) (IsFaithful answer records_in)
-        (λ image has. subst (All (IsTrueRecord answer)) (sym has.are)
-        (All-append (IsTrueRecord answer) (records_in (reads_of mid.now)) has.prefix at_first (prefix_true answer has.prefix has.left (subst (All (IsTrueRecord answer)) has.all more)))) building in
-        joined_moments old mid new (IsFaithful answer records_in) first then
+  pub opened_over : Ran before → IfOk result (λ marks. (position : ℕ) (mark : Mark) → slice_get marks position ≡ Some mark → is_made mark ≡ true → IsRecorded now graph position) → OnOk result (KnowsDisk now new.now) →
+      (failed ≡ false → broken ≡ false) → BuildsOver answer graph result failed old new (since old_journal journal)
+  opened_over ran recorded knows_now usable = over (subst Ran latest_is ran) recorded knows_now usable
 
-    -- what holds of all events holds of those of compilers
-    at_part : (P : List Event → Type 0) → P events → P (compile_part events)
-    at_part P p = subst P (sym (build_parts setting events lawful).0) p
+-- a store that is usable after a build knows what whatever a stop can leave holds
+pub knows_if : (A B : Type 0) (result : Result (List Mark) BuildFault) (broken : Bool) → OnOk result (broken ≡ false) → OnFalse broken A → (A → B) → OnOk result B
+knows_if A B (Ok marks) broken usable in_step gives = gives (subst (λ (b : Bool). OnFalse b A) usable in_step)
+knows_if A B (Err why) broken usable in_step gives = tt
 
-    pub opened : OnOk result (IsWhole setting events) → IfOk result (λ end. end.marks ≡ marks_of setting events)
-        → IfOk result (λ end. (position : ℕ) (mark : Mark) → slice_get end.marks position ≡ Some mark → is_made mark ≡ true → IsRecorded now graph position)
-        → OnFalse (is_disk_failed result) (KnowsDisk now new.now)
-        → AtAnyMoment mid new (λ image. HasPrefix (records_in (reads_of mid.now)) (commits setting events) (records_in image))
-        → BuildsOver answer graph result old new events
-    opened whole marks recorded knows_then building = record {
-      graph_form = is;
-      lawful = subst (λ (l : FileName → Option Record). IsLawful l (Go graph) events) latest_is (record { lawful = at_part (Lawful setting) lawful; only_compiles = (build_parts setting events lawful).1 });
-      answered = answered;
-      whole = subst (λ (l : FileName → Option Record). OnOk result (IsWhole (one_at_a_time l graph) (compile_part events))) latest_is (at_part (λ (part : List Event). OnOk result (IsWhole setting part)) whole);
-      marks = subst (λ (l : FileName → Option Record). IfOk result (λ end. end.marks ≡ marks_of (one_at_a_time l graph) (compile_part events))) latest_is
-          (at_part (λ (part : List Event). IfOk result (λ end. end.marks ≡ marks_of setting part)) marks);
-      kept = subst (λ (l : FileName → Option Record). OnOk result ((position : ℕ) → position < length graph → is_some (artefact_after (one_at_a_time l graph) (compile_part events) position) ≡ true → IsDurablyRecorded new.now graph position)) latest_is
-          (at_part (λ (part : List Event). OnOk result ((position : ℕ) → position < length graph → is_some (artefact_after setting part position) ≡ true → IsDurablyRecorded new.now graph position))
-          (kept_at_end graph before now result events new.now marks recorded knows_then));
-      given = subst (λ (l : FileName → Option Record). AtAnyMoment old new (HasGiven old.now (commits (one_at_a_time l graph) (compile_part events)))) latest_is
-          (at_part (λ (part : List Event). AtAnyMoment old new (HasGiven old.now (commits setting part))) (build_given building));
-      faithful = build_faithful building;
-    }
-
--- what holds unless the disk failed
-pub unless_failed : {X Y : Type 0} (result : Result BuildEnd BuildFault) → (X → Y) → OnFalse (is_disk_failed result) X → OnFalse (is_disk_failed result) Y
-unless_failed (Ok end) to x = to x
-unless_failed (Err fault.NoMemory) to x = to x
-unless_failed (Err fault.StartFailed) to x = to x
-unless_failed (Err fault.ChildLost) to x = to x
-unless_failed (Err fault.DiskFailed) to x = tt
+-- a store is usable where no fault of the disk was counted
+pub usable_if : (broken : Bool) (first opened now : ℕ) → opened ≡ first → (broken ≡ true → Rose opened now) → has_risen first now ≡ false → broken ≡ false
+usable_if false first opened now same breaks none = refl
+usable_if true first opened now same breaks none = let rose : min (opened + 1) (2 ^ 64 - 1) ≤ now = breaks refl in absurd (false≢true (sym none ∙ le-leb (min (first + 1) (2 ^ 64 - 1)) now (subst (λ (n : ℕ). min (n + 1) (2 ^ 64 - 1) ≤ now) same rose)))

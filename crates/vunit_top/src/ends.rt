@@ -1,10 +1,9 @@
 //! What a run puts, and what it then answers.
 
-ghost use Rattle.std.specs.Prelude.{◌≡◌, length};
+ghost use Rattle.std.specs.Prelude.{◌≡◌, ◌≤◌, length};
 ghost use Rattle.run_report.specs.Outcomes.{build_outcome};
-ghost use Rattle.vunit_top.specs.Said.{Says, IsSaid, said, build_said};
+ghost use Rattle.vunit_top.specs.Said.{Says, IsSaid, build_said};
 ghost use Rattle.run_report.specs.Texts.{refusal_text, limit_text, usage_text};
-ghost use Rattle.vunit_top.specs.Reading.{Bad};
 ghost use Rattle.vunit_top.specs.Ends.{OutCauses};
 
 use run_report::{build_outcome, build_text, limit_text, refusal_text};
@@ -24,6 +23,7 @@ pub fn say<O: Sink>(text: &[u8], answer: Outcome, out: &mut O) -> Outcome
         Says result (record { outcome = answer; text = text.now })
         (O.contents out.old) (O.contents out.new) }
     ensures cause { OutCauses result (O.failed_puts out.old) (O.failed_puts out.new) }
+    ensures stand { O.failed_puts out.old ≤ O.failed_puts out.new }
 {
     match out.put(text) {
         Ok(()) => answer,
@@ -38,6 +38,7 @@ pub fn say_usage<O: Sink>(out: &mut O) -> Outcome
         Says result (record { outcome = Outcome.BadWords; text = usage_text })
         (O.contents out.old) (O.contents out.new) }
     ensures cause { OutCauses result (O.failed_puts out.old) (O.failed_puts out.new) }
+    ensures stand { O.failed_puts out.old ≤ O.failed_puts out.new }
 {
     say(&USAGE, Outcome::BadWords, out)
 }
@@ -48,6 +49,7 @@ pub fn say_refusal<O: Sink>(alloc: Global, refusal: Refusal, out: &mut O) -> Out
         Says result (record { outcome = Outcome.Refused refusal; text = refusal_text refusal })
         (O.contents out.old) (O.contents out.new) }
     ensures cause { OutCauses result (O.failed_puts out.old) (O.failed_puts out.new) }
+    ensures stand { O.failed_puts out.old ≤ O.failed_puts out.new }
 {
     match refusal_text(alloc, &refusal) {
         Ok(text) => say(text.bytes(), Outcome::Refused(refusal), out),
@@ -61,6 +63,7 @@ pub fn say_limit<O: Sink>(alloc: Global, limit: Limit, number: u64, out: &mut O)
         Says result (record { outcome = Outcome.OverLimit limit; text = limit_text limit number })
         (O.contents out.old) (O.contents out.new) }
     ensures cause { OutCauses result (O.failed_puts out.old) (O.failed_puts out.new) }
+    ensures stand { O.failed_puts out.old ≤ O.failed_puts out.new }
 {
     match limit_text(alloc, limit, number) {
         Ok(text) => say(text.bytes(), Outcome::OverLimit(limit), out),
@@ -76,6 +79,7 @@ pub fn say_build<O: Sink>(alloc: Global, graph: &Graph, marks: &MarkList, out: &
         Says result (build_said graph.now marks.now)
         (O.contents out.old) (O.contents out.new) }
     ensures cause { OutCauses result (O.failed_puts out.old) (O.failed_puts out.new) }
+    ensures stand { O.failed_puts out.old ≤ O.failed_puts out.new }
 {
     match (
         build_text(alloc, graph, marks),

@@ -1,6 +1,6 @@
 //! What is read of a tree: the texts of a project, their scans and their graph; or why nothing is compiled.
 
-ghost use Rattle.std.specs.Prelude.{◌≡◌, ◌+◌, ◌≤◌, length, codes, List, ℕ, IfOk};
+ghost use Rattle.std.specs.Prelude.{◌≡◌, ◌+◌, ◌≤◌, ◌∷◌, [], length, codes, List, ℕ, IfOk};
 ghost use Rattle.vr_base.specs.Projects.{IsProject};
 ghost use Rattle.vr_outside.specs.Trees.{read_end, FitsReadLimit};
 ghost use Rattle.vr_base.specs.PresentGraph.{listed};
@@ -11,6 +11,7 @@ ghost use Rattle.vunit_top.specs.Scanning.{IsScannedGraph};
 ghost use Rattle.vunit_top.specs.Reading.{Stops, Over, bounds, text_after, text_of, texts_of, go_unless, sources_reading, listing_reading, csv_reading, toml_reading, project_reading};
 ghost use Rattle.source_view.specs.Listed.{AreTexts};
 ghost use Rattle.vunit_top.specs.Sources.{Gives, LeadsTo, ReadCounts, IsPlain};
+ghost use Rattle.vunit_top.specs.Asked.{file_paths, source_paths, listing_paths, csv_paths, project_paths, AsksInOrder};
 ghost use Rattle.vunit_top.specs.declared.sources.ReadStop.TheVariants.{NoMemory as out_of_memory};
 
 use crate::scanning::scans_of;
@@ -60,6 +61,8 @@ fn read_file<T: Tree>(
     ensures bytes { T.tells → IfOk result (λ end. end ≡ read_end (T.file tree.old path.now) limit) }
     ensures stop { IsPlain result }
     ensures same { T.file tree.new ≡ T.file tree.old }
+    ensures same_list { T.listed tree.new ≡ T.listed tree.old }
+    ensures asked { AsksInOrder result (path.now ∷ []) (T.asked tree.old) (T.asked tree.new) }
     ensures cause { ReadCounts result (T.failed_reads tree.old) (T.failed_reads tree.new) }
 {
     match tree.read(alloc, path, limit) {
@@ -113,6 +116,8 @@ fn text_of<T: Tree>(
         Gives (text_of name.now before read) result }
     ensures size { IfOk result (λ text. before + length text ≤ PROJECT_TEXT_LIMIT) }
     ensures same { T.file tree.new ≡ T.file tree.old }
+    ensures same_list { T.listed tree.new ≡ T.listed tree.old }
+    ensures asked { AsksInOrder result (name.now.path ∷ []) (T.asked tree.old) (T.asked tree.new) }
     ensures cause { ReadCounts result (T.failed_reads tree.old) (T.failed_reads tree.new) }
 {
     match read_file(alloc, tree, &name.path, MOST_TEXT)? {
@@ -131,6 +136,9 @@ fn texts_of<T: Tree>(
     ensures texts { T.tells → Gives (texts_of (T.file tree.old) 0 files.now) result }
     ensures size { IfOk result (AreTexts files.now) }
     ensures same { T.file tree.new ≡ T.file tree.old }
+    ensures same_list { T.listed tree.new ≡ T.listed tree.old }
+    ensures asked { AsksInOrder result (file_paths files.now)
+        (T.asked tree.old) (T.asked tree.new) }
     ensures cause { ReadCounts result (T.failed_reads tree.old) (T.failed_reads tree.new) }
 {
     let mut texts = TextList::new(alloc);
@@ -175,6 +183,9 @@ fn read_sources<T: Tree>(
         LeadsTo (sources_reading scan (T.file tree.old) project.now.files) result }
     ensures form { IfOk result IsScannedGraph }
     ensures same { T.file tree.new ≡ T.file tree.old }
+    ensures same_list { T.listed tree.new ≡ T.listed tree.old }
+    ensures asked { AsksInOrder result (source_paths project.now.files)
+        (T.asked tree.old) (T.asked tree.new) }
     ensures cause { ReadCounts result (T.failed_reads tree.old) (T.failed_reads tree.new) }
 {
     if project.files.len() > MOST_FILES {
@@ -195,6 +206,9 @@ fn read_listing<T: Tree>(
         LeadsTo (listing_reading scan (T.file tree.old) (csv_project bytes.now)) result }
     ensures form { IfOk result IsScannedGraph }
     ensures same { T.file tree.new ≡ T.file tree.old }
+    ensures same_list { T.listed tree.new ≡ T.listed tree.old }
+    ensures asked { AsksInOrder result (listing_paths (csv_project bytes.now))
+        (T.asked tree.old) (T.asked tree.new) }
     ensures cause { ReadCounts result (T.failed_reads tree.old) (T.failed_reads tree.new) }
 {
     match read_csv_project(alloc, bytes.bytes()) {
@@ -213,6 +227,11 @@ fn read_csv<T: Tree>(alloc: Global, tree: &mut T) -> Result<ScannedGraph, ReadSt
         (read_end (T.file tree.old (codes "vunit.csv")) bounds.text)) result }
     ensures form { IfOk result IsScannedGraph }
     ensures same { T.file tree.new ≡ T.file tree.old }
+    ensures same_list { T.listed tree.new ≡ T.listed tree.old }
+    ensures asked { T.tells →
+        let read = read_end (T.file tree.old (codes "vunit.csv")) bounds.text in
+        AsksInOrder result (codes "vunit.csv" ∷ csv_paths read)
+        (T.asked tree.old) (T.asked tree.new) }
     ensures cause { ReadCounts result (T.failed_reads tree.old) (T.failed_reads tree.new) }
 {
     let path = Text::from_slice(alloc, b"vunit.csv")?;
@@ -230,6 +249,10 @@ pub fn read_project<T: Tree>(alloc: Global, tree: &mut T) -> Result<ScannedGraph
         LeadsTo (project_reading scan (T.file tree.old)) result }
     ensures form { IfOk result IsScannedGraph }
     ensures same { T.file tree.new ≡ T.file tree.old }
+    ensures same_list { T.listed tree.new ≡ T.listed tree.old }
+    ensures asked { T.tells →
+        let paths = project_paths (T.file tree.old) in
+        AsksInOrder result paths (T.asked tree.old) (T.asked tree.new) }
     ensures cause { ReadCounts result (T.failed_reads tree.old) (T.failed_reads tree.new) }
 {
     let path = Text::from_slice(alloc, b"vunit.toml")?;

@@ -1,14 +1,16 @@
 //! The top call: reads words and sources, builds, and puts what became of it.
 
-ghost use Rattle.std.specs.Prelude.{◌≡◌, ◌++◌, [], ℕ, List};
-ghost use Rattle.vr_outside.specs.Disks.{AtAnyMoment};
-ghost use Rattle.record_store.specs.Stored.{records_in};
-ghost use Rattle.run_spec.specs.Faithful.{IsFaithful, IsFaithfulDisk};
-ghost use Rattle.vr_base.specs.PresentGraph.{IsListed};
-ghost use Rattle.run_spec.specs.ChildJournal.{since, starts_of};
+ghost use Rattle.std.specs.Prelude.{◌≡◌, ◌⊎◌, ◌++◌, [], ℕ, List, Some, None, true, false};
+ghost use Rattle.vr_base.specs.declared.graph.Entry.{Entry};
+ghost use Rattle.vr_outside.specs.Disks.{added_since};
+ghost use Rattle.run_spec.specs.ChildJournal.{since};
+ghost use Rattle.run_spec.specs.JournalParts.{compile_part};
+ghost use Rattle.run_spec.specs.Marks.{marks_of};
 ghost use Rattle.scan_spec.specs.Scans.{Finding, IsScanner};
-ghost use Rattle.vunit_top.specs.Reading.{Go, reading, project_reading};
-ghost use Rattle.vunit_top.specs.Said.{Says, IsSaid, Causes, IsLawful, IsAnswered, AsksCleanly, IsSteady, RecordsMade, AllAreBuilt, LeavesDisk, EndsByItself, HasGiven, latest_in, given, said, child_said};
+ghost use Rattle.vunit_top.specs.Asked.{AsksFirst, project_paths};
+ghost use Rattle.vunit_top.specs.Reading.{Go, reading, project_reading, begins_as_child, is_compile};
+ghost use Rattle.vunit_top.specs.Runs.{RunsAs, order_of, run_of, has_risen};
+ghost use Rattle.vunit_top.specs.Said.{Said, Says, Causes, CountsStand, latest_in, one_at_a_time, refusal_said, build_said, child_said};
 
 use crate::building::build_over;
 use crate::ends::{say, say_build, say_limit, say_refusal, say_usage};
@@ -44,6 +46,24 @@ fn run_as_child<I: Source, O: Sink>(alloc: Global, input: &mut I, out: &mut O) -
           out = O.failed_puts out.new;
           input = I.failed_takes input.new;
         }) }
+    ensures stand { (tree disk start child : ℕ) →
+        CountsStand
+        (record {
+          tree = tree;
+          disk = disk;
+          start = start;
+          child = child;
+          out = O.failed_puts out.old;
+          input = I.failed_takes input.old;
+        })
+        (record {
+          tree = tree;
+          disk = disk;
+          start = start;
+          child = child;
+          out = O.failed_puts out.new;
+          input = I.failed_takes input.new;
+        }) }
 {
     match input.take(alloc, INPUT_BYTES) {
         Ok(TakeEnd::Got(_)) => Outcome::Child(0),
@@ -61,52 +81,42 @@ fn run_build<D: Disk, P: Procs, O: Sink>(
     procs: &mut P,
     out: &mut O,
 ) -> Outcome
-    requires listed { IsListed graph.now }
-    requires idle { P.running procs.old ≡ [] }
+    requires { P.running procs.old ≡ [] }
     ensures running { P.running procs.new ≡ [] }
+    ensures same { P.answer procs.new ≡ P.answer procs.old }
     ensures kept { P.tells →
         (P.journal procs.new
         ≡ P.journal procs.old ++ since (P.journal procs.old) (P.journal procs.new)) }
-    ensures lawful { D.tells → P.tells →
-        IsLawful (latest_in (D.moments disk.old).now) (Go graph.now)
-        (since (P.journal procs.old) (P.journal procs.new)) }
-    ensures answered { D.tells → P.tells →
-        IsAnswered (P.answer procs.old) (latest_in (D.moments disk.old).now) (Go graph.now)
-        (since (P.journal procs.old) (P.journal procs.new)) }
-    ensures whole { D.tells → P.tells → IsSaid result →
-        EndsByItself (latest_in (D.moments disk.old).now) (Go graph.now)
-        (since (P.journal procs.old) (P.journal procs.new)) }
-    ensures starts { D.tells → P.tells →
-        IsFaithfulDisk (P.answer procs.old) records_in (D.moments disk.old).now →
-        AsksCleanly (P.answer procs.old) (latest_in (D.moments disk.old).now) (Go graph.now) result
-        (starts_of (since (P.journal procs.old) (P.journal procs.new))) }
-    ensures steady { D.tells → P.tells →
-        IsFaithfulDisk (P.answer procs.old) records_in (D.moments disk.old).now →
-        IsSteady (P.answer procs.old) (latest_in (D.moments disk.old).now) (Go graph.now) result
-        (since (P.journal procs.old) (P.journal procs.new)) }
-    ensures made { D.tells → P.tells →
-        IsFaithfulDisk (P.answer procs.old) records_in (D.moments disk.old).now →
-        AllAreBuilt (latest_in (D.moments disk.old).now) (Go graph.now) result
-        (since (P.journal procs.old) (P.journal procs.new)) }
-    ensures records { D.tells → P.tells →
-        RecordsMade (latest_in (D.moments disk.old).now) (Go graph.now) result
-        (since (P.journal procs.old) (P.journal procs.new)) (D.moments disk.new).now }
-    ensures given { D.tells → P.tells →
-        AtAnyMoment (D.moments disk.old) (D.moments disk.new)
-        (HasGiven (D.moments disk.old).now
-        (given (latest_in (D.moments disk.old).now) (Go graph.now)
-        (since (P.journal procs.old) (P.journal procs.new)))) }
-    ensures faithful { D.tells → P.tells →
-        IsFaithfulDisk (P.answer procs.old) records_in (D.moments disk.old).now →
-        AtAnyMoment (D.moments disk.old) (D.moments disk.new)
-        (IsFaithful (P.answer procs.old) records_in) }
-    ensures said { (input : List ℕ) → D.tells → P.tells → O.tells →
-        Says result
-        (said (latest_in (D.moments disk.old).now) (Go graph.now) input
-        (since (P.journal procs.old) (P.journal procs.new))) (O.contents out.old)
+    ensures ran { (scan : List ℕ → Finding) (words : List (List ℕ)) → D.tells → P.tells →
+        RunsAs scan (P.answer procs.old) (Go graph.now)
+        (run_of words result
+        (has_risen (D.failed_disk_calls disk.old) (D.failed_disk_calls disk.new))
+        (since (P.journal procs.old) (P.journal procs.new))
+        (added_since (D.moments disk.old) (D.moments disk.new)))
+        (D.moments disk.old).now (D.moments disk.new).now }
+    ensures says { D.tells → P.tells → O.tells →
+        let setting = one_at_a_time (latest_in (D.moments disk.old).now) graph.now in
+        let events = compile_part (since (P.journal procs.old) (P.journal procs.new)) in
+        Says result (build_said graph.now (marks_of setting events)) (O.contents out.old)
         (O.contents out.new) }
-    ensures cause { (tree input : ℕ) →
-        Causes result
+    ensures cause { (tree input : ℕ) → Causes result
+        (record {
+          tree = tree;
+          disk = D.failed_disk_calls disk.old;
+          start = P.failed_starts procs.old;
+          child = P.lost_children procs.old;
+          out = O.failed_puts out.old;
+          input = input;
+        })
+        (record {
+          tree = tree;
+          disk = D.failed_disk_calls disk.new;
+          start = P.failed_starts procs.new;
+          child = P.lost_children procs.new;
+          out = O.failed_puts out.new;
+          input = input;
+        }) }
+    ensures stand { (tree input : ℕ) → CountsStand
         (record {
           tree = tree;
           disk = D.failed_disk_calls disk.old;
@@ -125,7 +135,7 @@ fn run_build<D: Disk, P: Procs, O: Sink>(
         }) }
 {
     match build_over(alloc, graph, disk, procs) {
-        Ok(end) => say_build(alloc, graph, &end.marks, out),
+        Ok(marks) => say_build(alloc, graph, &marks, out),
         Err(BuildFault::NoMemory) => Outcome::NoMemory,
         Err(BuildFault::StartFailed) => Outcome::OutsideFault(Which::Start),
         Err(BuildFault::ChildLost) => Outcome::OutsideFault(Which::Child),
@@ -143,58 +153,56 @@ fn run_compile<T: Tree, D: Disk, P: Procs, O: Sink>(
 ) -> Outcome
     requires { P.running procs.old ≡ [] }
     ensures running { P.running procs.new ≡ [] }
+    ensures same { P.answer procs.new ≡ P.answer procs.old }
+    ensures sources { T.file tree.new ≡ T.file tree.old }
+    ensures listed { T.listed tree.new ≡ T.listed tree.old }
+    ensures asked { T.tells →
+        let paths = project_paths (T.file tree.old) in
+        (T.asked tree.new ≡ T.asked tree.old ++ paths)
+        ⊎ (AsksFirst paths (T.asked tree.old) (T.asked tree.new)
+        × (disk.new ≡ disk.old) × (procs.new ≡ procs.old)) }
     ensures kept { P.tells →
         (P.journal procs.new
         ≡ P.journal procs.old ++ since (P.journal procs.old) (P.journal procs.new)) }
-    ensures lawful { (scan : List ℕ → Finding) → IsScanner scan → T.tells → D.tells → P.tells →
-        IsLawful (latest_in (D.moments disk.old).now) (project_reading scan (T.file tree.old))
-        (since (P.journal procs.old) (P.journal procs.new)) }
-    ensures answered { (scan : List ℕ → Finding) → IsScanner scan → T.tells → D.tells → P.tells →
-        IsAnswered (P.answer procs.old) (latest_in (D.moments disk.old).now)
-        (project_reading scan (T.file tree.old))
-        (since (P.journal procs.old) (P.journal procs.new)) }
-    ensures whole { (scan : List ℕ → Finding) → IsScanner scan → T.tells → D.tells → P.tells →
-        IsSaid result →
-        EndsByItself (latest_in (D.moments disk.old).now) (project_reading scan (T.file tree.old))
-        (since (P.journal procs.old) (P.journal procs.new)) }
-    ensures starts { (scan : List ℕ → Finding) → IsScanner scan → T.tells → D.tells → P.tells →
-        IsFaithfulDisk (P.answer procs.old) records_in (D.moments disk.old).now →
-        AsksCleanly (P.answer procs.old) (latest_in (D.moments disk.old).now)
-        (project_reading scan (T.file tree.old)) result
-        (starts_of (since (P.journal procs.old) (P.journal procs.new))) }
-    ensures steady { (scan : List ℕ → Finding) → IsScanner scan → T.tells → D.tells → P.tells →
-        IsFaithfulDisk (P.answer procs.old) records_in (D.moments disk.old).now →
-        IsSteady (P.answer procs.old) (latest_in (D.moments disk.old).now)
-        (project_reading scan (T.file tree.old)) result
-        (since (P.journal procs.old) (P.journal procs.new)) }
-    ensures made { (scan : List ℕ → Finding) → IsScanner scan → T.tells → D.tells → P.tells →
-        IsFaithfulDisk (P.answer procs.old) records_in (D.moments disk.old).now →
-        AllAreBuilt (latest_in (D.moments disk.old).now) (project_reading scan (T.file tree.old))
-        result (since (P.journal procs.old) (P.journal procs.new)) }
-    ensures records { (scan : List ℕ → Finding) → IsScanner scan → T.tells → D.tells → P.tells →
-        RecordsMade (latest_in (D.moments disk.old).now) (project_reading scan (T.file tree.old))
-        result (since (P.journal procs.old) (P.journal procs.new)) (D.moments disk.new).now }
-    ensures given { (scan : List ℕ → Finding) → IsScanner scan → T.tells → D.tells → P.tells →
-        AtAnyMoment (D.moments disk.old) (D.moments disk.new)
-        (HasGiven (D.moments disk.old).now
-        (given (latest_in (D.moments disk.old).now)
-        (project_reading scan (T.file tree.old))
-        (since (P.journal procs.old) (P.journal procs.new)))) }
-    ensures faithful { D.tells → P.tells →
-        IsFaithfulDisk (P.answer procs.old) records_in (D.moments disk.old).now →
-        AtAnyMoment (D.moments disk.old) (D.moments disk.new)
-        (IsFaithful (P.answer procs.old) records_in) }
-    ensures untouched { (scan : List ℕ → Finding) → IsScanner scan → T.tells → D.tells →
-        LeavesDisk (project_reading scan (T.file tree.old)) (D.moments disk.old)
-        (D.moments disk.new) }
-    ensures said { (input : List ℕ) → (scan : List ℕ → Finding) → IsScanner scan → T.tells →
-        D.tells → P.tells → O.tells →
-        Says result
-        (said (latest_in (D.moments disk.old).now) (project_reading scan (T.file tree.old))
-        input (since (P.journal procs.old) (P.journal procs.new))) (O.contents out.old)
+    ensures ran { (scan : List ℕ → Finding) → IsScanner scan → (words : List (List ℕ)) →
+        T.tells → D.tells → P.tells →
+        RunsAs scan (P.answer procs.old) (project_reading scan (T.file tree.old))
+        (run_of words result
+        (has_risen (D.failed_disk_calls disk.old) (D.failed_disk_calls disk.new))
+        (since (P.journal procs.old) (P.journal procs.new))
+        (added_since (D.moments disk.old) (D.moments disk.new)))
+        (D.moments disk.old).now (D.moments disk.new).now }
+    ensures untouched { (scan : List ℕ → Finding) → IsScanner scan → T.tells →
+        order_of (project_reading scan (T.file tree.old)) ≡ None →
+        (disk.new ≡ disk.old) × (procs.new ≡ procs.old) }
+    ensures says_refusal { (scan : List ℕ → Finding) → IsScanner scan → T.tells → O.tells →
+        (what : Said) → refusal_said (project_reading scan (T.file tree.old)) ≡ Some what →
+        Says result what (O.contents out.old) (O.contents out.new) }
+    ensures says_build { (scan : List ℕ → Finding) → IsScanner scan → T.tells → D.tells →
+        P.tells → O.tells → (graph : List Entry) →
+        project_reading scan (T.file tree.old) ≡ Go graph →
+        let setting = one_at_a_time (latest_in (D.moments disk.old).now) graph in
+        let events = compile_part (since (P.journal procs.old) (P.journal procs.new)) in
+        Says result (build_said graph (marks_of setting events)) (O.contents out.old)
         (O.contents out.new) }
-    ensures cause { (input : ℕ) →
-        Causes result
+    ensures cause { (input : ℕ) → Causes result
+        (record {
+          tree = T.failed_reads tree.old;
+          disk = D.failed_disk_calls disk.old;
+          start = P.failed_starts procs.old;
+          child = P.lost_children procs.old;
+          out = O.failed_puts out.old;
+          input = input;
+        })
+        (record {
+          tree = T.failed_reads tree.new;
+          disk = D.failed_disk_calls disk.new;
+          start = P.failed_starts procs.new;
+          child = P.lost_children procs.new;
+          out = O.failed_puts out.new;
+          input = input;
+        }) }
+    ensures stand { (input : ℕ) → CountsStand
         (record {
           tree = T.failed_reads tree.old;
           disk = D.failed_disk_calls disk.old;
@@ -226,7 +234,7 @@ fn run_compile<T: Tree, D: Disk, P: Procs, O: Sink>(
 /// The words are those of the command line without the program's name. With the one word `--compile` the files of
 /// the project in the tree are built in listed order: of a file whose text, name, command and dependencies are those of
 /// its record on the disk nothing is started, and each other file is compiled, once, one at a time, until one is
-/// refused; what a compiler gives is kept on the disk before the next start. With the first word `child-analyse` the
+/// refused; what a compiler gives is committed before the next start. With the first word `child-analyse` the
 /// program is a child. Any other words are answered `BadWords`.
 ///
 /// From every object's answers the call answers what the clauses below say; where an object tells nothing, it is
@@ -242,81 +250,77 @@ pub fn run_vunit<I: Source, T: Tree, D: Disk, P: Procs, O: Sink>(
 ) -> Outcome
     requires { P.running procs.old ≡ [] }
 
-    // No child runs at the return.
+    // No child runs at the return, the compilers and the sources are as before, and the journal has grown at its end
+    // alone.
     ensures running { P.running procs.new ≡ [] }
-
-    // The journal has grown at its end alone. What was added is a lawful journal of the graph that words and
-    // sources say, over the latest records that reads of the disk gave, on every answer: each start is of the first
-    // file that has no current record and wasn't started. Without a graph nothing was added.
+    ensures same { P.answer procs.new ≡ P.answer procs.old }
+    ensures sources { T.file tree.new ≡ T.file tree.old }
+    ensures listed { T.listed tree.new ≡ T.listed tree.old }
     ensures kept { P.tells →
         (P.journal procs.new
         ≡ P.journal procs.old ++ since (P.journal procs.old) (P.journal procs.new)) }
-    ensures lawful { (scan : List ℕ → Finding) → IsScanner scan → T.tells → D.tells → P.tells →
-        IsLawful (latest_in (D.moments disk.old).now) (reading scan words.now (T.file tree.old))
-        (since (P.journal procs.old) (P.journal procs.new)) }
-    ensures answered { (scan : List ℕ → Finding) → IsScanner scan → T.tells → D.tells → P.tells →
-        IsAnswered (P.answer procs.old) (latest_in (D.moments disk.old).now)
-        (reading scan words.now (T.file tree.old))
-        (since (P.journal procs.old) (P.journal procs.new)) }
 
-    // Where neither a fault nor out of memory is answered, it is greedy and finished too, and no child was lost.
-    ensures whole { (scan : List ℕ → Finding) → IsScanner scan → T.tells → D.tells → P.tells →
-        IsSaid result →
-        EndsByItself (latest_in (D.moments disk.old).now) (reading scan words.now (T.file tree.old))
-        (since (P.journal procs.old) (P.journal procs.new)) }
+    // What the run did is a step of a history, and right from a disk of true records.
+    ensures ran { (scan : List ℕ → Finding) → IsScanner scan → T.tells → D.tells → P.tells →
+        RunsAs scan (P.answer procs.old) (reading scan words.now (T.file tree.old))
+        (run_of words.now result
+        (has_risen (D.failed_disk_calls disk.old) (D.failed_disk_calls disk.new))
+        (since (P.journal procs.old) (P.journal procs.new))
+        (added_since (D.moments disk.old) (D.moments disk.new)))
+        (D.moments disk.old).now (D.moments disk.new).now }
 
-    // From a disk of true records: children are started with what a clean build asks of its compilers for the files
-    // that have no current record, in its order, and no more. Where the build is done, each file is made, and the
-    // marks are those that a clean build says.
-    ensures starts { (scan : List ℕ → Finding) → IsScanner scan → T.tells → D.tells → P.tells →
-        IsFaithfulDisk (P.answer procs.old) records_in (D.moments disk.old).now →
-        AsksCleanly (P.answer procs.old) (latest_in (D.moments disk.old).now)
-        (reading scan words.now (T.file tree.old)) result
-        (starts_of (since (P.journal procs.old) (P.journal procs.new))) }
-    ensures made { (scan : List ℕ → Finding) → IsScanner scan → T.tells → D.tells → P.tells →
-        IsFaithfulDisk (P.answer procs.old) records_in (D.moments disk.old).now →
-        AllAreBuilt (latest_in (D.moments disk.old).now) (reading scan words.now (T.file tree.old))
-        result (since (P.journal procs.old) (P.journal procs.new)) }
-    ensures steady { (scan : List ℕ → Finding) → IsScanner scan → T.tells → D.tells → P.tells →
-        IsFaithfulDisk (P.answer procs.old) records_in (D.moments disk.old).now →
-        IsSteady (P.answer procs.old) (latest_in (D.moments disk.old).now)
-        (reading scan words.now (T.file tree.old)) result
-        (since (P.journal procs.old) (P.journal procs.new)) }
+    // Each source is asked for once, in project order: all of them, or the first ones, and then neither the disk nor
+    // children are touched.
+    ensures asked { T.tells →
+        let paths = project_paths (T.file tree.old) in
+        (T.asked tree.new ≡ T.asked tree.old ++ paths)
+        ⊎ (AsksFirst paths (T.asked tree.old) (T.asked tree.new)
+        × (disk.new ≡ disk.old) × (procs.new ≡ procs.old)) }
 
-    // At the end of a build that ended by itself, in whatever a stop can leave, each file that is made has a record of its
-    // present view.
-    ensures records { (scan : List ℕ → Finding) → IsScanner scan → T.tells → D.tells → P.tells →
-        RecordsMade (latest_in (D.moments disk.old).now) (reading scan words.now (T.file tree.old))
-        result (since (P.journal procs.old) (P.journal procs.new)) (D.moments disk.new).now }
+    // What isn't needed isn't touched: input but by a child of the program; tree, disk and children by words that are no
+    // command to compile; disk and children where the sources give nothing to build, on every answer.
+    ensures no_input { begins_as_child words.now ≡ false → input.new ≡ input.old }
+    ensures words_alone { is_compile words.now ≡ false →
+        (tree.new ≡ tree.old) × (disk.new ≡ disk.old) × (procs.new ≡ procs.old) }
+    ensures untouched { (scan : List ℕ → Finding) → IsScanner scan → T.tells →
+        order_of (reading scan words.now (T.file tree.old)) ≡ None →
+        (disk.new ≡ disk.old) × (procs.new ≡ procs.old) }
 
-    // At any moment, on every answer, a stop can leave the records from before with a prefix of what the children gave. If
-    // whatever a stop could leave before had true records alone, so has whatever a stop can leave.
-    ensures given { (scan : List ℕ → Finding) → IsScanner scan → T.tells → D.tells → P.tells →
-        AtAnyMoment (D.moments disk.old) (D.moments disk.new)
-        (HasGiven (D.moments disk.old).now
-        (given (latest_in (D.moments disk.old).now)
-        (reading scan words.now (T.file tree.old))
-        (since (P.journal procs.old) (P.journal procs.new)))) }
-    ensures faithful { D.tells → P.tells →
-        IsFaithfulDisk (P.answer procs.old) records_in (D.moments disk.old).now →
-        AtAnyMoment (D.moments disk.old) (D.moments disk.new)
-        (IsFaithful (P.answer procs.old) records_in) }
-
-    // Where words and sources give no graph, the disk isn't touched, on every answer.
-    ensures untouched { (scan : List ℕ → Finding) → IsScanner scan → T.tells → D.tells →
-        LeavesDisk (reading scan words.now (T.file tree.old)) (D.moments disk.old)
-        (D.moments disk.new) }
-
-    // The answer and the text that is put are those that words, sources, records, input and journal say.
-    ensures said { (scan : List ℕ → Finding) → IsScanner scan → I.tells → T.tells → D.tells →
-        P.tells → O.tells →
-        Says result
-        (said (latest_in (D.moments disk.old).now) (reading scan words.now (T.file tree.old))
-        (I.left input.old) (since (P.journal procs.old) (P.journal procs.new)))
-        (O.contents out.old) (O.contents out.new) }
+    // The answer and the text that is put: of a child of the program; of words and sources that give nothing to build; of
+    // a build, by its marks.
+    ensures says_child { I.tells → O.tells → begins_as_child words.now ≡ true →
+        Says result (child_said (I.left input.old)) (O.contents out.old) (O.contents out.new) }
+    ensures says_refusal { (scan : List ℕ → Finding) → IsScanner scan → T.tells → O.tells →
+        (what : Said) → refusal_said (reading scan words.now (T.file tree.old)) ≡ Some what →
+        Says result what (O.contents out.old) (O.contents out.new) }
+    ensures says_build { (scan : List ℕ → Finding) → IsScanner scan → T.tells → D.tells →
+        P.tells → O.tells → (graph : List Entry) →
+        reading scan words.now (T.file tree.old) ≡ Go graph →
+        let setting = one_at_a_time (latest_in (D.moments disk.old).now) graph in
+        let events = compile_part (since (P.journal procs.old) (P.journal procs.new)) in
+        Says result (build_said graph (marks_of setting events)) (O.contents out.old)
+        (O.contents out.new) }
 
     // A fault is answered only where its count rose; after any other answer but out of memory all counts are unchanged.
+    // No count falls.
     ensures cause { Causes result
+        (record {
+          tree = T.failed_reads tree.old;
+          disk = D.failed_disk_calls disk.old;
+          start = P.failed_starts procs.old;
+          child = P.lost_children procs.old;
+          out = O.failed_puts out.old;
+          input = I.failed_takes input.old;
+        })
+        (record {
+          tree = T.failed_reads tree.new;
+          disk = D.failed_disk_calls disk.new;
+          start = P.failed_starts procs.new;
+          child = P.lost_children procs.new;
+          out = O.failed_puts out.new;
+          input = I.failed_takes input.new;
+        }) }
+    ensures stand { CountsStand
         (record {
           tree = T.failed_reads tree.old;
           disk = D.failed_disk_calls disk.old;

@@ -1,4 +1,4 @@
-use Rattle.std.proofs.Common.{◌≡◌, ◌+◌, ◌∙◌, Option, List, ℕ, Err, length, ap, subst, arith}
+use Rattle.std.proofs.Common.{◌≡◌, ◌+◌, ◌∙◌, Option, List, [], ◌∷◌, ℕ, Err, length, ap, subst, arith}
 use Rattle.std.specs.Prelude.{sum_by}
 use Rattle.std.proofs.lemmas.List.{length_push}
 use Rattle.std.proofs.lemmas.List.Sums.{sum_by_push}
@@ -7,6 +7,7 @@ use Rattle.vr_outside.specs.Trees.{read_end}
 use Rattle.vunit_top.specs.Reading.{bounds, text_of}
 use Rattle.vunit_top.specs.Sources.{Gives}
 use Rattle.vunit_top.proofs.Texts.{text_then, no_text_then, all_texts}
+use Rattle.vunit_top.proofs.Asks.{all_first, one_more_asked, stops_asking, all_asked}
 use Rattle.vunit_top.proofs.sources.texts_of.Goals as goal
 
 pub returns-in_err-text-clause-texts : goal.returns-in_err-text-clause-texts
@@ -25,9 +26,24 @@ loop-file-preserved g c =
       sum = let sum = ap (λ (texts : List (List ℕ)). sum_by (λ (text : List ℕ). length text) texts) pushed ∙ sum_by_push (λ (text : List ℕ). length text) c.loop-file.texts c.in_ok-text.text in omega (arith, sum, bytes, i.sum);
       small = omega (arith, bytes, c.in_ok-text.ensures.size);
       same = c.in_ok-text.ensures.same ∙ i.same;
+      same_list = c.in_ok-text.ensures.same_list ∙ i.same_list;
+      asked = one_more_asked c.args.files.now c.loop-file.file-index c.file-item.result _ _ c.loop-file-test.true c.file-item.is i.asked _ c.in_ok-text.ensures.asked;
       counts = c.in_ok-text.ensures.cause ∙ i.counts;
       told = λ tells. rw (pushed, bytes) (text_then (g.T.Tree.file c.args.tree.now) c.loop-file.total c.args.files.now c.loop-file.file-index c.file-item.result c.loop-file.texts _ c.loop-file-test.true c.file-item.is (i.told tells) c.in_ok-text.text (rw i.same at (c.in_ok-text.ensures.text tells)));
     }
 
 pub returns-clause-texts : goal.returns-clause-texts
 returns-clause-texts g c = λ tells. all_texts (g.T.Tree.file c.args.tree.now) c.loop-file.total c.args.files.now c.loop-file.file-index c.loop-file.texts _ c.loop-file-test.false (c.loop-file.invariant.told tells)
+
+pub returns-in_err-text-clause-asked : goal.returns-in_err-text-clause-asked
+returns-in_err-text-clause-asked g c =
+    let p = err_from_is_err_and c.from_residual.result c.from_residual.ensures.1 in
+    rw p.1 (stops_asking c.args.files.now c.loop-file.file-index c.file-item.result _ _ c.loop-file-test.true c.file-item.is c.loop-file.invariant.asked _ c.in_err-text.ensures.asked)
+
+pub returns-in_err-push-clause-asked : goal.returns-in_err-push-clause-asked
+returns-in_err-push-clause-asked g c =
+    let p = err_from_is_err_and c.from_residual-in_err-push.result c.from_residual-in_err-push.ensures.1 in
+    rw p.1 (stops_asking c.args.files.now c.loop-file.file-index c.file-item.result _ _ c.loop-file-test.true c.file-item.is c.loop-file.invariant.asked _ (all_first (c.file-item.result.name.path ∷ []) _ _ c.in_ok-text.ensures.asked))
+
+pub returns-clause-asked : goal.returns-clause-asked
+returns-clause-asked g c = all_asked c.args.files.now c.loop-file.file-index _ _ c.loop-file-test.false c.loop-file.invariant.asked

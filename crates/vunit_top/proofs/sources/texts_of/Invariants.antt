@@ -1,6 +1,7 @@
-use Rattle.std.proofs.Common.{◌≡◌, ◌≤◌, length, drop}
+use Rattle.std.proofs.Common.{◌≡◌, ◌≤◌, ◌++◌, length, take, drop}
 use Rattle.std.specs.Prelude.{sum_by}
 use Rattle.vunit_top.specs.Reading.{texts_of}
+use Rattle.vunit_top.specs.Asked.{file_paths}
 use Rattle.vunit_top.proofs.Texts.{after}
 use Rattle.vunit_top.proofs.sources.texts_of.Given as goal
 use Rattle.vr_base.specs.declared.limits.TheConstants.{PROJECT_TEXT_LIMIT}
@@ -11,6 +12,8 @@ invariant-loop-file g l = record {
   sum : sum_by (λ text. length text) l.texts ≡ l.total;
   small : l.total ≤ PROJECT_TEXT_LIMIT;
   same : g.T.Tree.file l.tree ≡ g.T.Tree.file l.fn.tree;
+  same_list : g.T.Tree.listed l.tree ≡ g.T.Tree.listed l.fn.tree;
+  asked : g.T.Tree.asked l.tree ≡ g.T.Tree.asked l.fn.tree ++ file_paths (take l.file-index l.files);
   counts : g.T.Tree.failed_reads l.tree ≡ g.T.Tree.failed_reads l.fn.tree;
   told : g.T.Tree.tells → after l.texts (texts_of (g.T.Tree.file l.fn.tree) l.total (drop l.file-index l.files)) ≡ texts_of (g.T.Tree.file l.fn.tree) 0 l.files;
 }

@@ -1,0 +1,128 @@
+-- What follows of one run, and then of the next.
+use Rattle.std.proofs.Common.{◌≡◌, ℕ, ◌<◌, Bool, true, false, List, [], ◌∷◌, ◌++◌, length, Option, Some, None, refl, sym, ap, subst, ◌∙◌, arith, inl, inr}
+use Rattle.std.specs.Prelude.{◌↔◌, is_some, Contains}
+use Rattle.std.proofs.lemmas.Bool.{cases_Bool, false≢true}
+use Rattle.std.proofs.lemmas.List.{append-nil}
+use Rattle.std.proofs.lemmas.List.Elements.{All-contains}
+use Rattle.std.proofs.lemmas.Option.{none-some}
+use Rattle.vr_base.specs.declared.file.FileName.{FileName}
+use Rattle.vr_base.specs.declared.graph.Entry.{Entry}
+use Rattle.vr_base.specs.declared.child.Request.{Request}
+use Rattle.vr_base.specs.declared.child.Exit.{Exit}
+use Rattle.vr_base.specs.declared.child.Event.{Event}
+use Rattle.vr_base.specs.declared.outcome.Outcome.{Outcome}
+use Rattle.vr_base.specs.declared.outcome.Outcome.TheVariants as outcome
+use Rattle.vr_outside.specs.declared.records.Record.{Record}
+use Rattle.vr_outside.specs.Disks.{DiskState, Moments, AreSound, reads_of, added_since}
+use Rattle.vr_outside.specs.Commits.{last_state}
+use Rattle.record_store.specs.Stored.{records_in}
+use Rattle.run_spec.specs.ChildJournal.{Setting, Lawful, Answered, EachAfter, book_of, artefact_after}
+use Rattle.run_spec.specs.Faithful.{IsFaithfulDisk}
+use Rattle.run_spec.specs.Histories.{Sources, Order, ProgramRun, Ran, Stopped, IsReadable, IsMoment, IsLeft, RunStep, IsHistory, run_setting}
+use Rattle.run_spec.specs.JournalParts.{compile_part}
+use Rattle.run_spec.specs.Recorded.{recorded_at}
+use Rattle.run_spec.proofs.RecordedArtefacts.{recorded_of_record}
+use Rattle.clean_laws.proofs.JournalKeeps.{was_taken, orderly_book, none_of_untaken}
+use Rattle.clean_laws.proofs.JournalStarted.{held, nothing_due, started_unrecorded}
+use Rattle.history_laws.specs.Rights.{AllRight}
+use Rattle.history_laws.specs.Spares.{IsAcknowledged, SparesFile, AllSpare}
+use Rattle.history_laws.proofs.RightRuns.{all_right}
+use Rattle.history_laws.proofs.StoppedRuns.{stopped_spares}
+use Rattle.scan_spec.specs.Scans.{Finding}
+use Rattle.vunit_top.specs.Reading.{Reading, Bad, Child, Stops, Over, Go, reading}
+use Rattle.vunit_top.specs.Runs.{order_of, world_of, run_of, has_risen, RunsAs}
+use Rattle.vunit_top.specs.Said.{IsSaid, latest_in, graph_of, build_of}
+use Rattle.vunit_top.proofs.RunTruths.{readable_now}
+use Rattle.run_chains.specs.Chains.{Deeds, run_by, RanTwice, RanAfterStop}
+
+module _ (scan : List ℕ → Finding) (answer : Request → Exit) (run : ProgramRun) (first : DiskState) where
+  -- where something is recorded of each file, a run starts nothing
+  nothing_started : (r : Reading) → RunStep (world_of scan answer) (order_of r) run first → ((position : ℕ) → position < length (graph_of r) → recorded_at (latest_in first) (graph_of r) position ≡ None → ⊥) → run.events ≡ []
+  nothing_started Bad step each = step.events
+  nothing_started Child step each = step.events
+  nothing_started (Stops reason) step each = step.events
+  nothing_started (Over limit number) step each = step.events
+  nothing_started (Go graph) (inl idle) each = idle.events
+  nothing_started (Go graph) (inr build) each = nothing_due (build_of (latest_in first) (Go graph)) each run.events build.lawful
+
+  -- the events of a run are its compilers' answers
+  answered_in : (r : Reading) → RunStep (world_of scan answer) (order_of r) run first → Answered answer run.events
+  unfolding EachAfter
+  answered_in Bad step = subst (Answered answer) (sym step.events) tt
+  answered_in Child step = subst (Answered answer) (sym step.events) tt
+  answered_in (Stops reason) step = subst (Answered answer) (sym step.events) tt
+  answered_in (Over limit number) step = subst (Answered answer) (sym step.events) tt
+  answered_in (Go graph) (inl idle) = subst (Answered answer) (sym idle.events) tt
+  answered_in (Go graph) (inr build) = build.answered
+
+  -- a run that is done has started exactly the files that nothing was recorded of
+  exact_starts : (r : Reading) (last : DiskState) → RunsAs scan answer r run first last → IsFaithfulDisk answer records_in first → run.outcome ≡ outcome.Done → (position : ℕ) → position < length (graph_of r) →
+      Contains (book_of (build_of (latest_in first) r) run.events).taken position ↔ (recorded_at (latest_in first) (graph_of r) position ≡ None)
+  exact_starts r last did faithful done position inside =
+      let setting : Setting = build_of (latest_in first) r in
+      let lawful : Lawful setting run.events = (did.whole (subst IsSaid (sym done) tt)).lawful in
+      let answered : Answered answer run.events = answered_in r did.step in
+      let made : is_some (artefact_after setting run.events position) ≡ true = did.made faithful done position inside in (
+        λ contains. All-contains (λ p. setting.recorded p ≡ None) (book_of setting run.events).taken position (started_unrecorded answer setting run.events lawful answered) contains,
+        λ none. elim (cases_Bool (was_taken (book_of setting run.events) position)) [
+          | inl taken ↦ held (book_of setting run.events).taken position taken
+          | inr fresh ↦ absurd (false≢true (sym (ap is_some (none_of_untaken setting (book_of setting run.events) position (orderly_book answer setting run.events lawful answered).ends fresh none)) ∙ made))
+        ],
+      )
+
+module _ (scan : List ℕ → Finding) (answer : Request → Exit) (words : List (List ℕ)) (sources : Sources) (one two : Outcome) (before after : Deeds) where
+  abbrev r : Reading
+  r = reading scan words sources
+
+  abbrev First : DiskState → DiskState → Type 0
+  First first middle = RunsAs scan answer r (run_by words one before) first middle
+
+  abbrev Second : DiskState → DiskState → Type 0
+  Second middle last = RunsAs scan answer r (run_by words two after) middle last
+
+  -- after a run that is done each file has a current record
+  each_recorded : (first middle : DiskState) → IsReadable middle → First first middle → IsFaithfulDisk answer records_in first → one ≡ outcome.Done → (position : ℕ) → position < length (graph_of r) → recorded_at (latest_in middle) (graph_of r) position ≡ None → ⊥
+  each_recorded first middle readable did faithful done position inside none =
+      let kept = did.recorded (subst IsSaid (sym done) tt) position inside (did.made faithful done position inside) (reads_of middle) readable in
+      none-some kept.artefact (sym none ∙ recorded_of_record (latest_in middle) (graph_of r) position kept)
+
+  pub ran_twice : (first middle last : DiskState) (old new : List Event) → IsReadable middle → First first middle → Second middle last → new ≡ (old ++ before.events) ++ after.events → RanTwice scan answer words sources one two first last old new
+  unfolding IsHistory
+  ran_twice first middle last old new readable did next journal = record {
+    before = before;
+    after = after;
+    history = (did.step, (subst (RunStep (world_of scan answer) (order_of r) (run_by words two after)) (sym did.ends) next.step, tt));
+    ends = ap (λ (disk : DiskState). last_state disk after.later) did.ends ∙ next.ends;
+    journal = journal;
+    idle = λ faithful done. nothing_started scan answer (run_by words two after) middle r next.step (each_recorded first middle readable did faithful done);
+  }
+
+  -- a stop at a moment of the first run has left what the second finds
+  module _ (first middle moment left last : DiskState) (did : First first middle) (is : IsMoment moment first before.later) (stop : IsLeft moment left) (next : Second left last) where
+    two_runs : (events rest : List Event) → compile_part before.events ≡ events ++ rest →
+        IsHistory (world_of scan answer) sources first (Stopped (run_by words one before) (record { events = events; moment = moment; disk = left }) ∷ Ran (run_by words two after) ∷ [])
+    unfolding IsHistory
+    two_runs events rest prefix = (did.step, record { rest = rest; prefix = prefix; moment = is; left = stop }, (next.step, tt))
+
+    spares : (name : FileName) (kept : Record) → IsAcknowledged (world_of scan answer) name kept moment → SparesFile (world_of scan answer) (order_of r) name kept.view (run_by words two after) left
+    unfolding AllSpare
+    spares name kept here =
+        (stopped_spares (world_of scan answer) sources first (run_by words one before) (record { events = compile_part before.events; moment = moment; disk = left }) (Ran (run_by words two after) ∷ []) name kept
+        (two_runs (compile_part before.events) [] (sym (append-nil (compile_part before.events)))) here).0
+
+    still_true : IsReadable first → IsFaithfulDisk answer records_in first → IsFaithfulDisk answer records_in left
+    unfolding IsHistory AllRight
+    still_true readable faithful =
+        (all_right (world_of scan answer) (Stopped (run_by words one before) (record { events = compile_part before.events; moment = moment; disk = left }) ∷ []) sources first readable faithful
+        (did.step, record { rest = []; prefix = sym (append-nil (compile_part before.events)); moment = is; left = stop }, tt)).1
+
+    pub ran_after_stop : (old new : List Event) → IsReadable first → new ≡ (old ++ before.events) ++ after.events → RanAfterStop scan answer words sources one two before.disk_failed first before.later moment left last old new
+    ran_after_stop old new readable journal = record {
+      before = before.events;
+      after = after;
+      history = two_runs;
+      ends = next.ends;
+      journal = journal;
+      spares = spares;
+      exact = λ faithful done position inside. exact_starts scan answer (run_by words two after) left r last next (still_true readable faithful) done position inside;
+    }

@@ -1,0 +1,78 @@
+//! Two runs of the program, one after the other.
+
+ghost use Rattle.std.specs.Prelude.{◌≡◌, [], ℕ, List};
+ghost use Rattle.vr_outside.specs.Disks.{DiskState, added_since};
+ghost use Rattle.run_spec.specs.ChildJournal.{since};
+ghost use Rattle.run_spec.specs.Histories.{IsMoment, IsLeft};
+ghost use Rattle.scan_spec.specs.Scans.{Finding, IsScanner};
+ghost use Rattle.vunit_top.specs.Runs.{has_risen};
+ghost use Rattle.run_chains.specs.Chains.{RanTwice, RanAfterStop};
+
+use std::alloc::Global;
+use vr_base::{Outcome, TextList};
+use vr_outside::{Disk, Procs, Sink, Source, Tree};
+use vunit_top::run_vunit;
+
+/// What two runs answered.
+#[derive(Drop)]
+pub struct Outcomes {
+    pub first: Outcome,
+    pub second: Outcome,
+}
+
+/// Runs the program twice with the same words over the same objects.
+pub fn run_twice<I: Source, T: Tree, D: Disk, P: Procs, O: Sink>(
+    alloc: Global,
+    words: &TextList,
+    input: &mut I,
+    tree: &mut T,
+    disk: &mut D,
+    procs: &mut P,
+    out: &mut O,
+) -> Outcomes
+    requires { P.running procs.old ≡ [] }
+    ensures running { P.running procs.new ≡ [] }
+    ensures same { P.answer procs.new ≡ P.answer procs.old }
+    ensures sources { T.file tree.new ≡ T.file tree.old }
+    ensures ran { (scan : List ℕ → Finding) → IsScanner scan → T.tells → D.tells → P.tells →
+        RanTwice scan (P.answer procs.old) words.now (T.file tree.old) result.first result.second
+        (D.moments disk.old).now (D.moments disk.new).now
+        (P.journal procs.old) (P.journal procs.new) }
+{
+    let first = run_vunit(alloc, words, input, tree, disk, procs, out);
+    let second = run_vunit(alloc, words, input, tree, disk, procs, out);
+    Outcomes { first, second }
+}
+
+/// Runs the program over a disk, and then with the same words and sources over another disk, which may be what a stop of
+/// the first run has left.
+pub fn run_after_stop<I: Source, T: Tree, D: Disk, E: Disk, P: Procs, O: Sink>(
+    alloc: Global,
+    words: &TextList,
+    input: &mut I,
+    tree: &mut T,
+    disk: &mut D,
+    left: &mut E,
+    procs: &mut P,
+    out: &mut O,
+) -> Outcomes
+    requires { P.running procs.old ≡ [] }
+    ensures running { P.running procs.new ≡ [] }
+    ensures same { P.answer procs.new ≡ P.answer procs.old }
+    ensures sources { T.file tree.new ≡ T.file tree.old }
+    ensures ran { (scan : List ℕ → Finding) → IsScanner scan → T.tells → D.tells → E.tells →
+        P.tells → (moment : DiskState) →
+        IsMoment moment (D.moments disk.old).now
+        (added_since (D.moments disk.old) (D.moments disk.new)) →
+        IsLeft moment (E.moments left.old).now →
+        RanAfterStop scan (P.answer procs.old) words.now (T.file tree.old)
+        result.first result.second
+        (has_risen (D.failed_disk_calls disk.old) (D.failed_disk_calls disk.new))
+        (D.moments disk.old).now (added_since (D.moments disk.old) (D.moments disk.new)) moment
+        (E.moments left.old).now (E.moments left.new).now
+        (P.journal procs.old) (P.journal procs.new) }
+{
+    let first = run_vunit(alloc, words, input, tree, disk, procs, out);
+    let second = run_vunit(alloc, words, input, tree, left, procs, out);
+    Outcomes { first, second }
+}

@@ -1,0 +1,10 @@
+//! What one run of the program promises is enough for the next one: callers of the top call that are proved from its
+//! contract alone.
+#![tactic(auto)]
+
+mod chains;
+
+pub use chains::{Outcomes, run_after_stop, run_twice};
+
+#[cfg(test)]
+mod tests;
