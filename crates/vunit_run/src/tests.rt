@@ -268,13 +268,14 @@ fn keeps_the_prefix_of_a_long_output(rt: HostRuntime) -> Result<(), Fail> {
     leave_folder(&rt, "output")
 }
 
+// Each script takes its input whole, since one that ends before it was written is a failed start.
 #[test]
 fn takes_results_of_this_run_alone(rt: HostRuntime) -> Result<(), Fail> {
     enter_new_folder(&rt, "results")?;
     for (script, wanted) in [
         ("cat > a/b/r", Some(b"new".as_slice())),
         ("cat", None),
-        ("head -c 1048577 /dev/zero > a/b/r", None),
+        ("cat > a/b/r; head -c 1048577 /dev/zero > a/b/r", None),
     ] {
         let path = MaybeText::Given(text(rt.alloc(), b"a/b/r")?);
         let end = exit_of(&rt, &["sh", "-c", script], b"new", path)?;
