@@ -220,7 +220,22 @@ list_crates() {
     (cd -- "$folder/sources" && find crates/*/src crates/*/specs crates/*/proofs -type f -printf '%s %p\n' 2>/dev/null) |
         awk -v folder="$folder" '
             FNR == NR { split($2, part, "/"); bytes[part[2]] += $1; next }
-            { text = $0; sub(/#.*/, ""); gsub(/[:,]/, " "); if (NF) { line[$1] = text; uses[$1] = $0 } }
+            # (what only tests use stands after the line)
+            {
+                tests = $0
+                if (!sub(/^[^#]*#/, "", tests)) tests = ""
+                sub(/#.*/, "")
+                if (NF == 0) next
+                split("", only)
+                count = split(tests, names, " ")
+                for (at = 1; at <= count; at++) only[names[at]] = 1
+                text = $1
+                for (at = 2; at <= NF; at++) if (!($at in only)) text = text " " $at
+                $0 = text
+                gsub(/[:,]/, " ")
+                line[$1] = text
+                uses[$1] = $0
+            }
             function add_below(crate, top, used, count, at) {
                 count = split(uses[crate], used, " ")
                 for (at = 2; at <= count; at++)
