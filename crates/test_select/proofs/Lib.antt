@@ -1,0 +1,7 @@
+-- The lemmas of this crate.
+mod Prefixes
+mod Parts
+mod Matched
+mod Left
+mod Sets
+mod Pieces

@@ -1,0 +1,4 @@
+-- The definitions of this crate.
+pub mod Patterns
+pub mod Matching
+pub mod Segments

@@ -1,0 +1,25 @@
+-- Which names a pattern matches: those that can be cut into one part for each piece, in order.
+use Rattle.std.specs.Prelude.{◌≡◌, ℕ, ◌≤◌, nat_le, Bool, not, ◌&&◌, if◌then◌else◌, IsTrue, List, [], ◌∷◌, length, take, drop}
+use Rattle.std.specs.List.{list_any}
+use Rattle.test_select.specs.declared.pattern.ByteRange.{ByteRange}
+use Rattle.test_select.specs.declared.pattern.Piece.{Piece}
+use Rattle.test_select.specs.declared.pattern.Piece.TheVariants.{AnyBytes, AnyByte, Byte, OneOf}
+
+-- no byte is in a range whose first is above its last
+abbrev pub is_in_range : ℕ → ByteRange → Bool
+is_in_range byte range = nat_le range.first byte && nat_le byte range.last
+
+abbrev pub is_in_set : Bool → List ByteRange → ℕ → Bool
+is_in_set negated ranges byte = if negated then not (list_any (is_in_range byte) ranges) else list_any (is_in_range byte) ranges
+
+-- the part of a name that a piece stands for
+abbrev pub IsPart : Piece → List ℕ → Type 0
+IsPart AnyBytes part = Unit {0}
+IsPart AnyByte part = length part ≡ 1
+IsPart (Byte byte) part = part ≡ byte ∷ []
+IsPart (OneOf negated ranges) part = (byte : ℕ) × (part ≡ byte ∷ []) × IsTrue (is_in_set negated ranges byte)
+
+-- the name is a part for each piece, one after the other
+abbrev pub Matches : List Piece → List ℕ → Type 0
+Matches [] name = name ≡ []
+Matches (piece ∷ pieces) name = (count : ℕ) × (count ≤ length name) × IsPart piece (take count name) × Matches pieces (drop count name)

@@ -1,0 +1,76 @@
+-- What bytes mean as a pattern of names. Every text is a pattern.
+use Rattle.std.specs.Prelude.{ℕ, zero, suc, ◌+◌, ◌==◌, Bool, true, false, if◌then◌else◌, List, [], ◌∷◌, take, Option, Some, None, option_map}
+use Rattle.std.specs.Option.{unwrap_or}
+use Rattle.test_select.specs.declared.pattern.ByteRange.{ByteRange}
+use Rattle.test_select.specs.declared.pattern.Piece.{Piece}
+use Rattle.test_select.specs.declared.pattern.Piece.TheVariants.{AnyBytes, AnyByte, Byte, OneOf}
+
+-- the bytes with a meaning of their own: `*`, `?`, `[`, `!`, `-` and `]`
+abbrev pub star : ℕ
+star = 42
+
+abbrev pub question : ℕ
+question = 63
+
+abbrev pub opening : ℕ
+opening = 91
+
+abbrev pub negation : ℕ
+negation = 33
+
+abbrev pub dash : ℕ
+dash = 45
+
+abbrev pub closing : ℕ
+closing = 93
+
+-- ## Sets
+
+-- a byte that stands for itself
+abbrev pub one_byte : ℕ → ByteRange
+one_byte byte = record { first = byte; last = byte }
+
+-- What is in a set, read from the left: `x-y` with both ends there stands for the bytes from x to y, and any other byte for
+-- itself.
+unfoldable pub ranges_of : List ℕ → List ByteRange
+ranges_of [] = []
+ranges_of (first ∷ []) = one_byte first ∷ []
+ranges_of (first ∷ second ∷ []) = one_byte first ∷ one_byte second ∷ []
+ranges_of (first ∷ second ∷ last ∷ bytes) =
+    if second == dash then record { first = first; last = last } ∷ ranges_of bytes else one_byte first ∷ ranges_of (second ∷ last ∷ bytes)
+
+-- how many bytes come before the first `]`
+unfoldable pub before_closing : List ℕ → Option ℕ
+before_closing [] = None
+before_closing (byte ∷ bytes) = if byte == closing then Some 0 else option_map suc (before_closing bytes)
+
+-- how many bytes are in a set: those before the first `]` that isn't the first of them
+unfoldable pub set_length : List ℕ → Option ℕ
+set_length [] = None
+set_length (byte ∷ bytes) = option_map suc (before_closing bytes)
+
+-- the set that these bytes begin with, up to a `]`, and how many bytes it takes, after so many that are taken already
+unfoldable pub set_after : Bool → ℕ → List ℕ → Option (Piece × ℕ)
+set_after negated taken bytes = option_map (λ count. (OneOf negated (ranges_of (take count bytes)), taken + count + 1)) (set_length bytes)
+
+-- the set that a `[` before these bytes opens, if it opens one; a `!` that follows the `[` negates it
+unfoldable pub opened_set : List ℕ → Option (Piece × ℕ)
+opened_set [] = None
+opened_set (byte ∷ bytes) = if byte == negation then set_after true 1 bytes else set_after false 0 (byte ∷ bytes)
+
+-- ## Pieces
+
+-- the piece that a byte begins, and how many of the bytes after it belong to it; a `[` that opens no set is itself
+unfoldable pub first_piece : ℕ → List ℕ → Piece × ℕ
+first_piece byte bytes =
+    if byte == star then (AnyBytes, 0) else (if byte == question then (AnyByte, 0) else (if byte == opening then unwrap_or (opened_set bytes) (Byte opening, 0) else (Byte byte, 0)))
+
+-- the pieces of bytes after the first so many, which belong to a piece already
+unfoldable pub pieces_after : ℕ → List ℕ → List Piece
+pieces_after taken [] = []
+pieces_after (suc taken) (byte ∷ bytes) = pieces_after taken bytes
+pieces_after zero (byte ∷ bytes) = (first_piece byte bytes).0 ∷ pieces_after (first_piece byte bytes).1 bytes
+
+-- the pieces of a pattern
+abbrev pub pieces_of : List ℕ → List Piece
+pieces_of bytes = pieces_after 0 bytes
