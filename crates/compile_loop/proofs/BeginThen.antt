@@ -1,19 +1,17 @@
 -- A build before its first event: its job and its marks.
-use Rattle.std.proofs.Common.{◌≡◌, ℕ, ◌<◌, Bool, true, false, List, [], length, get_or, map, take, Option, Some, None, refl, sym, ap, ◌∙◌, arith}
-use Rattle.std.specs.Prelude.{slice_get, is_none, if◌then◌else◌}
-use Rattle.std.specs.Option.{option_map_or}
+use Rattle.std.proofs.Common.{◌≡◌, ℕ, ◌<◌, Bool, List, [], length, get_or, map, Option, Some, None, refl, sym, ap, ◌∙◌, arith}
+use Rattle.std.specs.Prelude.{slice_get, is_none}
 use Rattle.std.proofs.lemmas.List.{length-map, get_or-map, take_all}
 use Rattle.std.proofs.lemmas.Option.{slice_get-get_or}
 use Rattle.vr_base.specs.declared.file.FileName.{FileName}
 use Rattle.vr_base.specs.declared.graph.Entry.{Entry}
 use Rattle.vr_base.specs.declared.outcome.Mark.{Mark}
-use Rattle.vr_base.specs.PresentGraph.{below}
 use Rattle.vr_base.proofs.Below.{map-below_is}
 use Rattle.vr_outside.specs.declared.records.Record.{Record}
 use Rattle.vr_outside.specs.declared.records.Need.{Need}
 use Rattle.vr_outside.specs.declared.records.Need.TheVariants.{Fresh, Stale}
-use Rattle.vr_outside.specs.Records.{AreNeeds, IsRecorded, deps_at}
-use Rattle.run_spec.specs.ChildJournal.{Setting, job_of, deps_of, exit_at, output_at, or_else, artefact_so_far, after_all, book_of}
+use Rattle.vr_outside.specs.Records.{AreNeeds}
+use Rattle.run_spec.specs.ChildJournal.{Setting, job_of, exit_at, output_at, or_else, artefact_so_far, after_all}
 use Rattle.run_spec.specs.Marks.{mark_of, mark_at, marks_of}
 use Rattle.run_spec.specs.Recorded.{recorded_at}
 use Rattle.run_spec.specs.Commits.{setting_of}

@@ -1,5 +1,5 @@
 -- The end of a child that is taken: refused, compiled and not committed, or compiled and to be committed.
-use Rattle.std.proofs.Common.{◌≡◌, ℕ, ◌+◌, ◌<◌, Bool, true, false, not, ◌&&◌, eqb, List, [], ◌∷◌, ◌++◌, length, take, Option, Some, None, Err, refl, sym, ap, subst, ◌∙◌}
+use Rattle.std.proofs.Common.{◌≡◌, ℕ, ◌+◌, ◌<◌, Bool, true, false, not, eqb, List, [], ◌∷◌, ◌++◌, length, take, Option, Some, None, Err, refl, sym, ap, subst, ◌∙◌, arith}
 use Rattle.std.specs.Prelude.{is_some}
 use Rattle.std.proofs.Math.ListN.{set}
 use Rattle.std.proofs.lemmas.Bool.{and_parts, not-true, cond-true, cond-false}
@@ -21,12 +21,13 @@ use Rattle.slot_machine.specs.declared.slots.Slots.{Slots}
 use Rattle.slot_machine.specs.Machines.{IsMachineOf}
 use Rattle.compile_loop.specs.declared.faults.BuildFault.{BuildFault}
 use Rattle.compile_loop.specs.declared.faults.BuildFault.TheVariants.{NoMemory, StartFailed, ChildLost, DiskFailed}
-use Rattle.compile_loop.specs.Commits.{latest_after, Acknowledges, HoldsFirst}
-use Rattle.compile_loop.specs.Faults.{noted_with, is_no_memory, is_all_committed, CountsCommit, is_disk_failed}
+use Rattle.compile_loop.specs.Commits.{latest_after, HoldsFirst}
+use Rattle.compile_loop.specs.Faults.{noted_with, is_no_memory, is_all_committed, CountsCommit, is_disk_failed, ComesFirst}
 use Rattle.compile_loop.specs.UnderWay.{Origin, setting_from, halted_if, IsUnderWay, TakesEnd}
 use Rattle.compile_loop.proofs.MarksThen.{mark_of_exit}
 use Rattle.compile_loop.proofs.RecordsThen.{record_of_good, no_record}
 use Rattle.compile_loop.proofs.Acknowledging.{all_few, acknowledges_left, acknowledges_one, holds_left, holds_one}
+use Rattle.compile_loop.proofs.FirstFaults.{first_kept, first_acknowledged, first_uncommitted}
 use Rattle.compile_loop.proofs.UnderWayThen.{commits_ended, machine_ended, ended_under_way}
 
 -- what failed to be committed isn't among what is
@@ -79,7 +80,8 @@ module _ (told : Type 0) (records_of : Image → List Record) (graph : List Entr
           acknowledged = acknowledged;
           under_way = ended_under_way graph from events acknowledged machine marks noted latest_of broken is ticket at exit there inside runs greedy (Refused exit.code exit.output)
               (sym (cond-false (eqb exit.code 0) Compiled (Refused exit.code exit.output) code)) acknowledged machine' noted latest_of broken (λ n. (n, is.usable n)) in_step
-              (acknowledges_left s events all from.latest_of latest_of acknowledged is.committed ended [] all tt none (λ on. (on, refl)));
+              (acknowledges_left s events all from.latest_of latest_of acknowledged is.committed ended [] all tt none (λ on. (on, refl)))
+              (first_kept s events acknowledged broken noted ended is.comes_first);
           images = λ t. subst (λ (l : List Record). HoldsFirst acknowledged broken l records_of first moments) (sym (none ∙ append-nil (commits s events))) (holds t);
         }
 
@@ -98,7 +100,8 @@ module _ (told : Type 0) (records_of : Image → List Record) (graph : List Entr
         acknowledged = acknowledged;
         under_way = ended_under_way graph from events acknowledged machine marks noted latest_of broken is ticket at exit there inside runs greedy Compiled compiled_is
             acknowledged machine' noted latest_of broken (λ n. (n, is.usable n)) in_step
-            (acknowledges_left s events all from.latest_of latest_of acknowledged is.committed ended (one ∷ []) all tt commits_one_more (λ on. no_both (sym off ∙ on)));
+            (acknowledges_left s events all from.latest_of latest_of acknowledged is.committed ended (one ∷ []) all tt commits_one_more (λ on. no_both (sym off ∙ on)))
+            (first_kept s events acknowledged broken noted ended is.comes_first);
         images = λ t. subst (λ (l : List Record). HoldsFirst acknowledged broken l records_of first moments) (sym commits_one_more)
             (holds_left acknowledged broken (commits s events) (one ∷ []) records_of first moments is.committed.few (holds t));
       }
@@ -107,16 +110,27 @@ module _ (told : Type 0) (records_of : Image → List Record) (graph : List Entr
           (noted' ≡ None → (noted ≡ None) × (broken' ≡ false)) → (is_all_committed noted' broken' ≡ true → ok ≡ true) →
           ((job : Job) (c : Core) → IsMachineOf machine' job (halted_if (is_some noted) c) → IsMachineOf machine'' job (halted_if (is_some noted') c)) →
           ((name : FileName) → later name ≡ latest_after (take (one_if ok) (one ∷ [])) latest_of name) → (told → HoldsFirst (one_if ok) broken' (one ∷ []) records_of moments last) →
-          TakesEnd told records_of graph from first (events ++ ended ∷ []) machine'' (set marks at Compiled) noted' later broken' last
-      takes_commit on ok machine'' noted' later broken' last none still halts latest images =
+          ComesFirst noted' s (events ++ ended ∷ []) (acknowledged + one_if ok) broken' → TakesEnd told records_of graph from first (events ++ ended ∷ []) machine'' (set marks at Compiled) noted' later broken' last
+      takes_commit on ok machine'' noted' later broken' last none still halts latest images comes =
           let usable : broken ≡ false = usable_where_all noted broken on in
           let count : acknowledged ≡ length (commits s events) = all_few s events all from.latest_of latest_of acknowledged is.committed on in
           record {
             acknowledged = acknowledged + one_if ok;
             under_way = ended_under_way graph from events acknowledged machine marks noted latest_of broken is ticket at exit there inside runs greedy Compiled compiled_is
                 (acknowledged + one_if ok) machine'' noted' later broken' none (halts (job_of s) (core_of (book_of s (events ++ ended ∷ []))) in_step)
-                (acknowledges_one s events all from.latest_of latest_of acknowledged is.committed ended one ok (is_all_committed noted' broken') later on tt commits_one_more latest still);
+                (acknowledges_one s events all from.latest_of latest_of acknowledged is.committed ended one ok (is_all_committed noted' broken') later on tt commits_one_more latest still) comes;
             images = λ t. subst (λ (l : List Record). HoldsFirst (acknowledged + one_if ok) broken' l records_of first last) (sym commits_one_more)
                 (holds_one acknowledged ok broken' (commits s events) one records_of first moments last count
                 (subst (λ (b : Bool). HoldsFirst acknowledged b (commits s events) records_of first moments) usable (holds t)) (images t));
           }
+
+      -- the fault that is noted after a commit
+      pub first_committed : all ≡ true → (broken' : Bool) → ComesFirst noted s (events ++ ended ∷ []) (acknowledged + 1) broken'
+      first_committed on broken' =
+          first_acknowledged s (events ++ ended ∷ []) acknowledged broken noted (acknowledged + 1) broken' (usable_where_all noted broken on) (omega arith) (first_kept s events acknowledged broken noted ended is.comes_first)
+
+      pub first_failed : all ≡ true → (fault : BuildFault) (before now : ℕ) → CountsCommit {T = Unit {0}} (Err fault) before now → (broken' : Bool) → broken' ≡ is_disk_failed {T = Unit {0}} (Err fault) →
+          ComesFirst (Some (noted_with noted fault)) s (events ++ ended ∷ []) (acknowledged + 0) broken'
+      first_failed on fault before now cause broken' breaks =
+          first_uncommitted s events acknowledged noted broken ended one fault broken' before now cause breaks is.none_lost refl (all_few s events all from.latest_of latest_of acknowledged is.committed on) commits_one_more
+          (usable_where_all noted broken on) is.comes_first

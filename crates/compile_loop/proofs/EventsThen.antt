@@ -1,18 +1,15 @@
 -- A build's events, and one more: its moves, its requests and its machine.
-use Rattle.std.proofs.Common.{◌≡◌, ℕ, Bool, true, false, eqb, ◌||◌, List, map, [], ◌∷◌, ◌++◌, Option, Some, None, refl, sym, ap, subst, ◌∙◌, inl, inr}
-use Rattle.std.specs.Prelude.{unwrap_or}
-use Rattle.std.specs.Option.{option_and_then}
+use Rattle.std.proofs.Common.{◌≡◌, ℕ, Bool, false, eqb, ◌||◌, List, map, [], ◌∷◌, ◌++◌, Option, Some, sym, ap, subst, ◌∙◌, inl, inr}
 use Rattle.std.specs.List.{list_any}
 use Rattle.std.proofs.lemmas.Bool.{cases_Bool, cond-true, cond-false}
 use Rattle.std.proofs.lemmas.Option.{none-some, same_Some}
 use Rattle.std.proofs.lemmas.List.Folds.{list_any-append}
-use Rattle.vr_base.specs.declared.graph.Entry.{Entry}
 use Rattle.vr_base.specs.declared.child.Request.{Request}
 use Rattle.vr_base.specs.declared.child.Exit.{Exit}
 use Rattle.vr_base.specs.declared.child.Event.{Event}
 use Rattle.vr_base.specs.declared.child.Event.TheVariants.{Started, Ended, Gone}
-use Rattle.run_spec.specs.Moves.{Job, Core, empty_core, Move, Starts, Ends, Loses, IsLawfulMove, LawfulMoves, IsGreedyMove, GreedyMoves, after_move, after_moves, position_of}
-use Rattle.run_spec.specs.ChildJournal.{Setting, Run, End, Book, empty_book, job_of, core_of, child_of_run, next_position, request_at, run_of, end_of, after, after_all, book_of, move_of, moves_after, moves_of, IsRequested, AreRequested, Greedy, is_gone}
+use Rattle.run_spec.specs.Moves.{Core, empty_core, Move, Loses, IsLawfulMove, LawfulMoves, IsGreedyMove, GreedyMoves, after_move, position_of}
+use Rattle.run_spec.specs.ChildJournal.{Setting, Run, Book, empty_book, job_of, core_of, child_of_run, run_of, end_of, after, after_all, book_of, move_of, moves_after, moves_of, IsRequested, AreRequested, Greedy, is_gone}
 use Rattle.run_spec.proofs.Journal.{after_all-append, core_after, core_after_all, moves-append, LawfulMoves-append, GreedyMoves-append, AreRequested-append}
 use Rattle.slot_machine.specs.declared.slots.Slots.{Slots}
 use Rattle.slot_machine.specs.Machines.{IsMachineOf}

@@ -1,5 +1,5 @@
 -- A build that a fault halts: what the machine is in step with, event after event.
-use Rattle.std.proofs.Common.{◌≡◌, ℕ, Bool, true, false, not, ◌||◌, ◌&&◌, ltb, length, Option, Some, None, refl, sym, ap, ◌∙◌, inl, inr}
+use Rattle.std.proofs.Common.{◌≡◌, ℕ, Bool, true, false, not, ◌||◌, ◌&&◌, ltb, length, Some, None, refl, sym, ap, ◌∙◌}
 use Rattle.std.proofs.lemmas.Bool.{cond-false}
 use Rattle.std.proofs.lemmas.Option.{none-some}
 use Rattle.run_spec.specs.Moves.{Job, Core, Move, Starts, Ends, Loses, Halts, next_start, start_now, after_move, is_startable}

@@ -1,8 +1,7 @@
 -- What a journal that is told holds, event after event.
-use Rattle.std.proofs.Common.{◌≡◌, ℕ, Bool, true, false, eqb, List, [], ◌∷◌, ◌++◌, map, Option, Some, None, Err, refl, sym, ap, subst, ◌∙◌}
-use Rattle.std.specs.Prelude.{All, IfSome, unwrap_or}
+use Rattle.std.proofs.Common.{◌≡◌, ℕ, true, List, [], ◌∷◌, ◌++◌, Option, Some, Err, sym, ap, subst, ◌∙◌}
+use Rattle.std.specs.Prelude.{IfSome}
 use Rattle.std.specs.Option.{option_map}
-use Rattle.std.specs.List.{list_any}
 use Rattle.std.proofs.lemmas.List.{append_assoc}
 use Rattle.vr_base.specs.declared.child.Request.{Request}
 use Rattle.vr_base.specs.declared.child.Exit.{Exit}
@@ -12,9 +11,9 @@ use Rattle.vr_outside.specs.declared.procs.WaitFault.{WaitFault}
 use Rattle.vr_outside.specs.declared.procs.WaitFault.TheVariants as wait
 use Rattle.vr_outside.specs.Children.{started_with, IsFresh, end_event}
 use Rattle.run_spec.specs.Moves.{is_running}
-use Rattle.run_spec.specs.ChildJournal.{Setting, Run, Book, EachAfter, HasFreshTicket, HoldsAnswer, Answered, core_of, child_of_run, others_of, after, book_of}
+use Rattle.run_spec.specs.ChildJournal.{Setting, Book, EachAfter, HasFreshTicket, core_of, after, book_of}
 use Rattle.run_spec.proofs.Journal.{EachAfter-append, answered_more}
-use Rattle.run_spec.proofs.Steps.{AreStarted, run_found, run_of_running, All-others, started_all, ended_all, gone_all, still_all, started_is, fresh_after}
+use Rattle.run_spec.proofs.Steps.{run_found, run_of_running, started_all, ended_all, gone_all, fresh_after}
 use Rattle.compile_loop.specs.UnderWay.{AreStartedIn, IsJournalled}
 use Rattle.compile_loop.proofs.EventsThen.{book_then}
 

@@ -1,5 +1,5 @@
 -- What the store lends of files that are made, once all is committed.
-use Rattle.std.proofs.Common.{◌≡◌, ℕ, suc, ◌<◌, ◌≤◌, Bool, true, false, List, [], ◌∷◌, ◌++◌, length, get_or, take, Option, Some, None, refl, sym, ap, subst, ◌∙◌, arith, inl, inr}
+use Rattle.std.proofs.Common.{◌≡◌, ℕ, suc, ◌<◌, ◌≤◌, Bool, true, List, [], ◌∷◌, ◌++◌, length, get_or, take, Option, Some, None, refl, sym, ap, subst, ◌∙◌, arith}
 use Rattle.std.specs.Prelude.{All, slice_get, is_some}
 use Rattle.std.specs.Option.{option_map, option_and_then}
 use Rattle.std.specs.List.{filter_map, flat_map, list_all}
@@ -21,8 +21,8 @@ use Rattle.job_codec.specs.Written.{Written}
 use Rattle.job_codec.specs.Written as job
 use Rattle.job_codec.proofs.WrittenInput.{compile_input-is}
 use Rattle.vr_outside.specs.declared.records.Record.{Record}
-use Rattle.vr_outside.specs.Records.{IsRecorded, deps_at}
-use Rattle.run_spec.specs.ChildJournal.{Setting, End, deps_of, built_file, artefact_so_far, request_at}
+use Rattle.vr_outside.specs.Records.{IsRecorded}
+use Rattle.run_spec.specs.ChildJournal.{End, deps_of, built_file, artefact_so_far, request_at}
 use Rattle.clean_laws.proofs.CleanPlaces.{filter_map-cons, filter_map-same}
 use Rattle.run_spec.specs.Commits.{record_at, commits_of}
 use Rattle.compile_loop.specs.Commits.{latest_after}

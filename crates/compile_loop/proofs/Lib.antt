@@ -7,6 +7,7 @@ mod RecordsThen
 mod EventsThen
 mod Lent
 mod Acknowledging
+mod FirstFaults
 mod UnderWayThen
 mod EndsThen
 mod JournalThen

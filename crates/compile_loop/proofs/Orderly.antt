@@ -1,13 +1,13 @@
 -- What lawful moves keep true of the children: those that run were started once, aren't made, and all that they depend
 -- on is made.
-use Rattle.std.proofs.Common.{◌≡◌, ℕ, ◌<◌, ◌+◌, Bool, true, false, not, ◌||◌, ◌&&◌, eqb, ltb, List, [], ◌∷◌, ◌++◌, length, Option, Some, None, refl, sym, ap, subst, ◌∙◌, arith, inl, inr}
-use Rattle.std.specs.Prelude.{All, IsTrue}
+use Rattle.std.proofs.Common.{◌≡◌, ℕ, ◌<◌, Bool, true, false, not, ◌||◌, ◌&&◌, eqb, ltb, List, [], ◌∷◌, ◌++◌, length, Option, Some, None, refl, sym, ap, subst, ◌∙◌, arith, inl, inr}
+use Rattle.std.specs.Prelude.{All}
 use Rattle.std.specs.List.{list_all, list_any}
-use Rattle.std.proofs.lemmas.Bool.{cases_Bool, eqb-true, eq-eqb, ne_eqb, cond-true, cond-false, and_parts, not-true, or_left, or_right, or_cases, false≢true}
+use Rattle.std.proofs.lemmas.Bool.{cases_Bool, eqb-true, eq-eqb, ne_eqb, cond-true, cond-false, and_parts, not-true, or_left, or_right, or_cases}
 use Rattle.std.proofs.lemmas.List.Elements.{All-nil, All-head, All-tail, All-cons, All-push, All-weaker}
 use Rattle.std.proofs.lemmas.List.Folds.{list_any-append}
 use Rattle.std.proofs.lemmas.Option.{none-some, same_Some}
-use Rattle.run_spec.specs.Moves.{Job, Core, RunningChild, EndedChild, empty_core, Move, Starts, Ends, Loses, Halts, is_taken, is_made_so_far, is_startable, next_start, start_now, is_running, position_of, without_child, ended_child, after_move, after_moves, IsLawfulMove, LawfulMoves}
+use Rattle.run_spec.specs.Moves.{Job, Core, RunningChild, EndedChild, empty_core, Move, Starts, Ends, Loses, Halts, is_taken, is_made_so_far, is_startable, next_start, start_now, position_of, without_child, ended_child, after_move, after_moves, IsLawfulMove, LawfulMoves}
 use Rattle.clean_laws.proofs.JournalBooks.{first_at}
 
 -- an end of a child of the file at a position

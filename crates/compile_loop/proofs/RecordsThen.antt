@@ -1,20 +1,17 @@
 -- The latest records of files that are made, event after event, once all is committed.
 use Rattle.std.proofs.Common.{◌≡◌, ℕ, Bool, true, false, eqb, List, [], ◌∷◌, ◌++◌, cond, Option, Some, None, refl, sym, ap, ◌∙◌, inl, inr}
 use Rattle.std.specs.Prelude.{slice_get}
-use Rattle.std.specs.List.{flat_map}
 use Rattle.std.proofs.lemmas.Grind.{flat_map-append}
 use Rattle.std.proofs.lemmas.List.{append-nil}
-use Rattle.std.proofs.lemmas.Bool.{cases_Bool, cases_eq, cond-true, cond-false}
+use Rattle.std.proofs.lemmas.Bool.{cases_eq, cond-true, cond-false}
 use Rattle.std.proofs.lemmas.Option.{none-some, same_Some}
 use Rattle.vr_base.specs.declared.file.FileName.{FileName}
 use Rattle.vr_base.specs.declared.graph.Entry.{Entry}
 use Rattle.vr_base.specs.declared.child.Request.{Request}
 use Rattle.vr_base.specs.declared.child.Exit.{Exit}
 use Rattle.vr_base.specs.Graphs.{IsGraph}
-use Rattle.vr_base.specs.View.{view}
 use Rattle.vr_outside.specs.declared.records.Record.{Record}
-use Rattle.vr_outside.specs.Records.{with_record}
-use Rattle.run_spec.specs.ChildJournal.{Setting, End, output_at, or_else, artefact_so_far}
+use Rattle.run_spec.specs.ChildJournal.{End, output_at, or_else, artefact_so_far}
 use Rattle.run_spec.specs.Recorded.{recorded_at}
 use Rattle.run_spec.proofs.RecordedArtefacts.{record_of_recorded}
 use Rattle.run_spec.specs.Commits.{record_at, commit_of, commits_of}

@@ -1,14 +1,13 @@
 -- A build that is under way, and one event more.
-use Rattle.std.proofs.Common.{◌≡◌, ℕ, ◌+◌, ◌<◌, ◌≤◌, Bool, true, false, not, ◌||◌, ◌&&◌, eqb, List, map, [], ◌∷◌, ◌++◌, length, get_or, Option, Some, None, Err, refl, sym, ap, subst, ◌∙◌, arith, inl, inr}
-use Rattle.std.specs.Prelude.{All, slice_get, is_some, is_none, unwrap_or}
+use Rattle.std.proofs.Common.{◌≡◌, ℕ, ◌<◌, ◌≤◌, Bool, true, false, not, eqb, List, map, [], ◌∷◌, ◌++◌, length, get_or, Option, Some, None, Err, refl, sym, ap, subst, ◌∙◌, arith, inl, inr}
+use Rattle.std.specs.Prelude.{All, slice_get, is_some, unwrap_or}
 use Rattle.std.specs.Option.{option_and_then, option_map_or}
 use Rattle.std.specs.Bool.{OnTrue}
 use Rattle.std.specs.List.{list_all, list_any}
 use Rattle.std.proofs.Math.ListN.{set}
-use Rattle.std.proofs.lemmas.Bool.{cases_Bool, and_parts, not-true}
+use Rattle.std.proofs.lemmas.Bool.{cases_Bool}
 use Rattle.std.proofs.lemmas.List.{append-nil, length-map}
 use Rattle.std.proofs.lemmas.List.Elements.{All-weaker}
-use Rattle.std.proofs.lemmas.Option.{none-some, same_Some}
 use Rattle.vr_base.specs.declared.file.FileName.{FileName}
 use Rattle.vr_base.specs.declared.graph.Entry.{Entry}
 use Rattle.vr_base.specs.declared.child.Request.{Request}
@@ -16,7 +15,6 @@ use Rattle.vr_base.specs.declared.child.Exit.{Exit}
 use Rattle.vr_base.specs.declared.child.Event.{Event}
 use Rattle.vr_base.specs.declared.child.Event.TheVariants.{Started, Ended, Gone}
 use Rattle.vr_base.specs.declared.outcome.Mark.{Mark}
-use Rattle.vr_base.specs.Graphs.{IsGraph}
 use Rattle.vr_base.specs.PresentGraph.{below}
 use Rattle.vr_base.proofs.Below.{length-below}
 use Rattle.vr_outside.specs.declared.records.Record.{Record}
@@ -24,30 +22,29 @@ use Rattle.vr_outside.specs.declared.procs.WaitFault.{WaitFault}
 use Rattle.vr_outside.specs.declared.procs.WaitFault.TheVariants as wait
 use Rattle.vr_outside.specs.Children.{end_event}
 use Rattle.vr_outside.specs.Records.{IsRecorded, deps_at}
-use Rattle.vr_outside.proofs.CommitLaws.{one_if}
-use Rattle.run_spec.specs.Moves.{Job, Core, RunningChild, empty_core, Move, Starts, Ends, Loses, is_made_so_far, is_startable, start_now, is_running, position_of, IsLawfulMove, IsGreedyMove, after_move}
-use Rattle.run_spec.specs.ChildJournal.{Setting, Run, End, Book, job_of, core_of, child_of_run, child_of_end, next_position, request_at, run_of, deps_of, exit_at, artefact_so_far, book_of, move_of}
+use Rattle.run_spec.specs.Moves.{Job, Core, Starts, Ends, Loses, is_made_so_far, start_now, is_running, position_of, IsLawfulMove, after_move}
+use Rattle.run_spec.specs.ChildJournal.{Setting, Run, End, Book, job_of, core_of, child_of_end, next_position, request_at, run_of, deps_of, exit_at, artefact_so_far, book_of, move_of}
 use Rattle.run_spec.specs.Marks.{mark_at, marks_of}
-use Rattle.run_spec.specs.Commits.{setting_of, record_at, commit_of, commits_of, commits, ComesAfterCommits}
+use Rattle.run_spec.specs.Commits.{commit_of, commits_of, commits}
 use Rattle.run_spec.proofs.Journal.{made_so_far}
 use Rattle.run_spec.proofs.Steps.{now_parts}
 use Rattle.slot_machine.specs.declared.slots.Slots.{Slots}
-use Rattle.slot_machine.specs.declared.step.Step.{Step}
-use Rattle.slot_machine.specs.declared.step.Step.TheVariants.{Start, Wait, Finished}
+use Rattle.slot_machine.specs.declared.step.Step.TheVariants.{Start}
 use Rattle.slot_machine.specs.Machines.{IsMachineOf, step_of, step_at}
 use Rattle.compile_loop.specs.declared.faults.BuildFault.{BuildFault}
 use Rattle.compile_loop.specs.declared.faults.BuildFault.TheVariants.{NoMemory, StartFailed, ChildLost, DiskFailed}
 use Rattle.compile_loop.specs.Commits.{latest_after, Acknowledges}
-use Rattle.compile_loop.specs.Faults.{first_fault, noted_with, is_no_memory, is_all_committed}
+use Rattle.compile_loop.specs.Faults.{noted_with, is_all_committed, is_of_disk, ComesFirst}
 use Rattle.compile_loop.specs.Requests.{lent_request}
 use Rattle.compile_loop.specs.UnderWay.{Origin, setting_from, halted_if, HasRecords, IsUnderWay}
 use Rattle.compile_loop.proofs.Orderly.{AreOrderly, is_end_of, found_child, startable_parts, started_now}
 use Rattle.compile_loop.proofs.Halting.{halted_not, start_while}
 use Rattle.compile_loop.proofs.EventsThen.{moves_then, greedy_then, requests_then, none_lost_then, machine_then, machine_lost, orderly, run_at, ends_then, ends_started, ends_gone}
-use Rattle.compile_loop.proofs.Lent.{entry_is, some_there, item_at, All-from_test, made_recorded, request_is}
+use Rattle.compile_loop.proofs.Lent.{entry_is, item_at, All-from_test, made_recorded, request_is}
 use Rattle.compile_loop.proofs.MarksThen.{mark_of_exit, marks_then}
 use Rattle.compile_loop.proofs.RecordsThen.{commits_then, records_then}
-use Rattle.compile_loop.proofs.Acknowledging.{knows_all, all_few, acknowledges_left, acknowledges_one}
+use Rattle.compile_loop.proofs.Acknowledging.{knows_all, all_few, acknowledges_left}
+use Rattle.compile_loop.proofs.FirstFaults.{first_of_none, first_lost}
 
 pub none_noted : (noted : Option BuildFault) → is_some noted ≡ false → noted ≡ None
 none_noted None h = refl
@@ -144,7 +141,7 @@ module _ (graph : List Entry) (from : Origin) (events : List Event) (acknowledge
 
   -- a file is to be started
   module _ (at : ℕ) (start : start_now (job_of s) (halted_if (is_some noted) core) ≡ Some at) where
-    nothing_noted : noted ≡ None
+    pub nothing_noted : noted ≡ None
     nothing_noted = none_noted noted (start_while (job_of s) (is_some noted) core at start).0
 
     start_here : start_now (job_of s) core ≡ Some at
@@ -200,12 +197,13 @@ module _ (graph : List Entry) (from : Origin) (events : List Event) (acknowledge
         marked = is.marked ∙ ap (λ (ends : List End). map (mark_at s ends) (below (length graph))) (sym ends_same);
         recorded = subst (HasRecords graph from) (sym ends_same) is.recorded;
         committed = acknowledges_left s events all from.latest_of latest_of acknowledged is.committed event [] all in_time (commits_started ∙ sym (append-nil (commits s events))) (λ on. (on, refl));
+        comes_first = first_of_none s (events ++ event ∷ []) acknowledged broken noted nothing_noted;
       }
 
   -- a fault halts it
-  pub halted_under_way : (machine' : Slots) (fault : BuildFault) (broken' : Bool) → IsMachineOf machine' (job_of s) (halted_if true core) → (is_all_committed (Some fault) broken' ≡ true → all ≡ true) →
-      IsUnderWay graph from events acknowledged machine' marks (Some fault) latest_of broken'
-  halted_under_way machine' fault broken' step still = record {
+  pub halted_under_way : (machine' : Slots) (fault : BuildFault) → IsMachineOf machine' (job_of s) (halted_if true core) → (is_all_committed (Some fault) broken ≡ true → all ≡ true) → ComesFirst (Some fault) s events acknowledged broken →
+      IsUnderWay graph from events acknowledged machine' marks (Some fault) latest_of broken
+  halted_under_way machine' fault step still first = record {
     is_graph = is.is_graph;
     moves = is.moves;
     requests = is.requests;
@@ -217,19 +215,22 @@ module _ (graph : List Entry) (from : Origin) (events : List Event) (acknowledge
     recorded = is.recorded;
     committed = record {
       few = is.committed.few;
-      whole = weaker_all (is_all_committed (Some fault) broken') still;
+      whole = weaker_all (is_all_committed (Some fault) broken) still;
       waits = is.committed.waits;
       latest = is.committed.latest;
     };
+    comes_first = first;
   } where
     weaker_all : (b : Bool) → (b ≡ true → all ≡ true) → OnTrue b (acknowledged ≡ length (commits s events))
     weaker_all true h = all_few s events all from.latest_of latest_of acknowledged is.committed (h refl)
     weaker_all false h = tt
 
   -- the end of a child is lost
-  pub lost_under_way : (ticket : ℕ) (machine' : Slots) (fault : BuildFault) → is_running core ticket ≡ true → IsMachineOf machine' (job_of s) (after_move (job_of s) (halted_if (is_some noted) core) (Loses ticket)) →
-      (is_all_committed (Some fault) broken ≡ true → all ≡ true) → IsUnderWay graph from (events ++ Gone ticket ∷ []) acknowledged machine' marks (Some fault) latest_of broken
-  lost_under_way ticket machine' fault runs step still =
+  pub lost_under_way : (ticket : ℕ) (machine' : Slots) (fault : BuildFault) → is_of_disk fault ≡ false → is_running core ticket ≡ true → IsMachineOf machine' (job_of s) (after_move (job_of s) (halted_if (is_some noted) core) (Loses ticket)) →
+      IsUnderWay graph from (events ++ Gone ticket ∷ []) acknowledged machine' marks (Some (noted_with noted fault)) latest_of broken
+  lost_under_way ticket machine' why kind runs step =
+      let fault : BuildFault = noted_with noted why in
+      let still : is_all_committed (Some fault) broken ≡ true → all ≡ true = still_all noted why broken in
       let same : (book_of s (events ++ Gone ticket ∷ [])).ends ≡ book.ends = ends_gone s events ticket in
       record {
         is_graph = is.is_graph;
@@ -242,7 +243,10 @@ module _ (graph : List Entry) (from : Origin) (events : List Event) (acknowledge
         marked = is.marked ∙ ap (λ (ends : List End). map (mark_at s ends) (below (length graph))) (sym same);
         recorded = subst (HasRecords graph from) (sym same) is.recorded;
         committed = acknowledges_left s events all from.latest_of latest_of acknowledged is.committed (Gone ticket) [] (is_all_committed (Some fault) broken) tt (ap (commits_of graph) same ∙ sym (append-nil (commits s events))) (λ on. (still on, refl));
-      }
+        comes_first = first_lost s events acknowledged broken ticket noted why kind (λ none. (is.none_lost none, all_at_first none)) is.comes_first;
+      } where
+        all_at_first : noted ≡ None → length (commits s events) ≤ acknowledged
+        all_at_first none = omega (arith, all_few s events all from.latest_of latest_of acknowledged is.committed (all_while noted broken none is.usable))
 
   commits_lost : (ticket : ℕ) → commits s (events ++ Gone ticket ∷ []) ≡ commits s events
   commits_lost ticket = ap (commits_of graph) (ends_gone s events ticket)
@@ -306,9 +310,9 @@ module _ (graph : List Entry) (from : Origin) (events : List Event) (acknowledge
     pub ended_under_way : (runs : is_running core ticket ≡ true) (greedy : start_now (job_of s) (halted_if (is_some noted) core) ≡ None) (mark : Mark) → mark ≡ mark_of_exit exit →
         (acknowledged' : ℕ) (machine' : Slots) (noted' : Option BuildFault) (later : FileName → Option Record) (broken' : Bool) → (noted' ≡ None → (noted ≡ None) × (broken' ≡ false)) →
         IsMachineOf machine' (job_of s) (halted_if (is_some noted') (core_of (book_of s (events ++ ended ∷ [])))) →
-        Acknowledges s (events ++ ended ∷ []) (is_all_committed noted' broken') from.latest_of later acknowledged' →
+        Acknowledges s (events ++ ended ∷ []) (is_all_committed noted' broken') from.latest_of later acknowledged' → ComesFirst noted' s (events ++ ended ∷ []) acknowledged' broken' →
         IsUnderWay graph from (events ++ ended ∷ []) acknowledged' machine' (set marks at mark) noted' later broken'
-    ended_under_way runs greedy mark mark_is acknowledged' machine' noted' later broken' none step committed = record {
+    ended_under_way runs greedy mark mark_is acknowledged' machine' noted' later broken' none step committed first = record {
       is_graph = is.is_graph;
       moves = moves_then s events ended is.moves runs;
       requests = requests_then s events ended is.requests tt;
@@ -319,6 +323,7 @@ module _ (graph : List Entry) (from : Origin) (events : List Event) (acknowledge
       marked = marks_ended mark mark_is;
       recorded = records_ended;
       committed = committed;
+      comes_first = first;
     } where
       start_none : noted ≡ None → start_now (job_of s) core ≡ None
       start_none n = ap (start_now (job_of s)) (sym (halted_not core)) ∙ ap (λ (o : Option BuildFault). start_now (job_of s) (halted_if (is_some o) core)) (sym n) ∙ greedy

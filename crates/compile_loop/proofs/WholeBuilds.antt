@@ -1,6 +1,6 @@
 -- A build from before its first event to its end.
-use Rattle.std.proofs.Common.{◌≡◌, ℕ, ◌<◌, ◌≤◌, Bool, true, false, not, List, [], ◌∷◌, ◌++◌, length, get_or, map, take, inl, inr, Option, Some, None, refl, sym, ap, subst, ◌∙◌, arith}
-use Rattle.std.specs.Prelude.{All, slice_get, is_none, is_some}
+use Rattle.std.proofs.Common.{◌≡◌, ℕ, ◌<◌, Bool, true, false, List, [], ◌++◌, length, get_or, map, inl, inr, Option, Some, None, refl, sym, ap, subst, ◌∙◌, arith}
+use Rattle.std.specs.Prelude.{slice_get, is_some}
 use Rattle.std.specs.Bool.{OnTrue, OnFalse}
 use Rattle.std.specs.Option.{option_map}
 use Rattle.std.specs.List.{filter_map, list_all}
@@ -25,7 +25,7 @@ use Rattle.vr_outside.specs.Children.{started_with}
 use Rattle.vr_outside.specs.Disks.{Image, Moments, IsDurable, reads_of}
 use Rattle.vr_outside.specs.Commits.{CommitsFirst}
 use Rattle.vr_outside.proofs.CommitLaws.{commits_nothing}
-use Rattle.run_spec.specs.Moves.{Core, empty_core, LawfulMoves, GreedyMoves, IsFinished}
+use Rattle.run_spec.specs.Moves.{empty_core, LawfulMoves, GreedyMoves, IsFinished}
 use Rattle.run_spec.specs.ChildJournal.{Setting, Run, job_of, core_of, after_all, book_of, moves_after, AreRequested, EachAfter, Lawful, exit_at, artefact_after, built_file}
 use Rattle.run_spec.specs.Marks.{mark_of, mark_at, marks_of}
 use Rattle.run_spec.specs.Commits.{record_at, commits}
@@ -33,7 +33,8 @@ use Rattle.run_spec.proofs.Waiting.{waits_none}
 use Rattle.slot_machine.specs.declared.slots.Slots.{Slots}
 use Rattle.slot_machine.specs.Machines.{IsMachineOf}
 use Rattle.compile_loop.specs.declared.faults.BuildFault.{BuildFault}
-use Rattle.compile_loop.specs.Commits.{Acknowledges, HoldsFirst}
+use Rattle.compile_loop.specs.declared.faults.BuildFault.TheVariants.{NoMemory}
+use Rattle.compile_loop.specs.Commits.{HoldsFirst}
 use Rattle.compile_loop.specs.Faults.{is_all_committed, FaultCounts, CountsBy}
 use Rattle.compile_loop.specs.UnderWay.{Origin, setting_from, halted_if, IsUnderWay, IsJournalled, GoesOn, Goes}
 use Rattle.compile_loop.specs.Requests.{lent_at}
@@ -72,6 +73,7 @@ first_under_way graph from machine marks broken is step marked usable = record {
     waits = waits_none (setting_from graph from) 0;
     latest = λ name. refl;
   };
+  comes_first = tt;
 }
 
 pub first_journal : (answer : Request → Exit) (s : Setting) (journal : List Event) → IsJournalled answer s [] journal journal
@@ -98,7 +100,7 @@ no_commits s = refl
 
 -- what was done before the first event: nothing
 pub ran_nothing : (tells told : Type 0) (answer : Request → Exit) (records_of : Image → List Record) (s : Setting) (journal : List Event) (moments : Moments) (before : FileName → Option Record) (broken : Bool) (Says : List Event → Type 0) →
-    broken ≡ false → (told → IsDurable moments.now) → BuildRan tells told answer records_of s journal journal moments moments before before false false broken Says
+    broken ≡ false → (told → IsDurable moments.now) → BuildRan tells told answer records_of s journal journal moments moments before before false (Some NoMemory) broken Says
 unfolding after_all moves_after LawfulMoves AreRequested EachAfter
 ran_nothing tells told answer records_of s journal moments before broken Says usable durable = record {
   events = [];
@@ -114,6 +116,7 @@ ran_nothing tells told answer records_of s journal moments before broken Says us
   says = tt;
   acknowledged = 0;
   committed = record { few = omega arith; whole = tt; waits = waits_none s 0; latest = λ name. refl };
+  comes_first = tt;
   recorded = tt;
   images = λ t. holds_nothing broken (commits s []) records_of moments usable (durable t);
 }
@@ -135,7 +138,7 @@ module _ (tells told : Type 0) (answer : Request → Exit) (records_of : Image �
 
   -- a fault has ended it
   pub ran_halted : (noted : Option BuildFault) → Goes tells told answer records_of graph from old first machine marks noted latest_of broken new moments → (Says : List Event → Type 0) →
-      BuildRan tells told answer records_of s old new first moments from.latest_of latest_of false (is_all_committed noted broken) broken Says
+      BuildRan tells told answer records_of s old new first moments from.latest_of latest_of false noted broken Says
   ran_halted noted goes Says = record {
     events = goes.events;
     journal = λ t. (goes.journal t).follows;
@@ -150,13 +153,14 @@ module _ (tells told : Type 0) (answer : Request → Exit) (records_of : Image �
     says = tt;
     acknowledged = goes.acknowledged;
     committed = goes.under_way.committed;
+    comes_first = goes.under_way.comes_first;
     recorded = on_true (is_all_committed noted broken) (knows_files noted goes);
     images = goes.images;
   }
 
   -- it has ended by itself
   pub ran_whole : (goes : Goes tells told answer records_of graph from old first machine marks None latest_of broken new moments) → IsFinished (job_of s) (halted_if false (core_of (book_of s goes.events))) → (Says : List Event → Type 0) → Says goes.events →
-      BuildRan tells told answer records_of s old new first moments from.latest_of latest_of true (is_all_committed None broken) broken Says
+      BuildRan tells told answer records_of s old new first moments from.latest_of latest_of true None broken Says
   ran_whole goes finished Says says =
       let over : IsFinished (job_of s) (core_of (book_of s goes.events)) = subst (IsFinished (job_of s)) (halted_not (core_of (book_of s goes.events))) finished in
       record {
@@ -173,6 +177,7 @@ module _ (tells told : Type 0) (answer : Request → Exit) (records_of : Image �
         says = says;
         acknowledged = goes.acknowledged;
         committed = goes.under_way.committed;
+        comes_first = tt;
         recorded = on_true (is_all_committed None broken) (knows_files None goes);
         images = goes.images;
       }
@@ -182,15 +187,15 @@ module _ (tells told : Type 0) (answer : Request → Exit) (records_of : Image �
     (latest_of : FileName → Option Record) (broken : Bool) (new : List Event) (moments : Moments) where
   pub ran_done : (noted : Option BuildFault) → noted ≡ None → (goes : Goes tells told answer records_of graph from old first machine marks noted latest_of broken new moments) →
       IsFinished (job_of (setting_from graph from)) (halted_if (is_some noted) (core_of (book_of (setting_from graph from) goes.events))) → (said : List Mark) → said ≡ marks →
-      BuildRan tells told answer records_of (setting_from graph from) old new first moments from.latest_of latest_of true (is_all_committed None broken) broken (λ events. said ≡ marks_of (setting_from graph from) events)
+      BuildRan tells told answer records_of (setting_from graph from) old new first moments from.latest_of latest_of true None broken (λ events. said ≡ marks_of (setting_from graph from) events)
   ran_done None none goes finished said same =
       ran_whole tells told answer records_of graph from old first machine marks latest_of broken new moments goes finished (λ events. said ≡ marks_of (setting_from graph from) events) (same ∙ goes.under_way.marked)
   ran_done (Some fault) none goes finished said same = not_noted fault none
 
   pub ran_fault : (noted : Option BuildFault) (fault : BuildFault) → noted ≡ Some fault → Goes tells told answer records_of graph from old first machine marks noted latest_of broken new moments → (Says : List Event → Type 0) →
-      BuildRan tells told answer records_of (setting_from graph from) old new first moments from.latest_of latest_of false (is_all_committed (Some fault) broken) broken Says
+      BuildRan tells told answer records_of (setting_from graph from) old new first moments from.latest_of latest_of false (Some fault) broken Says
   ran_fault noted fault is goes Says =
-      subst (λ (o : Option BuildFault). BuildRan tells told answer records_of (setting_from graph from) old new first moments from.latest_of latest_of false (is_all_committed o broken) broken Says) is
+      subst (λ (o : Option BuildFault). BuildRan tells told answer records_of (setting_from graph from) old new first moments from.latest_of latest_of false o broken Says) is
       (ran_halted tells told answer records_of graph from old first machine marks latest_of broken new moments noted goes Says)
 
 -- no fault was counted yet
@@ -198,6 +203,7 @@ pub counts_at_first : (broken : Bool) (first : FaultCounts) → broken ≡ false
 counts_at_first broken first usable = record {
   none_fell = record { starts = omega arith; losses = omega arith; disks = omega arith };
   explains = refl;
+  start_first = tt;
   breaks = λ b. absurd (false≢true (sym usable ∙ b));
 }
 
@@ -230,9 +236,9 @@ marks_recorded graph from events acknowledged machine marks noted latest_of brok
 
 module _ (tells told : Type 0) (answer : Request → Exit) (records_of : Image → List Record) (s : Setting) (old new : List Event) (first last : Moments) (before now : FileName → Option Record) where
   -- what a build says is of what it did, where it has ended by itself
-  pub ran_says : (all broken : Bool) (Says Other : List Event → Type 0) → (ran : BuildRan tells told answer records_of s old new first last before now true all broken Says) → Other ran.events →
-      BuildRan tells told answer records_of s old new first last before now true all broken Other
-  ran_says all broken Says Other ran says = record {
+  pub ran_says : (fault : Option BuildFault) (broken : Bool) (Says Other : List Event → Type 0) → (ran : BuildRan tells told answer records_of s old new first last before now true fault broken Says) → Other ran.events →
+      BuildRan tells told answer records_of s old new first last before now true fault broken Other
+  ran_says fault broken Says Other ran says = record {
     events = ran.events;
     journal = ran.journal;
     moves = ran.moves;
@@ -246,34 +252,15 @@ module _ (tells told : Type 0) (answer : Request → Exit) (records_of : Image �
     says = says;
     acknowledged = ran.acknowledged;
     committed = ran.committed;
+    comes_first = ran.comes_first;
     recorded = ran.recorded;
     images = ran.images;
   }
 
-  -- less is said where a fault ended it
-  pub ran_unsaid : (all broken : Bool) (Says Other : List Event → Type 0) → BuildRan tells told answer records_of s old new first last before now false all broken Says →
-      BuildRan tells told answer records_of s old new first last before now false all broken Other
-  ran_unsaid all broken Says Other ran = record {
-    events = ran.events;
-    journal = ran.journal;
-    moves = ran.moves;
-    requests = ran.requests;
-    greedy = tt;
-    finished = tt;
-    none_lost = tt;
-    lawful = ran.lawful;
-    answered = ran.answered;
-    whole = λ t. tt;
-    says = tt;
-    acknowledged = ran.acknowledged;
-    committed = ran.committed;
-    recorded = ran.recorded;
-    images = ran.images;
-  }
-
-  pub ran_in_vain : (all broken : Bool) (Says Other : List Event → Type 0) → BuildRan tells told answer records_of s old new first last before now true all broken Says →
-      BuildRan tells told answer records_of s old new first last before now false false broken Other
-  ran_in_vain all broken Says Other ran = record {
+  -- it has ended by itself, but then something was out of memory
+  pub ran_in_vain : (fault : Option BuildFault) (broken : Bool) (Says Other : List Event → Type 0) → BuildRan tells told answer records_of s old new first last before now true fault broken Says →
+      BuildRan tells told answer records_of s old new first last before now false (Some NoMemory) broken Other
+  ran_in_vain fault broken Says Other ran = record {
     events = ran.events;
     journal = ran.journal;
     moves = ran.moves;
@@ -287,6 +274,7 @@ module _ (tells told : Type 0) (answer : Request → Exit) (records_of : Image �
     says = tt;
     acknowledged = ran.acknowledged;
     committed = record { few = ran.committed.few; whole = tt; waits = ran.committed.waits; latest = ran.committed.latest };
+    comes_first = tt;
     recorded = tt;
     images = ran.images;
   }

@@ -18,6 +18,8 @@ use Rattle.run_spec.specs.ChildJournal.{Setting, Lawful, Answered, Greedy, core_
 use Rattle.run_spec.specs.Marks.{marks_of}
 use Rattle.run_spec.specs.Commits.{commits, record_at}
 use Rattle.compile_loop.specs.Commits.{Acknowledges, HoldsFirst}
+use Rattle.compile_loop.specs.declared.faults.BuildFault.{BuildFault}
+use Rattle.compile_loop.specs.Faults.{is_all_committed, ComesFirst}
 
 -- the file is made: its record is current, or it was compiled
 abbrev pub is_made : Mark → Bool
@@ -42,8 +44,8 @@ pub record SaysEnd (setting : Setting) (events : List Event) (marks : List Mark)
 
 -- What a build did. Its events are what the journal has since it was old. They are lawful after a fault too: each start is
 -- of the least file that may be started, with its request, and while a slot is free. Of what its children gave the first
--- so many records are acknowledged. Where it ended by itself its events are whole.
-pub record BuildRan (tells told : Type 0) (answer : Request → Exit) (records_of : Image → List Record) (setting : Setting) (old new : List Event) (first last : Moments) (before now : FileName → Option Record) (ended all broken : Bool) (Says : List Event → Type 0) : Type 0 where
+-- so many records are acknowledged. The fault that it answers came first. Where it ended by itself its events are whole.
+pub record BuildRan (tells told : Type 0) (answer : Request → Exit) (records_of : Image → List Record) (setting : Setting) (old new : List Event) (first last : Moments) (before now : FileName → Option Record) (ended : Bool) (fault : Option BuildFault) (broken : Bool) (Says : List Event → Type 0) : Type 0 where
   pub events : List Event
   pub journal : tells → new ≡ old ++ events
   -- whatever objects tell, the moves are lawful and have their requests; where the build ended by itself no end was waited
@@ -60,7 +62,9 @@ pub record BuildRan (tells told : Type 0) (answer : Request → Exit) (records_o
   pub says : OnTrue ended (Says events)
   -- the records that are committed
   pub acknowledged : ℕ
-  pub committed : Acknowledges setting events all before now acknowledged
+  pub committed : Acknowledges setting events (is_all_committed fault broken) before now acknowledged
+  -- which fault is answered
+  pub comes_first : ComesFirst fault setting events acknowledged broken
   -- where all is committed, the latest record of each file that is made is of its present view, with its artefact
-  pub recorded : OnTrue all ((position : ℕ) (entry : Entry) (artefact : List ℕ) → slice_get setting.graph position ≡ Some entry → artefact_after setting events position ≡ Some artefact → now entry.name ≡ Some (record_at setting.graph position artefact))
+  pub recorded : OnTrue (is_all_committed fault broken) ((position : ℕ) (entry : Entry) (artefact : List ℕ) → slice_get setting.graph position ≡ Some entry → artefact_after setting events position ≡ Some artefact → now entry.name ≡ Some (record_at setting.graph position artefact))
   pub images : told → HoldsFirst acknowledged broken (commits setting events) records_of first last

@@ -1,5 +1,5 @@
 -- What a compiler is started with over the artefacts of the latest records.
-use Rattle.std.specs.Prelude.{ℕ, List, slice_get, Option, Some}
+use Rattle.std.specs.Prelude.{ℕ, List, slice_get, Option}
 use Rattle.std.specs.Option.{option_map, option_and_then}
 use Rattle.std.specs.List.{filter_map}
 use Rattle.vr_base.specs.declared.file.FileName.{FileName}

@@ -19,7 +19,7 @@ use Rattle.slot_machine.specs.Machines.{IsMachineOf}
 use Rattle.compile_loop.specs.declared.faults.BuildFault.{BuildFault}
 use Rattle.run_spec.specs.Commits.{setting_of, record_at, commits, commits_of}
 use Rattle.compile_loop.specs.Commits.{latest_after, Acknowledges, HoldsFirst}
-use Rattle.compile_loop.specs.Faults.{is_all_committed}
+use Rattle.compile_loop.specs.Faults.{is_all_committed, ComesFirst}
 
 -- what a build began with: the latest records, how many children run at once, and whether it goes on after a refusal
 pub record Origin : Type 0 where
@@ -42,8 +42,8 @@ HasRecords graph from ends =
     latest_after (commits_of graph ends) from.latest_of entry.name ≡ Some (record_at graph position artefact)
 
 -- What holds after these events, whatever objects tell: they are lawful moves with their requests, the machine and the
--- marks are those of what has happened, the first so many commits are acknowledged, and while no fault is noted no end
--- was waited for too early and none is lost.
+-- marks are those of what has happened, the first so many commits are acknowledged, the fault that is noted came first,
+-- and while none is noted no end was waited for too early and none is lost.
 pub record IsUnderWay (graph : List Entry) (from : Origin) (events : List Event) (acknowledged : ℕ) (machine : Slots) (marks : List Mark) (noted : Option BuildFault) (latest_of : FileName → Option Record) (broken : Bool) : Type 0 where
   pub is_graph : IsGraph graph
   pub moves : LawfulMoves (job_of (setting_from graph from)) empty_core (moves_of (setting_from graph from) events)
@@ -55,6 +55,7 @@ pub record IsUnderWay (graph : List Entry) (from : Origin) (events : List Event)
   pub marked : marks ≡ marks_of (setting_from graph from) events
   pub recorded : HasRecords graph from (book_of (setting_from graph from) events).ends
   pub committed : Acknowledges (setting_from graph from) events (is_all_committed noted broken) from.latest_of latest_of acknowledged
+  pub comes_first : ComesFirst noted (setting_from graph from) events acknowledged broken
 
 -- each running child was started with its request
 abbrev pub AreStartedIn : List Event → List Run → Type 0

@@ -13,7 +13,7 @@ ghost use Rattle.slot_machine.specs.Machines.{IsJobOf, IsMachineOf, tickets_of, 
 ghost use Rattle.run_spec.specs.Marks.{marks_of};
 ghost use Rattle.run_spec.specs.ChildJournal.{job_of};
 ghost use Rattle.run_spec.specs.Commits.{setting_of};
-ghost use Rattle.compile_loop.specs.Faults.{CountsBy, fault_of, is_all_committed};
+ghost use Rattle.compile_loop.specs.Faults.{CountsBy, fault_of};
 ghost use Rattle.compile_loop.specs.Requests.{lent_at};
 ghost use Rattle.compile_loop.specs.Ran.{BuildRan, SaysEnd, is_made};
 
@@ -93,8 +93,8 @@ pub fn build_marks<K: Records, D: Disk, P: Procs>(
     ensures ran { let setting = setting_of (K.latest_of store.old) graph.now limit keep_going in
         BuildRan P.tells D.tells (P.answer procs.old) K.records_of setting
         (P.journal procs.old) (P.journal procs.new) (D.moments disk.old) (D.moments disk.new)
-        (K.latest_of store.old) (K.latest_of store.new) (is_ok result)
-        (is_all_committed (fault_of result) (K.broken store.new)) (K.broken store.new)
+        (K.latest_of store.old) (K.latest_of store.new) (is_ok result) (fault_of result)
+        (K.broken store.new)
         (λ events. IfOk result (λ marks. marks ≡ marks_of setting events)) }
     // Of each file that is fresh or compiled the store has a record of its present view.
     ensures recorded { IfOk result (λ marks. (position : ℕ) (mark : Mark) →
@@ -202,8 +202,8 @@ pub fn build<K: Records, D: Disk, P: Procs>(
     ensures ran { let setting = setting_of (K.latest_of store.old) graph.now limit keep_going in
         BuildRan P.tells D.tells (P.answer procs.old) K.records_of setting
         (P.journal procs.old) (P.journal procs.new) (D.moments disk.old) (D.moments disk.new)
-        (K.latest_of store.old) (K.latest_of store.new) (is_ok result)
-        (is_all_committed (fault_of result) (K.broken store.new)) (K.broken store.new)
+        (K.latest_of store.old) (K.latest_of store.new) (is_ok result) (fault_of result)
+        (K.broken store.new)
         (λ events. IfOk result (λ end. SaysEnd setting events end.marks end.whole)) }
     // Of each file that is fresh or compiled the store has a record of its present view.
     ensures recorded { IfOk result (λ end. (position : ℕ) (mark : Mark) →

@@ -1,6 +1,6 @@
 //! The end of one child.
 
-ghost use Rattle.std.specs.Prelude.{◌≡◌, ◌<◌, ◌≤◌, ◌++◌, ◌∷◌, [], ℕ, Bool, List, Option, Err, IsTrue, length, Contains};
+ghost use Rattle.std.specs.Prelude.{◌≡◌, ◌<◌, ◌≤◌, ◌++◌, ◌∷◌, [], false, ℕ, Bool, List, Option, Err, IsTrue, length, Contains};
 ghost use Rattle.std.specs.Bool.{OnFalse};
 ghost use Rattle.vr_base.specs.declared.file.FileName.{FileName};
 ghost use Rattle.vr_base.specs.declared.graph.Entry.{Entry};
@@ -16,7 +16,7 @@ ghost use Rattle.slot_machine.specs.declared.step.Step.TheVariants.{Wait};
 ghost use Rattle.slot_machine.specs.Machines.{IsMachineOf, next_of, tickets_of, files_of, to_come};
 ghost use Rattle.run_spec.specs.Commits.{commits};
 ghost use Rattle.compile_loop.specs.Commits.{HoldsFirst};
-ghost use Rattle.compile_loop.specs.Faults.{FaultCounts, CountsBy, noted_with};
+ghost use Rattle.compile_loop.specs.Faults.{FaultCounts, CountsBy, noted_with, is_of_disk};
 ghost use Rattle.compile_loop.specs.UnderWay.{Origin, setting_from, IsUnderWay, IsGoing, TakesEnd, Goes};
 
 use crate::commits::commit_made;
@@ -30,7 +30,8 @@ use vr_outside::{Disk, Ended, Procs, Records, WaitFault};
 
 /// The end of a child is lost: nothing more is started.
 fn lose(slots: &mut Slots, noted: &mut Option<BuildFault>, ticket: u64, fault: BuildFault)
-    requires { Contains (tickets_of slots.old) ticket }
+    requires runs { Contains (tickets_of slots.old) ticket }
+    requires kind { is_of_disk fault ≡ false }
     ensures noted { noted.new ≡ Some (noted_with noted.old fault) }
     ensures files { files_of slots.new ≡ files_of slots.old }
     ensures tickets { tickets_of slots.new ≡ without ticket (tickets_of slots.old) }

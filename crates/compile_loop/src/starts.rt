@@ -1,6 +1,6 @@
 //! The start of one child, and a build that is halted by a fault.
 
-ghost use Rattle.std.specs.Prelude.{◌≡◌, ◌<◌, ◌≤◌, ◌++◌, ◌∷◌, [], ℕ, Bool, List, Some, length, All, IfOk, OnErr, is_some};
+ghost use Rattle.std.specs.Prelude.{◌≡◌, ◌<◌, ◌≤◌, ◌++◌, ◌∷◌, [], ℕ, Bool, List, Some, None, length, All, IfOk, OnErr, is_some};
 ghost use Rattle.vr_base.specs.declared.file.FileName.{FileName};
 ghost use Rattle.vr_base.specs.declared.graph.Entry.{Entry};
 ghost use Rattle.vr_base.specs.declared.child.Event.{Event};
@@ -71,7 +71,7 @@ fn try_start<K: Records, P: Procs>(
     }
 }
 
-/// Starts the file that the machine gives. Where that fails, nothing more is started.
+/// Starts the file that the machine gives, while no fault is noted. Where that fails, nothing more is started.
 pub(crate) fn start_one<K: Records, P: Procs>(
     alloc: Global,
     graph: &Graph,
@@ -85,6 +85,7 @@ pub(crate) fn start_one<K: Records, P: Procs>(
     requires recorded { All (IsRecorded (K.latest_of store.now) graph.now) (deps_at graph.now at) }
     requires step { next_of slots.old ≡ Start at }
     requires running { P.running procs.old ≡ tickets_of slots.old }
+    requires unnoted { noted.old ≡ None }
     ensures running { P.running procs.new ≡ tickets_of slots.new }
     ensures same { P.answer procs.new ≡ P.answer procs.old }
     ensures files { files_of slots.new ≡ files_of slots.old }

@@ -129,7 +129,7 @@ module _ (answer : Request → Exit) (graph : List Entry) (is : IsGraph graph) (
 
   abbrev Ran : (FileName → Option Record) → Type 0
   Ran latest_of =
-      BuildRan tells told answer records_in (setting_of latest_of graph 1 false) old_journal journal mid new latest_of now (is_ok result) (is_all_committed (fault_of result) broken) broken
+      BuildRan tells told answer records_in (setting_of latest_of graph 1 false) old_journal journal mid new latest_of now (is_ok result) (fault_of result) broken
       (λ events. IfOk result (λ marks. marks ≡ marks_of (setting_of latest_of graph 1 false) events))
 
   over : Ran (latest_in old.now) → IfOk result (λ marks. (position : ℕ) (mark : Mark) → slice_get marks position ≡ Some mark → is_made mark ≡ true → IsRecorded now graph position) → OnOk result (KnowsDisk now new.now) →

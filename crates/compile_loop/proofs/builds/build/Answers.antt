@@ -1,6 +1,5 @@
 -- Answers to the goals of `build`.
 use Rattle.std.proofs.Common.{not, ap, ◌∙◌}
-use Rattle.compile_loop.specs.Ran.{SaysEnd}
 use Rattle.compile_loop.proofs.Acknowledging.{from_true}
 use Rattle.compile_loop.proofs.WholeBuilds.{ran_says, ran_in_vain, whole_is}
 use Rattle.compile_loop.proofs.builds.build.Goals as goal

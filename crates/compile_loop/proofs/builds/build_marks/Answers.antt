@@ -1,13 +1,8 @@
 -- Answers to the goals of `build_marks`.
-use Rattle.std.proofs.Common.{◌≡◌, Bool, List, [], length, Option, Some, None, refl, sym, ap, subst, ◌∙◌}
+use Rattle.std.proofs.Common.{List, [], length, refl, sym, ap, ◌∙◌}
 use Rattle.std.specs.Prelude.{slice_get}
-use Rattle.std.specs.Bool.{OnFalse}
 use Rattle.vr_base.specs.declared.outcome.Mark.{Mark}
-use Rattle.run_spec.specs.Marks.{marks_of}
-use Rattle.slot_machine.specs.declared.step.Step.{Step}
-use Rattle.compile_loop.specs.declared.faults.BuildFault.{BuildFault}
-use Rattle.compile_loop.specs.UnderWay.{Origin, setting_from, Goes}
-use Rattle.compile_loop.proofs.UnderWayThen.{marks_count, started_at, start_recorded}
+use Rattle.compile_loop.proofs.UnderWayThen.{marks_count, started_at, nothing_noted, start_recorded}
 use Rattle.compile_loop.proofs.WholeBuilds.{first_under_way, first_journal, holds_nothing, on_false, counts_at_first, ran_nothing, ran_done, ran_fault, marks_recorded, goes_on}
 use Rattle.compile_loop.proofs.builds.build_marks.Goals as goal
 
@@ -34,6 +29,11 @@ pub start_one-requires-clause-recorded : goal.start_one-requires-clause-recorded
 start_one-requires-clause-recorded g c =
     let under = c.loop-at.invariant.going.under_way in
     start_recorded _ _ _ _ _ _ _ _ _ under c.in-Start.at (started_at _ _ c.in-Start.at (c.in-Start.ensures.in_step _ _ under.in_step))
+
+pub start_one-requires-clause-unnoted : goal.start_one-requires-clause-unnoted
+start_one-requires-clause-unnoted g c =
+    let under = c.loop-at.invariant.going.under_way in
+    nothing_noted _ _ _ _ _ _ _ _ _ under c.in-Start.at (started_at _ _ c.in-Start.at (c.in-Start.ensures.in_step _ _ under.in_step))
 
 pub loop-at-preserved-in-Start : goal.loop-at-preserved-in-Start
 loop-at-preserved-in-Start g c =

@@ -1,8 +1,7 @@
 -- Answers to the goals of `commit_ready`.
-use Rattle.std.proofs.Common.{◌≡◌, ◌++◌, [], ◌∷◌, true, false, List, sym, ap, ◌∙◌, subst, Bool}
+use Rattle.std.proofs.Common.{◌≡◌, ◌++◌, [], ◌∷◌, true, false, sym, ap, ◌∙◌, subst, Bool}
 use Rattle.std.specs.Bool.{OnFalse}
-use Rattle.vr_outside.specs.declared.records.Record.{Record}
-use Rattle.vr_outside.specs.Disks.{Moments, reads_of}
+use Rattle.vr_outside.specs.Disks.{reads_of}
 use Rattle.vr_outside.specs.Commits.{CommitsFirst}
 use Rattle.vr_outside.proofs.CommitLaws.{commits_one}
 use Rattle.compile_loop.proofs.commits.commit_ready.Goals as goal

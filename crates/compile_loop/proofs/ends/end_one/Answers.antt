@@ -1,5 +1,5 @@
 -- Answers to the goals of `end_one`.
-use Rattle.std.proofs.Common.{◌≡◌, ◌++◌, [], ◌∷◌, List, ℕ, Option, Result, Err, sym, ap, subst, ◌∙◌}
+use Rattle.std.proofs.Common.{◌++◌, [], ◌∷◌, List, ℕ, Result, Err, sym, subst}
 use Rattle.vr_base.specs.declared.child.Event.{Event}
 use Rattle.vr_base.specs.declared.child.Event.TheVariants as event
 use Rattle.vr_outside.specs.Children.{end_event}

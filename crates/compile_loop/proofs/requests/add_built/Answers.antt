@@ -1,6 +1,5 @@
 -- Answers to the goals of `add_built`.
-use Rattle.std.proofs.Common.{◌≡◌, ◌++◌, [], ◌∷◌, List, ℕ, Option, Some, sym, ap, subst, ◌∙◌}
-use Rattle.std.specs.Prelude.{OnOk}
+use Rattle.std.proofs.Common.{◌≡◌, ◌++◌, [], ◌∷◌, Option, Some, sym, ap, ◌∙◌}
 use Rattle.std.specs.List.{cons_option}
 use Rattle.std.proofs.lemmas.Result.{on_ok_weaker}
 use Rattle.vr_base.specs.declared.graph.BuiltFile.{BuiltFile}

@@ -1,5 +1,5 @@
 -- What holds at each turn of the loop of `built_files`: the files so far are there.
-use Rattle.std.proofs.Common.{◌≡◌, ◌≤◌, length}
+use Rattle.std.proofs.Common.{◌≡◌, length}
 use Rattle.std.specs.List.{filter_map}
 use Rattle.vr_base.specs.PresentGraph.{below}
 use Rattle.compile_loop.specs.Requests.{lent_at}

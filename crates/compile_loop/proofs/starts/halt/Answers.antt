@@ -1,5 +1,5 @@
 -- Answers to the goals of `halt`.
-use Rattle.std.proofs.Common.{Option, sym, ap, subst, ◌∙◌, Bool}
+use Rattle.std.proofs.Common.{Option, sym, ap, subst, ◌∙◌}
 use Rattle.std.specs.Prelude.{is_some}
 use Rattle.slot_machine.specs.Machines.{IsMachineOf}
 use Rattle.compile_loop.specs.declared.faults.BuildFault.{BuildFault}

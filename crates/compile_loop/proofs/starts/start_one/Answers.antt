@@ -1,5 +1,5 @@
 -- Answers to the goals of `start_one`.
-use Rattle.std.proofs.Common.{◌≡◌, ◌++◌, [], ◌∷◌, List, ℕ, Option, Some, refl, sym, ap, subst, ◌∙◌}
+use Rattle.std.proofs.Common.{◌≡◌, ◌++◌, [], ◌∷◌, List, ℕ, Option, sym, ap, subst}
 use Rattle.std.proofs.lemmas.List.{append-nil}
 use Rattle.vr_base.specs.declared.child.Event.{Event}
 use Rattle.vr_base.specs.declared.child.Event.TheVariants.{Started}
@@ -10,6 +10,7 @@ use Rattle.run_spec.specs.ChildJournal.{job_of, core_of, book_of}
 use Rattle.slot_machine.specs.Machines.{IsMachineOf}
 use Rattle.compile_loop.specs.UnderWay.{setting_from, halted_if, IsUnderWay, IsJournalled}
 use Rattle.compile_loop.proofs.UnderWayThen.{still_all, started_under_way, commits_started, halted_under_way}
+use Rattle.compile_loop.proofs.FirstFaults.{first_start}
 use Rattle.compile_loop.proofs.JournalThen.{journal_started}
 use Rattle.compile_loop.proofs.starts.start_one.Goals as goal
 
@@ -33,9 +34,10 @@ returns-in-Err-clause-goes g c = λ from old events acknowledged marks broken is
     let none : events ++ [] ≡ events = append-nil events in
     let halted : IsUnderWay c.args.graph.now from events acknowledged c.halt.new.slots marks c.halt.new.noted (g.K.Records.latest_of c.args.store.now) broken =
     subst (λ (o : Option BuildFault). IsUnderWay c.args.graph.now from events acknowledged c.halt.new.slots marks o (g.K.Records.latest_of c.args.store.now) broken) (sym c.halt.ensures.noted)
-    (halted_under_way c.args.graph.now from events acknowledged c.args.slots.now marks c.args.noted.now (g.K.Records.latest_of c.args.store.now) broken is c.halt.new.slots _ broken
+    (halted_under_way c.args.graph.now from events acknowledged c.args.slots.now marks c.args.noted.now (g.K.Records.latest_of c.args.store.now) broken is c.halt.new.slots _
     (subst (λ (o : Option BuildFault). IsMachineOf c.halt.new.slots (job_of (setting_from c.args.graph.now from)) (halted_if (is_some o) (core_of (book_of (setting_from c.args.graph.now from) events)))) c.halt.ensures.noted (c.halt.ensures.in_step _ _ _ is.in_step))
-    (still_all c.args.noted.now c.in-Err.fault broken)) in
+    (still_all c.args.noted.now c.in-Err.fault broken)
+    (first_start (setting_from c.args.graph.now from) events acknowledged broken c.args.noted.now c.in-Err.fault _ _ c.requires.unnoted c.in-Err.ensures.starts)) in
     record {
       more = [];
       under_way = subst (λ (l : List Event). IsUnderWay c.args.graph.now from l acknowledged c.halt.new.slots marks c.halt.new.noted (g.K.Records.latest_of c.args.store.now) broken) (sym none) halted;
