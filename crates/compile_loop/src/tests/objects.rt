@@ -231,6 +231,31 @@ pub(super) fn told_build(
     Ok(tell(alloc, procs.journal().as_slice(), &end)?)
 }
 
+/// The fault that ends such a build, if one does.
+pub(super) fn build_fault(
+    rt: &impl Abort,
+    alloc: Global,
+    shape: &Shape,
+    changed: u8,
+    way: &Way,
+    disk: &mut MemDisk,
+) -> Result<Option<BuildFault>, Fail> {
+    let graph = graph_of(alloc, shape, changed)?;
+    let mut procs = script(rt, alloc, shape, changed, way)?;
+    match build_over(
+        rt,
+        alloc,
+        &graph,
+        disk,
+        &mut procs,
+        way.limit,
+        way.keep_going,
+    ) {
+        Ok(_end) => Ok(None),
+        Err(fault) => Ok(Some(fault)),
+    }
+}
+
 /// Builds over a store that is opened over the disk, for the marks alone.
 fn build_marks_over(
     rt: &impl Abort,

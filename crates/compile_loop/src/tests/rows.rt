@@ -1,6 +1,6 @@
 //! Builds of small projects, event by event, for each number of slots.
 
-use super::objects::{Told, empty_disk, told_build, told_marks};
+use super::objects::{Told, build_fault, empty_disk, told_build, told_marks};
 use super::parts::{USERS, way};
 use super::plain::{NEVER, Way};
 use super::shapes::Shape;
@@ -8,6 +8,7 @@ use crate::BuildFault;
 use std::alloc::Global;
 use std::process::Abort;
 use std::test::Fail;
+use vr_memory::MemDisk;
 
 /// A package, its user, a file alone, a user of the user; and a file that depends on all of them.
 const REFUSED: Shape = Shape {
@@ -21,25 +22,18 @@ const ALONE: Shape = Shape {
     deps: [0, 0, 0, 0b111, 0, 0, 0, 0],
 };
 
-/// Builds from an empty disk, with one slot and no refusal, and then once more after files have changed.
-fn told_again(
-    rt: &impl Abort,
-    alloc: Global,
-    shape: &Shape,
-    changed: u8,
-    way: &Way,
-) -> Result<Told, Fail> {
+/// Builds the users with one slot and no refusal.
+fn build_users(rt: &impl Abort, alloc: Global, disk: &mut MemDisk) -> Result<(), Fail> {
+    let fault = build_fault(rt, alloc, &USERS, 0, &way(1, false, 0, 0), disk)?;
+    assert!(rt; fault.is_none());
+    Ok(())
+}
+
+/// Builds the users from an empty disk, and then once more after the package has changed.
+fn told_again(rt: &impl Abort, alloc: Global, limit: u32) -> Result<Told, Fail> {
     let mut disk = empty_disk(alloc, NEVER)?;
-    let first = told_build(
-        rt,
-        alloc,
-        shape,
-        0,
-        &crate::tests::parts::way(1, false, 0, 0),
-        &mut disk,
-    )?;
-    assert!(rt; first.fault.is_none());
-    told_build(rt, alloc, shape, changed, way, &mut disk)
+    build_users(rt, alloc, &mut disk)?;
+    told_build(rt, alloc, &USERS, 0b1, &way(limit, false, 0, 0), &mut disk)
 }
 
 fn is(told: &Told, events: &[u8], marks: &[u8]) -> bool {
@@ -48,7 +42,7 @@ fn is(told: &Told, events: &[u8], marks: &[u8]) -> bool {
 
 /// Builds again after the package has changed.
 fn users_go(rt: &impl Abort, alloc: Global, limit: u32, events: &[u8]) -> Result<(), Fail> {
-    let told = told_again(rt, alloc, &USERS, 0b1, &way(limit, false, 0, 0))?;
+    let told = told_again(rt, alloc, limit)?;
     assert!(rt; is(&told, events, b"ccfccc"));
     assert!(rt; told.whole.as_slice() == b"a2b1c1d1e1f1".as_slice());
     Ok(())
@@ -165,17 +159,28 @@ fn ends_come_in_any_order(rt: HostRuntime) -> Result<(), Fail> {
     Ok(())
 }
 
+/// Loses the third file.
+fn loses(rt: &impl Abort, alloc: Global, limit: u32, disk: &mut MemDisk) -> Result<(), Fail> {
+    let mut losing = way(limit, false, 0, 0x012);
+    losing.failing = 3;
+    let told = told_build(rt, alloc, &ALONE, 0, &losing, disk)?;
+    assert!(rt; is(&told, b"+0+1+2?2-1-0", b""));
+    assert!(rt; told.fault == Some(BuildFault::ChildLost));
+    Ok(())
+}
+
+/// Builds what is left after that.
+fn goes_on(rt: &impl Abort, alloc: Global, limit: u32, disk: &mut MemDisk) -> Result<(), Fail> {
+    let told = told_build(rt, alloc, &ALONE, 0, &way(limit, false, 0, 0), disk)?;
+    assert!(rt; is(&told, b"+2-2+3-3", b"ffcc"));
+    Ok(())
+}
+
 /// Loses the third file, and builds again.
 fn lost_goes(rt: &impl Abort, alloc: Global, limit: u32) -> Result<(), Fail> {
     let mut disk = empty_disk(alloc, NEVER)?;
-    let mut losing = way(limit, false, 0, 0x012);
-    losing.failing = 3;
-    let told = told_build(rt, alloc, &ALONE, 0, &losing, &mut disk)?;
-    assert!(rt; is(&told, b"+0+1+2?2-1-0", b""));
-    assert!(rt; told.fault == Some(BuildFault::ChildLost));
-    let told = told_build(rt, alloc, &ALONE, 0, &way(limit, false, 0, 0), &mut disk)?;
-    assert!(rt; is(&told, b"+2-2+3-3", b"ffcc"));
-    Ok(())
+    loses(rt, alloc, limit, &mut disk)?;
+    goes_on(rt, alloc, limit, &mut disk)
 }
 
 #[test]

@@ -1,11 +1,13 @@
 //! Sets of at most 8 files, as bits.
 
+static BITS: [u8; 8] = [1, 2, 4, 8, 16, 32, 64, 128];
+
 pub(super) fn has(set: u8, at: u8) -> bool {
-    (set >> (at % 8)) & 1 == 1
+    set & BITS[(at % 8) as usize] != 0
 }
 
 pub(super) fn with(set: u8, at: u8) -> u8 {
-    set | (1 << (at % 8))
+    set | BITS[(at % 8) as usize]
 }
 
 /// The files below a count.

@@ -1,7 +1,7 @@
 //! Builds on what a stop leaves, and after calls that fail.
 
 use super::compare::agree;
-use super::objects::{Told, empty_disk, told_build};
+use super::objects::{Told, build_fault, empty_disk, told_build};
 use super::parts::{USERS, way};
 use super::plain::{NEVER, Plain, Way, plain_build};
 use super::sets::{upto, with};
@@ -24,13 +24,35 @@ const WRITING: u32 = 2;
 /// of the disk, and the last one ends the build.
 const COMMITS: [u8; 5] = [0, 1, 3, 4, 5];
 
+/// Builds all users, before the package changes or after, without a fault.
+fn build_users(
+    rt: &impl Abort,
+    alloc: Global,
+    changed: u8,
+    disk: &mut MemDisk,
+) -> Result<(), Fail> {
+    let fault = build_fault(rt, alloc, &USERS, changed, &way(3, false, 0, 0), disk)?;
+    assert!(rt; fault.is_none());
+    Ok(())
+}
+
+/// Writes the bytes of one side of a disk on another one.
+fn copy_side(disk: &mut MemDisk, from: &MemDisk) -> Result<(), Fail> {
+    write_durably(disk, Side::A, 0, from.reads(Side::A))?;
+    Ok(())
+}
+
+/// Writes what a disk has after a build of all users.
+fn write_built(rt: &impl Abort, alloc: Global, disk: &mut MemDisk) -> Result<(), Fail> {
+    let mut first = empty_disk(alloc, NEVER)?;
+    build_users(rt, alloc, 0, &mut first)?;
+    copy_side(disk, &first)
+}
+
 /// A disk after a build of all users, of which one call is to fail.
 fn built_disk(rt: &impl Abort, alloc: Global, failing: u32) -> Result<MemDisk, Fail> {
-    let mut first = empty_disk(alloc, NEVER)?;
-    let told = told_build(rt, alloc, &USERS, 0, &way(3, false, 0, 0), &mut first)?;
-    assert!(rt; told.fault.is_none());
     let mut disk = empty_disk(alloc, failing)?;
-    write_durably(&mut disk, Side::A, 0, first.reads(Side::A))?;
+    write_built(rt, alloc, &mut disk)?;
     Ok(disk)
 }
 
@@ -65,13 +87,18 @@ fn builds_on(
     Ok(())
 }
 
+/// Whether a build after the change has no fault where one call is to fail.
+fn builds_at_all(rt: &impl Abort, alloc: Global, call: u32) -> Result<bool, Fail> {
+    let mut disk = built_disk(rt, alloc, call)?;
+    let fault = build_fault(rt, alloc, &USERS, 0b1, &way(1, false, 0, 0), &mut disk)?;
+    Ok(fault.is_none())
+}
+
 /// How many calls of the disk a build after the change makes, those that write it first among them: it doesn't see that
 /// the next one fails.
 fn calls_of(rt: &impl Abort, alloc: Global) -> Result<u32, Fail> {
     for call in WRITING..MANY {
-        let mut disk = built_disk(rt, alloc, call)?;
-        let told = told_build(rt, alloc, &USERS, 0b1, &way(1, false, 0, 0), &mut disk)?;
-        if told.fault.is_none() {
+        if builds_at_all(rt, alloc, call)? {
             return Ok(call);
         }
     }
@@ -80,7 +107,8 @@ fn calls_of(rt: &impl Abort, alloc: Global) -> Result<u32, Fail> {
 
 /// How many of the five commits were acknowledged before a call.
 fn acknowledged_before(moment: u32, calls: u32) -> u32 {
-    5u32.saturating_sub(calls.saturating_sub(moment).div_ceil(4))
+    let left = calls.saturating_sub(moment);
+    5u32.saturating_sub(left.saturating_add(3) / 4)
 }
 
 /// Builds on each image of a stop inside one call of the disk: what was acknowledged is there, and one more may be.
@@ -107,8 +135,7 @@ fn what_was_acknowledged_outlives_a_stop(rt: HostRuntime) -> Result<(), Fail> {
     let alloc = rt.alloc();
     let calls = calls_of(&rt, alloc)?;
     let mut disk = built_disk(&rt, alloc, NEVER)?;
-    let told = told_build(&rt, alloc, &USERS, 0b1, &way(3, false, 0, 0), &mut disk)?;
-    assert!(rt; told.fault.is_none());
+    build_users(&rt, alloc, 0b1, &mut disk)?;
     for moment in WRITING..calls.saturating_add(2) {
         builds_on_all(
             &rt,
@@ -133,6 +160,11 @@ fn builds_after(
     if plain.broken {
         return builds_on(rt, alloc, disk, stale, stale & !plain.torn);
     }
+    builds_copy(rt, alloc, disk, stale)
+}
+
+/// Builds a copy of a disk.
+fn builds_copy(rt: &impl Abort, alloc: Global, disk: &MemDisk, stale: u8) -> Result<(), Fail> {
     let mut copy = disk.crash(alloc, u64::MAX, 0, 0)?;
     builds_on(rt, alloc, &mut copy, stale, stale)
 }
@@ -148,7 +180,20 @@ fn failing_call(way: &Way, calls: u32, inside: u32) -> u32 {
         .saturating_add(inside)
 }
 
-/// Builds where calls fail, as the plain build does, and then once more.
+/// Builds where calls fail, as the plain build does.
+fn fails_as(
+    rt: &impl Abort,
+    alloc: Global,
+    way: &Way,
+    plain: &Plain,
+    disk: &mut MemDisk,
+) -> Result<(), Fail> {
+    let told = told_build(rt, alloc, &USERS, 0b1, way, disk)?;
+    assert!(rt; agree(alloc, &told, plain, &USERS, stale_after(0), 0b1, way)?);
+    Ok(())
+}
+
+/// The same, and then once more.
 fn fails_so(
     rt: &impl Abort,
     alloc: Global,
@@ -156,10 +201,9 @@ fn fails_so(
     calls: u32,
     inside: u32,
 ) -> Result<(), Fail> {
-    let mut disk = built_disk(rt, alloc, failing_call(way, calls, inside))?;
-    let told = told_build(rt, alloc, &USERS, 0b1, way, &mut disk)?;
     let plain = plain_build(alloc, &USERS, stale_after(0), way)?;
-    assert!(rt; agree(alloc, &told, &plain, &USERS, stale_after(0), 0b1, way)?);
+    let mut disk = built_disk(rt, alloc, failing_call(way, calls, inside))?;
+    fails_as(rt, alloc, way, &plain, &mut disk)?;
     builds_after(rt, alloc, &mut disk, &plain)
 }
 
@@ -204,11 +248,17 @@ fn the_first_of_two_faults_is_answered(rt: HostRuntime) -> Result<(), Fail> {
     Ok(())
 }
 
-/// The store can't be opened, and nothing is started; then it can.
+/// The store can't be opened, and nothing is started.
+fn refuses(rt: &impl Abort, alloc: Global, disk: &mut MemDisk) -> Result<(), Fail> {
+    let told = told_build(rt, alloc, &USERS, 0b1, &way(3, false, 0, 0), disk)?;
+    assert!(rt; told.events.is_empty() && told.fault == Some(BuildFault::DiskFailed));
+    Ok(())
+}
+
+/// The same, and then it can.
 fn opening_fails(rt: &impl Abort, alloc: Global, call: u32) -> Result<(), Fail> {
     let mut disk = built_disk(rt, alloc, call)?;
-    let told = told_build(rt, alloc, &USERS, 0b1, &way(3, false, 0, 0), &mut disk)?;
-    assert!(rt; told.events.is_empty() && told.fault == Some(BuildFault::DiskFailed));
+    refuses(rt, alloc, &mut disk)?;
     builds_on(rt, alloc, &mut disk, stale_after(0), stale_after(0))
 }
 
