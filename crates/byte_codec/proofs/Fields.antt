@@ -40,9 +40,6 @@ pub guard_first : {A : Type 0} (b : Bool) (r : Option A) (y : A) → cond b r No
 guard_first true r y e = (refl, e)
 guard_first false r y e = absurd cc
 
-pub some_is : {X : Type 0} (x y : X) → ◌≡◌ {A = Option X} (Some x) (Some y) → x ≡ y
-some_is x y e = cc
-
 pub Takes-then : (a x b y c : List ℕ) → Takes a x b → Takes b y c → Takes a (x ++ y) c
 Takes-then a x b y c p q = record { parts = p.parts ∙ ap (λ (t : List ℕ). x ++ t) q.parts ∙ sym (append_assoc x y c); left_are_bytes = q.left_are_bytes }
 

@@ -5,9 +5,10 @@ use Rattle.std.specs.List.{flat_map, AllByRecursion}
 use Rattle.std.specs.Int.{w32}
 use Rattle.std.proofs.lemmas.List.{append-nil}
 use Rattle.std.proofs.lemmas.List.Concat.{flat_map-cons}
+use Rattle.std.proofs.lemmas.Option.{same_Some}
 use Rattle.vr_base.specs.Bytes.{number_bytes}
 use Rattle.byte_codec.specs.Reading.{◌>>=◌, AreBytes, Takes, number_at, many_at, counted_at}
-use Rattle.byte_codec.proofs.Fields.{bind_some, some_is, Takes-then, u32_takes, u32_again}
+use Rattle.byte_codec.proofs.Fields.{bind_some, Takes-then, u32_takes, u32_again}
 
 -- a property of all items, item by item
 pub by_recursion : {X : Type 0} (P : X → Type 0) (xs : List X) → All P xs → AllByRecursion P xs
@@ -74,14 +75,14 @@ module _ {X : Type 0} (read : List ℕ → Option (X × List ℕ)) where
         → (n : ℕ) (bytes : List ℕ) (xs : List X) (left : List ℕ) → AreBytes bytes → many_at read n bytes ≡ Some (xs, left) → Takes bytes (flat_map spelling xs) left × (length xs ≡ n) × AllByRecursion Fits xs
     unfolding many_at
     many_take law zero bytes xs left fits e =
-        subst (λ (y : List X × List ℕ). Takes bytes (flat_map spelling y.0) y.1 × (length y.0 ≡ 0) × AllByRecursion Fits y.0) (some_is ([], bytes) (xs, left) e) (record { parts = refl; left_are_bytes = fits }, refl, tt)
+        subst (λ (y : List X × List ℕ). Takes bytes (flat_map spelling y.0) y.1 × (length y.0 ≡ 0) × AllByRecursion Fits y.0) (same_Some ([], bytes) (xs, left) e) (record { parts = refl; left_are_bytes = fits }, refl, tt)
     many_take law (suc n) bytes xs left fits e =
         let a = bind_some (read bytes) (λ first. many_at read n first.1 >>= λ others. Some (first.0 ∷ others.0, others.1)) (xs, left) e in
         let b = bind_some (many_at read n a.0.1) (λ others. Some (a.0.0 ∷ others.0, others.1)) (xs, left) a.2 in
         let first = law bytes a.0.0 a.0.1 fits a.1 in
         let second = many_take law n a.0.1 b.0.0 b.0.1 first.0.left_are_bytes b.1 in
         let both = Takes-then bytes (spelling a.0.0) a.0.1 (flat_map spelling b.0.0) b.0.1 first.0 second.0 in
-        subst (λ (y : List X × List ℕ). Takes bytes (flat_map spelling y.0) y.1 × (length y.0 ≡ suc n) × AllByRecursion Fits y.0) (some_is (a.0.0 ∷ b.0.0, b.0.1) (xs, left) b.2) (rw flat_map-cons both, ap suc second.1, (first.1, second.2))
+        subst (λ (y : List X × List ℕ). Takes bytes (flat_map spelling y.0) y.1 × (length y.0 ≡ suc n) × AllByRecursion Fits y.0) (same_Some (a.0.0 ∷ b.0.0, b.0.1) (xs, left) b.2) (rw flat_map-cons both, ap suc second.1, (first.1, second.2))
 
     pub many_again : ((x : X) (left : List ℕ) → Fits x → read (spelling x ++ left) ≡ Some (x, left))
         → (xs : List X) (left : List ℕ) → AllByRecursion Fits xs → many_at read (length xs) (flat_map spelling xs ++ left) ≡ Some (xs, left)

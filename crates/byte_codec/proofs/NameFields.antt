@@ -1,11 +1,12 @@
 -- A name that is read is spelled so, and what is spelled so is read.
 use Rattle.std.proofs.Common.{◌≡◌, ℕ, List, ◌++◌, Some, refl, ap, subst, ◌∙◌, append_assoc}
+use Rattle.std.proofs.lemmas.Option.{same_Some}
 use Rattle.vr_base.specs.declared.file.FileName.{FileName}
 use Rattle.vr_base.specs.Bytes.{text_bytes}
 use Rattle.vr_base.specs.Jobs.{name_bytes}
 use Rattle.byte_codec.specs.Reading.{◌>>=◌, AreBytes, Takes, text_at}
 use Rattle.byte_codec.specs.Names.{name_at, HasNameSpelling}
-use Rattle.byte_codec.proofs.Fields.{bind_some, some_is, Takes-then, text_takes, text_again}
+use Rattle.byte_codec.proofs.Fields.{bind_some, Takes-then, text_takes, text_again}
 
 pub name_takes : (bytes : List ℕ) (name : FileName) (left : List ℕ) → AreBytes bytes → name_at bytes ≡ Some (name, left) → Takes bytes (name_bytes name) left × HasNameSpelling name
 unfolding name_at name_bytes
@@ -16,7 +17,7 @@ name_takes bytes name left fits e =
     let t1 = text_takes a.0.1 b.0.0 b.0.1 t0.0.left_are_bytes b.1 in
     let both = Takes-then bytes (text_bytes a.0.0) a.0.1 (text_bytes b.0.0) b.0.1 t0.0 t1.0 in
     let made : FileName × List ℕ = (record { library = a.0.0; path = b.0.0 }, b.0.1) in
-    subst (λ (y : FileName × List ℕ). Takes bytes (text_bytes y.0.library ++ text_bytes y.0.path) y.1 × HasNameSpelling y.0) (some_is made (name, left) b.2) (both, record { library = t0.1; path = t1.1 })
+    subst (λ (y : FileName × List ℕ). Takes bytes (text_bytes y.0.library ++ text_bytes y.0.path) y.1 × HasNameSpelling y.0) (same_Some made (name, left) b.2) (both, record { library = t0.1; path = t1.1 })
 
 pub name_again : (name : FileName) (left : List ℕ) → HasNameSpelling name → name_at (name_bytes name ++ left) ≡ Some (name, left)
 unfolding name_at name_bytes

@@ -6,7 +6,7 @@ use Rattle.std.specs.Option.{option_or, option_map_or}
 use Rattle.std.proofs.lemmas.Bool.{cases_Bool, cond-true, cond-false, and_parts, or_cases}
 use Rattle.std.proofs.lemmas.List.{map-append}
 use Rattle.std.proofs.lemmas.List.Elements.{filter_map-append, All-cons, All-tail}
-use Rattle.std.proofs.lemmas.Option.{slice_get_within, get_or_from_slice_get}
+use Rattle.std.proofs.lemmas.Option.{slice_get_within, get_or_from_slice_get, same_Some}
 use Rattle.vr_base.specs.declared.file.FileName.{FileName}
 use Rattle.vr_base.specs.declared.graph.Entry.{Entry}
 use Rattle.vr_base.specs.declared.graph.BuiltFile.{BuiltFile}
@@ -26,9 +26,6 @@ use Rattle.run_spec.proofs.RecordedArtefacts.{record_of_recorded}
 use Rattle.source_view.proofs.ViewLaws.{viewed_of}
 use Rattle.clean_laws.proofs.CleanPlaces.{filter_map-cons, clean_at}
 use Rattle.clean_laws.proofs.CleanViews.{clean_view}
-
-same_value : {X : Type 0} (x y : X) → ◌≡◌ {A = Option X} (Some x) (Some y) → x ≡ y
-same_value x y h = cc
 
 -- the last of a list with one more item
 last_one : {X : Type 0} (xs ys : List X) (x y : X) → xs ++ x ∷ [] ≡ ys ++ y ∷ [] → x ≡ y
@@ -210,7 +207,7 @@ All-latest_alone P (first ∷ rest) holds =
 either : (P : Record → Type 0) (first kept : Record) (rest : Option Record) (of : Bool)
     → P first → ((k : Record) → rest ≡ Some k → P k) → option_or rest (cond of (Some first) None) ≡ Some kept → P kept
 either P first kept (Some later) of one more h = more kept h
-either P first kept None true one more h = subst P (same_value first kept h) one
+either P first kept None true one more h = subst P (same_Some first kept h) one
 either P first kept None false one more h = absurd (let nothing : ⊥ = cc in nothing)
 
 -- and of the latest record of a name

@@ -2,6 +2,7 @@
 use Rattle.std.proofs.Common.{◌≡◌, ℕ, ◌+◌, ◌≤◌, Bool, true, false, List, [], ◌∷◌, ◌++◌, length, take, Option, refl, sym, ap, subst, ◌∙◌, arith}
 use Rattle.std.specs.Bool.{OnTrue, OnFalse}
 use Rattle.std.proofs.Math.Seq.{take-append-add, take-length}
+use Rattle.std.proofs.lemmas.Bool.{OnTrue_at, OnTrue_from}
 use Rattle.std.proofs.lemmas.List.{append-nil, append_assoc, length-append, take-append-le}
 use Rattle.vr_base.specs.declared.file.FileName.{FileName}
 use Rattle.vr_base.specs.declared.child.Event.{Event}
@@ -20,22 +21,14 @@ waits_then : (setting : Setting) (acknowledged : ℕ) (events : List Event) (eve
 unfolding EachAfter
 waits_then setting acknowledged events event all here = EachAfter-append (ComesAfterCommits setting acknowledged) [] events (event ∷ []) all (here, tt)
 
-pub on_true : {A : Type 0} (b : Bool) → (b ≡ true → A) → OnTrue b A
-on_true true h = h refl
-on_true false h = tt
-
-pub from_true : {A : Type 0} (b : Bool) → OnTrue b A → b ≡ true → A
-from_true true a h = a
-from_true false a h = let nothing : ⊥ = cc in absurd nothing
-
 module _ (setting : Setting) (events : List Event) (all : Bool) (before now : FileName → Option Record) (acknowledged : ℕ) (is : Acknowledges setting events all before now acknowledged) where
   -- where all is committed, all is known
   pub knows_all : all ≡ true → (name : FileName) → now name ≡ latest_after (commits setting events) before name
   knows_all on name =
-      is.latest name ∙ ap (λ (n : ℕ). latest_after (take n (commits setting events)) before name) (from_true all is.whole on) ∙ ap (λ (l : List Record). latest_after l before name) (take-length (commits setting events))
+      is.latest name ∙ ap (λ (n : ℕ). latest_after (take n (commits setting events)) before name) (OnTrue_at on is.whole) ∙ ap (λ (l : List Record). latest_after l before name) (take-length (commits setting events))
 
   pub all_few : all ≡ true → acknowledged ≡ length (commits setting events)
-  all_few on = from_true all is.whole on
+  all_few on = OnTrue_at on is.whole
 
   -- an event after which no more is acknowledged
   pub acknowledges_left : (event : Event) (rest : List Record) (all' : Bool) → ComesAfterCommits setting acknowledged events event → commits setting (events ++ event ∷ []) ≡ commits setting events ++ rest →
@@ -45,7 +38,7 @@ module _ (setting : Setting) (events : List Event) (all : Bool) (before now : Fi
       let longer : length (commits setting (events ++ event ∷ [])) ≡ length (commits setting events) + length rest = ap length then ∙ length-append (commits setting events) rest in
       record {
         few = omega (arith, few, longer);
-        whole = on_true all' (λ on. all_few (still on).0 ∙ ap length (sym (append-nil (commits setting events)) ∙ ap (λ (l : List Record). commits setting events ++ l) (sym (still on).1) ∙ sym then));
+        whole = OnTrue_from all' _ (λ on. all_few (still on).0 ∙ ap length (sym (append-nil (commits setting events)) ∙ ap (λ (l : List Record). commits setting events ++ l) (sym (still on).1) ∙ sym then));
         waits = waits_then setting acknowledged events event is.waits in_time;
         latest = λ name. is.latest name ∙ ap (λ (l : List Record). latest_after l before name) (sym (ap (take acknowledged) then ∙ take-append-le acknowledged (commits setting events) rest few));
       }
@@ -60,7 +53,7 @@ module _ (setting : Setting) (events : List Event) (all : Bool) (before now : Fi
       ap (λ (n : ℕ). take (n + one_if ok) (commits setting (events ++ event ∷ []))) count ∙ ap (take (length (commits setting events) + one_if ok)) then ∙ take-append-add (commits setting events) (one ∷ []) (one_if ok) in
       record {
         few = omega (arith, count, longer, one_at_most ok);
-        whole = on_true all' (λ o. omega (arith, count, longer, ap one_if (still o)));
+        whole = OnTrue_from all' _ (λ o. omega (arith, count, longer, ap one_if (still o)));
         waits = waits_then setting (acknowledged + one_if ok) events event (waits_more setting acknowledged (acknowledged + one_if ok) events (omega arith) is.waits) in_time;
         latest = λ name. latest_then (commits setting events) (take (one_if ok) (one ∷ [])) before now later (knows_all on) latest name ∙ ap (λ (l : List Record). latest_after l before name) (sym first);
       } where

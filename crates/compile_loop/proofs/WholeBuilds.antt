@@ -4,7 +4,7 @@ use Rattle.std.specs.Prelude.{slice_get, is_some}
 use Rattle.std.specs.Bool.{OnTrue, OnFalse}
 use Rattle.std.specs.Option.{option_map}
 use Rattle.std.specs.List.{filter_map, list_all}
-use Rattle.std.proofs.lemmas.Bool.{cases_Bool, cond-true, cond-false, false≢true}
+use Rattle.std.proofs.lemmas.Bool.{cases_Bool, cond-true, cond-false, false≢true, OnTrue_from}
 use Rattle.std.proofs.lemmas.List.{append-nil, length-map}
 use Rattle.std.proofs.lemmas.Option.{same_Some, slice_get_within, slice_get-get_or, slice_get-map, get_or_from_slice_get}
 use Rattle.std.proofs.lemmas.List.Elements.{All-nil}
@@ -39,7 +39,7 @@ use Rattle.compile_loop.specs.Faults.{is_all_committed, FaultCounts, CountsBy}
 use Rattle.compile_loop.specs.UnderWay.{Origin, setting_from, halted_if, IsUnderWay, IsJournalled, GoesOn, Goes}
 use Rattle.compile_loop.specs.Requests.{lent_at}
 use Rattle.compile_loop.specs.Ran.{BuildRan, is_made, built_by, whole_of}
-use Rattle.compile_loop.proofs.Acknowledging.{on_true, knows_all}
+use Rattle.compile_loop.proofs.Acknowledging.{knows_all}
 use Rattle.compile_loop.proofs.Halting.{halted_not}
 use Rattle.compile_loop.proofs.Lent.{some_there, item_at, All-from_test, knows_made, made_recorded, lent_same}
 use Rattle.compile_loop.proofs.RecordsThen.{records_at_first}
@@ -154,7 +154,7 @@ module _ (tells told : Type 0) (answer : Request → Exit) (records_of : Image �
     acknowledged = goes.acknowledged;
     committed = goes.under_way.committed;
     comes_first = goes.under_way.comes_first;
-    recorded = on_true (is_all_committed noted broken) (knows_files noted goes);
+    recorded = OnTrue_from (is_all_committed noted broken) _ (knows_files noted goes);
     images = goes.images;
   }
 
@@ -178,7 +178,7 @@ module _ (tells told : Type 0) (answer : Request → Exit) (records_of : Image �
         acknowledged = goes.acknowledged;
         committed = goes.under_way.committed;
         comes_first = tt;
-        recorded = on_true (is_all_committed None broken) (knows_files None goes);
+        recorded = OnTrue_from (is_all_committed None broken) _ (knows_files None goes);
         images = goes.images;
       }
 

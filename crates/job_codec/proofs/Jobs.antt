@@ -7,6 +7,7 @@ use Rattle.std.specs.Int.{w32}
 use Rattle.std.proofs.lemmas.Bool.{leb-true, le-leb}
 use Rattle.std.proofs.lemmas.List.{append-nil}
 use Rattle.std.proofs.lemmas.Slice.Eq.{bytes_eq-Decides}
+use Rattle.std.proofs.lemmas.Option.{same_Some}
 use Rattle.vr_base.specs.declared.file.FileName.{FileName}
 use Rattle.vr_base.specs.declared.graph.BuiltFile.{BuiltFile}
 use Rattle.vr_base.specs.Bytes.{number_bytes, text_bytes}
@@ -15,7 +16,7 @@ use Rattle.vr_base.specs.Names.{FitsName}
 use Rattle.vr_base.specs.Graphs.{IsBuilt, IsBuiltFile}
 use Rattle.byte_codec.specs.Reading.{◌>>=◌, AreBytes, Takes, ReadsAll, number_at, taken_at, text_at, many_at}
 use Rattle.byte_codec.specs.Names.{name_at, HasNameSpelling}
-use Rattle.byte_codec.proofs.Fields.{bind_some, guard_ended, guard_first, some_is, Takes-then, ends_there, taken_takes, taken_again, u32_takes, u32_again, text_takes, text_again}
+use Rattle.byte_codec.proofs.Fields.{bind_some, guard_ended, guard_first, Takes-then, ends_there, taken_takes, taken_again, u32_takes, u32_again, text_takes, text_again}
 use Rattle.byte_codec.proofs.NameFields.{name_takes, name_again}
 use Rattle.byte_codec.proofs.Many.{by_recursion, by_place, many_take, many_again}
 use Rattle.job_codec.specs.declared.reading.CompileJob.{CompileJob}
@@ -53,7 +54,7 @@ built_takes bytes file left fits e =
     let t1 = short_takes ARTEFACT_LIMIT a.0.1 b.0.0 b.0.1 t0.0.left_are_bytes b.1 in
     let both = Takes-then bytes (name_bytes a.0.0) a.0.1 (text_bytes b.0.0) b.0.1 t0.0 t1.0 in
     let made : BuiltFile × List ℕ = (record { name = a.0.0; artefact = b.0.0 }, b.0.1) in
-    subst (λ (y : BuiltFile × List ℕ). Takes bytes (name_bytes y.0.name ++ text_bytes y.0.artefact) y.1 × IsBuiltFile y.0) (some_is made (file, left) b.2) (both, record { name = t0.1; artefact = t1.1 })
+    subst (λ (y : BuiltFile × List ℕ). Takes bytes (name_bytes y.0.name ++ text_bytes y.0.artefact) y.1 × IsBuiltFile y.0) (same_Some made (file, left) b.2) (both, record { name = t0.1; artefact = t1.1 })
 
 built_again : (file : BuiltFile) (left : List ℕ) → IsBuiltFile file → built_at (built_bytes file ++ left) ≡ Some (file, left)
 unfolding built_at built_bytes
@@ -125,7 +126,7 @@ job_again job is = rw (taken_again (codes "VRC1") (fields_bytes job)) (fields_ag
 
 -- two jobs never have the same bytes
 pub same_job : (job other : CompileJob) → IsJob job → IsJob other → job_bytes job ≡ job_bytes other → job ≡ other
-same_job job other is is_other e = some_is job other (sym (job_again job is) ∙ ap job_at e ∙ job_again other is_other)
+same_job job other is is_other e = same_Some job other (sym (job_again job is) ∙ ap job_at e ∙ job_again other is_other)
 
 -- what a reader gives is a job with these bytes
 pub is_job : (bytes : List ℕ) (given : Option CompileJob) → AreBytes bytes → ReadsAll (λ same. same) given (job_at bytes) → IfSome given (λ job. IsJob job × (bytes ≡ job_bytes job))
@@ -139,4 +140,4 @@ is_given bytes (Some other) read job is e = refl
 
 pub is_that : (bytes : List ℕ) (given : Option CompileJob) → ReadsAll (λ same. same) given (job_at bytes) → (job : CompileJob) → IsJob job → bytes ≡ job_bytes job → IfSome given (λ other. other ≡ job)
 is_that bytes None none job is e = tt
-is_that bytes (Some other) read job is e = some_is other job (sym read ∙ ap job_at e ∙ job_again job is)
+is_that bytes (Some other) read job is e = same_Some other job (sym read ∙ ap job_at e ∙ job_again job is)

@@ -4,11 +4,12 @@ use Rattle.std.specs.Prelude.{◌⊎◌}
 use Rattle.std.specs.Int.{w64, to_le_bytes}
 use Rattle.std.proofs.lemmas.Bool.{eqb-true}
 use Rattle.std.proofs.lemmas.List.{append-nil}
+use Rattle.std.proofs.lemmas.Option.{same_Some, none-some}
 use Rattle.vr_base.specs.Bytes.{text_bytes}
 use Rattle.vr_base.specs.Jobs.{name_bytes}
 use Rattle.byte_codec.specs.Reading.{◌>>=◌, AreBytes, Takes, counted_at, number_at, text_at}
 use Rattle.byte_codec.specs.Names.{name_at}
-use Rattle.byte_codec.proofs.Fields.{Takes-then, bind_some, ends_there, guard_ended, some_is, text_again, text_takes, u64_again, u64_takes}
+use Rattle.byte_codec.proofs.Fields.{Takes-then, bind_some, ends_there, guard_ended, text_again, text_takes, u64_again, u64_takes}
 use Rattle.byte_codec.proofs.Many.{by_place, by_recursion, counted_again, counted_take}
 use Rattle.byte_codec.proofs.NameFields.{name_again, name_takes}
 use Rattle.record_codec.specs.Spelling.{words_bytes}
@@ -27,20 +28,17 @@ two_ways : {X : Type 0} (test : Bool) (one other : Option X) (x : X) → cond te
 two_ways true one other x e = inl (refl, e)
 two_ways false one other x e = inr (refl, e)
 
-nothing_read : {X : Type 0} (x : X) → ◌≡◌ {A = Option X} None (Some x) → ⊥
-nothing_read x e = cc
-
 byte_takes : (bytes : List ℕ) (byte : ℕ) (left : List ℕ) → AreBytes bytes → byte_at bytes ≡ Some (byte, left) → (bytes ≡ byte ∷ left) × AreBytes left
-byte_takes [] byte left fits e = absurd (nothing_read (byte, left) e)
+byte_takes [] byte left fits e = absurd (none-some (byte, left) e)
 byte_takes (first ∷ rest) byte left fits e =
-    subst (λ (y : ℕ × List ℕ). (first ∷ rest ≡ y.0 ∷ y.1) × AreBytes y.1) (some_is (first, rest) (byte, left) e) (refl, λ i. fits (suc i))
+    subst (λ (y : ℕ × List ℕ). (first ∷ rest ≡ y.0 ∷ y.1) × AreBytes y.1) (same_Some (first, rest) (byte, left) e) (refl, λ i. fits (suc i))
 
 known_takes : (bytes : List ℕ) (source : TextSource) (left : List ℕ) → AreBytes bytes → known_at bytes ≡ Some (source, left) → Takes (0 ∷ bytes) (source_bytes source) left × HasSourceSpelling source
 unfolding known_at source_bytes
 known_takes bytes source left fits e =
     let a = bind_some (number_at w64 bytes) (λ number. Some (Known number.0, number.1)) (source, left) e in
     let t = u64_takes bytes a.0.0 a.0.1 fits a.1 in
-    subst (λ (y : TextSource × List ℕ). Takes (0 ∷ bytes) (source_bytes y.0) y.1 × HasSourceSpelling y.0) (some_is (Known a.0.0, a.0.1) (source, left) a.2)
+    subst (λ (y : TextSource × List ℕ). Takes (0 ∷ bytes) (source_bytes y.0) y.1 × HasSourceSpelling y.0) (same_Some (Known a.0.0, a.0.1) (source, left) a.2)
     (record { parts = ap (λ (bs : List ℕ). 0 ∷ bs) t.0.parts; left_are_bytes = t.0.left_are_bytes }, t.1)
 
 new_takes : (bytes : List ℕ) (source : TextSource) (left : List ℕ) → AreBytes bytes → new_at bytes ≡ Some (source, left) → Takes (1 ∷ bytes) (source_bytes source) left × HasSourceSpelling source
@@ -48,7 +46,7 @@ unfolding new_at source_bytes
 new_takes bytes source left fits e =
     let a = bind_some (text_at bytes) (λ text. Some (New text.0, text.1)) (source, left) e in
     let t = text_takes bytes a.0.0 a.0.1 fits a.1 in
-    subst (λ (y : TextSource × List ℕ). Takes (1 ∷ bytes) (source_bytes y.0) y.1 × HasSourceSpelling y.0) (some_is (New a.0.0, a.0.1) (source, left) a.2)
+    subst (λ (y : TextSource × List ℕ). Takes (1 ∷ bytes) (source_bytes y.0) y.1 × HasSourceSpelling y.0) (same_Some (New a.0.0, a.0.1) (source, left) a.2)
     (record { parts = ap (λ (bs : List ℕ). 1 ∷ bs) t.0.parts; left_are_bytes = t.0.left_are_bytes }, t.1)
 
 source_by_takes : (tag : ℕ) (bytes : List ℕ) (source : TextSource) (left : List ℕ) → AreBytes bytes → source_by tag bytes ≡ Some (source, left) → Takes (tag ∷ bytes) (source_bytes source) left × HasSourceSpelling source
@@ -58,7 +56,7 @@ source_by_takes tag bytes source left fits e =
       | inl one ↦ subst (λ (t : ℕ). Takes (t ∷ bytes) (source_bytes source) left × HasSourceSpelling source) (sym (eqb-true tag 0 one.0)) (known_takes bytes source left fits one.1)
       | inr other ↦ elim (two_ways (eqb tag 1) (new_at bytes) None (source, left) other.1) [
         | inl one ↦ subst (λ (t : ℕ). Takes (t ∷ bytes) (source_bytes source) left × HasSourceSpelling source) (sym (eqb-true tag 1 one.0)) (new_takes bytes source left fits one.1)
-        | inr none ↦ absurd (nothing_read (source, left) none.1)
+        | inr none ↦ absurd (none-some (source, left) none.1)
       ]
     ]
 
@@ -89,7 +87,7 @@ draft_takes bytes draft left fits e =
     let e13 = Takes-then a.0.1 (words_bytes b.0.0) b.0.1 (source_bytes c.0.0 ++ numbers_bytes d.0.0) d.0.1 t1.0 e23 in
     let e03 = Takes-then bytes (name_bytes a.0.0) a.0.1 (words_bytes b.0.0 ++ (source_bytes c.0.0 ++ numbers_bytes d.0.0)) d.0.1 t0.0 e13 in
     let made : Draft × List ℕ = (record { name = a.0.0; command = b.0.0; source = c.0.0; deps = d.0.0 }, d.0.1) in
-    subst (λ (y : Draft × List ℕ). Takes bytes (draft_bytes y.0) y.1 × HasDraftSpelling y.0) (some_is made (draft, left) d.2)
+    subst (λ (y : Draft × List ℕ). Takes bytes (draft_bytes y.0) y.1 × HasDraftSpelling y.0) (same_Some made (draft, left) d.2)
     (e03, record { name = t0.1; count = t1.1; words = by_place TextFits b.0.0 t1.2; source = t2.1; few = t3.1; deps = by_place NumberFits d.0.0 t3.2 })
 
 draft_again : (draft : Draft) (left : List ℕ) → HasDraftSpelling draft → draft_at (draft_bytes draft ++ left) ≡ Some (draft, left)
@@ -155,7 +153,7 @@ payload_by_takes tag bytes payload fits e =
         | inl one ↦ subst (λ (t : ℕ). IsSpelledBy (t ∷ bytes) payload) (sym (eqb-true tag 1 one.0)) (of_draft_takes bytes payload fits one.1)
         | inr third ↦ elim (two_ways (eqb tag 2) (draft_alone_in bytes) None payload third.1) [
           | inl one ↦ subst (λ (t : ℕ). IsSpelledBy (t ∷ bytes) payload) (sym (eqb-true tag 2 one.0)) (draft_alone_takes bytes payload fits one.1)
-          | inr none ↦ absurd (nothing_read payload none.1)
+          | inr none ↦ absurd (none-some payload none.1)
         ]
       ]
     ]

@@ -10,6 +10,7 @@ use Rattle.std.proofs.lemmas.List.{length-map, get_or-map}
 use Rattle.std.proofs.lemmas.List.Elements.{All-push}
 use Rattle.std.proofs.lemmas.List.Quantifiers.{all_pairs_push}
 use Rattle.std.proofs.lemmas.List.Folds.{list_any_at}
+use Rattle.std.proofs.lemmas.Option.{none-some, same_Some}
 use Rattle.vr_base.specs.declared.file.FileName.{FileName}
 use Rattle.vr_base.specs.declared.project.ProjectFile.{ProjectFile}
 use Rattle.vr_base.specs.declared.project.ProjectFault.{ProjectFault}
@@ -19,12 +20,6 @@ use Rattle.vr_base.specs.Projects.{IsProject, IsProjectFile}
 use Rattle.name_set.proofs.SameNames.{same_names}
 use Rattle.project_file.specs.Csv.{csv_file_of, names_file, trim, begins_with_letter, is_refused_name, added_by, files_after, listed_file, listed_project, listed_command}
 use Rattle.vr_base.specs.declared.limits.TheConstants.{WORD_LIMIT}
-
-some_is : {X : Type 0} (x y : X) → ◌≡◌ {A = Option X} (Some x) (Some y) → x ≡ y
-some_is x y e = cc
-
-none_is_some : {X : Type 0} (y : X) → ◌≡◌ {A = Option X} None (Some y) → ⊥
-none_is_some y e = cc
 
 ok_is : {X : Type 0} (x y : X) → ◌≡◌ {A = Result X ProjectFault} (Ok x) (Ok y) → x ≡ y
 ok_is x y e = cc
@@ -47,12 +42,12 @@ fits_of line library path name h =
           let lib_prefix = and_parts _ _ lib.0 in
           let path_prefix = and_parts _ _ (and_parts _ _ whole.1).0 in
           let bytes = and_parts _ _ (and_parts _ _ path_prefix.0).0 in
-          let is : record { library = map to_ascii_lowercase library; path = path } ≡ name = some_is _ _ (sym (cond-true (names_file line library path) (Some (record { library = map to_ascii_lowercase library; path = path })) None t) ∙ h) in
+          let is : record { library = map to_ascii_lowercase library; path = path } ≡ name = same_Some _ _ (sym (cond-true (names_file line library path) (Some (record { library = map to_ascii_lowercase library; path = path })) None t) ∙ h) in
           subst FitsName is (record {
             library = record { at_least = rw length-map (begins_not_empty library lib_prefix.0); at_most = rw length-map (leb-true _ _ lib.1) };
             path = record { at_least = leb-true _ _ bytes.0; at_most = leb-true _ _ bytes.1 };
           })
-      | inr f ↦ absurd (none_is_some name (sym (cond-false (names_file line library path) (Some (record { library = map to_ascii_lowercase library; path = path })) None f) ∙ h))
+      | inr f ↦ absurd (none-some name (sym (cond-false (names_file line library path) (Some (record { library = map to_ascii_lowercase library; path = path })) None f) ∙ h))
     ]
 
 file_fits : (line : List ℕ) (name : FileName) → csv_file_of line ≡ Some name → FitsName name
@@ -69,9 +64,9 @@ unfolding added_by
 added_fits before line name h =
     let a = and_then_some (λ (n : FileName). cond (is_refused_name before n) None (Some n)) (csv_file_of line) name h in
     elim (cases_Bool (is_refused_name before a.0)) [
-      | inl t ↦ absurd (none_is_some name (sym (cond-true (is_refused_name before a.0) None (Some a.0) t) ∙ a.2))
+      | inl t ↦ absurd (none-some name (sym (cond-true (is_refused_name before a.0) None (Some a.0) t) ∙ a.2))
       | inr f ↦
-          let is : a.0 ≡ name = some_is a.0 name (sym (cond-false (is_refused_name before a.0) None (Some a.0) f) ∙ a.2) in
+          let is : a.0 ≡ name = same_Some a.0 name (sym (cond-false (is_refused_name before a.0) None (Some a.0) f) ∙ a.2) in
           subst (λ (n : FileName). FitsName n × (is_refused_name before n ≡ false)) is (file_fits line a.0 a.1, f)
     ]
 

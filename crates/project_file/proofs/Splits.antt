@@ -4,12 +4,7 @@ use Rattle.std.specs.List.{slice_split, onto_first, position, position_or_len}
 use Rattle.std.specs.Str.Lines.{lines, lines_of_parts, strip_carriage_return}
 use Rattle.std.proofs.lemmas.Bool.{cases_Bool, cond-true, cond-false, ltb-true, ltb-false}
 use Rattle.std.proofs.lemmas.List.Splits.{slice_split_first, slice_split-cons_no}
-
-no_some : {X : Type 0} (x : X) → ◌≡◌ {A = Option X} None (Some x) → ⊥
-no_some x e = cc
-
-pub some_is : {X : Type 0} (x y : X) → ◌≡◌ {A = Option X} (Some x) (Some y) → x ≡ y
-some_is x y e = cc
+use Rattle.std.proofs.lemmas.Option.{none-some, same_Some}
 
 not_found : {X : Type 0} (p : X → Bool) (xs : List X) → length xs ≤ position_or_len p xs → slice_split p xs ≡ xs ∷ []
 not_found p [] h = refl
@@ -23,16 +18,16 @@ pub split_at_mark : {X : Type 0} (p : X → Bool) (xs : List X) (i : ℕ) (d : X
 split_at_mark p xs i d h =
     elim (cases_Bool (ltb (position_or_len p xs) (length xs))) [
       | inl t ↦
-          let same : position_or_len p xs ≡ i = some_is _ _ (sym (cond-true (ltb (position_or_len p xs) (length xs)) (Some (position_or_len p xs)) None t) ∙ h) in
+          let same : position_or_len p xs ≡ i = same_Some _ _ (sym (cond-true (ltb (position_or_len p xs) (length xs)) (Some (position_or_len p xs)) None t) ∙ h) in
           let low : position_or_len p xs < length xs = ltb-true _ _ t in
           (omega arith, rw same at (slice_split_first p xs d low))
-      | inr f ↦ absurd (no_some i (sym (cond-false (ltb (position_or_len p xs) (length xs)) (Some (position_or_len p xs)) None f) ∙ h))
+      | inr f ↦ absurd (none-some i (sym (cond-false (ltb (position_or_len p xs) (length xs)) (Some (position_or_len p xs)) None f) ∙ h))
     ]
 
 pub split_no_mark : {X : Type 0} (p : X → Bool) (xs : List X) → position p xs ≡ None → slice_split p xs ≡ xs ∷ []
 split_no_mark p xs h =
     elim (cases_Bool (ltb (position_or_len p xs) (length xs))) [
-      | inl t ↦ absurd (no_some (position_or_len p xs) (sym h ∙ cond-true (ltb (position_or_len p xs) (length xs)) (Some (position_or_len p xs)) None t))
+      | inl t ↦ absurd (none-some (position_or_len p xs) (sym h ∙ cond-true (ltb (position_or_len p xs) (length xs)) (Some (position_or_len p xs)) None t))
       | inr f ↦ not_found p xs (ltb-false _ _ f)
     ]
 

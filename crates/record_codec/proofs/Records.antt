@@ -3,12 +3,13 @@ use Rattle.std.proofs.Common.{◌≡◌, ℕ, ◌^◌, ◌<◌, cond, eqb, List,
 use Rattle.std.specs.List.{flat_map, AllByRecursion}
 use Rattle.std.specs.Int.{w32}
 use Rattle.std.proofs.lemmas.List.{append-nil}
+use Rattle.std.proofs.lemmas.Option.{same_Some}
 use Rattle.vr_base.specs.declared.graph.Entry.{Entry}
 use Rattle.vr_base.specs.Bytes.{number_bytes, text_bytes}
 use Rattle.vr_base.specs.Jobs.{name_bytes}
 use Rattle.byte_codec.specs.Reading.{◌>>=◌, AreBytes, Takes, number_at, text_at, counted_at}
 use Rattle.byte_codec.specs.Names.{name_at}
-use Rattle.byte_codec.proofs.Fields.{bind_some, guard_ended, some_is, Takes-then, ends_there, u32_takes, u32_again, text_takes, text_again}
+use Rattle.byte_codec.proofs.Fields.{bind_some, guard_ended, Takes-then, ends_there, u32_takes, u32_again, text_takes, text_again}
 use Rattle.byte_codec.proofs.Many.{by_recursion, by_place, counted_take, counted_again}
 use Rattle.byte_codec.proofs.NameFields.{name_takes, name_again}
 use Rattle.record_codec.specs.Spelling.{words_bytes, positions_bytes, entry_bytes, record_bytes, HasSpelling, IsRecord}
@@ -36,7 +37,7 @@ entry_takes bytes entry left fits e =
     let e13 = Takes-then a.0.1 (words_bytes b.0.0) b.0.1 (text_bytes c.0.0 ++ positions_bytes d.0.0) d.0.1 t1.0 e23 in
     let e03 = Takes-then bytes (name_bytes a.0.0) a.0.1 (words_bytes b.0.0 ++ (text_bytes c.0.0 ++ positions_bytes d.0.0)) d.0.1 t0.0 e13 in
     let made : Entry × List ℕ = (record { name = a.0.0; command = b.0.0; text = c.0.0; deps = d.0.0 }, d.0.1) in
-    subst (λ (y : Entry × List ℕ). Takes bytes (entry_bytes y.0) y.1 × HasSpelling y.0) (some_is made (entry, left) d.2)
+    subst (λ (y : Entry × List ℕ). Takes bytes (entry_bytes y.0) y.1 × HasSpelling y.0) (same_Some made (entry, left) d.2)
     (e03, record { library = t0.1.library; path = t0.1.path; count = t1.1; words = by_place TextFits b.0.0 t1.2; text = t2.1; few = t3.1; deps = by_place NumberFits d.0.0 t3.2 })
 
 entry_again : (entry : Entry) (left : List ℕ) → HasSpelling entry → entry_at (entry_bytes entry ++ left) ≡ Some (entry, left)
@@ -80,7 +81,7 @@ record_again view artefact is =
 -- two records never have the same bytes
 pub same_record : (view other : List Entry) (artefact other_artefact : List ℕ) → IsRecord view artefact → IsRecord other other_artefact → record_bytes view artefact ≡ record_bytes other other_artefact → (view ≡ other) × (artefact ≡ other_artefact)
 same_record view other artefact other_artefact is is_other e =
-    let p = some_is (view, artefact) (other, other_artefact) (sym (record_again view artefact is) ∙ ap record_read_at e ∙ record_again other other_artefact is_other) in
+    let p = same_Some (view, artefact) (other, other_artefact) (sym (record_again view artefact is) ∙ ap record_read_at e ∙ record_again other other_artefact is_other) in
     (ap (λ (r : List Entry × List ℕ). r.0) p, ap (λ (r : List Entry × List ℕ). r.1) p)
 
 -- bytes of a record are read as that record
@@ -92,5 +93,5 @@ not_read bytes view artefact none is e = let both = sym none ∙ is_read bytes v
 
 pub is_that : (bytes : List ℕ) (entries : List Entry) (other_artefact : List ℕ) (view : List Entry) (artefact : List ℕ) → record_read_at bytes ≡ Some (entries, other_artefact) → IsRecord view artefact → bytes ≡ record_bytes view artefact → (entries ≡ view) × (other_artefact ≡ artefact)
 is_that bytes entries other_artefact view artefact read is e =
-    let p = some_is (entries, other_artefact) (view, artefact) (sym read ∙ is_read bytes view artefact is e) in
+    let p = same_Some (entries, other_artefact) (view, artefact) (sym read ∙ is_read bytes view artefact is e) in
     (ap (λ (r : List Entry × List ℕ). r.0) p, ap (λ (r : List Entry × List ℕ). r.1) p)

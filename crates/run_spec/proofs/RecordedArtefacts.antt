@@ -3,7 +3,7 @@ use Rattle.std.proofs.Common.{◌≡◌, ℕ, ◌<◌, List, length, get_or, Opt
 use Rattle.std.specs.Prelude.{slice_get, ◌↔◌}
 use Rattle.std.specs.Option.{option_and_then}
 use Rattle.std.proofs.lemmas.Bool.{cases_Bool, cond-true, cond-false}
-use Rattle.std.proofs.lemmas.Option.{slice_get-get_or, get_or_from_slice_get}
+use Rattle.std.proofs.lemmas.Option.{slice_get-get_or, get_or_from_slice_get, none-some, same_Some}
 use Rattle.vr_base.specs.declared.file.FileName.{FileName}
 use Rattle.vr_base.specs.declared.graph.Entry.{Entry}
 use Rattle.vr_base.specs.View.{view}
@@ -14,14 +14,8 @@ use Rattle.vr_outside.specs.Records.{IsRecorded, AreNeeds}
 use Rattle.run_spec.specs.Recorded.{is_same_view, artefact_for, recorded_at}
 use Rattle.run_spec.proofs.SameViews.{same_views}
 
-none_is_none : {X : Type 0} (x : X) → ◌≡◌ {A = Option X} None (Some x) → ⊥
-none_is_none x h = cc
-
 not_both : Stale ≡ Fresh → ⊥
 not_both h = cc
-
-same_value : {X : Type 0} (x y : X) → ◌≡◌ {A = Option X} (Some x) (Some y) → x ≡ y
-same_value x y h = cc
 
 -- a record that an artefact is taken from has this view
 of_view : (present : List Entry) (kept : Record) (artefact : List ℕ) → artefact_for present kept ≡ Some artefact → kept ≡ record { view = present; artefact = artefact }
@@ -29,8 +23,8 @@ of_view present kept artefact h =
     elim (cases_Bool (is_same_view kept.view present)) [
       | inl t ↦
           ap (λ (v : List Entry). record { view = v; artefact = kept.artefact }) ((same_views kept.view present).0 t)
-          ∙ ap (λ (bytes : List ℕ). record { view = present; artefact = bytes }) (same_value kept.artefact artefact (sym (cond-true (is_same_view kept.view present) (Some kept.artefact) None t) ∙ h))
-      | inr f ↦ absurd (none_is_none artefact (sym (cond-false (is_same_view kept.view present) (Some kept.artefact) None f) ∙ h))
+          ∙ ap (λ (bytes : List ℕ). record { view = present; artefact = bytes }) (same_Some kept.artefact artefact (sym (cond-true (is_same_view kept.view present) (Some kept.artefact) None t) ∙ h))
+      | inr f ↦ absurd (none-some artefact (sym (cond-false (is_same_view kept.view present) (Some kept.artefact) None f) ∙ h))
     ]
 
 -- and one of this view gives its artefact
@@ -38,7 +32,7 @@ of_record : (present : List Entry) (artefact : List ℕ) → artefact_for presen
 of_record present artefact = cond-true (is_same_view present present) (Some artefact) None ((same_views present present).1 refl)
 
 of_latest : (present : List Entry) (latest : Option Record) (artefact : List ℕ) → option_and_then (artefact_for present) latest ≡ Some artefact → latest ≡ Some (record { view = present; artefact = artefact })
-of_latest present None artefact h = absurd (none_is_none artefact h)
+of_latest present None artefact h = absurd (none-some artefact h)
 of_latest present (Some kept) artefact h = ap (λ (k : Record). Some k) (of_view present kept artefact h)
 
 module _ (latest_of : FileName → Option Record) (graph : List Entry) (at : ℕ) where
@@ -46,7 +40,7 @@ module _ (latest_of : FileName → Option Record) (graph : List Entry) (at : ℕ
   of_file entry = option_and_then (artefact_for (view graph at)) (latest_of entry.name)
 
   found : (here : Option Entry) (artefact : List ℕ) → slice_get graph at ≡ here → option_and_then of_file here ≡ Some artefact → (recorded : IsRecorded latest_of graph at) × (recorded.artefact ≡ artefact)
-  found None artefact is h = absurd (none_is_none artefact h)
+  found None artefact is h = absurd (none-some artefact h)
   found (Some entry) artefact is h = (record { entry = entry; is_entry = is; artefact = artefact; is = of_latest (view graph at) (latest_of entry.name) artefact h }, refl)
 
   -- what is recorded is the artefact of a current record
@@ -67,7 +61,7 @@ module _ (latest_of : FileName → Option Record) (graph : List Entry) (at : ℕ
   -- nothing is recorded exactly where there is no current record
   pub none_recorded : (recorded_at latest_of graph at ≡ None) ↔ (IsRecorded latest_of graph at → ⊥)
   none_recorded = (
-    λ none recorded. none_is_none recorded.artefact (sym none ∙ recorded_of_record recorded),
+    λ none recorded. none-some recorded.artefact (sym none ∙ recorded_of_record recorded),
     λ h. none_from (recorded_at latest_of graph at) refl h,
   )
 

@@ -2,7 +2,7 @@
 use Rattle.std.proofs.Common.{◌≡◌, ◌≢◌, ℕ, zero, suc, ◌+◌, ◌<◌, ◌≤◌, List, [], ◌∷◌, ◌++◌, length, get_or, drop, Option, Some, refl, sym, ap, subst, ◌∙◌, arith, add-zero}
 use Rattle.std.specs.Prelude.{All, Contains, sum_by}
 use Rattle.std.proofs.lemmas.List.{drop_more, append_assoc, length-append}
-use Rattle.std.proofs.lemmas.Option.{slice_get_within, slice_get-get_or}
+use Rattle.std.proofs.lemmas.Option.{slice_get_within, slice_get-get_or, same_Some}
 use Rattle.std.proofs.lemmas.List.Sums.{sum_by-cons, get_or-le-sum_by}
 use Rattle.vr_base.specs.declared.graph.Entry.{Entry}
 use Rattle.vr_base.specs.declared.project.ProjectFile.{ProjectFile}
@@ -135,9 +135,6 @@ module _ (project : Project) (texts : List (List ℕ)) (is : IsProject project) 
             (subst IsGraph (ap (λ (fs : List ProjectFile). listed fs (done ++ text ∷ [])) (sym same) ∙ sym pushed) (push_is_graph done more text whole), pushed),
       )
 
-some_is : {X : Type 0} (x y : X) → ◌≡◌ {A = Option X} (Some x) (Some y) → x ≡ y
-some_is x y e = cc
-
 -- each file of a listed project depends on all earlier ones
 pub listed_is_listed : (files : List ProjectFile) (texts : List (List ℕ)) → length texts ≤ length files → IsListed (listed files texts)
 listed_is_listed files [] le place entry at = absurd (omega (arith, slice_get_within _ place entry at, ap length (listed_no_text 0 files)))
@@ -146,5 +143,5 @@ listed_is_listed (file ∷ files) (text ∷ texts) le place entry at =
     let lt : place < length (listed (file ∷ files) (text ∷ texts)) = slice_get_within _ place entry at in
     let low : place < length (text ∷ texts) = omega (arith, length-listed_from 0 (file ∷ files) (text ∷ texts) le) in
     let zero_plus : 0 + place ≡ place = omega arith in
-    let is : entry ≡ listed_entry (0 + place) (get_or (file ∷ files) place file) (get_or (text ∷ texts) place text) = some_is entry _ (sym at ∙ slice_get-get_or (listed (file ∷ files) (text ∷ texts)) place entry lt) ∙ get_or-listed_from 0 (file ∷ files) (text ∷ texts) place entry file text le low in
+    let is : entry ≡ listed_entry (0 + place) (get_or (file ∷ files) place file) (get_or (text ∷ texts) place text) = same_Some entry _ (sym at ∙ slice_get-get_or (listed (file ∷ files) (text ∷ texts)) place entry lt) ∙ get_or-listed_from 0 (file ∷ files) (text ∷ texts) place entry file text le low in
     ap (λ (e : Entry). e.deps) is ∙ ap below zero_plus

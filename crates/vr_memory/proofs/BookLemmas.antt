@@ -3,7 +3,7 @@ use Rattle.std.proofs.Common.{ℕ, zero, suc, ◌+◌, ◌≡◌, ◌<◌, ◌�
 use Rattle.std.specs.Prelude.{Contains, Option, Some, None, slice_get, ◌==◌}
 use Rattle.std.specs.List.{AllByRecursion}
 use Rattle.std.proofs.lemmas.Bool.{eqb-true, eq-eqb}
-use Rattle.std.proofs.lemmas.Option.{slice_get_within, none-some}
+use Rattle.std.proofs.lemmas.Option.{slice_get_within, none-some, same_Some}
 use Rattle.vr_base.specs.Rooms.{Roomy}
 use Rattle.vr_base.specs.declared.child.Request.{Request}
 use Rattle.vr_base.specs.declared.child.Event.{Event}
@@ -77,30 +77,26 @@ fresh journal placed = go (started_with (length journal) journal) refl
     go None is = refl
     go (Some request) is = let within : length journal < length journal = slice_get_within journal (length journal) (event.Started (length journal) request) (placed (length journal) request is) in absurd (omega arith)
 
--- equal values in an option
-some_same : {X : Type 0} {x y : X} → Some x ≡ Some y → x ≡ y
-some_same e = cc
-
 none_after : (ticket other : ℕ) (request : Request) (rest : List Event) (k : ℕ) (here : Event) (same : Bool) → (other == ticket) ≡ same → slice_get (event.Started other request ∷ rest) k ≡ Some here → cond same (Some request) (started_with ticket rest) ≡ None → ((k : ℕ) (here : Event) → slice_get rest k ≡ Some here → started_with ticket rest ≡ None → started_with ticket (here ∷ []) ≡ None) → started_with ticket (here ∷ []) ≡ None
 none_after ticket other request rest k here true same is none later = absurd (none-some request (sym none))
 none_after ticket other request rest zero here false same is none later =
     let alone : started_with ticket (event.Started other request ∷ []) ≡ None = rw same refl in
-    subst (λ e. started_with ticket (e ∷ []) ≡ None) (some_same is) alone
+    subst (λ e. started_with ticket (e ∷ []) ≡ None) (same_Some _ _ is) alone
 none_after ticket other request rest (suc k) here false same is none later = later k here is none
 
 -- a ticket's event, where its start is elsewhere or nowhere
 none_at : (ticket : ℕ) (journal : List Event) (k : ℕ) (here : Event) → slice_get journal k ≡ Some here → started_with ticket journal ≡ None → started_with ticket (here ∷ []) ≡ None
 none_at ticket [] k here is none = absurd (none-some here is)
 none_at ticket (event.Started other request ∷ rest) k here is none = none_after ticket other request rest k here (other == ticket) refl is none (none_at ticket rest)
-none_at ticket (event.Ended other exit ∷ rest) zero here is none = subst (λ e. started_with ticket (e ∷ []) ≡ None) (some_same is) refl
+none_at ticket (event.Ended other exit ∷ rest) zero here is none = subst (λ e. started_with ticket (e ∷ []) ≡ None) (same_Some _ _ is) refl
 none_at ticket (event.Ended other exit ∷ rest) (suc k) here is none = none_at ticket rest k here is none
-none_at ticket (event.Gone other ∷ rest) zero here is none = subst (λ e. started_with ticket (e ∷ []) ≡ None) (some_same is) refl
+none_at ticket (event.Gone other ∷ rest) zero here is none = subst (λ e. started_with ticket (e ∷ []) ≡ None) (same_Some _ _ is) refl
 none_at ticket (event.Gone other ∷ rest) (suc k) here is none = none_at ticket rest k here is none
 
 request_at : (ticket : ℕ) (journal : List Event) (here : Event) → Placed journal → slice_get journal ticket ≡ Some here → (o : Option Request) → started_with ticket journal ≡ o → started_with ticket (here ∷ []) ≡ started_with ticket journal
 request_at ticket journal here placed is None none = none_at ticket journal ticket here is none ∙ sym none
 request_at ticket journal here placed is (Some request) started =
-    let this : event.Started ticket request ≡ here = some_same (sym (placed ticket request started) ∙ is) in
+    let this : event.Started ticket request ≡ here = same_Some _ _ (sym (placed ticket request started) ∙ is) in
     let alone : started_with ticket (event.Started ticket request ∷ []) ≡ Some request = rw (eq-eqb ticket ticket refl) refl in
     subst (λ e. started_with ticket (e ∷ []) ≡ Some request) this alone ∙ sym started
 
@@ -115,10 +111,10 @@ placed_end journal end is placed ticket request started =
 
 start_at : (journal : List Event) (request : Request) → Placed journal → (ticket : ℕ) (asked : Request) (o : Option Request) → started_with ticket journal ≡ o → (same : Bool) → (length journal == ticket) ≡ same → first_of_two o (cond same (Some request) None) ≡ Some asked → slice_get (journal ++ event.Started (length journal) request ∷ []) ticket ≡ Some (event.Started ticket asked)
 start_at journal request placed ticket asked (Some begun) is same test started =
-    let this : begun ≡ asked = some_same started in
+    let this : begun ≡ asked = same_Some _ _ started in
     get_longer journal (event.Started (length journal) request ∷ []) ticket (event.Started ticket asked) (placed ticket asked (is ∙ started))
 start_at journal request placed ticket asked None is true test started =
-    let this : request ≡ asked = some_same started in
+    let this : request ≡ asked = same_Some _ _ started in
     let at : length journal ≡ ticket = eqb-true (length journal) ticket test in
     subst (λ t. slice_get (journal ++ event.Started (length journal) request ∷ []) t ≡ Some (event.Started t asked)) at (get_last journal (event.Started (length journal) request) ∙ ap (λ r. Some (event.Started (length journal) r)) this)
 start_at journal request placed ticket asked None is false test started = absurd (none-some asked started)

@@ -2,6 +2,7 @@
 use Rattle.std.proofs.Common.{◌≡◌, ℕ, zero, suc, ◌+◌, ◌<◌, ◌≤◌, List, [], ◌∷◌, ◌++◌, length, get_or, drop, Option, Some, None, Err, refl, sym, ap, subst, ◌∙◌, arith}
 use Rattle.std.specs.Prelude.{slice_get}
 use Rattle.std.proofs.lemmas.List.{drop_more, drop_all}
+use Rattle.std.proofs.lemmas.Option.{none-some, same_Some}
 use Rattle.vr_base.specs.declared.file.FileName.{FileName}
 use Rattle.vr_base.specs.declared.graph.Entry.{Entry}
 use Rattle.vr_base.specs.declared.project.ProjectFile.{ProjectFile}
@@ -63,23 +64,17 @@ none_left scan files texts i whole le h = sym h ∙ ap (λ (fs : List ProjectFil
 abbrev pub AreFirst : List (List ℕ) → List Scan → Type 0
 AreFirst texts scans = (k : ℕ) (text : List ℕ) (scan : Scan) → slice_get texts k ≡ Some text → slice_get scans k ≡ Some scan → IsScanOf text scan
 
-some_is : {X : Type 0} (x y : X) → ◌≡◌ {A = Option X} (Some x) (Some y) → x ≡ y
-some_is x y e = cc
-
-none_is_some : {X : Type 0} (y : X) → ◌≡◌ {A = Option X} None (Some y) → ⊥
-none_is_some y e = cc
-
 -- an item of a list with one more at its end
 in_pushed : {X : Type 0} (P : ℕ → X → Type 0) (xs : List X) (x : X) → ((k : ℕ) (y : X) → slice_get xs k ≡ Some y → P k y) → P (length xs) x → (k : ℕ) (y : X) → slice_get (xs ++ x ∷ []) k ≡ Some y → P k y
-in_pushed P [] x old last zero y e = subst (P 0) (some_is x y e) last
-in_pushed P [] x old last (suc k) y e = absurd (none_is_some y e)
+in_pushed P [] x old last zero y e = subst (P 0) (same_Some x y e) last
+in_pushed P [] x old last (suc k) y e = absurd (none-some y e)
 in_pushed P (z ∷ zs) x old last zero y e = old 0 y e
 in_pushed P (z ∷ zs) x old last (suc k) y e = in_pushed (λ j w. P (suc j) w) zs x (λ j w f. old (suc j) w f) last k y e
 
 -- one more scan
 pub one_more : (texts : List (List ℕ)) (scans : List Scan) (text : List ℕ) (scan : Scan) → AreFirst texts scans → slice_get texts (length scans) ≡ Some text → IsScanOf text scan → AreFirst texts (scans ++ scan ∷ [])
 one_more texts scans text scan are at is = λ k t s text_at scan_at.
-    in_pushed (λ j w. (u : List ℕ) → slice_get texts j ≡ Some u → IsScanOf u w) scans scan (λ j w e u f. are j u w f e) (λ u f. subst (λ (v : List ℕ). IsScanOf v scan) (some_is text u (sym at ∙ f)) is) k s scan_at t text_at
+    in_pushed (λ j w. (u : List ℕ) → slice_get texts j ≡ Some u → IsScanOf u w) scans scan (λ j w e u f. are j u w f e) (λ u f. subst (λ (v : List ℕ). IsScanOf v scan) (same_Some text u (sym at ∙ f)) is) k s scan_at t text_at
 
 -- the texts of a listed graph are those that it was made of
 pub texts_listed : (files : List ProjectFile) (texts : List (List ℕ)) (position : ℕ) → length texts ≡ length files → texts_in (listed_from position files texts) ≡ texts

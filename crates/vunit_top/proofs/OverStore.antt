@@ -6,7 +6,7 @@ use Rattle.std.specs.Result.{is_ok}
 use Rattle.std.specs.List.{AllByRecursion}
 use Rattle.std.specs.Option.{option_map}
 use Rattle.std.proofs.Math.Path.{fun_ext}
-use Rattle.std.proofs.lemmas.Bool.{false≢true}
+use Rattle.std.proofs.lemmas.Bool.{false≢true, OnTrue_at}
 use Rattle.std.proofs.lemmas.Option.{slice_get-map, slice_get-get_or}
 use Rattle.vr_base.specs.declared.file.FileName.{FileName}
 use Rattle.vr_base.specs.declared.graph.Entry.{Entry}
@@ -33,7 +33,7 @@ use Rattle.run_spec.proofs.Journal.{since-added}
 use Rattle.run_spec.proofs.Prefixes.{lawful_none}
 use Rattle.run_spec.proofs.RunSteps.{readable_since, no_commits}
 use Rattle.run_spec.proofs.Waiting.{waits_none}
-use Rattle.clean_laws.proofs.TrueRecords.{latest-latest_alone}
+use Rattle.history_laws.proofs.SparedRuns.{same_latest}
 use Rattle.compile_loop.specs.declared.faults.BuildFault.{BuildFault}
 use Rattle.compile_loop.specs.declared.faults.BuildFault.TheVariants as fault
 use Rattle.compile_loop.specs.Faults.{fault_of, is_no_memory, is_all_committed}
@@ -66,14 +66,6 @@ not_opened answer graph why failed old new events none is sound follows opens =
       waits = waits_none s 0;
       all = λ disk memory. ap length (sym nothing);
     })
-
-same_latest : (name : FileName) (before now : List Record) → IsAllOrLatest before now → latest name now ≡ latest name before
-same_latest name before now (inl same) = ap (latest name) same
-same_latest name before now (inr alone) = ap (latest name) alone ∙ latest-latest_alone name before
-
-from_true : {A : Type 0} (b : Bool) → OnTrue b A → b ≡ true → A
-from_true true a is = a
-from_true false a is = absurd (false≢true is)
 
 -- a file with an artefact is marked as made
 made_mark : (keep_going : Bool) (exit : Option Exit) (artefact : Option (List ℕ)) → is_some artefact ≡ true → is_made (mark_of keep_going exit artefact) ≡ true
@@ -152,7 +144,7 @@ module _ (answer : Request → Exit) (graph : List Entry) (is : IsGraph graph) (
         phases = committed broken (then_committed records_in false ran.acknowledged broken (commits (one_at_a_time (latest_in old.now) graph) ran.events) (records_in (reads_of mid.now)) old mid new first
             (open_done records_in false old mid opening kept knows.durable) kept (ran.images d).images);
         waits = ran.committed.waits;
-        all = λ disk memory. from_true (is_all_committed (fault_of result) broken) ran.committed.whole (both (not_no_memory result memory) (usable disk));
+        all = λ disk memory. OnTrue_at (both (not_no_memory result memory) (usable disk)) ran.committed.whole;
       }) where
         both : {a b : Bool} → a ≡ false → b ≡ false → (not a && not b) ≡ true
         both x y = rw (x, y) refl
