@@ -32,7 +32,13 @@ impl Model for Journal {
 
     ghost Value = { JournalState };
 
-    ghost view = { λ j. record { form = j.form; live = j.live; generation = j.generation; len = j.len; broken = j.broken } };
+    ghost view = { λ j. record {
+      form = j.form;
+      live = j.live;
+      generation = j.generation;
+      len = j.len;
+      broken = j.broken;
+    } };
 
     ghost invariant = { λ j. 19 ≤ j.len };
 }

@@ -66,7 +66,11 @@ impl Model for ReadySide {
 
     ghost Value = { SideContent };
 
-    ghost view = { λ a. record { form = a.form; generation = a.generation; payloads = payloads_in (1 ∷ a.bytes) } };
+    ghost view = { λ a. record {
+      form = a.form;
+      generation = a.generation;
+      payloads = payloads_in (1 ∷ a.bytes);
+    } };
 
     ghost invariant = { λ a. IsReadySide a.form a.generation a.bytes };
 }

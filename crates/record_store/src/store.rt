@@ -61,7 +61,8 @@ impl Records for RecordStore {
 
     ghost record_of = { λ prepared. prepared.kept };
 
-    ghost is_ready = { λ store prepared. IsPrepared prepared.name prepared.kept prepared.ready × IsSome (get is_same_name store.index prepared.name) };
+    ghost is_ready = { λ store prepared. IsPrepared prepared.name prepared.kept prepared.ready
+        × IsSome (get is_same_name store.index prepared.name) };
 
     fn from_disk<D: Disk>(alloc: Global, disk: &mut D) -> Result<RecordStore, StoreFault> {
         let Opened { journal, payloads } = Journal::from_disk(alloc, disk, FORM)?;
@@ -127,5 +128,6 @@ impl Records for RecordStore {
 
     ghost durable = { λ store disk in_step. store_durable store.journal store.index disk in_step };
 
-    ghost held = { λ store disk name in_step. store_held store.journal store.index disk name in_step };
+    ghost held = { λ store disk name in_step.
+        store_held store.journal store.index disk name in_step };
 }

@@ -31,7 +31,14 @@ impl Model for ChildBook {
 
     ghost Value = { HeldBook };
 
-    ghost view = { λ a. record { running = a.running.items; journal = a.journal.items; picks = a.picks; waits = a.waits; calls = a.calls; lost_children = a.lost_children } };
+    ghost view = { λ a. record {
+      running = a.running.items;
+      journal = a.journal.items;
+      picks = a.picks;
+      waits = a.waits;
+      calls = a.calls;
+      lost_children = a.lost_children;
+    } };
 
     ghost invariant = { λ a. IsBook a.running.items a.journal };
 }

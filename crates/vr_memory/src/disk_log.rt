@@ -29,9 +29,13 @@ impl Model for DiskLog {
 
     ghost Value = { Log };
 
-    ghost view = { λ l. record { first = record { a = l.first_a; b = l.first_b }; kept = l.kept.items } };
+    ghost view = { λ l. record {
+      first = record { a = l.first_a; b = l.first_b };
+      kept = l.kept.items;
+    } };
 
-    ghost invariant = { λ l. l.reads ≡ reads_of (now_of l.kept.items (start_of (record { a = l.first_a; b = l.first_b }))) };
+    ghost invariant = { λ l. l.reads ≡ reads_of
+        (now_of l.kept.items (start_of (record { a = l.first_a; b = l.first_b }))) };
 }
 
 impl DiskLog {

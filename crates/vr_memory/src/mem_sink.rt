@@ -23,7 +23,11 @@ impl Model for MemSink {
 
     ghost Value = { HeldSink };
 
-    ghost view = { λ a. record { contents = a.bytes.items; room = vec_capacity a.bytes; calls = a.calls } };
+    ghost view = { λ a. record {
+      contents = a.bytes.items;
+      room = vec_capacity a.bytes;
+      calls = a.calls;
+    } };
 }
 
 impl MemSink {

@@ -24,7 +24,13 @@ impl Model for SideBook {
 
     ghost Value = { SideState };
 
-    ghost view = { λ a. record { reads = a.reads.items; synced = a.synced.items; low = a.low; high = a.high; touched = a.touched.items } };
+    ghost view = { λ a. record {
+      reads = a.reads.items;
+      synced = a.synced.items;
+      low = a.low;
+      high = a.high;
+      touched = a.touched.items;
+    } };
 }
 
 impl SideBook {

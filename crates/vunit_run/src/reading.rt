@@ -43,7 +43,8 @@ impl From<NoMemory> for IoFault {
 }
 
 impl From<io::Error> for IoFault {
-    ghost from_gives = { λ error fault. (error_kind error ≡ OutOfMemory → fault ≡ NoMemory) × (error_kind error ≢ OutOfMemory → fault ≡ Failed) };
+    ghost from_gives = { λ error fault. (error_kind error ≡ OutOfMemory → fault ≡ NoMemory)
+        × (error_kind error ≢ OutOfMemory → fault ≡ Failed) };
 
     fn from(error: io::Error) -> IoFault {
         if error.kind() == ErrorKind::OutOfMemory {
