@@ -14,18 +14,18 @@ use vr_outside::{Side, StoreFault, write_durably};
 const LONG: u64 = (1 << 63) - 1;
 
 /// A side of form 1 and generation 1 without payloads.
-const EMPTY: [u8; 19] = [
+static EMPTY: [u8; 19] = [
     1, b'V', b'U', b'N', b'I', b'T', b'R', b'E', b'C', 1, 1, 0, 0, 0, 0, 0, 0, 0, 0,
 ];
 
 /// The same with the payload `ab`.
-const WITH_AB: [u8; 26] = [
+static WITH_AB: [u8; 26] = [
     1, b'V', b'U', b'N', b'I', b'T', b'R', b'E', b'C', 1, 1, 0, 0, 0, 0, 0, 0, 0, 1, 2, 0, 0, 0,
     b'a', b'b', 0,
 ];
 
 /// A side of form 1 and generation 2 with the payload `cd`.
-const WITH_CD: [u8; 26] = [
+static WITH_CD: [u8; 26] = [
     1, b'V', b'U', b'N', b'I', b'T', b'R', b'E', b'C', 1, 2, 0, 0, 0, 0, 0, 0, 0, 1, 2, 0, 0, 0,
     b'c', b'd', 0,
 ];
@@ -40,60 +40,97 @@ fn disk(alloc: Global, failing: &[u64]) -> Result<MemDisk, NoMemory> {
     Ok(MemDisk::new(alloc, failing))
 }
 
-/// Whether the payloads of a disk are these.
-fn holds(alloc: Global, disk: &mut MemDisk, expected: &[&[u8]]) -> Result<bool, StoreFault> {
-    let Opened { payloads, .. } = Journal::from_disk(alloc, disk, 1)?;
-    if payloads.len() != expected.len() as u64 {
-        return Ok(false);
+/// Whether the payloads are those of a letter: `a` is `ab` alone, `c` is `cd` alone, and `-` none.
+fn are(payloads: &Payloads, letter: u8) -> bool {
+    match letter {
+        b'a' => payloads.len() == 1 && payloads.get(0) == b"ab".as_slice(),
+        b'c' => payloads.len() == 1 && payloads.get(0) == b"cd".as_slice(),
+        _ => payloads.len() == 0,
     }
-    for i in 0..expected.len() {
-        if payloads.get(i as u64) != expected[i] {
-            return Ok(false);
-        }
-    }
-    Ok(true)
 }
 
-/// Whether the images of a moment whose free bytes are all one byte have these payloads.
+/// Whether a disk has the payloads of a letter.
+fn holds(alloc: Global, disk: &mut MemDisk, letter: u8) -> Result<bool, StoreFault> {
+    let Opened { payloads, .. } = Journal::from_disk(alloc, disk, 1)?;
+    Ok(are(&payloads, letter))
+}
+
+/// Whether an image of a moment has the payloads of a letter.
+fn leaves_image(
+    alloc: Global,
+    disk: &MemDisk,
+    moment: u64,
+    length: u64,
+    fill: u8,
+    letter: u8,
+) -> Result<bool, StoreFault> {
+    let mut image = disk.crash(alloc, moment, length, fill)?;
+    holds(alloc, &mut image, letter)
+}
+
+/// Whether the images of a moment whose free bytes are all one byte have the payloads of a letter.
 fn leaves_filled(
     alloc: Global,
     disk: &MemDisk,
     moment: u64,
     fill: u8,
-    expected: &[&[u8]],
+    letter: u8,
 ) -> Result<bool, StoreFault> {
-    for length in [0, LONG] {
-        let mut image = disk.crash(alloc, moment, length, fill)?;
-        if !holds(alloc, &mut image, expected)? {
+    Ok(
+        leaves_image(alloc, disk, moment, 0, fill, letter)?
+            && leaves_image(alloc, disk, moment, LONG, fill, letter)?,
+    )
+}
+
+/// Whether each image of a moment has the payloads of a letter: of a first one where its free bytes are 1, and of a second
+/// one where they are others.
+fn leaves(
+    alloc: Global,
+    disk: &MemDisk,
+    moment: u64,
+    ones: u8,
+    others: u8,
+) -> Result<bool, StoreFault> {
+    Ok(
+        leaves_filled(alloc, disk, moment, 1, ones)?
+            && leaves_filled(alloc, disk, moment, 0, others)?
+            && leaves_filled(alloc, disk, moment, 255, others)?,
+    )
+}
+
+/// The same of moments from the first one on, with a letter for each in either list.
+fn leaves_each(
+    alloc: Global,
+    disk: &MemDisk,
+    first: u64,
+    ones: &[u8],
+    others: &[u8],
+) -> Result<bool, StoreFault> {
+    if ones.len() != others.len() {
+        return Ok(false);
+    }
+    for i in 0..ones.len() {
+        if !leaves(
+            alloc,
+            disk,
+            first.saturating_add(i as u64),
+            ones[i],
+            others[i],
+        )? {
             return Ok(false);
         }
     }
     Ok(true)
 }
 
-/// Moments from the first up to the end, with the payloads of their images: of those whose free bytes are 1, and of
-/// all others.
-type Row = (u64, u64, &'static [&'static [u8]], &'static [&'static [u8]]);
-
-/// Whether each image of a moment has the payloads of a row.
-fn leaves_row(alloc: Global, disk: &MemDisk, moment: u64, row: &Row) -> Result<bool, StoreFault> {
-    Ok(
-        leaves_filled(alloc, disk, moment, 1, row.2)?
-            && leaves_filled(alloc, disk, moment, 0, row.3)?
-            && leaves_filled(alloc, disk, moment, 255, row.3)?,
-    )
-}
-
-/// The same of each moment of each row of a table.
-fn leaves_all(alloc: Global, disk: &MemDisk, table: &[Row]) -> Result<bool, StoreFault> {
-    for row in table {
-        for moment in row.0..row.1 {
-            if !leaves_row(alloc, disk, moment, row)? {
-                return Ok(false);
-            }
+/// The same of a table: a line of letters for images whose free bytes are 1, and a line for all others.
+fn leaves_all(alloc: Global, disk: &MemDisk, first: u64, table: &str) -> Result<bool, StoreFault> {
+    match table.split_once('\n') {
+        Some((ones, others)) => {
+            leaves_each(alloc, disk, first, ones.as_bytes(), others.as_bytes())
         }
+        None => Ok(false),
     }
-    Ok(true)
 }
 
 /// A journal with the payload `ab`.
@@ -140,34 +177,31 @@ fn emptied(alloc: Global, disk: &mut MemDisk) -> Result<Journal, StoreFault> {
 #[test]
 fn opening_makes_a_side(rt: HostRuntime) -> Result<(), Fail> {
     let mut disk = disk(rt.alloc(), &[])?;
-    assert!(rt; holds(rt.alloc(), &mut disk, &[])?);
+    assert!(rt; holds(rt.alloc(), &mut disk, b'-')?);
     assert!(rt; disk.reads(Side::A) == EMPTY.as_slice());
     assert!(rt; disk.reads(Side::B).is_empty());
     Ok(())
 }
 
 /// Whether opening leaves these sides as they are.
-fn stays(alloc: Global, a: &[u8], b: &[u8]) -> Result<bool, StoreFault> {
-    let mut disk = disk(alloc, &[])?;
-    write_durably(&mut disk, Side::A, 0, a)?;
-    write_durably(&mut disk, Side::B, 0, b)?;
-    Journal::from_disk(alloc, &mut disk, 1)?;
+fn stays_on(alloc: Global, disk: &mut MemDisk, a: &[u8], b: &[u8]) -> Result<bool, StoreFault> {
+    write_durably(disk, Side::A, 0, a)?;
+    write_durably(disk, Side::B, 0, b)?;
+    Journal::from_disk(alloc, disk, 1)?;
     Ok(disk.reads(Side::A) == a && disk.reads(Side::B) == b)
 }
 
-/// Sides of which one counts, with a closed gate at its end.
-static HEALTHY: &[(&[u8], &[u8])] = &[
-    (&EMPTY, &[]),
-    (&[], &WITH_AB),
-    (&WITH_CD, &WITH_AB),
-    (&WITH_AB, &WITH_CD),
-];
+fn stays(alloc: Global, a: &[u8], b: &[u8]) -> Result<bool, StoreFault> {
+    let mut disk = disk(alloc, &[])?;
+    stays_on(alloc, &mut disk, a, b)
+}
 
 #[test]
 fn opening_a_healthy_disk_writes_nothing(rt: HostRuntime) -> Result<(), Fail> {
-    for row in HEALTHY {
-        assert!(rt; stays(rt.alloc(), row.0, row.1)?);
-    }
+    assert!(rt; stays(rt.alloc(), &EMPTY, &[])?);
+    assert!(rt; stays(rt.alloc(), &[], &WITH_AB)?);
+    assert!(rt; stays(rt.alloc(), &WITH_CD, &WITH_AB)?);
+    assert!(rt; stays(rt.alloc(), &WITH_AB, &WITH_CD)?);
     Ok(())
 }
 
@@ -180,23 +214,14 @@ fn a_commit_writes_the_payload_and_its_gate(rt: HostRuntime) -> Result<(), Fail>
     Ok(())
 }
 
-const NONE: &[&[u8]] = &[];
-
-const AB: &[&[u8]] = &[b"ab"];
-
-const CD: &[&[u8]] = &[b"cd"];
-
-static COMMITTING: &[Row] = &[
-    (0, COMMIT + 2, NONE, NONE),
-    (COMMIT + 2, NEXT, AB, NONE),
-    (NEXT, NEXT + 1, AB, AB),
-];
+/// From the first call on: after the third call of the commit its gate may be open.
+static COMMITTING: &str = "----------------aaa\n------------------a";
 
 #[test]
 fn a_stop_inside_a_commit_leaves_its_payload_or_none(rt: HostRuntime) -> Result<(), Fail> {
     let mut disk = disk(rt.alloc(), &[])?;
     with_ab(rt.alloc(), &mut disk)?;
-    assert!(rt; leaves_all(rt.alloc(), &disk, COMMITTING)?);
+    assert!(rt; leaves_all(rt.alloc(), &disk, 0, COMMITTING)?);
     Ok(())
 }
 
@@ -220,11 +245,8 @@ fn a_stop_before_the_first_sync_leaves_the_side_as_it_was(rt: HostRuntime) -> Re
     Ok(())
 }
 
-static REPLACING: &[Row] = &[
-    (NEXT, NEXT + 6, AB, AB),
-    (NEXT + 6, NEXT + 8, CD, AB),
-    (NEXT + 8, NEXT + 9, CD, CD),
-];
+/// From the call after the commit on.
+static REPLACING: &str = "aaaaaaccc\naaaaaaaac";
 
 #[test]
 fn a_stop_inside_a_replacement_leaves_either_list(rt: HostRuntime) -> Result<(), Fail> {
@@ -232,100 +254,129 @@ fn a_stop_inside_a_replacement_leaves_either_list(rt: HostRuntime) -> Result<(),
     with_cd(rt.alloc(), &mut disk)?;
     assert!(rt; disk.reads(Side::A) == WITH_AB.as_slice());
     assert!(rt; disk.reads(Side::B) == WITH_CD.as_slice());
-    assert!(rt; leaves_all(rt.alloc(), &disk, REPLACING)?);
+    assert!(rt; leaves_all(rt.alloc(), &disk, NEXT, REPLACING)?);
     Ok(())
 }
 
-static RESETTING: &[Row] = &[
-    (NEXT, NEXT + 2, AB, AB),
-    (NEXT + 2, NEXT + 4, AB, NONE),
-    (NEXT + 4, NEXT + 13, NONE, NONE),
-];
+static RESETTING: &str = "aaaa---------\naa-----------";
 
 #[test]
 fn a_stop_inside_a_reset_leaves_the_list_or_none(rt: HostRuntime) -> Result<(), Fail> {
     let mut disk = disk(rt.alloc(), &[])?;
     emptied(rt.alloc(), &mut disk)?;
     assert!(rt; disk.reads(Side::B) == EMPTY.as_slice());
-    assert!(rt; leaves_all(rt.alloc(), &disk, RESETTING)?);
+    assert!(rt; leaves_all(rt.alloc(), &disk, NEXT, RESETTING)?);
     Ok(())
+}
+
+/// What is done to a journal with `ab`.
+#[derive(Clone, Copy)]
+enum Change {
+    Replaces,
+    Resets,
+}
+
+/// Whether a change is answered by a fault of the disk.
+fn is_refused(alloc: Global, disk: &mut MemDisk, change: Change) -> bool {
+    let answer = match change {
+        Change::Replaces => with_cd(alloc, disk),
+        Change::Resets => emptied(alloc, disk),
+    };
+    matches!(answer, Err(StoreFault::DiskFailed))
 }
 
 /// Whether a call that fails is answered, and leaves what a stop inside of it can.
-fn replacing_fails(alloc: Global, call: u64, row: &Row) -> Result<bool, StoreFault> {
+fn fails(
+    alloc: Global,
+    change: Change,
+    call: u64,
+    ones: u8,
+    others: u8,
+) -> Result<bool, StoreFault> {
     let mut disk = disk(alloc, &[call])?;
-    let answer = with_cd(alloc, &mut disk);
-    let is_fault = matches!(answer, Err(StoreFault::DiskFailed));
-    Ok(is_fault && leaves_row(alloc, &disk, call.saturating_add(1), row)?)
+    let is_fault = is_refused(alloc, &mut disk, change);
+    Ok(is_fault && leaves(alloc, &disk, call.saturating_add(1), ones, others)?)
 }
 
-/// The same of emptying.
-fn resetting_fails(alloc: Global, call: u64, row: &Row) -> Result<bool, StoreFault> {
-    let mut disk = disk(alloc, &[call])?;
-    let answer = emptied(alloc, &mut disk);
-    let is_fault = matches!(answer, Err(StoreFault::DiskFailed));
-    Ok(is_fault && leaves_row(alloc, &disk, call.saturating_add(1), row)?)
+/// The same of each call from the first one on.
+fn fails_each(
+    alloc: Global,
+    change: Change,
+    first: u64,
+    ones: &[u8],
+    others: &[u8],
+) -> Result<bool, StoreFault> {
+    if ones.len() != others.len() {
+        return Ok(false);
+    }
+    for i in 0..ones.len() {
+        if !fails(
+            alloc,
+            change,
+            first.saturating_add(i as u64),
+            ones[i],
+            others[i],
+        )? {
+            return Ok(false);
+        }
+    }
+    Ok(true)
 }
 
-static FAILING: &[Row] = &[
-    (0, COMMIT + 2, NONE, NONE),
-    (COMMIT + 2, NEXT, AB, NONE),
-    (NEXT, NEXT + 6, AB, AB),
-    (NEXT + 6, NEXT + 8, CD, AB),
-];
+/// The same of a table.
+fn fails_all(alloc: Global, change: Change, first: u64, table: &str) -> Result<bool, StoreFault> {
+    match table.split_once('\n') {
+        Some((ones, others)) => {
+            fails_each(alloc, change, first, ones.as_bytes(), others.as_bytes())
+        }
+        None => Ok(false),
+    }
+}
+
+/// From the first call on.
+static FAILING: &str = "----------------aaaaaaaacc\n------------------aaaaaaaa";
 
 #[test]
 fn each_disk_call_may_fail(rt: HostRuntime) -> Result<(), Fail> {
-    for row in FAILING {
-        for call in row.0..row.1 {
-            assert!(rt; replacing_fails(rt.alloc(), call, row)?);
-        }
-    }
+    assert!(rt; fails_all(rt.alloc(), Change::Replaces, 0, FAILING)?);
     Ok(())
 }
 
-static FAILING_IN_RESET: &[Row] = &[
-    (NEXT, NEXT + 2, AB, AB),
-    (NEXT + 2, NEXT + 4, AB, NONE),
-    (NEXT + 4, NEXT + 12, NONE, NONE),
-];
+/// From the call after the commit on.
+static FAILING_IN_RESET: &str = "aaaa--------\naa----------";
 
 #[test]
 fn each_disk_call_of_a_reset_may_fail(rt: HostRuntime) -> Result<(), Fail> {
-    for row in FAILING_IN_RESET {
-        for call in row.0..row.1 {
-            assert!(rt; resetting_fails(rt.alloc(), call, row)?);
-        }
-    }
+    assert!(rt; fails_all(rt.alloc(), Change::Resets, NEXT, FAILING_IN_RESET)?);
     Ok(())
 }
 
-/// Whether a disk whose side A has these bytes, one of them changed, denotes these payloads.
-fn changed_holds(
-    alloc: Global,
-    place: usize,
-    byte: u8,
-    expected: &[&[u8]],
-) -> Result<bool, StoreFault> {
+/// Whether a disk whose side A has these bytes has the payloads of a letter.
+fn side_holds(alloc: Global, bytes: &[u8], letter: u8) -> Result<bool, StoreFault> {
+    let mut disk = disk(alloc, &[])?;
+    write_durably(&mut disk, Side::A, 0, bytes)?;
+    holds(alloc, &mut disk, letter)
+}
+
+/// The same where one of the bytes of `WITH_AB` is changed.
+fn changed_holds(alloc: Global, place: usize, byte: u8, letter: u8) -> Result<bool, StoreFault> {
     let mut bytes = WITH_AB;
     if place >= bytes.len() {
         return Ok(false);
     }
     bytes[place] = byte;
-    let mut disk = disk(alloc, &[])?;
-    write_durably(&mut disk, Side::A, 0, &bytes)?;
-    holds(alloc, &mut disk, expected)
+    side_holds(alloc, &bytes, letter)
 }
 
 /// A place, the byte there, and the payloads: a dead side, another mark, another form, a length past the end, a closed
 /// gate that is 1.
-static CHANGED: &[(usize, u8, &[&[u8]])] = &[
-    (0, 2, NONE),
-    (8, b'X', NONE),
-    (9, 2, NONE),
-    (18, 37, NONE),
-    (19, 3, NONE),
-    (25, 1, AB),
+static CHANGED: [(usize, u8, u8); 6] = [
+    (0, 2, b'-'),
+    (8, b'X', b'-'),
+    (9, 2, b'-'),
+    (18, 37, b'-'),
+    (19, 3, b'-'),
+    (25, 1, b'a'),
 ];
 
 #[test]

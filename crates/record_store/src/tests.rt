@@ -15,7 +15,7 @@ use vr_outside::{Need, Record, Records, Side, StoreFault, write_durably};
 const LONG: u64 = (1 << 63) - 1;
 
 /// A side of form 1 with one record: file `a.vhd` of `lib`, compiled by `cc`, with the text `x` and the artefact `y`.
-const SIDE: [u8; 68] = [
+static SIDE: [u8; 68] = [
     1, b'V', b'U', b'N', b'I', b'T', b'R', b'E', b'C', 1, 1, 0, 0, 0, 0, 0, 0, 0, //
     1, 44, 0, 0, 0, // an open gate, and the length of the record
     1, 0, 0, 0, 3, 0, 0, 0, b'l', b'i', b'b', 5, 0, 0, 0, b'a', b'.', b'v', b'h', b'd', //
@@ -149,11 +149,16 @@ fn any_bytes_stand_for_some_records(rt: HostRuntime) -> Result<(), Fail> {
     Ok(())
 }
 
-/// Whether the images of a moment, whose free bytes are all one byte, have the record.
-fn image_holds(alloc: Global, disk: &MemDisk, moment: u64, fill: u8) -> Result<(bool, bool), Fail> {
-    let mut short = disk.crash(alloc, moment, 0, fill)?;
-    let mut long = disk.crash(alloc, moment, LONG, fill)?;
-    Ok((holds(alloc, &mut short)?, holds(alloc, &mut long)?))
+/// Whether an image of a moment, whose free bytes are all one byte, has the record.
+fn image_holds(
+    alloc: Global,
+    disk: &MemDisk,
+    moment: u64,
+    length: u64,
+    fill: u8,
+) -> Result<bool, Fail> {
+    let mut image = disk.crash(alloc, moment, length, fill)?;
+    holds(alloc, &mut image)
 }
 
 static COMMITTING: &[(u64, u8, bool)] = &[
@@ -171,21 +176,32 @@ fn a_stop_inside_a_commit_leaves_the_record_or_none(rt: HostRuntime) -> Result<(
     let mut disk = disk(rt.alloc(), &[])?;
     with_x(rt.alloc(), &mut disk)?;
     for row in COMMITTING {
-        assert!(rt; image_holds(rt.alloc(), &disk, row.0, row.1)? == (row.2, row.2));
+        assert!(rt; image_holds(rt.alloc(), &disk, row.0, 0, row.1)? == row.2);
+        assert!(rt; image_holds(rt.alloc(), &disk, row.0, LONG, row.1)? == row.2);
     }
     Ok(())
+}
+
+/// Whether a disk call that fails is answered.
+fn is_refused(alloc: Global, disk: &mut MemDisk, graph: &Graph) -> bool
+    requires { 0 < length graph.now }
+{
+    matches!(with_record(alloc, disk, graph), Err(StoreFault::DiskFailed))
+}
+
+/// Whether the store of a disk can keep the record.
+fn keeps(alloc: Global, disk: &mut MemDisk, graph: &Graph) -> Result<bool, Fail>
+    requires { 0 < length graph.now }
+{
+    let store = with_record(alloc, disk, graph)?;
+    Ok(is_fresh(alloc, &store, graph)?)
 }
 
 /// Whether a disk call that fails is answered, and the store that is then opened again can keep the record.
 fn fails_once(alloc: Global, call: u64) -> Result<bool, Fail> {
     let graph = graph(alloc, b'x')?;
     let mut disk = disk(alloc, &[call])?;
-    let is_fault = matches!(
-        with_record(alloc, &mut disk, &graph),
-        Err(StoreFault::DiskFailed)
-    );
-    let store = with_record(alloc, &mut disk, &graph)?;
-    Ok(is_fault && is_fresh(alloc, &store, &graph)?)
+    Ok(is_refused(alloc, &mut disk, &graph) && keeps(alloc, &mut disk, &graph)?)
 }
 
 #[test]
@@ -196,12 +212,17 @@ fn each_disk_call_may_fail(rt: HostRuntime) -> Result<(), Fail> {
     Ok(())
 }
 
+/// Whether a store that was emptied, with a record before, is usable and has none.
+fn empties(alloc: Global, disk: &mut MemDisk) -> Result<bool, Fail> {
+    let mut store = with_x(alloc, disk)?;
+    store.reset(disk)?;
+    Ok(!store.is_broken() && !has(alloc, &store, b'x')?)
+}
+
 #[test]
 fn a_reset_leaves_no_record(rt: HostRuntime) -> Result<(), Fail> {
     let mut disk = disk(rt.alloc(), &[])?;
-    let mut store = with_x(rt.alloc(), &mut disk)?;
-    store.reset(&mut disk)?;
-    assert!(rt; !store.is_broken() && !has(rt.alloc(), &store, b'x')?);
+    assert!(rt; empties(rt.alloc(), &mut disk)?);
     assert!(rt; !holds(rt.alloc(), &mut disk)?);
     Ok(())
 }

@@ -16,19 +16,15 @@ fn numbers(alloc: Global, calls: &[u64]) -> Result<Numbers, NoMemory> {
     Ok(Items::from_vec(Vec::from_slice(alloc, calls)?))
 }
 
-/// A path and the bytes of its file.
-type File = (&'static [u8], &'static [u8]);
-
-static FILES: &[File] = &[
-    (b"src/b.vhd", b"second"),
-    (b"vunit_outer/q", b""),
-    (b"vunit_out/tests/t", b"built"),
-    (b"a.vhd", b"first"),
-    (b".git/config", b"hidden"),
-    (b"src/.cache/x.vhd", b"hidden"),
-    (b"src.vhd", b"third"),
-    (b"a.vhd", b"repeated"),
-];
+/// A path and the bytes of its file, one file a line.
+static FILES: &str = "src/b.vhd second\n\
+    vunit_outer/q \n\
+    vunit_out/tests/t built\n\
+    a.vhd first\n\
+    .git/config hidden\n\
+    src/.cache/x.vhd hidden\n\
+    src.vhd third\n\
+    a.vhd repeated\n";
 
 fn add(
     alloc: Global,
@@ -45,8 +41,10 @@ fn add(
 /// The files, and empty ones whose paths have 1,024 and 1,025 bytes.
 fn files(alloc: Global) -> Result<NamedTextList, NoMemory> {
     let mut list = Items::new(alloc);
-    for (path, bytes) in FILES {
-        add(alloc, &mut list, path, bytes)?;
+    for line in FILES.lines() {
+        if let Some((path, bytes)) = line.split_once(' ') {
+            add(alloc, &mut list, path.as_bytes(), bytes.as_bytes())?;
+        }
     }
     let long = vec![in alloc; b'n'; 1025]?;
     add(alloc, &mut list, long.as_slice(), b"")?;
@@ -87,15 +85,13 @@ fn a_tree_lists_in_order(rt: HostRuntime) -> Result<(), Fail> {
     Ok(())
 }
 
-/// A path, a limit, and what a read of it gives.
-static READS: &[(&[u8], u64, &str)] = &[
-    (b"a.vhd", 5, "first"),
-    (b".git/config", 6, "hidden"),
-    (b"a.vhd", 4, "too long"),
-    (b"b.vhd", 9, "absent"),
-    (b"a.vhd", 9, "failed"),
-    (b"a.vhd", 9, "first"),
-];
+/// A limit, a path, and what a read of it gives, one read a line.
+static READS: &str = "5a.vhd first\n\
+    6.git/config hidden\n\
+    4a.vhd too long\n\
+    9b.vhd absent\n\
+    9a.vhd failed\n\
+    9a.vhd first\n";
 
 /// Whether a read of a path gives this.
 fn gives(
@@ -114,14 +110,30 @@ fn gives(
     }
 }
 
+/// The number that a digit is.
+fn number(digit: u8) -> u64 {
+    digit.saturating_sub(b'0') as u64
+}
+
+/// The same of a line.
+fn gives_line(alloc: Global, tree: &mut MemTree, line: &str) -> Result<bool, NoMemory> {
+    match line.split_once(' ') {
+        Some((path, wanted)) => {
+            let path = path.as_bytes();
+            if path.is_empty() {
+                return Ok(false);
+            }
+            gives(alloc, tree, &path[1..], number(path[0]), wanted)
+        }
+        None => Ok(false),
+    }
+}
+
 #[test]
 fn a_tree_reads_its_files(rt: HostRuntime) -> Result<(), Fail> {
     let mut tree = tree(&rt, rt.alloc())?;
-    for (path, limit, wanted) in READS {
-        assert!(rt;
-            gives(rt.alloc(), &mut tree, path, *limit, wanted)?,
-            "{wanted}"
-        );
+    for line in READS.lines() {
+        assert!(rt; gives_line(rt.alloc(), &mut tree, line)?, "{line}");
     }
     Ok(())
 }
@@ -162,64 +174,69 @@ fn script(
     Ok(ScriptProcs::new(alloc, answers, picks, numbers(alloc, failing)?))
 }
 
-/// A step: a start of a word, or a wait where it is empty; the ticket that it gives, and the code that the child ends
-/// with. 1000 is the code of a start, and 1001 that of a start that failed or of a child that was lost.
-type Step = (&'static [u8], u64, u32);
-
-/// With the picks 2 and 3.
-static PICKED: &[Step] = &[
-    (b"a", 0, 1000),
-    (b"b", 1, 1000),
-    (b"c", 2, 1000),
-    (b"", 2, 127),
-    (b"", 1, 3),
-    (b"b", 5, 1000),
-    (b"", 0, 0),
-    (b"", 5, 3),
-];
+/// Steps, one a line: a start of a word of one letter, or a wait (`-`); the ticket that it gives; and what came of it: `s`
+/// for a start, `x` for a start that failed or a child that was lost, else the code of the exit, where `n` is 127. Here
+/// the picks are 2 and 3.
+static PICKED: &str = "a0s\nb1s\nc2s\n-2n\n-13\nb5s\n-00\n-53\n";
 
 /// Where call 0 and call 3 fail.
-static FAILING: &[Step] = &[
-    (b"a", 0, 1001),
-    (b"a", 0, 1000),
-    (b"a", 1, 1000),
-    (b"", 0, 1001),
-    (b"", 1, 0),
-];
+static FAILING: &str = "a0x\na0s\na1s\n-0x\n-10\n";
 
-/// The ticket and the code of a start.
-fn start(alloc: Global, procs: &mut ScriptProcs, word: &[u8]) -> Result<(u64, u32), NoMemory> {
-    match procs.start(alloc, &request(alloc, word)?) {
-        Ok(ticket) => Ok((ticket, 1000)),
-        Err(StartFault::Failed) => Ok((0, 1001)),
+/// The letter of a code.
+fn letter_of(code: u32) -> u8 {
+    match code {
+        0 => b'0',
+        3 => b'3',
+        127 => b'n',
+        _ => b'?',
+    }
+}
+
+/// The ticket of a start, and what came of it.
+fn start(alloc: Global, procs: &mut ScriptProcs, word: u8) -> Result<(u64, u8), NoMemory> {
+    match procs.start(alloc, &request(alloc, &[word])?) {
+        Ok(ticket) => Ok((ticket, b's')),
+        Err(StartFault::Failed) => Ok((0, b'x')),
         Err(StartFault::NoMemory) => Err(NoMemory),
     }
 }
 
-/// The ticket and the code of a wait.
-fn wait(rt: &impl Abort, alloc: Global, procs: &mut ScriptProcs) -> Result<(u64, u32), NoMemory> {
+/// The same of a wait.
+fn wait(rt: &impl Abort, alloc: Global, procs: &mut ScriptProcs) -> Result<(u64, u8), NoMemory> {
     assert!(rt; !procs.running().is_empty());
     match procs.wait_any(alloc) {
-        Ok(end) => Ok((end.ticket, end.exit.code)),
-        Err(WaitFault::Lost { ticket }) => Ok((ticket, 1001)),
+        Ok(end) => Ok((end.ticket, letter_of(end.exit.code))),
+        Err(WaitFault::Lost { ticket }) => Ok((ticket, b'x')),
         Err(WaitFault::NoMemory { .. }) => Err(NoMemory),
     }
 }
 
-/// Whether each step gives its ticket and its code.
+/// Whether a step gives what its line says.
+fn goes(
+    rt: &impl Abort,
+    alloc: Global,
+    procs: &mut ScriptProcs,
+    line: &[u8],
+) -> Result<bool, NoMemory> {
+    if line.len() < 3 {
+        return Ok(false);
+    }
+    let found = if line[0] == b'-' {
+        wait(rt, alloc, procs)?
+    } else {
+        start(alloc, procs, line[0])?
+    };
+    Ok(found.0 == number(line[1]) && found.1 == line[2])
+}
+
 fn follows(
     rt: &impl Abort,
     alloc: Global,
     procs: &mut ScriptProcs,
-    steps: &[Step],
+    steps: &str,
 ) -> Result<bool, NoMemory> {
-    for (word, ticket, code) in steps {
-        let found = if word.is_empty() {
-            wait(rt, alloc, procs)?
-        } else {
-            start(alloc, procs, word)?
-        };
-        if found.0 != *ticket || found.1 != *code {
+    for line in steps.lines() {
+        if !goes(rt, alloc, procs, line.as_bytes())? {
             return Ok(false);
         }
     }
@@ -255,7 +272,7 @@ fn a_script_keeps_a_journal(rt: HostRuntime) -> Result<(), Fail> {
 }
 
 /// A limit, and what a take of at most so many bytes gives of `input`, where call 0 fails.
-static TAKEN: &[(u64, &str)] = &[(5, "failed"), (5, "input"), (5, ""), (0, "")];
+static TAKEN: &str = "5 failed\n5 input\n5 \n0 \n";
 
 fn takes(
     alloc: Global,
@@ -271,27 +288,52 @@ fn takes(
     }
 }
 
+/// A source of `input` of which these calls fail.
+fn source(alloc: Global, failing: &[u64]) -> Result<MemSource, NoMemory> {
+    let input = Text::from_slice(alloc, b"input")?;
+    Ok(MemSource::new(input, numbers(alloc, failing)?))
+}
+
+/// The same of a line.
+fn takes_line(alloc: Global, source: &mut MemSource, line: &str) -> Result<bool, NoMemory> {
+    match line.split_once(' ') {
+        Some((limit, wanted)) => {
+            if limit.is_empty() {
+                return Ok(false);
+            }
+            takes(alloc, source, number(limit.as_bytes()[0]), wanted)
+        }
+        None => Ok(false),
+    }
+}
+
 #[test]
 fn a_source_is_taken_once(rt: HostRuntime) -> Result<(), Fail> {
-    let input = Text::from_slice(rt.alloc(), b"input")?;
-    let mut source = MemSource::new(input, numbers(rt.alloc(), &[0])?);
-    for (limit, wanted) in TAKEN {
-        assert!(rt; takes(rt.alloc(), &mut source, *limit, wanted)?, "{wanted}");
+    let mut taken = source(rt.alloc(), &[0])?;
+    for line in TAKEN.lines() {
+        assert!(rt; takes_line(rt.alloc(), &mut taken, line)?, "{line}");
     }
-    let input = Text::from_slice(rt.alloc(), b"input")?;
-    let mut source = MemSource::new(input, numbers(rt.alloc(), &[])?);
-    assert!(rt; takes(rt.alloc(), &mut source, 4, "too long")?);
+    let mut long = source(rt.alloc(), &[])?;
+    assert!(rt; takes(rt.alloc(), &mut long, 4, "too long")?);
     Ok(())
 }
 
-/// What is put, and whether that fails, where call 1 does.
-static PUT: &[(&[u8], bool)] = &[(b"one ", false), (b"two ", true), (b"three", false)];
+/// What is put, after `!` where that fails: call 1 does.
+static PUT: &str = "-one \n!two \n-three\n";
+
+/// Whether a put goes as its line says.
+fn puts(sink: &mut MemSink, line: &[u8]) -> bool {
+    if line.is_empty() {
+        return false;
+    }
+    sink.put(&line[1..]).is_err() == (line[0] == b'!')
+}
 
 #[test]
 fn a_sink_keeps_what_is_put(rt: HostRuntime) -> Result<(), Fail> {
     let mut sink = MemSink::new(rt.alloc(), numbers(rt.alloc(), &[1])?);
-    for (bytes, fails) in PUT {
-        assert_eq!(rt; sink.put(bytes).is_err(), *fails);
+    for line in PUT.lines() {
+        assert!(rt; puts(&mut sink, line.as_bytes()), "{line}");
     }
     assert_eq!(rt; sink.bytes(), b"one three".as_slice());
     Ok(())
