@@ -2,7 +2,7 @@
 
 use super::objects::Told;
 use super::plain::{Plain, Way, mark_of};
-use super::sets::{upto, with};
+use super::sets::upto;
 use super::shapes::{Shape, letter, text};
 use std::alloc::Global;
 use vr_base::NoMemory;
@@ -69,17 +69,4 @@ pub(super) fn agree(
 /// The files of a shape whose records are current after a plain build.
 pub(super) fn recorded_after(plain: &Plain, shape: &Shape) -> u8 {
     plain.recorded & upto(shape.count)
-}
-
-/// The files that were started.
-pub(super) fn starts_of(events: &[u8]) -> u8 {
-    let mut starts = 0;
-    let mut after_plus = false;
-    for letter in events {
-        if after_plus && *letter >= b'0' {
-            starts = with(starts, *letter - b'0');
-        }
-        after_plus = *letter == b'+';
-    }
-    starts
 }
