@@ -129,6 +129,74 @@ static ROLES: [Role; 115] = [
     Role::Other,
 ];
 
+/// The roles of delimiters, by their byte below 64; any other has none.
+static DELIMITERS: [Role; 64] = [
+    Role::Other,
+    Role::Other,
+    Role::Other,
+    Role::Other,
+    Role::Other,
+    Role::Other,
+    Role::Other,
+    Role::Other,
+    Role::Other,
+    Role::Other,
+    Role::Other,
+    Role::Other,
+    Role::Other,
+    Role::Other,
+    Role::Other,
+    Role::Other,
+    Role::Other,
+    Role::Other,
+    Role::Other,
+    Role::Other,
+    Role::Other,
+    Role::Other,
+    Role::Other,
+    Role::Other,
+    Role::Other,
+    Role::Other,
+    Role::Other,
+    Role::Other,
+    Role::Other,
+    Role::Other,
+    Role::Other,
+    Role::Other,
+    Role::Other,
+    Role::Other,
+    Role::Other,
+    Role::Other,
+    Role::Other,
+    Role::Other,
+    Role::Other,
+    Role::Other,
+    Role::Opening,
+    Role::Closing,
+    Role::Other,
+    Role::Other,
+    Role::Comma,
+    Role::Other,
+    Role::Dot,
+    Role::Other,
+    Role::Other,
+    Role::Other,
+    Role::Other,
+    Role::Other,
+    Role::Other,
+    Role::Other,
+    Role::Other,
+    Role::Other,
+    Role::Other,
+    Role::Other,
+    Role::Colon,
+    Role::Semicolon,
+    Role::Other,
+    Role::Other,
+    Role::Other,
+    Role::Other,
+];
+
 /// The role of a word, in letters of any case.
 fn word_role(word: &[u8]) -> Role
     ensures { result ≡ word_role (lower_case word.now) }
@@ -143,14 +211,10 @@ fn word_role(word: &[u8]) -> Role
 fn symbol_role(byte: u8) -> Role
     ensures { result ≡ symbol_role byte }
 {
-    match byte {
-        b'(' => Role::Opening,
-        b')' => Role::Closing,
-        b',' => Role::Comma,
-        b'.' => Role::Dot,
-        b':' => Role::Colon,
-        b';' => Role::Semicolon,
-        _ => Role::Other,
+    if byte < 64 {
+        DELIMITERS[byte as usize]
+    } else {
+        Role::Other
     }
 }
 
@@ -159,12 +223,16 @@ fn role_of(text: &[u8], token: Token) -> Role
     requires { LiesIn text.now token }
     ensures { result ≡ role_of text.now token }
 {
-    match token.kind {
-        TokenKind::Word => word_role(&text[token.start as usize..token.end as usize]),
-        TokenKind::Extended => Role::Name,
-        TokenKind::Symbol => symbol_role(text[token.start as usize]),
-        TokenKind::Number | TokenKind::Str | TokenKind::Char | TokenKind::Tick | TokenKind::High =>
-            Role::Other,
+    if token.kind == TokenKind::Word {
+        return word_role(&text[token.start as usize..token.end as usize]);
+    }
+    if token.kind == TokenKind::Symbol {
+        return symbol_role(text[token.start as usize]);
+    }
+    if token.kind == TokenKind::Extended {
+        Role::Name
+    } else {
+        Role::Other
     }
 }
 
