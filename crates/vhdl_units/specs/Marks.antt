@@ -1,5 +1,5 @@
 -- The next `is` or `;` of each depth of parentheses, found once for a whole file.
-use Rattle.std.specs.Prelude.{◌≡◌, ◌≢◌, ◌⊎◌, ℕ, ◌+◌, ◌<◌, ◌≤◌, List, length, take, drop, count_by, slice_index}
+use Rattle.std.specs.Prelude.{◌≡◌, ◌≢◌, ◌⊎◌, ℕ, ◌+◌, ◌<◌, ◌≤◌, Bool, true, false, List, length, take, drop, count_by, slice_index}
 use Rattle.vr_base.specs.declared.design.Role.{Role}
 use Rattle.vr_base.specs.declared.design.Role.TheVariants.{Is, Semicolon, Function, Procedure}
 use Rattle.scan_spec.specs.Units.{role_at, is_opening, is_closing}
@@ -14,6 +14,11 @@ IsMark role = (role ≡ Is) ⊎ (role ≡ Semicolon)
 
 abbrev pub IsSubprogramWord : Role → Type 0
 IsSubprogramWord role = (role ≡ Function) ⊎ (role ≡ Procedure)
+
+abbrev pub is_subprogram_word : Role → Bool
+is_subprogram_word Function = true
+is_subprogram_word Procedure = true
+is_subprogram_word _ = false
 
 -- the first `is` or `;` of a level from a token on, or the end of the file
 pub record IsFirstMark (roles : List Role) (from level mark : ℕ) : Type 0 where

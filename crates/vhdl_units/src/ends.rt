@@ -1,6 +1,6 @@
 //! Small walks over roles.
 
-ghost use Rattle.std.specs.Prelude.{◌≡◌, ◌≤◌, ◌<◌, ◌+◌, length};
+ghost use Rattle.std.specs.Prelude.{◌≡◌, ◌≤◌, ◌<◌, ◌+◌, Bool, MatchOption, length};
 ghost use Rattle.scan_spec.specs.Units.{role_at, beginning_at, next_begins, begins_generate};
 ghost use Rattle.vhdl_units.specs.Parts.{IsSemicolonFrom, IsOwnerFrom};
 
@@ -92,18 +92,34 @@ pub fn begins_after(begins: bool, role: Role) -> bool
     }
 }
 
-/// Whether a `generate` at `to` opens a region, where it is known of one at `from`.
+/// Whether a `generate` after this token opens a region, where the token alone decides.
+#[inline(always)]
+fn begins_by(role: Role) -> Option<bool>
+    ensures { MatchOption result
+        ((begins : Bool) → next_begins begins role ≡ begins)
+        (λ after. (begins : Bool) → next_begins begins role ≡ after) }
+{
+    match role {
+        Role::If | Role::For | Role::Case => Some(true),
+        Role::Elsif | Role::Else => Some(false),
+        _ => None,
+    }
+}
+
+/// Whether a `generate` at `to` opens a region, where it is known of one at `from`: the nearest token before it that
+/// says so decides.
 pub fn begins_at(roles: &[Role], from: usize, to: usize, begins: bool) -> bool
     requires ordered { from ≤ to }
     requires within { to ≤ length roles.now }
     requires begins { begins ≡ begins_generate roles.now from }
     ensures { result ≡ begins_generate roles.now to }
 {
-    let mut begins = begins;
-    let mut at = from;
-    while at < to {
-        begins = begins_after(begins, roles[at]);
-        at += 1;
+    let mut at = to;
+    while at > from {
+        match begins_by(roles[at - 1]) {
+            Some(begins) => return begins,
+            None => at -= 1,
+        }
     }
     begins
 }

@@ -2,7 +2,8 @@
 
 ghost use Rattle.std.specs.Prelude.{◌≡◌, ◌≤◌, ◌+◌, IfOk, count_by, length};
 ghost use Rattle.scan_spec.specs.Units.{is_opening};
-ghost use Rattle.vhdl_units.specs.Marks.{AreMarks, AreNearest};
+ghost use Rattle.std.specs.List.{list_any};
+ghost use Rattle.vhdl_units.specs.Marks.{AreMarks, AreNearest, is_subprogram_word};
 
 use crate::ends::role_at;
 use std::alloc::Global;
@@ -42,14 +43,26 @@ fn fill(roles: &[Role], nearest: &mut [u32], marks: &mut [u32])
     }
 }
 
-/// By token the next `is` or `;` of a subprogram's word, or the number of tokens where there is none. The time is in
-/// proportion to the number of tokens, however deep the parentheses go.
+/// Whether a subprogram's word occurs.
+fn has_subprogram(roles: &[Role]) -> bool
+    ensures { result ≡ list_any is_subprogram_word roles.now }
+{
+    roles
+        .iter()
+        .any(|role| *role == Role::Function || *role == Role::Procedure)
+}
+
+/// By token the next `is` or `;` of a subprogram's word, or the number of tokens where there is none; other tokens have
+/// any number. The time is in proportion to the number of tokens, however deep the parentheses go.
 pub fn marks_of(alloc: Global, roles: &[Role]) -> Result<Vec<u32>, NoMemory>
     requires { length roles.now ≤ TEXT_LIMIT }
     ensures { IfOk result (λ marks. AreMarks roles.now 0 marks.items) }
 {
-    let mut nearest = vec![in alloc; roles.len() as u32; roles.len() + 1]?;
     let mut marks = vec![in alloc; 0; roles.len()]?;
+    if !has_subprogram(roles) {
+        return Ok(marks);
+    }
+    let mut nearest = vec![in alloc; roles.len() as u32; roles.len() + 1]?;
     fill(roles, &mut nearest, &mut marks);
     Ok(marks)
 }
