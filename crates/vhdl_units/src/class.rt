@@ -127,9 +127,9 @@ fn closes(roles: &[Role], inside: bool, at: usize) -> bool
     }
 }
 
-/// The class of the token at `at`, within a unit whose items begin at `start`.
-#[inline(always)]
-pub fn class_at(
+/// The class of a token whose word may open or end something.
+#[inline(never)]
+fn class_of_word(
     roles: &[Role],
     marks: &[u32],
     start: usize,
@@ -150,6 +150,31 @@ pub fn class_at(
             Class::Items,
         Role::Generate if opens_region(roles, at, begins) => Class::Region,
         Role::End if closes(roles, inside, at) => Class::Close,
+        _ => Class::Single,
+    }
+}
+
+/// The class of the token at `at`, within a unit whose items begin at `start`. Few words open or end anything, so the
+/// others are passed over by one test.
+#[inline(always)]
+pub fn class_at(
+    roles: &[Role],
+    marks: &[u32],
+    start: usize,
+    at: usize,
+    inside: bool,
+    counts: Counts,
+    begins: bool,
+) -> Class
+    requires within { at < length roles.now }
+    requires counts { AreCounts roles.now start at counts }
+    requires begins { begins ≡ begins_generate roles.now at }
+    requires marks { AreMarks roles.now 0 marks.now }
+    ensures { IsClass roles.now start inside at result }
+{
+    match roles[at] {
+        Role::Package | Role::Function | Role::Procedure | Role::Generate | Role::End =>
+            class_of_word(roles, marks, start, at, inside, counts, begins),
         _ => Class::Single,
     }
 }
