@@ -15,11 +15,12 @@ pub fn is_reference(roles: &[Role], at: usize) -> bool
     ensures value { result ≡ is_reference roles.now at }
     ensures within { IsTrue result → at + 2 < length roles.now }
 {
-    at + 2 < roles.len()
-        && is_name(roles[at])
-        && is_dot(roles[at + 1])
-        && is_name(roles[at + 2])
-        && !is_dot(role_before(roles, at))
+    // a dot is rare, so it is looked for first
+    if at + 2 < roles.len() && is_dot(roles[at + 1]) {
+        is_name(roles[at]) && is_name(roles[at + 2]) && !is_dot(role_before(roles, at))
+    } else {
+        false
+    }
 }
 
 /// Whether the reference at a token is strict; the caller knows whether the token is between a `use` or a `context` and
