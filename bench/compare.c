@@ -1,7 +1,9 @@
-/* Compares the proved scanner with the plain one on a file: so many rounds of each in turn, and the medians.
+/* Compares the proved scanner with the plain one, over the parts of a file as files of a project, and over it as one: so
+ * many rounds of each in turn, and the medians.
  *
  *   compare FILE ROUNDS
  */
+#include "parts.c"
 #include "tokenizer.c"
 #include <stdbool.h>
 #include <stdio.h>
@@ -30,37 +32,59 @@ static double median(double *times, long count) {
     return times[count / 2];
 }
 
+/* Runs both over the parts in turn, and prints the medians. */
+static int measure(const char *name, const uint8_t *text, const size_t *starts, size_t parts, long rounds) {
+    double *plain = malloc(rounds * sizeof *plain), *proved = malloc(rounds * sizeof *proved);
+    if (!plain || !proved) return 0;
+    for (long i = 0; i < rounds; i++) {
+        uint64_t tokens = 0, comments = 0;
+        double from = now();
+        for (size_t part = 0; part < parts; part++) {
+            size_t length = starts[part + 1] - starts[part];
+            struct scan scan = {0};
+            scan.room = length / 4 + 1;
+            scan.tokens = malloc(scan.room * sizeof *scan.tokens);
+            if (!scan.tokens || !cut(text + starts[part], length, &scan)) return 0;
+            tokens += scan.count;
+            comments += scan.comment_count;
+            free(scan.tokens);
+            free(scan.comments);
+        }
+        plain[i] = now() - from;
+
+        from = now();
+        for (size_t part = 0; part < parts; part++) {
+            struct scanned scanned;
+            bench_scan(text + starts[part], starts[part + 1] - starts[part], &scanned);
+            if (!scanned.whole) return 0;
+            tokens -= scanned.tokens;
+            comments -= scanned.comments;
+        }
+        proved[i] = now() - from;
+        if (tokens != 0 || comments != 0) return 0;
+    }
+    double a = median(plain, rounds), b = median(proved, rounds), length = starts[parts] - starts[0];
+    printf("%s: plain C %.0f bytes per second, proved %.0f, ratio of bytes per second %.2f\n", name, length / a, length / b, a / b);
+    free(plain);
+    free(proved);
+    return 1;
+}
+
 int main(int count, char **words) {
     if (count != 3) return 2;
     FILE *file = fopen(words[1], "rb");
     long rounds = atol(words[2]);
     if (!file || rounds < 1) return 2;
     uint8_t *text = malloc(4194304);
-    double *plain = malloc(rounds * sizeof *plain), *proved = malloc(rounds * sizeof *proved);
-    if (!text || !plain || !proved) return 2;
-    size_t length = fread(text, 1, 4194304, file);
+    if (!text) return 2;
+    size_t whole[2] = {0, fread(text, 1, 4194304, file)}, parts;
+    size_t *starts = cut_parts(text, whole[1], &parts);
+    if (!starts) return 2;
     fill_classes();
-    for (long i = 0; i < rounds; i++) {
-        struct scan scan = {0};
-        double from = now();
-        scan.room = length / 4 + 1;
-        scan.tokens = malloc(scan.room * sizeof *scan.tokens);
-        if (!scan.tokens || !cut(text, length, &scan)) return 1;
-        size_t tokens = scan.count, comments = scan.comment_count;
-        free(scan.tokens);
-        free(scan.comments);
-        plain[i] = now() - from;
-
-        struct scanned scanned;
-        from = now();
-        bench_scan(text, length, &scanned);
-        proved[i] = now() - from;
-        if (!scanned.whole || scanned.tokens != tokens || scanned.comments != comments) {
-            puts("the two scanners differ");
-            return 1;
-        }
+    if (!measure("files of at most 16,384 bytes", text, starts, parts, rounds) ||
+        !measure("one file", text, whole, 1, rounds)) {
+        puts("the two scanners differ, or there is no memory");
+        return 1;
     }
-    double a = median(plain, rounds), b = median(proved, rounds);
-    printf("plain C %.0f bytes per second, proved %.0f, ratio of times %.2f\n", length / a, length / b, b / a);
     return 0;
 }
