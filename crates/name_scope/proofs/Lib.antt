@@ -1,0 +1,11 @@
+pub mod BitLemmas
+pub mod LookLemmas
+pub mod WorkLemmas
+pub mod SpreadLemmas
+pub mod KeyLemmas
+pub mod NameLemmas
+pub mod ScopeLemmas
+pub mod OwnLemmas
+pub mod JoinLemmas
+pub mod OwnGroups
+pub mod Exact

@@ -1,0 +1,6 @@
+-- The bit is set in its word.
+use Rattle.name_scope.proofs.BitLemmas.{with_bit}
+use Rattle.name_scope.proofs.bits.set_bit.Goals as goal
+
+pub returns : goal.returns
+returns c = with_bit c.args.row.now c.args.number c.requires

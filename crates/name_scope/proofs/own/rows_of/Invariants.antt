@@ -1,0 +1,12 @@
+-- First the units up to the index have rows, and then so many groups.
+use Rattle.std.proofs.Common.{[], ◌++◌, map, replicate, take}
+use Rattle.std.specs.List.{AllZip}
+use Rattle.name_scope.specs.Names.{implicit, keys_of}
+use Rattle.name_scope.specs.Graph.{IsRowOf}
+use Rattle.name_scope.proofs.own.rows_of.Given as goal
+
+abbrev pub invariant-loop-unit : goal.invariant-loop-unit
+invariant-loop-unit l = AllZip (IsRowOf (keys_of l.names) l.words) l.rows.items (map (λ unit. implicit ++ unit.names) (take l.unit-index l.units))
+
+abbrev pub invariant-loop : goal.invariant-loop
+invariant-loop l = AllZip (IsRowOf (keys_of l.names) l.words) l.rows.items (map (λ unit. implicit ++ unit.names) l.units ++ replicate l.counter (implicit ++ []))

@@ -1,0 +1,17 @@
+-- One file more.
+use Rattle.std.proofs.Common.{◌≡◌, ℕ, ◌+◌, ◌∙◌, List, Some, ap, sym, subst, take, length, arith}
+use Rattle.std.specs.List.{AllZip}
+use Rattle.scan_spec.specs.Visibility.{scope_units}
+use Rattle.name_scope.specs.Scopes.{IsScopeOf, units_before}
+use Rattle.name_scope.proofs.ScopeLemmas.{as_long, file_more, starts_more}
+use Rattle.name_scope.proofs.scope.scopes_of.Goals as goal
+
+pub loop-file-preserved : goal.loop-file-preserved
+loop-file-preserved c =
+    let more = file_more c.args.project.now.files c.args.texts.now c.args.scans.now c.loop-file.file _ _ _ c.get.ensures (c.get-in-loop-file.ensures ∙ ap Some (sym c.bytes.ensures)) c.get-in-loop-file-2.ensures in
+    let long = as_long IsScopeOf c.loop-file.units.items (scope_units (take c.loop-file.file c.args.project.now.files) (take c.loop-file.file c.args.texts.now) (take c.loop-file.file c.args.scans.now)) c.loop-file.invariant.units in
+    record {
+      units = subst (AllZip IsScopeOf c.add_scopes.new.units.items) (sym more) (c.in_ok-add_scopes.ensures _ c.loop-file.invariant.units);
+      each = omega (arith, c.in_ok-push.ensures.len, c.loop-file.invariant.each);
+      starts = rw c.in_ok-push.ensures.items (starts_more c.loop-file.starts.items c.len.result c.loop-file.file (units_before c.args.project.now.files c.args.texts.now c.args.scans.now) c.loop-file.invariant.each (omega (arith, c.len.ensures, long)) c.loop-file.invariant.starts)
+    }

@@ -1,0 +1,61 @@
+-- Links between units and groups, by what units want and are.
+use Rattle.std.specs.Prelude.{◌≡◌, ℕ, ◌+◌, ◌<◌, ◌⊎◌, List, [], Contains, length, take, slice_index_or}
+use Rattle.name_scope.specs.declared.links.Link.{Link}
+use Rattle.name_scope.specs.declared.scope.UnitScope.{UnitScope}
+use Rattle.name_scope.specs.declared.want.Group.{Group}
+use Rattle.name_scope.specs.declared.want.Want.{Want}
+use Rattle.name_scope.specs.Links.{links_at}
+use Rattle.name_scope.specs.Names.{group_number, number_of}
+
+-- the link for what is wanted: to the place of the group, after those of the units
+abbrev pub link_of : List (List ℕ) → List Group → ℕ → Want → Link
+link_of names groups places want = record { gate = number_of names want.gate; source = places + group_number groups want.group }
+
+-- the library and the group that are wanted have numbers
+pub record IsThere (names : List (List ℕ)) (groups : List Group) (want : Want) : Type 0 where
+  pub gate : Contains names want.gate
+  pub group : Contains groups want.group
+
+-- a link is one for what is wanted
+pub record IsLinkFor (names : List (List ℕ)) (groups : List Group) (places : ℕ) (wants : List Want) (link : Link) : Type 0 where
+  pub want : Want
+  pub wanted : Contains wants want
+  pub there : IsThere names groups want
+  pub is : link ≡ link_of names groups places want
+
+-- the links for what is wanted were added
+pub record HasLinked (names : List (List ℕ)) (groups : List Group) (places : ℕ) (wants : List Want) (old new : List Link) : Type 0 where
+  pub unchanged : (link : Link) → Contains old link → Contains new link
+  pub linked : (want : Want) → Contains wants want → IsThere names groups want → Contains new (link_of names groups places want)
+  pub only : (link : Link) → Contains new link → Contains old link ⊎ IsLinkFor names groups places wants link
+
+-- links are exactly those for what is wanted
+abbrev pub IsLinked : List (List ℕ) → List Group → ℕ → List Want → List Link → Type 0
+IsLinked names groups places wants links = HasLinked names groups places wants [] links
+
+-- a place is that of one of some groups
+pub record IsOneOf (groups own : List Group) (at : ℕ) : Type 0 where
+  pub group : Group
+  pub owned : Contains own group
+  pub there : Contains groups group
+  pub is : at ≡ group_number groups group
+
+-- a link was added to those of some groups
+pub record HasMember (groups own : List Group) (link : Link) (old new : List (List Link)) : Type 0 where
+  pub each : length new ≡ length old
+  pub unchanged : (at : ℕ) (other : Link) → Contains (links_at old at) other → Contains (links_at new at) other
+  pub joined : (group : Group) → Contains own group → Contains groups group → Contains (links_at new (group_number groups group)) link
+  pub only : (at : ℕ) (other : Link) → Contains (links_at new at) other → Contains (links_at old at) other ⊎ ((other ≡ link) × IsOneOf groups own at)
+
+-- the unit of a place
+abbrev pub scope_at : List UnitScope → ℕ → UnitScope
+scope_at units at = slice_index_or units at (record { groups = []; names = []; wants = [] })
+
+-- the links of groups lead to exactly the units in them, up to a place
+pub record AreMembersTo (end : ℕ) (groups : List Group) (units : List UnitScope) (gate : ℕ) (members : List (List Link)) : Type 0 where
+  pub each : length members ≡ length groups
+  pub joined : (at : ℕ) → at < end → (group : Group) → Contains (scope_at units at).groups group → Contains groups group → Contains (links_at members (group_number groups group)) (record { gate = gate; source = at })
+  pub only : (place : ℕ) (link : Link) → Contains (links_at members place) link → (link.gate ≡ gate) × (link.source < end) × IsOneOf groups (scope_at units link.source).groups place
+
+abbrev pub AreMembers : List Group → List UnitScope → ℕ → List (List Link) → Type 0
+AreMembers groups units gate members = AreMembersTo (length units) groups units gate members

@@ -1,0 +1,11 @@
+-- Rows of bits, and what hands their numbers on.
+pub mod Bits
+pub mod Links
+pub mod Work
+pub mod Names
+pub mod Wants
+pub mod Scopes
+pub mod Groups
+pub mod Graph
+pub mod Joins
+pub mod Exact

@@ -1,0 +1,34 @@
+-- Names and groups by number.
+use Rattle.std.specs.Prelude.{◌≡◌, ℕ, List, [], ◌∷◌, map, slice_index_or, Vec, Contains, codes}
+use Rattle.std.specs.Global.{Global}
+use Rattle.std.specs.List.{position_or_len}
+use Rattle.std.specs.Str.{bytes_eq}
+use Rattle.indexmap.specs.IndexSet.{IndexSet}
+use Rattle.scan_spec.specs.References.{work}
+use Rattle.name_scope.specs.declared.want.Group.{Group}
+use Rattle.name_scope.specs.Groups.{is_same_group}
+
+-- the names of a set of names, in order
+abbrev pub keys_of : {S : Type 0} → IndexSet (Vec ℕ Global) S → List (List ℕ)
+keys_of set = map (λ key. key.items) set.keys
+
+-- the number of a name: its first position, or how many there are
+abbrev pub number_of : List (List ℕ) → List ℕ → ℕ
+number_of names name = position_or_len (bytes_eq name) names
+
+-- the name of a number
+abbrev pub name_at : List (List ℕ) → ℕ → List ℕ
+name_at names number = slice_index_or names number []
+
+-- the number of a group
+abbrev pub group_number : List Group → Group → ℕ
+group_number groups group = position_or_len (is_same_group group) groups
+
+-- elements were added where they weren't there, and none lost
+pub record HasAll {X : Type 0} (more old new : List X) : Type 0 where
+  pub added : (x : X) → Contains more x → Contains new x
+  pub unchanged : (x : X) → Contains old x → Contains new x
+
+-- the libraries that each unit sees without a clause
+abbrev pub implicit : List (List ℕ)
+implicit = work ∷ codes "std" ∷ []

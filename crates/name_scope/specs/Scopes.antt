@@ -1,0 +1,39 @@
+-- The design units of a project, as the program keeps them.
+use Rattle.std.specs.Prelude.{◌≡◌, ℕ, ◌<◌, ◌≤◌, List, ◌++◌, length, map, take, slice_get, slice_index, Some}
+use Rattle.std.specs.List.{All, AllZip}
+use Rattle.vr_base.specs.declared.design.Scan.{Scan}
+use Rattle.vr_base.specs.declared.design.Unit.{Unit as DesignUnit}
+use Rattle.vr_base.specs.declared.project.ProjectFile.{ProjectFile}
+use Rattle.vr_base.specs.declared.limits.TheConstants.{TEXT_LIMIT}
+use Rattle.scan_spec.specs.Visibility.{ScopeUnit, scope_unit, scope_units}
+use Rattle.name_scope.specs.declared.scope.UnitScope.{UnitScope}
+use Rattle.name_scope.specs.Wants.{own_groups, wants_of}
+use Rattle.name_scope.specs.declared.scope.Scopes.{Scopes}
+
+abbrev pub IsTextSmall : List ℕ → Type 0
+IsTextSmall text = length text ≤ TEXT_LIMIT
+
+-- the program's record of a unit
+abbrev pub as_scope : ScopeUnit → UnitScope
+as_scope unit = record { groups = own_groups unit.library unit.unit; names = unit.names; wants = wants_of unit.library unit.unit unit.contexts }
+
+abbrev pub IsScopeOf : UnitScope → ScopeUnit → Type 0
+IsScopeOf scope unit = scope ≡ as_scope unit
+
+-- that of the unit of a number
+abbrev pub IsScopeAt : List ℕ → List ℕ → Scan → ℕ → UnitScope → Type 0
+IsScopeAt library text scan number scope = (unit : DesignUnit) → slice_get scan.units number ≡ Some unit → IsScopeOf scope (scope_unit library text scan unit)
+
+-- the units of a file were added
+abbrev pub AddsScopes : List ℕ → List ℕ → Scan → List UnitScope → List UnitScope → Type 0
+AddsScopes library text scan old new = (units : List ScopeUnit) → AllZip IsScopeOf old units → AllZip IsScopeOf new (units ++ map (scope_unit library text scan) scan.units)
+
+-- how many units the files before a file have
+abbrev pub units_before : List ProjectFile → List (List ℕ) → List Scan → ℕ → ℕ
+units_before files texts scans file = length (scope_units (take file files) (take file texts) (take file scans))
+
+-- the units of all files, and where those of each begin
+pub record AreScopes (files : List ProjectFile) (texts : List (List ℕ)) (scans : List Scan) (scopes : Scopes) : Type 0 where
+  pub units : AllZip IsScopeOf scopes.units.items (scope_units files texts scans)
+  pub each : length scopes.starts.items ≡ length files
+  pub starts : (file : ℕ) → file < length files → slice_index scopes.starts.items file ≡ units_before files texts scans file

@@ -1,0 +1,73 @@
+//! The sets that units begin with: by their own library clauses.
+
+ghost use Rattle.std.specs.Prelude.{◌≡◌, ◌/◌, ◌<◌, ◌≤◌, ◌*◌, ◌∷◌, ◌++◌, [], Contains, IfOk, OnOk, length, map, replicate};
+ghost use Rattle.std.specs.List.{All, AllZip};
+ghost use Rattle.name_scope.specs.Names.{implicit, keys_of};
+ghost use Rattle.name_scope.specs.Graph.{AreNamed, HasPut, IsRowOf};
+
+use crate::names::{Names, STD, find};
+use crate::row::Row;
+use crate::scope::UnitScope;
+use crate::wants::WORK;
+use std::alloc::Global;
+use vr_base::{NoMemory, Text};
+
+/// Puts the number of a name into a row.
+fn put(names: &Names, name: &[u8], row: &mut Row)
+    requires known { Contains (keys_of names.now) name.now }
+    requires room { length (keys_of names.now) ≤ 64 * length row.old }
+    ensures { HasPut (keys_of names.now) (name.now ∷ []) row.old row.new }
+{
+    if let Some(number) = find(names, name) {
+        row.put(number);
+    }
+}
+
+/// Puts the numbers of names into a row.
+fn put_all(names: &Names, more: &[Text], row: &mut Row)
+    requires known { AreNamed (keys_of names.now) more.now }
+    requires room { length (keys_of names.now) ≤ 64 * length row.old }
+    ensures { HasPut (keys_of names.now) more.now row.old row.new }
+{
+    for name in more {
+        put(names, name.bytes(), row);
+    }
+}
+
+/// The row of `work`, `std` and further names.
+fn row_of(alloc: Global, names: &Names, more: &[Text], words: usize) -> Result<Row, NoMemory>
+    requires implicit { AreNamed (keys_of names.now) implicit }
+    requires known { AreNamed (keys_of names.now) more.now }
+    requires room { length (keys_of names.now) ≤ 64 * words }
+    ensures { IfOk result (λ row. IsRowOf (keys_of names.now) words row (implicit ++ more.now)) }
+{
+    let mut row = Row::new(alloc, words)?;
+    put(names, WORK.as_slice(), &mut row);
+    put(names, STD.as_slice(), &mut row);
+    put_all(names, more, &mut row);
+    Ok(row)
+}
+
+/// The rows that units begin with, and after them one for each group, which has `work` and `std`.
+pub fn rows_of(
+    alloc: Global,
+    names: &Names,
+    units: &[UnitScope],
+    groups: usize,
+    words: usize,
+) -> Result<Vec<Row>, NoMemory>
+    requires implicit { AreNamed (keys_of names.now) implicit }
+    requires known { All (λ unit. AreNamed (keys_of names.now) unit.names) units.now }
+    requires room { length (keys_of names.now) ≤ 64 * words }
+    ensures { IfOk result (λ rows. AllZip (IsRowOf (keys_of names.now) words) rows.items
+        (map (λ unit. implicit ++ unit.names) units.now ++ replicate groups (implicit ++ []))) }
+{
+    let mut rows = Vec::new(alloc);
+    for unit in units {
+        rows.push(row_of(alloc, names, unit.names.as_slice(), words)?)?;
+    }
+    for _ in 0..groups {
+        rows.push(row_of(alloc, names, &[], words)?)?;
+    }
+    Ok(rows)
+}

@@ -1,0 +1,103 @@
+//! What a project's design units name: the units of all files in one list.
+
+ghost use Rattle.std.specs.Prelude.{◌≡◌, ◌<◌, ◌≤◌, IfOk, OnOk, length};
+ghost use Rattle.std.specs.List.{All};
+ghost use Rattle.scan_spec.specs.Units.{roles_of};
+ghost use Rattle.scan_spec.specs.Scans.{AreScansOf, IsScanOf};
+ghost use Rattle.name_scope.specs.Scopes.{AddsScopes, AreScopes, IsScopeAt, IsTextSmall};
+
+use crate::want::{Group, Want};
+use crate::wants::{own_groups, wants_of};
+use std::alloc::Global;
+use vhdl_refs::{context_refs, library_names};
+use vhdl_units::roles_of;
+use vr_base::{
+    Items, NoMemory, Project, RoleList, Scan, Scans, TEXT_LIMIT, Text, TextList,
+};
+
+/// What a design unit is to others: the groups that it is in, the names of its library clauses, and what it wants.
+#[derive(Drop)]
+pub struct UnitScope {
+    pub groups: Items<Group>,
+    pub names: TextList,
+    pub wants: Items<Want>,
+}
+
+/// The units of a project, file by file, and for each file the number of its first unit.
+#[derive(Drop)]
+pub struct Scopes {
+    pub starts: Vec<usize>,
+    pub units: Vec<UnitScope>,
+}
+
+/// What the unit of a number in a scan names.
+fn scope_of(
+    alloc: Global,
+    library: &Text,
+    text: &[u8],
+    scan: &Scan,
+    roles: &RoleList,
+    number: u32,
+) -> Result<UnitScope, NoMemory>
+    requires scan { IsScanOf text.now scan.now }
+    requires small { length text.now ≤ TEXT_LIMIT }
+    requires roles { roles.now ≡ roles_of text.now scan.now.tokens.list }
+    requires number { number < length scan.now.units }
+    ensures { IfOk result (IsScopeAt library.now text.now scan.now number) }
+{
+    let unit = scan.units.get(number as u64);
+    let contexts = context_refs(alloc, text, scan, roles, number)?;
+    Ok(UnitScope {
+        groups: own_groups(alloc, library, unit)?,
+        names: library_names(alloc, text, scan, roles, number)?,
+        wants: wants_of(alloc, library, unit, &contexts)?,
+    })
+}
+
+/// Adds the units of one file.
+fn add_scopes(
+    alloc: Global,
+    library: &Text,
+    text: &[u8],
+    scan: &Scan,
+    units: &mut Vec<UnitScope>,
+) -> Result<(), NoMemory>
+    requires scan { IsScanOf text.now scan.now }
+    requires small { length text.now ≤ TEXT_LIMIT }
+    ensures { OnOk result
+        (AddsScopes library.now text.now scan.now units.old.items units.new.items) }
+{
+    let roles = roles_of(alloc, text, &scan.tokens)?;
+    for number in 0..scan.units.len() {
+        units.push(scope_of(alloc, library, text, scan, &roles, number as u32)?)?;
+    }
+    Ok(())
+}
+
+/// The units of a project.
+pub fn scopes_of(
+    alloc: Global,
+    project: &Project,
+    texts: &TextList,
+    scans: &Scans,
+) -> Result<Scopes, NoMemory>
+    requires each { length texts.now ≡ length project.now.files }
+    requires scans { AreScansOf texts.now scans.now }
+    requires small { All IsTextSmall texts.now }
+    ensures { IfOk result (AreScopes project.now.files texts.now scans.now) }
+{
+    let mut starts = Vec::new(alloc);
+    let mut units = Vec::new(alloc);
+    for file in 0..project.files.len() {
+        starts.push(units.len())?;
+        let library = &project.files.get(file).name.library;
+        add_scopes(
+            alloc,
+            library,
+            texts.get(file).bytes(),
+            scans.get(file),
+            &mut units,
+        )?;
+    }
+    Ok(Scopes { starts, units })
+}

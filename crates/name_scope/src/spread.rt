@@ -1,0 +1,155 @@
+//! The sets of all places, grown along links until each takes all that its links hand on.
+
+ghost use Rattle.std.specs.Prelude.{◌≡◌, ℕ, ◌+◌, ◌<◌, ◌∷◌, ◌++◌, [], Contains, length, IfOk, OnOk, slice_index};
+ghost use Rattle.name_scope.specs.Bits.{has};
+ghost use Rattle.name_scope.specs.Links.{AreBelow, AreEven, AreTaken, HasLookedAt, HasSpread};
+ghost use Rattle.name_scope.specs.Work.{AreReaders, HasRevisited, IsSettling, IsWork, KnowReaders};
+
+use crate::links::Link;
+use crate::look::look;
+use crate::row::Row;
+use crate::work::{list_all, list_one, readers_of};
+use std::alloc::Global;
+use vr_base::{Items, NoMemory};
+
+/// Looks at a place, and says whether its row has grown. What is in `room` is lost.
+fn look_at(links: &[Items<Link>], rows: &mut [Row], at: usize, room: &mut Row) -> bool
+    requires at { at < length rows.old }
+    requires each { length links.now ≡ length rows.old }
+    requires even { AreEven (length room.old) rows.old }
+    requires below { AreBelow (length rows.old) links.now }
+    ensures room { length room.new ≡ length room.old }
+    ensures looked { HasLookedAt links.now at rows.old rows.new result }
+{
+    room.copy_from(&rows[at]);
+    let grown = look(links[at].as_slice(), rows, room);
+    if grown {
+        rows[at].copy_from(room);
+    }
+    grown
+}
+
+/// Looks at each place once, from the first on.
+fn sweep_up(links: &[Items<Link>], rows: &mut [Row], room: &mut Row)
+    requires each { length links.now ≡ length rows.old }
+    requires even { AreEven (length room.old) rows.old }
+    requires below { AreBelow (length rows.old) links.now }
+    ensures room { length room.new ≡ length room.old }
+    ensures spread { HasSpread links.now rows.old rows.new }
+{
+    for at in 0..rows.len() {
+        look_at(links, rows, at, room);
+    }
+}
+
+/// Looks at each place once, from the last on.
+fn sweep_down(links: &[Items<Link>], rows: &mut [Row], room: &mut Row)
+    requires each { length links.now ≡ length rows.old }
+    requires even { AreEven (length room.old) rows.old }
+    requires below { AreBelow (length rows.old) links.now }
+    ensures room { length room.new ≡ length room.old }
+    ensures spread { HasSpread links.now rows.old rows.new }
+{
+    for at in (0..rows.len()).rev() {
+        look_at(links, rows, at, room);
+    }
+}
+
+/// Looks at a place that was taken from the list of work. Where its row has grown, the place and its readers are listed.
+fn revisit(
+    links: &[Items<Link>],
+    readers: &[Items<usize>],
+    rows: &mut [Row],
+    room: &mut Row,
+    work: &mut Vec<usize>,
+    marks: &mut [bool],
+    at: usize,
+) -> Result<(), NoMemory>
+    requires at { at < length rows.old }
+    requires each { length links.now ≡ length rows.old }
+    requires even { AreEven (length room.old) rows.old }
+    requires below { AreBelow (length rows.old) links.now }
+    requires marks { length marks.old ≡ length rows.old }
+    requires readers { length readers.now ≡ length rows.old }
+    requires places { AreReaders (length rows.old) readers.now }
+    requires known { KnowReaders links.now readers.now }
+    requires work { IsWork (work.old.items ++ at ∷ []) marks.old }
+    ensures room { length room.new ≡ length room.old }
+    ensures revisited { OnOk result (HasRevisited links.now readers.now at
+        rows.old work.old.items marks.old rows.new work.new.items marks.new) }
+{
+    marks[at] = false;
+    if look_at(links, rows, at, room) {
+        list_one(work, marks, at)?;
+        list_all(work, marks, readers[at].as_slice())?;
+    }
+    Ok(())
+}
+
+/// Looks at places on the list of work until none is on it.
+fn settle(
+    links: &[Items<Link>],
+    readers: &[Items<usize>],
+    rows: &mut [Row],
+    room: &mut Row,
+    work: &mut Vec<usize>,
+    marks: &mut [bool],
+) -> Result<(), NoMemory>
+    requires each { length links.now ≡ length rows.old }
+    requires even { AreEven (length room.old) rows.old }
+    requires below { AreBelow (length rows.old) links.now }
+    requires readers { length readers.now ≡ length rows.old }
+    requires places { AreReaders (length rows.old) readers.now }
+    requires known { KnowReaders links.now readers.now }
+    requires settling { IsSettling links.now rows.old rows.old work.old.items marks.old }
+    ensures spread { OnOk result (HasSpread links.now rows.old rows.new) }
+    ensures taken { OnOk result (AreTaken links.now (has rows.new)) }
+{
+    while let Some(at) = work.pop() {
+        revisit(links, readers, rows, room, work, marks, at)?;
+    }
+    Ok(())
+}
+
+/// All places, in order.
+fn all_places(alloc: Global, places: usize) -> Result<Vec<usize>, NoMemory>
+    ensures each { IfOk result (λ work. length work.items ≡ places) }
+    ensures is { IfOk result (λ work. (k : ℕ) → k < places → slice_index work.items k ≡ k) }
+{
+    let mut work = Vec::new(alloc);
+    for at in 0..places {
+        work.push(at)?;
+    }
+    Ok(work)
+}
+
+/// Grows the sets of all places until each takes all that its links hand on: they are then the least that hold the given
+/// ones and take it. A place is looked at again where a set that it takes from has grown; two looks at each, up and
+/// down, come first, since they settle most.
+pub fn spread(
+    alloc: Global,
+    links: &[Items<Link>],
+    rows: &mut [Row],
+    words: usize,
+) -> Result<(), NoMemory>
+    requires each { length links.now ≡ length rows.old }
+    requires even { AreEven words rows.old }
+    requires below { AreBelow (length rows.old) links.now }
+    ensures spread { OnOk result (HasSpread links.now rows.old rows.new) }
+    ensures taken { OnOk result (AreTaken links.now (has rows.new)) }
+{
+    let mut room = Row::new(alloc, words)?;
+    sweep_up(links, rows, &mut room);
+    sweep_down(links, rows, &mut room);
+    let readers = readers_of(alloc, links)?;
+    let mut work = all_places(alloc, rows.len())?;
+    let mut marks = vec![in alloc; true; rows.len()]?;
+    settle(
+        links,
+        readers.as_slice(),
+        rows,
+        &mut room,
+        &mut work,
+        marks.as_mut_slice(),
+    )
+}
