@@ -38,13 +38,13 @@ pub no_unit : ScopeUnit
 no_unit = record { library = []; unit = record { kind = kinds.Entity; name = []; owner = Nothing; lead = 0; first = 0; last = 0 }; names = []; contexts = [] }
 
 -- an element of a part is one of all parts
-in_parts : {X Y : Type 0} (f : X → List Y) (xs : List X) (x : X) (y : Y) → Contains xs x → Contains (f x) y → Contains (flat_map f xs) y
+pub in_parts : {X Y : Type 0} (f : X → List Y) (xs : List X) (x : X) (y : Y) → Contains xs x → Contains (f x) y → Contains (flat_map f xs) y
 in_parts f [] x y (k, within, is) there = absurd (omega arith)
 in_parts {X} {Y} f (first ∷ xs) x y (zero, within, is) there = Contains-append_left (f first) (flat_map f xs) y (subst (λ (z : X). Contains (f z) y) (sym is) there)
 in_parts f (first ∷ xs) x y (suc k, within, is) there = Contains-append_right (f first) (flat_map f xs) y (in_parts f xs x y (k, omega arith, is) there)
 
 -- an element that passes is enough
-any_by : {X : Type 0} (p : X → Bool) (xs : List X) (x : X) → Contains xs x → p x ≡ true → list_any p xs ≡ true
+pub any_by : {X : Type 0} (p : X → Bool) (xs : List X) (x : X) → Contains xs x → p x ≡ true → list_any p xs ≡ true
 any_by p [] x (k, within, is) told = absurd (omega arith)
 any_by {X} p (first ∷ xs) x (zero, within, is) told = or_first (p first) (list_any p xs) (subst (λ (z : X). p z ≡ true) (sym is) told)
 any_by p (first ∷ xs) x (suc k, within, is) told = or_second (p first) (list_any p xs) (any_by p xs x (k, omega arith, is) told)
@@ -375,3 +375,6 @@ module _ (units : List ScopeUnit) (names : List (List ℕ)) (rows : List (List �
   -- what is seen is in the row
   pub all_seen : (at : ℕ) → at < length units → (name : List ℕ) → sees units (get_or units at no_unit) name ≡ true → Contains names name × (has rows at (number_of names name) ≡ true)
   all_seen at within name told = steps_seen (enough_steps units) at within name told
+
+  pub rows_enough : length units ≤ length rows
+  rows_enough = omega (arith, first_long, is.spread.each)

@@ -9,3 +9,5 @@ pub mod OwnLemmas
 pub mod JoinLemmas
 pub mod OwnGroups
 pub mod Exact
+pub mod ReadyLemmas
+pub mod TableLemmas

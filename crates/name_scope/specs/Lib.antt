@@ -9,3 +9,4 @@ pub mod Groups
 pub mod Graph
 pub mod Joins
 pub mod Exact
+pub mod Tables

@@ -5,6 +5,7 @@ mod bits;
 mod groups;
 mod joins;
 mod links;
+mod listing;
 mod look;
 mod names;
 mod own;
@@ -15,3 +16,8 @@ mod table;
 mod want;
 mod wants;
 mod work;
+
+#[cfg(test)]
+mod tests;
+
+pub use table::{VisibleLibraries, visible_libraries, visible_sets};

@@ -1,0 +1,28 @@
+-- The unit has a row, or none.
+use Rattle.std.proofs.Common.{◌≡◌, ◌+◌, ◌∙◌, ℕ, List, [], Option, Some, None, length, get_or, ap, arith, refl, sym, subst}
+use Rattle.std.specs.List.{list_any, slice_get}
+use Rattle.std.specs.Str.{bytes_eq}
+use Rattle.name_scope.specs.Names.{keys_of}
+use Rattle.name_scope.specs.Tables.{Table, table_of}
+use Rattle.name_scope.proofs.TableLemmas.{table_past, table_there}
+use Rattle.name_scope.proofs.table.VisibleLibraries.sees_library.Goals as goal
+
+pub row_at-requires : goal.row_at-requires
+unfolding table_of
+row_at-requires c =
+    let same : length c.self.inside.starts.items ≡ length c.args.self.now.starts = ap (λ (t : Table). length t.starts) c.self.view_is in
+    omega (arith, ap length c.as_slice.ensures.value, c.requires)
+
+moved : {X : Type 0} (starts starts' : List ℕ) (rows rows' : List X) (file unit : ℕ) (r : Option X) → starts ≡ starts' → rows ≡ rows' → r ≡ slice_get rows (get_or starts file 0 + unit) → slice_get rows' (get_or starts' file 0 + unit) ≡ r
+moved {X} starts starts' rows rows' file unit r same_starts same_rows is =
+    sym (is ∙ (ap (λ (some : List X). slice_get some (get_or starts file 0 + unit)) same_rows ∙ ap (λ (some : List ℕ). slice_get rows' (get_or some file 0 + unit)) same_starts))
+
+pub returns-in-Some : goal.returns-in-Some
+returns-in-Some c =
+    let row = moved _ _ _ _ c.args.unit.file c.args.unit.unit _ c.as_slice.ensures.value c.as_slice-2.ensures.value c.in-Some.ensures in
+    c.sees_name.ensures ∙ ap (list_any (bytes_eq c.args.name.now)) (sym (table_there c.self.inside.starts.items (keys_of c.self.inside.names) c.self.inside.rows.items c.args.self.now c.args.unit c.in-Some.row.now c.self.view_is row))
+
+pub returns-in-None : goal.returns-in-None
+returns-in-None c =
+    let row = moved _ _ _ _ c.args.unit.file c.args.unit.unit _ c.as_slice.ensures.value c.as_slice-2.ensures.value c.in-None.ensures in
+    ap (list_any (bytes_eq c.args.name.now)) (sym (table_past c.self.inside.starts.items (keys_of c.self.inside.names) c.self.inside.rows.items c.args.self.now c.args.unit c.self.view_is row))
