@@ -1,13 +1,15 @@
 -- The table of a project says exactly what its units see.
-use Rattle.std.proofs.Common.{◌≡◌, ℕ, zero, suc, ◌+◌, ◌<◌, ◌≤◌, Bool, true, false, cond, ◌&&◌, List, [], ◌∷◌, ◌++◌, Contains, IsTrue, Option, Some, None, length, map, filter, take, get_or, ◌⊎◌, inl, inr, refl, sym, ◌∙◌, ap, subst, arith, length-append}
+use Rattle.std.proofs.Common.{◌≡◌, ℕ, zero, suc, ◌+◌, ◌<◌, ◌≤◌, Bool, true, false, cond, ◌&&◌, Vec, Global, List, [], ◌∷◌, ◌++◌, Contains, IsTrue, Option, Some, None, length, map, filter, take, get_or, ◌⊎◌, inl, inr, refl, sym, ◌∙◌, ap, subst, arith, length-append}
 use Rattle.std.specs.List.{AllZip, flat_map, list_any, slice_get}
 use Rattle.std.specs.Str.{bytes_eq}
 use Rattle.std.proofs.Math.ListN.{get_or-append}
 use Rattle.std.proofs.lemmas.Bool.{cases_lt}
 use Rattle.std.proofs.lemmas.List.{get_or-append-add, get_or-map, get_or_past, length-map, take_more}
 use Rattle.std.proofs.lemmas.Option.{get_or_from_slice_get, slice_get-get_or, slice_get_within}
-use Rattle.std.specs.Prelude.{IsPermutation, IsSorted, IsStrictlySortedBy, if◌then◌else◌, nat_eq}
+use Rattle.std.specs.Prelude.{IsPermutation, IsSorted, if◌then◌else◌, nat_eq}
 use Rattle.std.specs.List.{dedup}
+use Rattle.std.specs.List.Sorted.{IsStrictlySortedBy}
+use Rattle.std.proofs.lemmas.List.Elements.{filter-append}
 use Rattle.std.specs.Ordering.{nat_cmp}
 use Rattle.std.specs.Cmp.Lexicographic.{pointwise, slice_cmp}
 use Rattle.std.proofs.lemmas.Cmp.{nat_list_cmp_total, nat_list_eq_equiv}
@@ -206,8 +208,21 @@ exactly units user set names is list = record {
 
 -- the empty list lists no name
 pub no_listing : (set : List (List ℕ)) → set ≡ [] → IsListing set []
+unfolding IsStrictlySortedBy
 no_listing set none = record {
-  rising = ?;
+  rising = tt;
   all = λ (name : List ℕ) (there : Contains set name). subst (λ (some : List (List ℕ)). Contains some name) none there;
   only = λ (name : List ℕ) (there : Contains [] name). absurd (omega (arith, there.1))
 }
+
+-- the name of a key
+pub key_there : (keys : List (Vec ℕ Global)) (i : ℕ) (key : Vec ℕ Global) → slice_get keys i ≡ Some key → slice_get (map (λ key. key.items) keys) i ≡ Some key.items
+key_there keys i key is =
+    let within : i < length keys = slice_get_within keys i key is in
+    slice_get-get_or (map (λ (k : Vec ℕ Global). k.items) keys) i [] (omega (arith, length-map keys (λ (k : Vec ℕ Global). k.items)))
+        ∙ ap Some (get_or-map (λ (k : Vec ℕ Global). k.items) keys i key [] within ∙ ap (λ (k : Vec ℕ Global). k.items) (get_or_from_slice_get keys i key key is))
+
+-- a place in slices is one in what they are of
+pub moved : {X : Type 0} (starts starts' : List ℕ) (rows rows' : List X) (file unit : ℕ) (r : Option X) → starts ≡ starts' → rows ≡ rows' → r ≡ slice_get rows (get_or starts file 0 + unit) → slice_get rows' (get_or starts' file 0 + unit) ≡ r
+moved {X} starts starts' rows rows' file unit r same_starts same_rows is =
+    sym (is ∙ (ap (λ (some : List X). slice_get some (get_or starts file 0 + unit)) same_rows ∙ ap (λ (some : List ℕ). slice_get rows' (get_or some file 0 + unit)) same_starts))

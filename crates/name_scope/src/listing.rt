@@ -49,8 +49,9 @@ fn names_in(alloc: Global, names: &Names, row: &Row) -> Result<Vec<Text>, NoMemo
 {
     let mut found = Vec::new(alloc);
     for number in 0..names.len() {
-        if let Some(name) = names.get_index(number) {
-            push_name(alloc, names, row, name.as_slice(), &mut found)?;
+        match names.get_index(number) {
+            Some(name) => push_name(alloc, names, row, name.as_slice(), &mut found)?,
+            None => unreachable!(),
         }
     }
     Ok(found)

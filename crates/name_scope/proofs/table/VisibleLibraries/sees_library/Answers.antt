@@ -4,7 +4,7 @@ use Rattle.std.specs.List.{list_any, slice_get}
 use Rattle.std.specs.Str.{bytes_eq}
 use Rattle.name_scope.specs.Names.{keys_of}
 use Rattle.name_scope.specs.Tables.{Table, table_of}
-use Rattle.name_scope.proofs.TableLemmas.{table_past, table_there}
+use Rattle.name_scope.proofs.TableLemmas.{moved, table_past, table_there}
 use Rattle.name_scope.proofs.table.VisibleLibraries.sees_library.Goals as goal
 
 pub row_at-requires : goal.row_at-requires
@@ -12,10 +12,6 @@ unfolding table_of
 row_at-requires c =
     let same : length c.self.inside.starts.items ≡ length c.args.self.now.starts = ap (λ (t : Table). length t.starts) c.self.view_is in
     omega (arith, ap length c.as_slice.ensures.value, c.requires)
-
-moved : {X : Type 0} (starts starts' : List ℕ) (rows rows' : List X) (file unit : ℕ) (r : Option X) → starts ≡ starts' → rows ≡ rows' → r ≡ slice_get rows (get_or starts file 0 + unit) → slice_get rows' (get_or starts' file 0 + unit) ≡ r
-moved {X} starts starts' rows rows' file unit r same_starts same_rows is =
-    sym (is ∙ (ap (λ (some : List X). slice_get some (get_or starts file 0 + unit)) same_rows ∙ ap (λ (some : List ℕ). slice_get rows' (get_or some file 0 + unit)) same_starts))
 
 pub returns-in-Some : goal.returns-in-Some
 returns-in-Some c =
