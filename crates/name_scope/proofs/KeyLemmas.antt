@@ -2,7 +2,7 @@
 use Rattle.std.proofs.Common.{◌≡◌, ℕ, zero, suc, ◌+◌, ◌<◌, ◌≤◌, Bool, true, false, cond, List, [], ◌∷◌, ◌++◌, Contains, Option, Some, None, length, take, get_or, nat_lt, not, ◌⊎◌, inl, inr, refl, sym, ◌∙◌, ap, subst, arith, append_assoc, append-nil}
 use Rattle.std.specs.Option.{IfNone}
 use Rattle.std.specs.List.{flat_map, list_any, position, position_or_len}
-use borrow.Author.Tests.{ltb-true, ltb-false}
+use borrow.Author.Tests.{ltb-false}
 use Rattle.std.proofs.lemmas.List.{take_more}
 use Rattle.std.proofs.lemmas.Grind.{flat_map-append}
 use Rattle.std.proofs.lemmas.List.Elements.{Contains-append_cases}
@@ -19,26 +19,26 @@ module _ {K : Type 0} (eq : K → K → Bool) (same : (a b : K) → eq a b ≡ t
   pub numbered : (keys : List K) (key d : K) → Contains keys key → (position_or_len (eq key) keys < length keys) × (get_or keys (position_or_len (eq key) keys) d ≡ key)
   numbered [] key d (k, within, is) = absurd (omega arith)
   numbered (first ∷ keys) key d there = by_first (eq key first) refl (λ (differ : eq key first ≡ false). numbered keys key d (not_first key first keys there differ)) where
-      by_first : (b : Bool) → eq key first ≡ b → (eq key first ≡ false → (position_or_len (eq key) keys < length keys) × (get_or keys (position_or_len (eq key) keys) d ≡ key)) → (cond (not b) (1 + position_or_len (eq key) keys) 0 < length (first ∷ keys)) × (get_or (first ∷ keys) (cond (not b) (1 + position_or_len (eq key) keys) 0) d ≡ key)
-      by_first true found rest = (omega arith, sym (same key first found))
-      by_first false found rest = let h = rest found in let e : 1 + position_or_len (eq key) keys ≡ suc (position_or_len (eq key) keys) = omega arith in rw e (omega (arith, h.0), h.1)
+    by_first : (b : Bool) → eq key first ≡ b → (eq key first ≡ false → (position_or_len (eq key) keys < length keys) × (get_or keys (position_or_len (eq key) keys) d ≡ key)) → (cond (not b) (1 + position_or_len (eq key) keys) 0 < length (first ∷ keys)) × (get_or (first ∷ keys) (cond (not b) (1 + position_or_len (eq key) keys) 0) d ≡ key)
+    by_first true found rest = (omega arith, sym (same key first found))
+    by_first false found rest = let h = rest found in let e : 1 + position_or_len (eq key) keys ≡ suc (position_or_len (eq key) keys) = omega arith in rw e (omega (arith, h.0), h.1)
 
   pub missed_key : (keys : List K) (key : K) (result : Option ℕ) → result ≡ position (eq key) keys → IfNone result (Contains keys key → ⊥)
   missed_key keys key result is = subst (λ r. IfNone r (Contains keys key → ⊥)) (sym is) (by_lt (nat_lt (position_or_len (eq key) keys) (length keys)) refl) where
-      by_lt : (b : Bool) → nat_lt (position_or_len (eq key) keys) (length keys) ≡ b → IfNone (cond b (Some (position_or_len (eq key) keys)) None) (Contains keys key → ⊥)
-      by_lt true found = tt
-      by_lt false found = λ (there : Contains keys key).
-          let past : length keys ≤ position_or_len (eq key) keys = ltb-false _ _ found in
-          let within : position_or_len (eq key) keys < length keys = (numbered keys key key there).0 in
-          omega arith
+    by_lt : (b : Bool) → nat_lt (position_or_len (eq key) keys) (length keys) ≡ b → IfNone (cond b (Some (position_or_len (eq key) keys)) None) (Contains keys key → ⊥)
+    by_lt true found = tt
+    by_lt false found = λ (there : Contains keys key).
+        let past : length keys ≤ position_or_len (eq key) keys = ltb-false _ _ found in
+        let within : position_or_len (eq key) keys < length keys = (numbered keys key key there).0 in
+        omega arith
 
   -- what has a number is among the keys
   pub there_by : (keys : List K) (key : K) → position_or_len (eq key) keys < length keys → Contains keys key
   there_by [] key within = absurd (omega arith)
   there_by (first ∷ keys) key within = by_first (eq key first) refl within (λ (rest : position_or_len (eq key) keys < length keys). there_by keys key rest) where
-      by_first : (b : Bool) → eq key first ≡ b → cond (not b) (1 + position_or_len (eq key) keys) 0 < length (first ∷ keys) → (position_or_len (eq key) keys < length keys → Contains keys key) → Contains (first ∷ keys) key
-      by_first true found within rest = (zero, omega arith, sym (same key first found))
-      by_first false found within rest = Contains-later first key keys (rest (omega arith))
+    by_first : (b : Bool) → eq key first ≡ b → cond (not b) (1 + position_or_len (eq key) keys) 0 < length (first ∷ keys) → (position_or_len (eq key) keys < length keys → Contains keys key) → Contains (first ∷ keys) key
+    by_first true found within rest = (zero, omega arith, sym (same key first found))
+    by_first false found within rest = Contains-later first key keys (rest (omega arith))
 
   pub among : (keys : List K) (key : K) → list_any (eq key) keys ≡ true → Contains keys key
   among keys key any =
@@ -54,11 +54,11 @@ all_none {X} old = record { added = λ (x : X) (there : Contains [] x). absurd (
 pub all_both : {X : Type 0} (first next old mid new : List X) → HasAll first old mid → HasAll next mid new → HasAll (first ++ next) old new
 all_both {X} first next old mid new one two = record {
   added = λ (x : X) (there : Contains (first ++ next) x). by_part x (Contains-append_cases first next x there);
-  unchanged = λ (x : X) (there : Contains old x). two.unchanged x (one.unchanged x there)
+  unchanged = λ (x : X) (there : Contains old x). two.unchanged x (one.unchanged x there);
 } where
-    by_part : (x : X) → Contains first x ⊎ Contains next x → Contains new x
-    by_part x (inl there) = two.unchanged x (one.added x there)
-    by_part x (inr there) = two.added x there
+  by_part : (x : X) → Contains first x ⊎ Contains next x → Contains new x
+  by_part x (inl there) = two.unchanged x (one.added x there)
+  by_part x (inr there) = two.added x there
 
 -- the parts of one element more
 pub part_more : {X Y : Type 0} (f : X → List Y) (xs : List X) (i : ℕ) (d : X) → i < length xs → flat_map f (take (i + 1) xs) ≡ flat_map f (take i xs) ++ f (get_or xs i d)
@@ -68,4 +68,4 @@ part_more f xs i d within =
 pub all_more : {X Y : Type 0} (before : List Y) (f : X → List Y) (xs : List X) (i : ℕ) (d : X) (old mid new : List Y) → i < length xs → HasAll (before ++ flat_map f (take i xs)) old mid → HasAll (f (get_or xs i d)) mid new → HasAll (before ++ flat_map f (take (i + 1) xs)) old new
 all_more {X} {Y} before f xs i d old mid new within one two =
     subst (λ (all : List Y). HasAll all old new) (append_assoc before (flat_map f (take i xs)) (f (get_or xs i d)) ∙ ap (λ (rest : List Y). before ++ rest) (sym (part_more f xs i d within)))
-        (all_both (before ++ flat_map f (take i xs)) (f (get_or xs i d)) old mid new one two)
+    (all_both (before ++ flat_map f (take i xs)) (f (get_or xs i d)) old mid new one two)

@@ -1,3 +1,4 @@
+-- The lemmas on rows, links, names and tables.
 pub mod BitLemmas
 pub mod LookLemmas
 pub mod WorkLemmas

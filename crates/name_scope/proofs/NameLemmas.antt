@@ -1,5 +1,5 @@
 -- Names among the keys of a set, and groups.
-use Rattle.std.proofs.Common.{◌≡◌, ℕ, zero, suc, ◌+◌, ◌<◌, ◌≤◌, Bool, true, false, cond, List, [], ◌∷◌, ◌++◌, Contains, Vec, Global, Option, Some, None, length, map, nat_lt, not, ◌&&◌, refl, sym, ◌∙◌, ap, subst, arith}
+use Rattle.std.proofs.Common.{◌≡◌, ℕ, zero, suc, ◌<◌, ◌≤◌, Bool, true, false, cond, List, [], ◌∷◌, ◌++◌, Contains, Vec, Global, Option, Some, None, length, map, nat_lt, not, ◌&&◌, refl, sym, ◌∙◌, ap, subst, arith}
 use Rattle.std.specs.Option.{IfSome, IfNone}
 use Rattle.std.specs.List.{list_any, position, position_or_len}
 use Rattle.std.specs.Str.{bytes_eq}
@@ -45,13 +45,13 @@ same_group a b told =
     let name : a.name ≡ b.name = same_bytes a.name b.name (names.0) in
     let library : a.library ≡ b.library = same_bytes a.library b.library (names.1) in
     ap (λ (x : Bool). group_of x a.library a.name) context
-        ∙ (ap (λ (x : List ℕ). group_of b.context x a.name) library ∙ ap (λ (x : List ℕ). group_of b.context b.library x) name)
+    ∙ (ap (λ (x : List ℕ). group_of b.context x a.name) library ∙ ap (λ (x : List ℕ). group_of b.context b.library x) name)
 
 pub told_group : (a b : Group) → a ≡ b → is_same_group a b ≡ true
 told_group a b same =
     subst (λ (g : Group). is_same_group a g ≡ true) same
-        (and_both (is_same_bool a.context a.context) (bytes_eq a.name a.name && bytes_eq a.library a.library) (itself a.context)
-            (and_both (bytes_eq a.name a.name) (bytes_eq a.library a.library) (told_same a.name a.name refl) (told_same a.library a.library refl)))
+    (and_both (is_same_bool a.context a.context) (bytes_eq a.name a.name && bytes_eq a.library a.library) (itself a.context)
+    (and_both (bytes_eq a.name a.name) (bytes_eq a.library a.library) (told_same a.name a.name refl) (told_same a.library a.library refl)))
 
 flip : (b : Bool) (n : ℕ) → cond (not b) n 0 ≡ cond b 0 n
 flip true n = refl
@@ -63,18 +63,18 @@ mapped keys name = sym (is_position_or_len (λ (ks : List (Vec ℕ Global)). num
 
 pub found_by : (keys : List (Vec ℕ Global)) (name : List ℕ) (result : Option ℕ) → result ≡ position (λ key. bytes_eq name key.items) keys → IfSome result (λ number. (number ≡ number_of (map (λ key. key.items) keys) name) × (number < length (map (λ key. key.items) keys)))
 found_by keys name result is = subst (λ r. IfSome r (λ number. (number ≡ number_of (map (λ key. key.items) keys) name) × (number < length (map (λ key. key.items) keys)))) (sym is) (by_lt (nat_lt (position_or_len (λ (key : Vec ℕ Global). bytes_eq name key.items) keys) (length keys)) refl) where
-    by_lt : (b : Bool) → nat_lt (position_or_len (λ (key : Vec ℕ Global). bytes_eq name key.items) keys) (length keys) ≡ b → IfSome (cond b (Some (position_or_len (λ (key : Vec ℕ Global). bytes_eq name key.items) keys)) None) (λ number. (number ≡ number_of (map (λ key. key.items) keys) name) × (number < length (map (λ key. key.items) keys)))
-    by_lt true told = (mapped keys name, (let within : position_or_len (λ (key : Vec ℕ Global). bytes_eq name key.items) keys < length keys = ltb-true _ _ told in omega (arith, length-map keys (λ (key : Vec ℕ Global). key.items))))
-    by_lt false told = tt
+  by_lt : (b : Bool) → nat_lt (position_or_len (λ (key : Vec ℕ Global). bytes_eq name key.items) keys) (length keys) ≡ b → IfSome (cond b (Some (position_or_len (λ (key : Vec ℕ Global). bytes_eq name key.items) keys)) None) (λ number. (number ≡ number_of (map (λ key. key.items) keys) name) × (number < length (map (λ key. key.items) keys)))
+  by_lt true told = (mapped keys name, (let within : position_or_len (λ (key : Vec ℕ Global). bytes_eq name key.items) keys < length keys = ltb-true _ _ told in omega (arith, length-map keys (λ (key : Vec ℕ Global). key.items))))
+  by_lt false told = tt
 
 pub missed_by : (keys : List (Vec ℕ Global)) (name : List ℕ) (result : Option ℕ) → result ≡ position (λ key. bytes_eq name key.items) keys → IfNone result (Contains (map (λ key. key.items) keys) name → ⊥)
 missed_by keys name result is = subst (λ r. IfNone r (Contains (map (λ key. key.items) keys) name → ⊥)) (sym is) (by_lt (nat_lt (position_or_len (λ (key : Vec ℕ Global). bytes_eq name key.items) keys) (length keys)) refl) where
-    by_lt : (b : Bool) → nat_lt (position_or_len (λ (key : Vec ℕ Global). bytes_eq name key.items) keys) (length keys) ≡ b → IfNone (cond b (Some (position_or_len (λ (key : Vec ℕ Global). bytes_eq name key.items) keys)) None) (Contains (map (λ key. key.items) keys) name → ⊥)
-    by_lt true told = tt
-    by_lt false told = λ (there : Contains (map (λ key. key.items) keys) name).
-        let past : length keys ≤ position_or_len (λ (key : Vec ℕ Global). bytes_eq name key.items) keys = ltb-false _ _ told in
-        let within : number_of (map (λ key. key.items) keys) name < length (map (λ key. key.items) keys) = (numbered bytes_eq same_bytes told_same (map (λ key. key.items) keys) name [] there).0 in
-        omega (arith, mapped keys name, length-map keys (λ (key : Vec ℕ Global). key.items))
+  by_lt : (b : Bool) → nat_lt (position_or_len (λ (key : Vec ℕ Global). bytes_eq name key.items) keys) (length keys) ≡ b → IfNone (cond b (Some (position_or_len (λ (key : Vec ℕ Global). bytes_eq name key.items) keys)) None) (Contains (map (λ key. key.items) keys) name → ⊥)
+  by_lt true told = tt
+  by_lt false told = λ (there : Contains (map (λ key. key.items) keys) name).
+      let past : length keys ≤ position_or_len (λ (key : Vec ℕ Global). bytes_eq name key.items) keys = ltb-false _ _ told in
+      let within : number_of (map (λ key. key.items) keys) name < length (map (λ key. key.items) keys) = (numbered bytes_eq same_bytes told_same (map (λ key. key.items) keys) name [] there).0 in
+      omega (arith, mapped keys name, length-map keys (λ (key : Vec ℕ Global). key.items))
 
 among_names : (keys : List (Vec ℕ Global)) (name : List ℕ) → list_any (λ key. bytes_eq name key.items) keys ≡ true → Contains (map (λ key. key.items) keys) name
 among_names keys name told =
@@ -84,17 +84,17 @@ among_names keys name told =
 pub named_already : (keys : List (Vec ℕ Global)) (name : List ℕ) → list_any (λ key. bytes_eq name key.items) keys ≡ true → HasAll (name ∷ []) (map (λ key. key.items) keys) (map (λ key. key.items) keys)
 named_already keys name told = record {
   added = λ (other : List ℕ) (there : Contains (name ∷ []) other). subst (Contains (map (λ key. key.items) keys)) (one_of name other there) (among_names keys name told);
-  unchanged = λ (other : List ℕ) (there : Contains (map (λ key. key.items) keys) other). there
+  unchanged = λ (other : List ℕ) (there : Contains (map (λ key. key.items) keys) other). there;
 }
 
 pub inserted : (keys : List (Vec ℕ Global)) (key : Vec ℕ Global) (name : List ℕ) → key.items ≡ name → HasAll (name ∷ []) (map (λ key. key.items) keys) (map (λ key. key.items) (insert_key (λ x y. bytes_eq x.items y.items) keys key))
 inserted keys key name is = by_any (list_any (λ other. bytes_eq key.items other.items) keys) refl where
-    last : Contains (map (λ key. key.items) (keys ++ key ∷ [])) name
-    last = subst (Contains (map (λ key. key.items) (keys ++ key ∷ []))) is (Contains-map (λ key. key.items) (keys ++ key ∷ []) key (Contains-append_right keys (key ∷ []) key (Contains-first key [])))
+  last : Contains (map (λ key. key.items) (keys ++ key ∷ [])) name
+  last = subst (Contains (map (λ key. key.items) (keys ++ key ∷ []))) is (Contains-map (λ key. key.items) (keys ++ key ∷ []) key (Contains-append_right keys (key ∷ []) key (Contains-first key [])))
 
-    by_any : (b : Bool) → list_any (λ other. bytes_eq key.items other.items) keys ≡ b → HasAll (name ∷ []) (map (λ key. key.items) keys) (map (λ key. key.items) (cond b keys (keys ++ key ∷ [])))
-    by_any true told = subst (λ (n : List ℕ). HasAll (n ∷ []) (map (λ key. key.items) keys) (map (λ key. key.items) keys)) is (named_already keys key.items told)
-    by_any false told = record {
-      added = λ (other : List ℕ) (there : Contains (name ∷ []) other). subst (Contains (map (λ key. key.items) (keys ++ key ∷ []))) (one_of name other there) last;
-      unchanged = λ (other : List ℕ) (there : Contains (map (λ key. key.items) keys) other). subst (λ (all : List (List ℕ)). Contains all other) (sym (map-append (λ key. key.items) keys (key ∷ []))) (Contains-append_left (map (λ key. key.items) keys) (key.items ∷ []) other there)
-    }
+  by_any : (b : Bool) → list_any (λ other. bytes_eq key.items other.items) keys ≡ b → HasAll (name ∷ []) (map (λ key. key.items) keys) (map (λ key. key.items) (cond b keys (keys ++ key ∷ [])))
+  by_any true told = subst (λ (n : List ℕ). HasAll (n ∷ []) (map (λ key. key.items) keys) (map (λ key. key.items) keys)) is (named_already keys key.items told)
+  by_any false told = record {
+    added = λ (other : List ℕ) (there : Contains (name ∷ []) other). subst (Contains (map (λ key. key.items) (keys ++ key ∷ []))) (one_of name other there) last;
+    unchanged = λ (other : List ℕ) (there : Contains (map (λ key. key.items) keys) other). subst (λ (all : List (List ℕ)). Contains all other) (sym (map-append (λ key. key.items) keys (key ∷ []))) (Contains-append_left (map (λ key. key.items) keys) (key.items ∷ []) other there);
+  }

@@ -1,19 +1,16 @@
 -- The rows and links of a project fit together.
-use Rattle.std.proofs.Common.{◌≡◌, ℕ, zero, suc, false, ◌+◌, ◌<◌, ◌≤◌, List, [], ◌∷◌, ◌++◌, Contains, length, map, get_or, replicate, ◌⊎◌, inl, inr, refl, sym, ◌∙◌, ap, subst, arith, length-append, take, drop}
+use Rattle.std.proofs.Common.{◌≡◌, ℕ, false, ◌+◌, ◌<◌, List, [], ◌++◌, Contains, length, map, get_or, replicate, ◌⊎◌, inl, inr, ◌∙◌, ap, subst, arith, length-append, take}
 use Rattle.std.specs.List.{All, AllZip, flat_map}
-use Rattle.std.proofs.Math.ListN.{get_or-append}
 use Rattle.std.proofs.Math.Seq.{take-append_seam}
-use Rattle.std.proofs.lemmas.Bool.{cases_lt}
-use Rattle.std.proofs.lemmas.List.{get_or-append-add, get_or-map, get_or_default, length-map, length-replicate}
-use Rattle.std.proofs.lemmas.List.Elements.{All-append, All-contains, All-from_get_or, All-get_or, Contains-append_right, Contains-get_or}
-use Rattle.scan_spec.specs.References.{work}
+use Rattle.std.proofs.lemmas.List.{get_or_default, length-map, length-replicate}
+use Rattle.std.proofs.lemmas.List.Elements.{All-append, Contains-append_right, Contains-get_or}
 use Rattle.name_scope.specs.declared.links.Link.{Link}
 use Rattle.name_scope.specs.declared.scope.UnitScope.{UnitScope}
 use Rattle.name_scope.specs.declared.want.Group.{Group}
 use Rattle.name_scope.specs.declared.want.Want.{Want}
 use Rattle.name_scope.specs.Groups.{is_same_group}
 use Rattle.name_scope.specs.Links.{AreBelow, AreEven, links_at}
-use Rattle.name_scope.specs.Names.{HasAll, group_number, implicit, number_of}
+use Rattle.name_scope.specs.Names.{HasAll, group_number, implicit}
 use Rattle.name_scope.specs.Wants.{group_of}
 use Rattle.name_scope.specs.Graph.{AreNamed, IsRowOf}
 use Rattle.name_scope.specs.Joins.{AreMembers, IsLinkFor, IsLinked}
@@ -50,12 +47,12 @@ module _ (units : List UnitScope) (names : List (List ℕ)) (groups : List Group
 
   unit_below : (at : ℕ) → at < length of_units → (link : Link) → Contains (links_at of_units at) link → link.source < length rows
   unit_below at within link there = by_link ((at_place (λ (some : List Link) (wants : List Want). IsLinked names groups (length units) wants some) of_units (map (λ (unit : UnitScope). unit.wants) units) at [] [] links_are (omega (arith, units_long, length-map units (λ (unit : UnitScope). unit.wants)))).only link there) where
-      by_link : Contains [] link ⊎ IsLinkFor names groups (length units) (get_or (map (λ (unit : UnitScope). unit.wants) units) at []) link → link.source < length rows
-      by_link (inl none) = absurd (omega (arith, none.1))
-      by_link (inr for) =
-          let source : link.source ≡ length units + group_number groups for.want.group = ap (λ (l : Link). l.source) for.is in
-          let number : group_number groups for.want.group < length groups = (numbered is_same_group same_group told_group groups for.want.group (group_of false [] []) for.there.group).0 in
-          omega (arith, rows_long)
+    by_link : Contains [] link ⊎ IsLinkFor names groups (length units) (get_or (map (λ (unit : UnitScope). unit.wants) units) at []) link → link.source < length rows
+    by_link (inl none) = absurd (omega (arith, none.1))
+    by_link (inr for) =
+        let source : link.source ≡ length units + group_number groups for.want.group = ap (λ (l : Link). l.source) for.is in
+        let number : group_number groups for.want.group < length groups = (numbered is_same_group same_group told_group groups for.want.group (group_of false [] []) for.there.group).0 in
+        omega (arith, rows_long)
 
   group_below : (at : ℕ) (link : Link) → Contains (links_at of_groups at) link → link.source < length rows
   group_below at link there = let one = members_are.only at link there in omega (arith, rows_long, one.1)

@@ -1,10 +1,10 @@
 -- The units of a scan are few, and those of files follow one another.
-use Rattle.std.proofs.Common.{◌≡◌, ℕ, zero, suc, ◌+◌, ◌<◌, ◌≤◌, List, [], ◌∷◌, ◌++◌, Some, None, length, map, take, get_or, refl, sym, ◌∙◌, ap, subst, arith, below_more, append_assoc, length-append}
+use Rattle.std.proofs.Common.{◌≡◌, ℕ, zero, suc, ◌+◌, ◌<◌, ◌≤◌, List, [], ◌∷◌, ◌++◌, Some, length, map, take, get_or, refl, sym, ◌∙◌, ap, subst, arith, below_more, append_assoc}
 use Rattle.std.specs.List.{AllZip, slice_get}
-use Rattle.std.proofs.lemmas.List.{length-map, map-append, append-nil, take_more, get_or-append-add}
+use Rattle.std.proofs.lemmas.List.{length-map, map-append, append-nil, take_more}
 use Rattle.std.proofs.Math.ListN.{get_or-append}
 use Rattle.std.proofs.Math.Seq.{get_or-append_seam}
-use Rattle.std.proofs.lemmas.Option.{slice_get_within, get_or_from_slice_get, slice_get-get_or}
+use Rattle.std.proofs.lemmas.Option.{slice_get-get_or}
 use Rattle.indexmap.proofs.SetLemmas.{AllZip-push}
 use Rattle.vr_base.specs.declared.design.Scan.{Scan}
 use Rattle.vr_base.specs.declared.design.Unit.{Unit as DesignUnit}
@@ -33,8 +33,8 @@ scope_more library text scan number scopes scope units within is so_far =
     let unit : DesignUnit = get_or scan.units number no_unit in
     let done : List ScopeUnit = map (scope_unit library text scan) (take number scan.units) in
     let all : units ++ map (scope_unit library text scan) (take (number + 1) scan.units) ≡ (units ++ done) ++ scope_unit library text scan unit ∷ [] =
-        ap (λ (some : List DesignUnit). units ++ map (scope_unit library text scan) some) (take_more scan.units number no_unit within)
-            ∙ (ap (λ (some : List ScopeUnit). units ++ some) (map-append (scope_unit library text scan) (take number scan.units) (unit ∷ [])) ∙ sym (append_assoc units done (scope_unit library text scan unit ∷ []))) in
+    ap (λ (some : List DesignUnit). units ++ map (scope_unit library text scan) some) (take_more scan.units number no_unit within)
+    ∙ (ap (λ (some : List ScopeUnit). units ++ some) (map-append (scope_unit library text scan) (take number scan.units) (unit ∷ [])) ∙ sym (append_assoc units done (scope_unit library text scan unit ∷ []))) in
     subst (AllZip IsScopeOf (scopes ++ scope ∷ [])) (sym all) (AllZip-push IsScopeOf scopes (units ++ done) scope (scope_unit library text scan unit) so_far (is unit (slice_get-get_or scan.units number no_unit within)))
 
 -- the units of one file more
@@ -47,14 +47,14 @@ file_more (x ∷ files) (y ∷ texts) (z ∷ scans) zero file text scan f t s =
     let same_text : y ≡ text = cc in
     let same_scan : z ≡ scan = cc in
     append-nil (map (scope_unit x.name.library y z) z.units)
-        ∙ (ap (λ (q : ProjectFile). map (scope_unit q.name.library y z) z.units) same_file
-        ∙ (ap (λ (q : List ℕ). map (scope_unit file.name.library q z) z.units) same_text
-        ∙ ap (λ (q : Scan). map (scope_unit file.name.library text q) q.units) same_scan))
+    ∙ (ap (λ (q : ProjectFile). map (scope_unit q.name.library y z) z.units) same_file
+    ∙ (ap (λ (q : List ℕ). map (scope_unit file.name.library q z) z.units) same_text
+    ∙ ap (λ (q : Scan). map (scope_unit file.name.library text q) q.units) same_scan))
 file_more (x ∷ files) (y ∷ texts) (z ∷ scans) (suc at) file text scan f t s =
     let next : suc at + 1 ≡ suc (at + 1) = omega arith in
     let first : List ScopeUnit = map (scope_unit x.name.library y z) z.units in
     rw next (ap (λ (rest : List ScopeUnit). first ++ rest) (file_more files texts scans at file text scan f t s)
-        ∙ sym (append_assoc first (scope_units (take at files) (take at texts) (take at scans)) (map (scope_unit file.name.library text scan) scan.units)))
+    ∙ sym (append_assoc first (scope_units (take at files) (take at texts) (take at scans)) (map (scope_unit file.name.library text scan) scan.units)))
 
 pub as_long : {X Y : Type 0} (R : X → Y → Type 0) (xs : List X) (ys : List Y) → AllZip R xs ys → length xs ≡ length ys
 as_long R [] [] all = refl

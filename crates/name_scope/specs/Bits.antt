@@ -4,20 +4,20 @@ use Rattle.std.specs.List.{sum_by}
 use Rattle.std.specs.Int.{bit_at}
 
 -- a row of words of 64 bits has a number
-unfoldable pub has_bit : List ℕ → ℕ → Bool
-has_bit row number = nat_eq (bit_at (slice_index row (number / 64)) (number % 64)) 1
+unfoldable pub row_has : List ℕ → ℕ → Bool
+row_has row number = nat_eq (bit_at (slice_index row (number / 64)) (number % 64)) 1
 
 -- the row of a place has a number
 abbrev pub has : List (List ℕ) → ℕ → ℕ → Bool
-has rows at number = has_bit (slice_index_or rows at []) number
+has rows at number = row_has (slice_index_or rows at []) number
 
 -- each number of the one set is in the other
-abbrev pub IsWithin : (ℕ → Bool) → (ℕ → Bool) → Type 0
-IsWithin some all = (number : ℕ) → IsTrue (some number) → IsTrue (all number)
+abbrev pub IsPartOf : (ℕ → Bool) → (ℕ → Bool) → Type 0
+IsPartOf some all = (number : ℕ) → IsTrue (some number) → IsTrue (all number)
 
 -- the same of the sets of each place
 abbrev pub AreWithin : (ℕ → ℕ → Bool) → (ℕ → ℕ → Bool) → Type 0
-AreWithin some all = (at : ℕ) → IsWithin (some at) (all at)
+AreWithin some all = (at : ℕ) → IsPartOf (some at) (all at)
 
 -- the words of a row, as a sum: it grows with the row
 abbrev pub weight : List ℕ → ℕ

@@ -1,5 +1,5 @@
 -- What the rows, the names and the links of a project are, before and after they were grown.
-use Rattle.std.specs.Prelude.{◌≡◌, ℕ, List, [], ◌++◌, length, map, replicate}
+use Rattle.std.specs.Prelude.{ℕ, List, [], ◌++◌, length, map, replicate}
 use Rattle.std.specs.List.{AllZip, flat_map}
 use Rattle.scan_spec.specs.References.{work}
 use Rattle.name_scope.specs.declared.links.Link.{Link}

@@ -1,5 +1,5 @@
 -- Groups of units, by name.
-use Rattle.std.specs.Prelude.{Bool, true, false, ◌&&◌, not, if◌then◌else◌}
+use Rattle.std.specs.Prelude.{Bool, true, false, ◌&&◌, not}
 use Rattle.std.specs.Str.{bytes_eq}
 use Rattle.name_scope.specs.declared.want.Group.{Group}
 

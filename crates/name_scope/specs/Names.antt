@@ -1,5 +1,5 @@
 -- Names and groups by number.
-use Rattle.std.specs.Prelude.{◌≡◌, ℕ, List, [], ◌∷◌, map, slice_index_or, Vec, Contains, codes}
+use Rattle.std.specs.Prelude.{ℕ, List, [], ◌∷◌, map, slice_index_or, Vec, Contains, codes}
 use Rattle.std.specs.Global.{Global}
 use Rattle.std.specs.List.{position_or_len}
 use Rattle.std.specs.Str.{bytes_eq}
@@ -17,8 +17,8 @@ abbrev pub number_of : List (List ℕ) → List ℕ → ℕ
 number_of names name = position_or_len (bytes_eq name) names
 
 -- the name of a number
-abbrev pub name_at : List (List ℕ) → ℕ → List ℕ
-name_at names number = slice_index_or names number []
+abbrev pub name_of_number : List (List ℕ) → ℕ → List ℕ
+name_of_number names number = slice_index_or names number []
 
 -- the number of a group
 abbrev pub group_number : List Group → Group → ℕ

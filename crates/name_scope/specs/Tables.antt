@@ -1,5 +1,5 @@
 -- The sets of all units of a project, as callers see them.
-use Rattle.std.specs.Prelude.{◌≡◌, ℕ, ◌+◌, ◌↔◌, Bool, List, [], Contains, IsTrue, Some, filter, length, map, slice_get, slice_index, slice_index_or}
+use Rattle.std.specs.Prelude.{◌≡◌, ℕ, ◌+◌, Bool, List, [], Contains, IsTrue, Some, filter, length, map, slice_get, slice_index, slice_index_or}
 use Rattle.std.specs.List.{list_any}
 use Rattle.std.specs.Str.{bytes_eq}
 use Rattle.std.specs.List.Sorted.{IsStrictlySortedBy}
@@ -10,7 +10,7 @@ use Rattle.vr_base.specs.declared.design.Unit.{Unit as DesignUnit}
 use Rattle.vr_base.specs.declared.project.ProjectFile.{ProjectFile}
 use Rattle.vr_base.specs.declared.refs.UnitId.{UnitId}
 use Rattle.scan_spec.specs.Visibility.{ScopeUnit, scope_unit, scope_units, sees}
-use Rattle.name_scope.specs.Bits.{has_bit}
+use Rattle.name_scope.specs.Bits.{row_has}
 use Rattle.name_scope.specs.Names.{number_of}
 
 -- for each file the number of units before it, and the names that each unit sees
@@ -20,7 +20,7 @@ pub record Table : Type 0 where
 
 -- the names of a row
 abbrev pub row_names : List (List ℕ) → List ℕ → List (List ℕ)
-row_names names row = filter (λ name. has_bit row (number_of names name)) names
+row_names names row = filter (λ name. row_has row (number_of names name)) names
 
 unfoldable pub table_of : List ℕ → List (List ℕ) → List (List ℕ) → Table
 table_of starts names rows = record { starts = starts; sets = map (row_names names) rows }
@@ -51,7 +51,7 @@ pub record AreVisible (files : List ProjectFile) (texts : List (List ℕ)) (scan
   pub sees : (id : UnitId) (user : ScopeUnit) → IsUnitAt files texts scans id user → (name : List ℕ) → table_sees table id name ≡ sees (scope_units files texts scans) user name
 
 -- a list has exactly the names of a set, strictly rising
-pub record IsListing (set names : List (List ℕ)) : Type 0 where
+pub record ListsNames (set names : List (List ℕ)) : Type 0 where
   pub rising : IsStrictlySortedBy (slice_cmp nat_cmp) names
   pub all : (name : List ℕ) → Contains set name → Contains names name
   pub only : (name : List ℕ) → Contains names name → Contains set name

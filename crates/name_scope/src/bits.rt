@@ -1,11 +1,11 @@
 //! Rows of bits: sets of numbers, as words of 64 bits.
 
 ghost use Rattle.std.specs.Prelude.{◌≡◌, ℕ, ◌/◌, ◌<◌, ◌||◌, true, false, length, nat_eq};
-ghost use Rattle.name_scope.specs.Bits.{has_bit, gap};
+ghost use Rattle.name_scope.specs.Bits.{row_has, gap};
 
 /// Whether a row has a number. A number past its words isn't in it.
-pub fn has_bit(row: &[u64], number: usize) -> bool
-    ensures { result ≡ has_bit row.now number }
+pub fn row_has(row: &[u64], number: usize) -> bool
+    ensures { result ≡ row_has row.now number }
 {
     let at = number / 64;
     if at >= row.len() {
@@ -18,7 +18,7 @@ pub fn has_bit(row: &[u64], number: usize) -> bool
 pub fn set_bit(row: &mut [u64], number: usize)
     requires { number / 64 < length row.old }
     ensures { (other : ℕ) →
-        has_bit row.new other ≡ (nat_eq other number || has_bit row.old other) }
+        row_has row.new other ≡ (nat_eq other number || row_has row.old other) }
 {
     let at = number / 64;
     let word = row[at];
@@ -29,7 +29,7 @@ pub fn set_bit(row: &mut [u64], number: usize)
 pub fn join(row: &mut [u64], other: &[u64]) -> bool
     requires { length other.now ≡ length row.old }
     ensures bits { (number : ℕ) →
-        has_bit row.new number ≡ (has_bit row.old number || has_bit other.now number) }
+        row_has row.new number ≡ (row_has row.old number || row_has other.now number) }
     ensures same { result ≡ false → row.new ≡ row.old }
     ensures grows { result ≡ true → gap row.new < gap row.old }
 {

@@ -69,13 +69,7 @@ pub fn unit_links(
 {
     let mut links = Vec::new(alloc);
     for unit in units {
-        links.push(links_of(
-            alloc,
-            names,
-            groups,
-            units.len(),
-            unit.wants.as_slice(),
-        )?)?;
+        links.push(links_of(alloc, names, groups, units.len(), unit.wants.as_slice())?)?;
     }
     Ok(links)
 }

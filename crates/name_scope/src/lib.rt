@@ -13,11 +13,10 @@ mod row;
 mod scope;
 mod spread;
 mod table;
+#[cfg(test)]
+mod tests;
 mod want;
 mod wants;
 mod work;
-
-#[cfg(test)]
-mod tests;
 
 pub use table::{VisibleLibraries, visible_libraries, visible_sets};

@@ -6,7 +6,7 @@ ghost use Rattle.std.specs.Ordering.{nat_cmp};
 ghost use Rattle.std.specs.Str.{bytes_eq};
 ghost use Rattle.std.specs.Cmp.Lexicographic.{pointwise, slice_cmp};
 ghost use Rattle.name_scope.specs.Names.{keys_of};
-ghost use Rattle.name_scope.specs.Tables.{IsListing, row_names};
+ghost use Rattle.name_scope.specs.Tables.{ListsNames, row_names};
 
 use crate::names::{self, Names};
 use crate::row::Row;
@@ -73,7 +73,7 @@ fn drop_repeats(names: &mut Vec<Text>)
 
 /// The names of a row, strictly rising by bytes.
 pub fn rising_names(alloc: Global, names: &Names, row: &Row) -> Result<Vec<Text>, NoMemory>
-    ensures { IfOk result (λ found. IsListing (row_names (keys_of names.now) row.now) found.items) }
+    ensures { IfOk result (λ found. ListsNames (row_names (keys_of names.now) row.now) found.items) }
 {
     let mut found = names_in(alloc, names, row)?;
     sort_names(&mut found);

@@ -1,9 +1,9 @@
 //! A row: the set of numbers of one place.
 
 ghost use Rattle.std.specs.Prelude.{◌≡◌, ℕ, ◌/◌, ◌<◌, ◌||◌, true, false, length, nat_eq, IfOk, replicate};
-ghost use Rattle.name_scope.specs.Bits.{has_bit, gap};
+ghost use Rattle.name_scope.specs.Bits.{row_has, gap};
 
-use crate::bits::{has_bit, join, set_bit};
+use crate::bits::{join, row_has, set_bit};
 use std::alloc::Global;
 use std::marker::Model;
 use vr_base::NoMemory;
@@ -34,9 +34,9 @@ impl Row {
 
     /// Whether the row has a number.
     pub fn has(&self, number: usize) -> bool
-        ensures { result ≡ has_bit self.now number }
+        ensures { result ≡ row_has self.now number }
     {
-        has_bit(self.words.as_slice(), number)
+        row_has(self.words.as_slice(), number)
     }
 
     /// Puts a number into the row.
@@ -44,7 +44,7 @@ impl Row {
         requires { number / 64 < length self.old }
         ensures len { length self.new ≡ length self.old }
         ensures bits { (other : ℕ) →
-            has_bit self.new other ≡ (nat_eq other number || has_bit self.old other) }
+            row_has self.new other ≡ (nat_eq other number || row_has self.old other) }
     {
         set_bit(self.words.as_mut_slice(), number);
     }
@@ -54,7 +54,7 @@ impl Row {
         requires { length other.now ≡ length self.old }
         ensures len { length self.new ≡ length self.old }
         ensures bits { (number : ℕ) →
-            has_bit self.new number ≡ (has_bit self.old number || has_bit other.now number) }
+            row_has self.new number ≡ (row_has self.old number || row_has other.now number) }
         ensures same { result ≡ false → self.new ≡ self.old }
         ensures grows { result ≡ true → gap self.new < gap self.old }
     {
@@ -66,6 +66,8 @@ impl Row {
         requires { length other.now ≡ length self.old }
         ensures { self.new ≡ other.now }
     {
-        self.words.as_mut_slice().copy_from_slice(other.words.as_slice());
+        self.words
+            .as_mut_slice()
+            .copy_from_slice(other.words.as_slice());
     }
 }

@@ -11,9 +11,7 @@ use crate::wants::{own_groups, wants_of};
 use std::alloc::Global;
 use vhdl_refs::{context_refs, library_names};
 use vhdl_units::roles_of;
-use vr_base::{
-    Items, NoMemory, Project, RoleList, Scan, Scans, TEXT_LIMIT, Text, TextList,
-};
+use vr_base::{Items, NoMemory, Project, RoleList, Scan, Scans, TEXT_LIMIT, Text, TextList};
 
 /// What a design unit is to others: the groups that it is in, the names of its library clauses, and what it wants.
 #[derive(Drop)]

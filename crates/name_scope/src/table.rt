@@ -8,11 +8,11 @@ ghost use Rattle.scan_spec.specs.Visibility.{ScopeUnit, scope_units};
 ghost use Rattle.name_scope.specs.Exact.{AreGrown};
 ghost use Rattle.name_scope.specs.Names.{HasAll, implicit, keys_of};
 ghost use Rattle.name_scope.specs.Scopes.{IsTextSmall};
-ghost use Rattle.name_scope.specs.Tables.{AreExactly, AreVisible, IsListing, IsUnitAt, set_at, table_sees};
+ghost use Rattle.name_scope.specs.Tables.{AreExactly, AreVisible, ListsNames, IsUnitAt, set_at, table_sees};
 
 use crate::groups::groups_of;
-use crate::listing::{rising_names, sees_name};
 use crate::joins::{group_links, unit_links};
+use crate::listing::{rising_names, sees_name};
 use crate::names::{self, Names, names_of};
 use crate::own::rows_of;
 use crate::row::Row;
@@ -112,7 +112,7 @@ impl VisibleLibraries {
     /// The libraries that are visible in a unit, strictly rising by bytes.
     pub fn libraries(&self, alloc: Global, unit: UnitId) -> Result<TextList, NoMemory>
         requires { unit.file < length self.now.starts }
-        ensures { IfOk result (IsListing (set_at self.now unit)) }
+        ensures { IfOk result (ListsNames (set_at self.now unit)) }
     {
         match row_at(self.starts.as_slice(), self.rows.as_slice(), unit) {
             Some(row) => Ok(Items::from_vec(rising_names(alloc, &self.names, row)?)),

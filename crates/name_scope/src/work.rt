@@ -23,11 +23,7 @@ pub fn list_one(work: &mut Vec<usize>, marks: &mut [bool], at: usize) -> Result<
 }
 
 /// Puts places on the list of work, where they aren't there.
-pub fn list_all(
-    work: &mut Vec<usize>,
-    marks: &mut [bool],
-    places: &[usize],
-) -> Result<(), NoMemory>
+pub fn list_all(work: &mut Vec<usize>, marks: &mut [bool], places: &[usize]) -> Result<(), NoMemory>
     requires within { All (λ at. at < length marks.old) places.now }
     requires work { IsWork work.old.items marks.old }
     ensures { OnOk result (HasListed places.now work.old.items marks.old work.new.items marks.new) }

@@ -1,5 +1,5 @@
 -- One word more is joined; at the end all are.
-use Rattle.std.proofs.Common.{◌≡◌, ℕ, ◌+◌, ◌<◌, ◌≤◌, length, get_or, arith, refl, bit_or}
+use Rattle.std.proofs.Common.{◌<◌, length, get_or, arith}
 use Rattle.name_scope.proofs.BitLemmas.{done_more, rest_more, least_more, same_more, grows_more, fits_more, joined_all, less_gap}
 use Rattle.name_scope.proofs.bits.join.Goals as goal
 
@@ -14,7 +14,7 @@ loop-i-preserved c =
       rest = rest_more c.loop-i.row c.args.row.now c.args.other.now c.loop-i.i within fresh c.loop-i.invariant.rest;
       least = least_more c.loop-i.row c.args.row.now c.args.other.now c.loop-i.i within fresh c.loop-i.invariant.least;
       same = same_more c.loop-i.row c.args.row.now c.args.other.now c.loop-i.i within fresh c.loop-i.grown c.loop-i.invariant.same;
-      grows = grows_more c.loop-i.row c.args.row.now c.args.other.now c.loop-i.i within fresh c.loop-i.grown c.loop-i.invariant.least c.loop-i.invariant.grows
+      grows = grows_more c.loop-i.row c.args.row.now c.args.other.now c.loop-i.i within fresh c.loop-i.grown c.loop-i.invariant.least c.loop-i.invariant.grows;
     }
 
 pub returns-clause-bits : goal.returns-clause-bits

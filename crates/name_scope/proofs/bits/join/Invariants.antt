@@ -10,5 +10,5 @@ invariant-loop-i l = record {
   least : weight l.initial.row ≤ weight l.row;
   same : l.grown ≡ false → l.row ≡ l.initial.row;
   fits : (k : ℕ) → get_or l.row k 0 < 18446744073709551616;
-  grows : l.grown ≡ true → weight l.initial.row < weight l.row
+  grows : l.grown ≡ true → weight l.initial.row < weight l.row;
 }

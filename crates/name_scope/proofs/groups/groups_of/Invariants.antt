@@ -1,7 +1,7 @@
 -- So far those of the units up to the index are there.
-use Rattle.std.proofs.Common.{take, [], ◌++◌}
+use Rattle.std.proofs.Common.{take, []}
 use Rattle.std.specs.List.{flat_map}
-use Rattle.name_scope.specs.Names.{HasAll, implicit, keys_of}
+use Rattle.name_scope.specs.Names.{HasAll}
 use Rattle.name_scope.proofs.groups.groups_of.Given as goal
 
 abbrev pub invariant-loop-unit : goal.invariant-loop-unit

@@ -1,6 +1,5 @@
 -- The link is added.
-use Rattle.std.proofs.Common.{List, ◌∙◌, ap, sym, subst}
-use Rattle.name_scope.specs.declared.links.Link.{Link}
+use Rattle.std.proofs.Common.{◌∙◌, ap}
 use Rattle.name_scope.specs.Names.{keys_of, number_of}
 use Rattle.name_scope.proofs.JoinLemmas.{linked_one}
 use Rattle.name_scope.proofs.joins.add_link.Goals as goal
@@ -8,5 +7,5 @@ use Rattle.name_scope.proofs.joins.add_link.Goals as goal
 pub returns : goal.returns
 returns c =
     rw c.in_ok-push.ensures.ok
-        (linked_one (keys_of c.args.names.now) c.args.groups.now.keys c.args.places c.args.want.now c.args.links.now c.in-Some.gate c.in-Some-find.group
-            (c.in-Some.ensures.found.0 ∙ ap (number_of (keys_of c.args.names.now)) c.bytes.ensures) (c.in-Some.ensures.found.1) (c.in-Some-find.ensures.found.0) (c.in-Some-find.ensures.found.1))
+    (linked_one (keys_of c.args.names.now) c.args.groups.now.keys c.args.places c.args.want.now c.args.links.now c.in-Some.gate c.in-Some-find.group
+    (c.in-Some.ensures.found.0 ∙ ap (number_of (keys_of c.args.names.now)) c.bytes.ensures) (c.in-Some.ensures.found.1) (c.in-Some-find.ensures.found.0) (c.in-Some-find.ensures.found.1))

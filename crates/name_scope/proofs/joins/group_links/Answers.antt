@@ -1,5 +1,5 @@
 -- One unit more.
-use Rattle.std.proofs.Common.{◌≡◌, ◌∙◌, ℕ, [], ap, sym, subst, arith, length}
+use Rattle.std.proofs.Common.{◌≡◌, ◌∙◌, ℕ, [], ap, subst, arith, length}
 use Rattle.std.proofs.lemmas.List.{get_or_default}
 use Rattle.name_scope.specs.declared.scope.UnitScope.{UnitScope}
 use Rattle.name_scope.specs.Joins.{AreMembersTo}
@@ -9,8 +9,8 @@ use Rattle.name_scope.proofs.joins.group_links.Goals as goal
 pub loop-at-preserved : goal.loop-at-preserved
 loop-at-preserved c =
     members_more c.args.groups.now.keys c.args.units.now c.args.gate c.loop-at.at c.as_slice.result.now c.loop-at.members.items c.join_all.new.members.items
-        (c.as_slice.ensures ∙ ap (λ (unit : UnitScope). unit.groups) (get_or_default c.args.units.now c.loop-at.at c.index-units-at.result (record { groups = []; names = []; wants = [] }) c.loop-at-test.true))
-        c.loop-at.invariant c.in_ok-join_all.ensures
+    (c.as_slice.ensures ∙ ap (λ (unit : UnitScope). unit.groups) (get_or_default c.args.units.now c.loop-at.at c.index-units-at.result (record { groups = []; names = []; wants = [] }) c.loop-at-test.true))
+    c.loop-at.invariant c.in_ok-join_all.ensures
 
 pub returns : goal.returns
 returns c =

@@ -1,5 +1,5 @@
 -- One group more.
-use Rattle.std.proofs.Common.{◌<◌, ◌∷◌, [], true, length, arith, subst}
+use Rattle.std.proofs.Common.{◌<◌, ◌∷◌, [], length, arith, subst}
 use Rattle.std.proofs.lemmas.List.{take_more}
 use Rattle.name_scope.specs.declared.want.Group.{Group}
 use Rattle.name_scope.specs.Joins.{HasMember}

@@ -1,5 +1,5 @@
 -- One want more.
-use Rattle.std.proofs.Common.{◌<◌, ◌∷◌, [], true, length, arith, subst}
+use Rattle.std.proofs.Common.{◌<◌, ◌∷◌, [], length, arith, subst}
 use Rattle.std.proofs.lemmas.List.{take_more}
 use Rattle.name_scope.specs.declared.want.Want.{Want}
 use Rattle.name_scope.specs.Names.{keys_of}

@@ -1,5 +1,5 @@
 -- One name more.
-use Rattle.std.proofs.Common.{◌≡◌, ◌++◌, ◌∷◌, ◌∙◌, ℕ, List, [], ap, filter, take, subst, sym}
+use Rattle.std.proofs.Common.{◌++◌, ◌∷◌, ◌∙◌, ℕ, List, [], ap, sym}
 use Rattle.std.specs.Prelude.{if◌then◌else◌}
 use Rattle.std.specs.List.{list_any}
 use Rattle.std.specs.Str.{bytes_eq}
@@ -13,5 +13,5 @@ loop-number-preserved c =
     let there = key_there c.args.names.now.keys c.loop-number.number c.in-Some.name.now (sym c.in-Some.ensures.key) in
     let more = pass_more (λ (name : List ℕ). list_any (bytes_eq name) (row_names (keys_of c.args.names.now) c.args.row.now)) (keys_of c.args.names.now) c.loop-number.number c.in-Some.name.now.items there in
     c.in_ok-push_name-in-Some.ensures
-        ∙ (ap (λ (n : List ℕ). c.loop-number.found.items ++ (if list_any (bytes_eq n) (row_names (keys_of c.args.names.now) c.args.row.now) then n ∷ [] else [])) c.as_slice.ensures.value
-        ∙ (ap (λ (some : List (List ℕ)). some ++ (if list_any (bytes_eq c.in-Some.name.now.items) (row_names (keys_of c.args.names.now) c.args.row.now) then c.in-Some.name.now.items ∷ [] else [])) c.loop-number.invariant ∙ sym more))
+    ∙ (ap (λ (n : List ℕ). c.loop-number.found.items ++ (if list_any (bytes_eq n) (row_names (keys_of c.args.names.now) c.args.row.now) then n ∷ [] else [])) c.as_slice.ensures.value
+    ∙ (ap (λ (some : List (List ℕ)). some ++ (if list_any (bytes_eq c.in-Some.name.now.items) (row_names (keys_of c.args.names.now) c.args.row.now) then c.in-Some.name.now.items ∷ [] else [])) c.loop-number.invariant ∙ sym more))

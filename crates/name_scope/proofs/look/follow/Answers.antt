@@ -1,12 +1,12 @@
 -- The row has the gate, and takes the row of the source.
-use Rattle.std.proofs.Common.{◌≡◌, ◌||◌, ◌∙◌, [], sym, ap, subst, refl}
+use Rattle.std.proofs.Common.{◌||◌, ◌∙◌, [], sym, ap}
 use Rattle.std.proofs.lemmas.List.{get_or_default}
-use Rattle.name_scope.specs.Bits.{has_bit}
+use Rattle.name_scope.specs.Bits.{row_has}
 use Rattle.name_scope.proofs.LookLemmas.{followed}
 use Rattle.name_scope.proofs.look.follow.Goals as goal
 
 pub returns-then-has : goal.returns-then-has
 returns-then-has c =
     followed c.args.link c.args.rows.now c.args.row.now c.join.new.self c.join.result (sym c.has.ensures ∙ c.if-has.true)
-        (λ number. c.join.ensures.bits number ∙ ap (λ row. has_bit c.args.row.now number || has_bit row number) (c.index-rows-link.is ∙ get_or_default c.args.rows.now c.args.link.source _ [] c.requires.source))
-        c.join.ensures.len c.join.ensures.same c.join.ensures.grows
+    (λ number. c.join.ensures.bits number ∙ ap (λ row. row_has c.args.row.now number || row_has row number) (c.index-rows-link.is ∙ get_or_default c.args.rows.now c.args.link.source _ [] c.requires.source))
+    c.join.ensures.len c.join.ensures.same c.join.ensures.grows

@@ -1,5 +1,5 @@
 -- One more is there.
-use Rattle.std.proofs.Common.{◌<◌, ◌∙◌, ◌∷◌, ℕ, List, [], true, length, arith, subst}
+use Rattle.std.proofs.Common.{◌<◌, ◌∙◌, ◌∷◌, ℕ, List, [], length, arith, subst}
 use Rattle.std.proofs.lemmas.List.{get_or_default, take_more}
 use Rattle.name_scope.specs.Names.{HasAll, keys_of}
 use Rattle.name_scope.proofs.KeyLemmas.{all_both}

@@ -1,5 +1,5 @@
 -- Three parts are put, one after another.
-use Rattle.std.proofs.Common.{◌∷◌, ◌++◌, ◌≡◌, ◌∙◌, ℕ, List, [], codes, replicate, subst, sym}
+use Rattle.std.proofs.Common.{◌∷◌, ℕ, List, [], codes, replicate, subst}
 use Rattle.scan_spec.specs.References.{work}
 use Rattle.name_scope.specs.Names.{keys_of}
 use Rattle.name_scope.specs.Graph.{HasPut}
@@ -11,5 +11,5 @@ returns c =
     let first = subst (λ (x : List ℕ). HasPut (keys_of c.args.names.now) (x ∷ []) (replicate c.args.words 0) c.put.new.row) c.as_slice.ensures (subst (λ (row : List ℕ). HasPut (keys_of c.args.names.now) (c.as_slice.result.now ∷ []) row c.put.new.row) c.in_ok-row.ensures c.put.ensures) in
     let second = subst (λ (x : List ℕ). HasPut (keys_of c.args.names.now) (x ∷ []) c.put.new.row c.put-2.new.row) c.as_slice-2.ensures c.put-2.ensures in
     row_is (keys_of c.args.names.now) (work ∷ (codes "std" ∷ c.args.more.now)) c.args.words c.put_all.new.row
-        (put_both (keys_of c.args.names.now) (work ∷ []) (codes "std" ∷ c.args.more.now) (replicate c.args.words 0) c.put.new.row c.put_all.new.row first
-            (put_both (keys_of c.args.names.now) (codes "std" ∷ []) c.args.more.now c.put.new.row c.put-2.new.row c.put_all.new.row second c.put_all.ensures))
+    (put_both (keys_of c.args.names.now) (work ∷ []) (codes "std" ∷ c.args.more.now) (replicate c.args.words 0) c.put.new.row c.put_all.new.row first
+    (put_both (keys_of c.args.names.now) (codes "std" ∷ []) c.args.more.now c.put.new.row c.put-2.new.row c.put_all.new.row second c.put_all.ensures))

@@ -1,5 +1,5 @@
 -- One unit more.
-use Rattle.std.proofs.Common.{◌≡◌, ◌≤◌, ◌<◌, ◌^◌, ℕ, length, arith}
+use Rattle.std.proofs.Common.{arith}
 use Rattle.name_scope.proofs.ScopeLemmas.{few_units, scope_more}
 use Rattle.name_scope.proofs.scope.add_scopes.Goals as goal
 
@@ -9,4 +9,4 @@ overflow_cast-number c = let few = few_units c.args.text.now c.args.scan.now c.r
 pub loop-number-preserved : goal.loop-number-preserved
 loop-number-preserved c units zipped =
     rw c.in_ok-push.ensures.items
-        (scope_more c.args.library.now c.args.text.now c.args.scan.now c.loop-number.number c.loop-number.units.items c.in_ok-scope_of.field-0 units (omega (arith, c.len-number-end.ensures)) c.in_ok-scope_of.ensures (c.loop-number.invariant units zipped))
+    (scope_more c.args.library.now c.args.text.now c.args.scan.now c.loop-number.number c.loop-number.units.items c.in_ok-scope_of.field-0 units (omega (arith, c.len-number-end.ensures)) c.in_ok-scope_of.ensures (c.loop-number.invariant units zipped))

@@ -1,5 +1,5 @@
 -- One file more.
-use Rattle.std.proofs.Common.{◌≡◌, ℕ, ◌+◌, ◌∙◌, List, Some, ap, sym, subst, take, length, arith}
+use Rattle.std.proofs.Common.{◌∙◌, Some, ap, sym, subst, take, arith}
 use Rattle.std.specs.List.{AllZip}
 use Rattle.scan_spec.specs.Visibility.{scope_units}
 use Rattle.name_scope.specs.Scopes.{IsScopeOf, units_before}
@@ -13,5 +13,5 @@ loop-file-preserved c =
     record {
       units = subst (AllZip IsScopeOf c.add_scopes.new.units.items) (sym more) (c.in_ok-add_scopes.ensures _ c.loop-file.invariant.units);
       each = omega (arith, c.in_ok-push.ensures.len, c.loop-file.invariant.each);
-      starts = rw c.in_ok-push.ensures.items (starts_more c.loop-file.starts.items c.len.result c.loop-file.file (units_before c.args.project.now.files c.args.texts.now c.args.scans.now) c.loop-file.invariant.each (omega (arith, c.len.ensures, long)) c.loop-file.invariant.starts)
+      starts = rw c.in_ok-push.ensures.items (starts_more c.loop-file.starts.items c.len.result c.loop-file.file (units_before c.args.project.now.files c.args.texts.now c.args.scans.now) c.loop-file.invariant.each (omega (arith, c.len.ensures, long)) c.loop-file.invariant.starts);
     }

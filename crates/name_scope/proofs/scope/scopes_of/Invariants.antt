@@ -9,5 +9,5 @@ abbrev pub invariant-loop-file : goal.invariant-loop-file
 invariant-loop-file l = record {
   units : AllZip IsScopeOf l.units.items (scope_units (take l.file l.project.files) (take l.file l.texts) (take l.file l.scans));
   each : length l.starts.items ≡ l.file;
-  starts : (file : ℕ) → file < l.file → get_or l.starts.items file 0 ≡ units_before l.project.files l.texts l.scans file
+  starts : (file : ℕ) → file < l.file → get_or l.starts.items file 0 ≡ units_before l.project.files l.texts l.scans file;
 }

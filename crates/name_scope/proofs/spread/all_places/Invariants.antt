@@ -5,5 +5,5 @@ use Rattle.name_scope.proofs.spread.all_places.Given as goal
 abbrev pub invariant-loop-at : goal.invariant-loop-at
 invariant-loop-at l = record {
   each : length l.work.items ≡ l.at;
-  is : (k : ℕ) → k < l.at → get_or l.work.items k 0 ≡ k
+  is : (k : ℕ) → k < l.at → get_or l.work.items k 0 ≡ k;
 }

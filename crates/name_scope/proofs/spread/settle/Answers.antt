@@ -1,5 +1,5 @@
 -- One place less on the list; at the end none is on it.
-use Rattle.std.proofs.Common.{◌≡◌, ℕ, [], sym, subst, arith, length}
+use Rattle.std.proofs.Common.{◌≡◌, ℕ, sym, subst, arith, length}
 use Rattle.name_scope.specs.Links.{AreEven}
 use Rattle.name_scope.proofs.SpreadLemmas.{settled}
 use Rattle.name_scope.proofs.spread.settle.Goals as goal

@@ -1,8 +1,7 @@
 -- The sweeps spread, and then the list of all places settles the rest.
-use Rattle.std.proofs.Common.{◌≡◌, ◌∙◌, ℕ, [], ap, sym, subst, arith, length, replicate, List}
+use Rattle.std.proofs.Common.{◌≡◌, ◌∙◌, ℕ, ap, sym, subst, length, List}
 use Rattle.std.proofs.lemmas.List.{length-replicate}
 use Rattle.std.proofs.lemmas.Result.{on_ok_weaker}
-use Rattle.name_scope.specs.Links.{AreEven}
 use Rattle.name_scope.specs.Work.{KnowReaders}
 use Rattle.name_scope.proofs.SpreadLemmas.{evens, spread_both, settling_first}
 use Rattle.name_scope.proofs.spread.spread.Goals as goal
@@ -23,7 +22,7 @@ settle-requires-clause-known c = subst (λ (readers : List (List ℕ)). KnowRead
 pub settle-requires-clause-settling : goal.settle-requires-clause-settling
 settle-requires-clause-settling c =
     settling_first c.args.links.now c.sweep_down.new.rows c.in_ok-work.work.items c.as_mut_slice.result.now
-        c.in_ok-work.ensures.each c.in_ok-work.ensures.is (c.as_mut_slice.ensures.value ∙ c.in_ok-marks.ensures.items_if_clones_equal (λ y same. same))
+    c.in_ok-work.ensures.each c.in_ok-work.ensures.is (c.as_mut_slice.ensures.value ∙ c.in_ok-marks.ensures.items_if_clones_equal (λ y same. same))
 
 pub returns-clause-spread : goal.returns-clause-spread
 returns-clause-spread c = on_ok_weaker c.settle.result (λ h. spread_both _ _ _ _ (spread_both _ _ _ _ c.sweep_up.ensures.spread c.sweep_down.ensures.spread) h) c.settle.ensures.spread

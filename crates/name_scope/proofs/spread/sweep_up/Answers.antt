@@ -1,6 +1,6 @@
 -- One look more.
-use Rattle.std.proofs.Common.{◌≡◌, ℕ, ◌∙◌, length, arith, refl, subst, sym}
-use Rattle.name_scope.specs.Links.{AreBelow, AreEven}
+use Rattle.std.proofs.Common.{ℕ, ◌∙◌, refl, subst, sym}
+use Rattle.name_scope.specs.Links.{AreEven}
 use Rattle.name_scope.proofs.SpreadLemmas.{spread_more, spread_none}
 use Rattle.name_scope.proofs.spread.sweep_up.Goals as goal
 
@@ -13,5 +13,5 @@ look_at-requires-clause-even c = subst (λ (words : ℕ). AreEven words c.loop-a
 pub loop-at-preserved : goal.loop-at-preserved
 loop-at-preserved c = record {
   room = c.look_at.ensures.room ∙ c.loop-at.invariant.room;
-  spread = spread_more _ _ _ _ _ _ c.loop-at.invariant.spread c.look_at.ensures.looked
+  spread = spread_more _ _ _ _ _ _ c.loop-at.invariant.spread c.look_at.ensures.looked;
 }

@@ -6,5 +6,5 @@ use Rattle.name_scope.proofs.spread.sweep_up.Given as goal
 abbrev pub invariant-loop-at : goal.invariant-loop-at
 invariant-loop-at l = record {
   room : length l.room ≡ length l.initial.room;
-  spread : HasSpread l.links l.initial.rows l.rows
+  spread : HasSpread l.links l.initial.rows l.rows;
 }

@@ -1,7 +1,6 @@
 -- All fits together, and is grown.
 use Rattle.std.proofs.Common.{◌≡◌, ◌+◌, ◌/◌, ◌++◌, ◌∙◌, List, ℕ, [], length, map, replicate, ap, arith, subst, sym}
 use Rattle.std.specs.List.{AllZip}
-use Rattle.scan_spec.specs.References.{work}
 use Rattle.name_scope.specs.declared.links.Link.{Link}
 use Rattle.name_scope.specs.declared.scope.UnitScope.{UnitScope}
 use Rattle.name_scope.specs.Bits.{has}
@@ -33,8 +32,8 @@ spread-requires-clause-even c =
 pub spread-requires-clause-below : goal.spread-requires-clause-below
 spread-requires-clause-below c =
     subst (λ (rows : List (List ℕ)). AreBelow (length rows) c.as_slice-2.result.now) (sym c.as_mut_slice.ensures.value)
-        (subst (λ (links : List (List Link)). AreBelow (length c.in_ok-rows.rows.items) links) (sym (links_are c))
-            (ready_below c.args.units.now (keys_of c.args.names.now) c.in_ok-groups.groups.keys (c.len-2.result / 64 + 1) c.in_ok-rows.rows.items c.in_ok-links.links.items c.in_ok-members.members.items c.in-Some.gate (rows_are c) c.in_ok-links.ensures c.in_ok-members.ensures))
+    (subst (λ (links : List (List Link)). AreBelow (length c.in_ok-rows.rows.items) links) (sym (links_are c))
+    (ready_below c.args.units.now (keys_of c.args.names.now) c.in_ok-groups.groups.keys (c.len-2.result / 64 + 1) c.in_ok-rows.rows.items c.in_ok-links.links.items c.in_ok-members.members.items c.in-Some.gate (rows_are c) c.in_ok-links.ensures c.in_ok-members.ensures))
 
 pub returns : goal.returns
 returns c =
@@ -42,17 +41,17 @@ returns c =
     let spread = subst (λ (rows : List (List ℕ)). HasSpread c.as_slice-2.result.now rows c.spread.new.rows) c.as_mut_slice.ensures.value c.in_ok-spread.ensures.spread in
     let same : c.in_ok-rows.rows.len ≡ length c.spread.new.rows = omega (arith, spread.each) in
     subst (AreGrown c.args.units.now (keys_of c.args.names.now)) (sym (written c.in_ok-rows.rows.len c.spread.new.rows _ same))
-        (record {
-          groups = c.in_ok-groups.groups.keys;
-          words = c.len-2.result / 64 + 1;
-          first = c.in_ok-rows.rows.items;
-          of_units = c.in_ok-links.links.items;
-          of_groups = c.in_ok-members.members.items;
-          names_are = c.requires;
-          groups_are = c.in_ok-groups.ensures;
-          rows_are = subst (λ (n : ℕ). AllZip (IsRowOf (keys_of c.args.names.now) (c.len-2.result / 64 + 1)) c.in_ok-rows.rows.items (map (λ (unit : UnitScope). implicit ++ unit.names) c.args.units.now ++ replicate n (implicit ++ []))) c.len-3.ensures.len c.in_ok-rows.ensures;
-          links_are = c.in_ok-links.ensures;
-          members_are = subst (λ (gate : ℕ). AreMembers c.in_ok-groups.groups.keys c.args.units.now gate c.in_ok-members.members.items) (c.in-Some.ensures.found.0 ∙ ap (number_of (keys_of c.args.names.now)) c.as_slice.ensures) c.in_ok-members.ensures;
-          spread = subst (λ (links : List (List Link)). HasSpread links c.in_ok-rows.rows.items c.spread.new.rows) links spread;
-          taken = subst (λ (links : List (List Link)). AreTaken links (has c.spread.new.rows)) links c.in_ok-spread.ensures.taken
-        })
+    (record {
+      groups = c.in_ok-groups.groups.keys;
+      words = c.len-2.result / 64 + 1;
+      first = c.in_ok-rows.rows.items;
+      of_units = c.in_ok-links.links.items;
+      of_groups = c.in_ok-members.members.items;
+      names_are = c.requires;
+      groups_are = c.in_ok-groups.ensures;
+      rows_are = subst (λ (n : ℕ). AllZip (IsRowOf (keys_of c.args.names.now) (c.len-2.result / 64 + 1)) c.in_ok-rows.rows.items (map (λ (unit : UnitScope). implicit ++ unit.names) c.args.units.now ++ replicate n (implicit ++ []))) c.len-3.ensures.len c.in_ok-rows.ensures;
+      links_are = c.in_ok-links.ensures;
+      members_are = subst (λ (gate : ℕ). AreMembers c.in_ok-groups.groups.keys c.args.units.now gate c.in_ok-members.members.items) (c.in-Some.ensures.found.0 ∙ ap (number_of (keys_of c.args.names.now)) c.as_slice.ensures) c.in_ok-members.ensures;
+      spread = subst (λ (links : List (List Link)). HasSpread links c.in_ok-rows.rows.items c.spread.new.rows) links spread;
+      taken = subst (λ (links : List (List Link)). AreTaken links (has c.spread.new.rows)) links c.in_ok-spread.ensures.taken;
+    })

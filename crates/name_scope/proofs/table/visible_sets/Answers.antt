@@ -9,4 +9,4 @@ use Rattle.name_scope.proofs.table.visible_sets.Goals as goal
 pub returns : goal.returns
 returns c =
     visible c.args.project.now.files c.args.texts.now c.args.scans.now c.in_ok-starts.field-0 (keys_of c.in_ok-names.names) c.in_ok-rows.rows.items c.in_ok-starts.ensures
-        (subst (λ (units : List UnitScope). AreGrown units (keys_of c.in_ok-names.names) c.in_ok-rows.rows.items) c.as_slice-2.ensures.value c.in_ok-rows.ensures)
+    (subst (λ (units : List UnitScope). AreGrown units (keys_of c.in_ok-names.names) c.in_ok-rows.rows.items) c.as_slice-2.ensures.value c.in_ok-rows.ensures)

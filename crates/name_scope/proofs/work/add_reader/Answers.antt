@@ -18,4 +18,4 @@ loop-link-preserved c =
     let places = subst (λ (n : ℕ). AreReaders n c.loop-link.readers.items) (sym same) c.loop-link.invariant.places in
     let one = one_reader c.args.at link c.loop-link.readers.items c.push.new.self (c.in_ok-push.ensures.ok ∙ ap (λ (some : List ℕ). some ++ c.args.at ∷ []) (c.index_mut.ensures.value ∙ get_or_default c.loop-link.readers.items link.source _ [] source)) source places own in
     rw (take_more c.args.links.now c.loop-link.link-index (record { gate = 0; source = 0 }) within)
-        (reader_both c.args.at (take c.loop-link.link-index c.args.links.now) (link ∷ []) c.args.readers.now.items c.loop-link.readers.items _ c.loop-link.invariant one)
+    (reader_both c.args.at (take c.loop-link.link-index c.args.links.now) (link ∷ []) c.args.readers.now.items c.loop-link.readers.items _ c.loop-link.invariant one)

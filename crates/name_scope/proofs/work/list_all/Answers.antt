@@ -8,4 +8,4 @@ pub loop-at-preserved : goal.loop-at-preserved
 loop-at-preserved c =
     let within : c.loop-at.at-index < length c.args.places.now = omega arith in
     rw (take_more c.args.places.now c.loop-at.at-index 0 within)
-        (listed_both _ _ _ _ _ _ _ _ c.loop-at.invariant c.in_ok-list_one.ensures)
+    (listed_both _ _ _ _ _ _ _ _ c.loop-at.invariant c.in_ok-list_one.ensures)

@@ -9,5 +9,5 @@ abbrev pub invariant-loop-at : goal.invariant-loop-at
 invariant-loop-at l = record {
   each : length l.readers.items ≡ length l.links;
   places : AreReaders (length l.links) l.readers.items;
-  known : (at : ℕ) (link : Link) → at < l.at → Contains (links_at l.links at) link → Contains (readers_at l.readers.items link.source) at
+  known : (at : ℕ) (link : Link) → at < l.at → Contains (links_at l.links at) link → Contains (readers_at l.readers.items link.source) at;
 }

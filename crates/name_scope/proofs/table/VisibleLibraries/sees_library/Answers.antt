@@ -1,6 +1,6 @@
 -- The unit has a row, or none.
-use Rattle.std.proofs.Common.{◌≡◌, ◌+◌, ◌∙◌, ℕ, List, [], Option, Some, None, length, get_or, ap, arith, refl, sym, subst}
-use Rattle.std.specs.List.{list_any, slice_get}
+use Rattle.std.proofs.Common.{◌≡◌, ◌∙◌, length, ap, arith, sym}
+use Rattle.std.specs.List.{list_any}
 use Rattle.std.specs.Str.{bytes_eq}
 use Rattle.name_scope.specs.Names.{keys_of}
 use Rattle.name_scope.specs.Tables.{Table, table_of}
