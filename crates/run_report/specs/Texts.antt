@@ -1,13 +1,16 @@
 -- The texts that are put. Each line ends with a line feed.
-use Rattle.std.specs.Prelude.{ℕ, ◌-◌, ◌==◌, ◌||◌, if◌then◌else◌, List, [], ◌∷◌, ◌++◌, length, take, slice_index, codes}
+use Rattle.std.specs.Prelude.{ℕ, ◌-◌, ◌==◌, ◌||◌, if◌then◌else◌, List, [], ◌∷◌, ◌++◌, length, take, slice_get, slice_index, codes}
 use Rattle.std.specs.Fmt.{decimal}
-use Rattle.std.specs.List.{list_any}
+use Rattle.std.specs.List.{list_any, flat_map}
+use Rattle.std.specs.Option.{option_map_or}
 use Rattle.vr_base.specs.declared.graph.Entry.{Entry}
 use Rattle.vr_base.specs.declared.file.FileName.{FileName}
 use Rattle.vr_base.specs.declared.lexical.LexFault.{LexFault}
 use Rattle.vr_base.specs.declared.lexical.LexFault.TheVariants as lex
 use Rattle.vr_base.specs.declared.design.UnitFault.{UnitFault}
 use Rattle.vr_base.specs.declared.design.UnitFault.TheVariants as unit
+use Rattle.vr_base.specs.declared.project.ProjectFile.{ProjectFile}
+use Rattle.vr_base.specs.declared.linking.Warning.{Warning}
 use Rattle.vr_base.specs.declared.project.ProjectFault.{ProjectFault}
 use Rattle.vr_base.specs.declared.project.ProjectFault.TheVariants as fault
 use Rattle.vr_base.specs.declared.outcome.Mark.{Mark}
@@ -124,12 +127,42 @@ unit_words unit.NoMemory = []
 unit_words (unit.NotUnit at) = no_unit ++ decimal at
 unit_words (unit.NotEnded at) = not_ended ++ decimal at
 
+-- two files, as those in which a unit is
+unfoldable pub both_files : FileName → FileName → List ℕ
+both_files first second = codes " stands in " ++ (file_words first ++ (codes " and " ++ file_words second))
+
+-- a unit of a library
+unfoldable pub unit_name : List ℕ → List ℕ → List ℕ
+unit_name library unit = library ++ (codes "." ++ unit)
+
+-- what a file refers to and a library doesn't have: a unit
+unfoldable pub missing_unit : List ℕ → List ℕ → List ℕ
+missing_unit library unit = codes ": no unit " ++ unit_name library unit
+
+unfoldable pub no_architecture : List ℕ
+no_architecture = codes ": no architecture "
+
+-- or an architecture of an entity
+unfoldable pub missing_architecture : List ℕ → List ℕ → List ℕ → List ℕ
+missing_architecture library entity architecture = no_architecture ++ (architecture ++ (codes " of " ++ unit_name library entity))
+
+-- the end of a line, and a file on the next
+unfoldable pub cycle_line : FileName → List ℕ
+cycle_line file = 10 ∷ (codes "  " ++ file_words file)
+
+unfoldable pub cycle_word : List ℕ
+cycle_word = codes "cycle"
+
 abbrev pub refusal_words : Refusal → List ℕ
 refusal_words refusal.NoProject = no_project
 refusal_words (refusal.Project fault) = fault_words fault
 refusal_words (refusal.AbsentFile file) = file_words file ++ is_absent
 refusal_words (refusal.Lex file fault) = file_words file ++ lex_words fault
 refusal_words (refusal.Units file fault) = file_words file ++ unit_words fault
+refusal_words (refusal.DuplicateUnit unit first second) = unit ++ both_files first second
+refusal_words (refusal.MissingUnit file library unit) = file_words file ++ missing_unit library unit
+refusal_words (refusal.MissingArchitecture file library entity architecture) = file_words file ++ missing_architecture library entity architecture
+refusal_words (refusal.Cycle files) = cycle_word ++ flat_map cycle_line files
 refusal_words (refusal.Compiler files) = []
 refusal_words refusal.NotBuilt = not_built
 
@@ -160,3 +193,22 @@ usage_text = codes "usage: vunit_run [-lfkvq] [--compile] [--fail-fast] [--clean
 -- what a child puts whose input is over the limit
 unfoldable pub bad_request : List ℕ
 bad_request = codes "bad request" ++ 10 ∷ []
+
+unfoldable pub warning_word : List ℕ
+warning_word = codes "warning: "
+
+-- what a use of a whole library gives
+unfoldable pub use_of_all : List ℕ → List ℕ
+use_of_all library = codes ": use of " ++ (library ++ codes ".all gives no dependency")
+
+-- what is put of a use of a whole library in a file
+abbrev pub warning_line : FileName → List ℕ → List ℕ
+warning_line file library = program ++ (warning_word ++ (file_words file ++ (use_of_all library ++ 10 ∷ [])))
+
+-- what is put of a warning about a file of a project; nothing where the project has no such file
+unfoldable pub warning_of : List ProjectFile → Warning → List ℕ
+warning_of files warning = option_map_or (λ file. warning_line file.name warning.library) (slice_get files warning.file) []
+
+-- what is put of all warnings, in order
+abbrev pub warning_text : List ProjectFile → List Warning → List ℕ
+warning_text files warnings = flat_map (warning_of files) warnings

@@ -3,7 +3,7 @@
 
 mod report;
 
-pub use report::{build_outcome, build_text, limit_text, refusal_text};
+pub use report::{build_outcome, build_text, limit_text, refusal_text, warning_text};
 
 #[cfg(test)]
 mod tests;

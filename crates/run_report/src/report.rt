@@ -1,16 +1,16 @@
 //! Texts, and what a build answers.
 
 ghost use Rattle.std.specs.Prelude.{◌≡◌, ◌≤◌, ◌++◌, length, IfOk, OnOk};
-ghost use Rattle.std.specs.List.{list_any};
+ghost use Rattle.std.specs.List.{list_any, flat_map};
 ghost use Rattle.std.specs.Fmt.{decimal};
 ghost use Rattle.run_spec.specs.Marks.{is_refused, is_compiled, refused_files};
-ghost use Rattle.run_report.specs.Texts.{line_end, shown, shown_bytes, compiling, passed, failed, skipped, file_text, files_text, build_line, build_text, refusal_words, fault_words, refusal_text, bad_line, program, no_project, not_built, file_words, is_absent, limit_words, over_limit, limit_text, lex_words, unit_words, unclosed_string, unclosed_extended, unclosed_comment, no_unit, not_ended, compile_failed, compile_passed, not_needed};
+ghost use Rattle.run_report.specs.Texts.{line_end, shown, shown_bytes, compiling, passed, failed, skipped, file_text, files_text, build_line, build_text, refusal_words, fault_words, refusal_text, bad_line, program, no_project, not_built, file_words, is_absent, limit_words, over_limit, limit_text, lex_words, unit_words, unclosed_string, unclosed_extended, unclosed_comment, no_unit, not_ended, both_files, unit_name, missing_unit, no_architecture, missing_architecture, cycle_line, cycle_word, use_of_all, warning_word, warning_line, warning_of, warning_text, compile_failed, compile_passed, not_needed};
 ghost use Rattle.run_report.specs.Outcomes.{build_outcome};
 
 use std::alloc::Global;
 use vr_base::{
-    Entry, FileList, FileName, Graph, LexFault, Limit, Mark, MarkList, NoMemory, Outcome,
-    ProjectFault, Refusal, Text, UnitFault,
+    Entry, FileList, FileName, Graph, LexFault, Limit, Mark, MarkList, NoMemory, Outcome, Project,
+    ProjectFault, ProjectFileList, Refusal, Text, UnitFault, Warning, WarningList,
 };
 
 /// How much of what a child printed is shown.
@@ -248,6 +248,86 @@ fn put_unit_fault(alloc: Global, out: &mut Vec<u8>, fault: &UnitFault) -> Result
     }
 }
 
+#[tactic(auto, unfolding(crate::specs::Texts::both_files))]
+fn put_both_files(out: &mut Vec<u8>, first: &FileName, second: &FileName) -> Result<(), NoMemory>
+    ensures { OnOk result (out.new.items ≡ out.old.items ++ both_files first.now second.now) }
+{
+    put(out, b" stands in ")?;
+    put_file_words(out, first)?;
+    put(out, b" and ")?;
+    put_file_words(out, second)?;
+    Ok(())
+}
+
+#[tactic(auto, unfolding(crate::specs::Texts::unit_name))]
+fn put_unit_name(out: &mut Vec<u8>, library: &[u8], unit: &[u8]) -> Result<(), NoMemory>
+    ensures { OnOk result (out.new.items ≡ out.old.items ++ unit_name library.now unit.now) }
+{
+    put(out, library)?;
+    put(out, b".")?;
+    put(out, unit)?;
+    Ok(())
+}
+
+#[tactic(auto, unfolding(crate::specs::Texts::missing_unit))]
+fn put_missing_unit(out: &mut Vec<u8>, library: &[u8], unit: &[u8]) -> Result<(), NoMemory>
+    ensures { OnOk result (out.new.items ≡ out.old.items ++ missing_unit library.now unit.now) }
+{
+    put(out, b": no unit ")?;
+    put_unit_name(out, library, unit)?;
+    Ok(())
+}
+
+#[tactic(auto, unfolding(crate::specs::Texts::no_architecture))]
+fn put_no_architecture(out: &mut Vec<u8>) -> Result<(), NoMemory>
+    ensures { OnOk result (out.new.items ≡ out.old.items ++ no_architecture) }
+{
+    put(out, b": no architecture ")
+}
+
+#[tactic(auto, unfolding(crate::specs::Texts::missing_architecture))]
+fn put_missing_architecture(
+    out: &mut Vec<u8>,
+    library: &[u8],
+    entity: &[u8],
+    architecture: &[u8],
+) -> Result<(), NoMemory>
+    ensures { OnOk result (out.new.items ≡
+        out.old.items ++ missing_architecture library.now entity.now architecture.now) }
+{
+    put_no_architecture(out)?;
+    put(out, architecture)?;
+    put(out, b" of ")?;
+    put_unit_name(out, library, entity)?;
+    Ok(())
+}
+
+#[tactic(auto, unfolding(crate::specs::Texts::cycle_line))]
+fn put_cycle_line(out: &mut Vec<u8>, file: &FileName) -> Result<(), NoMemory>
+    ensures { OnOk result (out.new.items ≡ out.old.items ++ cycle_line file.now) }
+{
+    put(out, b"\n")?;
+    put(out, b"  ")?;
+    put_file_words(out, file)?;
+    Ok(())
+}
+
+fn put_cycle_lines(out: &mut Vec<u8>, files: &[FileName]) -> Result<(), NoMemory>
+    ensures { OnOk result (out.new.items ≡ out.old.items ++ flat_map cycle_line files.now) }
+{
+    for i in 0..files.len() {
+        put_cycle_line(out, &files[i])?;
+    }
+    Ok(())
+}
+
+#[tactic(auto, unfolding(crate::specs::Texts::cycle_word))]
+fn put_cycle_word(out: &mut Vec<u8>) -> Result<(), NoMemory>
+    ensures { OnOk result (out.new.items ≡ out.old.items ++ cycle_word) }
+{
+    put(out, b"cycle")
+}
+
 #[tactic(auto, unfolding(crate::specs::Texts::no_project, crate::specs::Texts::is_absent, crate::specs::Texts::not_built))]
 fn put_refusal(alloc: Global, out: &mut Vec<u8>, refusal: &Refusal) -> Result<(), NoMemory>
     ensures { OnOk result (out.new.items ≡ out.old.items ++ refusal_words refusal.now) }
@@ -268,6 +348,39 @@ fn put_refusal(alloc: Global, out: &mut Vec<u8>, refusal: &Refusal) -> Result<()
         Refusal::Units { file, fault } => {
             put_file_words(out, file)?;
             put_unit_fault(alloc, out, fault)?;
+            Ok(())
+        }
+        Refusal::DuplicateUnit {
+            unit,
+            first,
+            second,
+        } => {
+            put(out, unit.bytes())?;
+            put_both_files(out, first, second)?;
+            Ok(())
+        }
+        Refusal::MissingUnit {
+            file,
+            library,
+            unit,
+        } => {
+            put_file_words(out, file)?;
+            put_missing_unit(out, library.bytes(), unit.bytes())?;
+            Ok(())
+        }
+        Refusal::MissingArchitecture {
+            file,
+            library,
+            entity,
+            architecture,
+        } => {
+            put_file_words(out, file)?;
+            put_missing_architecture(out, library.bytes(), entity.bytes(), architecture.bytes())?;
+            Ok(())
+        }
+        Refusal::Cycle { files } => {
+            put_cycle_word(out)?;
+            put_cycle_lines(out, files.as_slice())?;
             Ok(())
         }
         Refusal::Compiler { files: _ } => Ok(()),
@@ -319,5 +432,59 @@ pub fn limit_text(alloc: Global, limit: Limit, number: u64) -> Result<Text, NoMe
     put_limit_words(&mut text, limit)?;
     put_number(alloc, &mut text, number)?;
     put(&mut text, b"\n")?;
+    Ok(Text::from_vec(text))
+}
+
+#[tactic(auto, unfolding(crate::specs::Texts::use_of_all))]
+fn put_use_of_all(out: &mut Vec<u8>, library: &[u8]) -> Result<(), NoMemory>
+    ensures { OnOk result (out.new.items ≡ out.old.items ++ use_of_all library.now) }
+{
+    put(out, b": use of ")?;
+    put(out, library)?;
+    put(out, b".all gives no dependency")?;
+    Ok(())
+}
+
+#[tactic(auto, unfolding(crate::specs::Texts::program, crate::specs::Texts::warning_word))]
+fn put_warning(out: &mut Vec<u8>, file: &FileName, library: &[u8]) -> Result<(), NoMemory>
+    ensures { OnOk result (out.new.items ≡ out.old.items ++ warning_line file.now library.now) }
+{
+    put(out, b"vunit_run: ")?;
+    put(out, b"warning: ")?;
+    put_file_words(out, file)?;
+    put_use_of_all(out, library)?;
+    put(out, b"\n")?;
+    Ok(())
+}
+
+#[tactic(auto, unfolding(crate::specs::Texts::warning_of))]
+fn put_warning_of(
+    out: &mut Vec<u8>,
+    files: &ProjectFileList,
+    warning: &Warning,
+) -> Result<(), NoMemory>
+    ensures { OnOk result (out.new.items ≡ out.old.items ++ warning_of files.now warning.now) }
+{
+    if warning.file as u64 >= files.len() {
+        return Ok(());
+    }
+    let file = files.get(warning.file as u64);
+    put_warning(out, &file.name, warning.library.bytes())
+}
+
+/// What is put of the uses of whole libraries in the files of a project, which give no dependency: a line for each, in
+/// order.
+pub fn warning_text(
+    alloc: Global,
+    project: &Project,
+    warnings: &WarningList,
+) -> Result<Text, NoMemory>
+    ensures { IfOk result (λ text. text ≡ warning_text project.now.files warnings.now) }
+{
+    let mut text = Vec::new(alloc);
+    let warnings = warnings.as_slice();
+    for i in 0..warnings.len() {
+        put_warning_of(&mut text, &project.files, &warnings[i])?;
+    }
     Ok(Text::from_vec(text))
 }

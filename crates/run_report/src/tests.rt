@@ -1,10 +1,13 @@
-//! What is put of a build of three files, of refusals and of a limit.
+//! What is put of an empty build, of refusals, of a limit and of a warning.
 
-use crate::{build_outcome, build_text, limit_text, refusal_text};
+use crate::{build_outcome, build_text, limit_text, refusal_text, warning_text};
 use std::alloc::Global;
 use std::process::Abort;
 use std::test::Fail;
-use vr_base::{FileName, Graph, LexFault, Limit, Mark, MarkList, NoMemory, Outcome, Refusal, Text};
+use vr_base::{
+    FileList, FileName, Graph, LexFault, Limit, MarkList, NoMemory, Outcome, PairList, Project,
+    ProjectFile, ProjectFileList, Refusal, Text, TextList, Warning, WarningList,
+};
 
 fn name(alloc: Global, path: &[u8]) -> Result<FileName, NoMemory> {
     Ok(FileName {
@@ -32,25 +35,28 @@ fn nothing_to_build_is_said(rt: HostRuntime) -> Result<(), Fail> {
     Ok(())
 }
 
-#[test]
-fn refusals_are_said(rt: HostRuntime) -> Result<(), Fail> {
-    let alloc = rt.alloc();
-    let absent = Refusal::AbsentFile {
+fn absent(alloc: Global) -> Result<Text, NoMemory> {
+    let refusal = Refusal::AbsentFile {
         file: name(alloc, b"a.vhd")?,
     };
-    assert!(rt;
-        is(
-            refusal_text(alloc, &absent)?.bytes(),
-            b"vunit_run: lib, a.vhd is absent\n"
-        )
-    );
-    let unclosed = Refusal::Lex {
+    refusal_text(alloc, &refusal)
+}
+
+fn unclosed(alloc: Global) -> Result<Text, NoMemory> {
+    let refusal = Refusal::Lex {
         file: name(alloc, b"b.vhd")?,
         fault: LexFault::UnclosedString { at: 17 },
     };
+    refusal_text(alloc, &refusal)
+}
+
+#[test]
+fn refusals_are_said(rt: HostRuntime) -> Result<(), Fail> {
+    let alloc = rt.alloc();
+    assert!(rt; is(absent(alloc)?.bytes(), b"vunit_run: lib, a.vhd is absent\n"));
     assert!(rt;
         is(
-            refusal_text(alloc, &unclosed)?.bytes(),
+            unclosed(alloc)?.bytes(),
             b"vunit_run: lib, b.vhd: unclosed string at 17\n"
         )
     );
@@ -58,6 +64,114 @@ fn refusals_are_said(rt: HostRuntime) -> Result<(), Fail> {
         is(
             limit_text(alloc, Limit::Files, 128)?.bytes(),
             b"vunit_run: over limit: files 128\n"
+        )
+    );
+    Ok(())
+}
+
+fn text(alloc: Global, bytes: &[u8]) -> Result<Text, NoMemory> {
+    Text::from_slice(alloc, bytes)
+}
+
+fn duplicate(alloc: Global) -> Result<Text, NoMemory> {
+    let refusal = Refusal::DuplicateUnit {
+        unit: text(alloc, b"lib.e(rtl)")?,
+        first: name(alloc, b"a.vhd")?,
+        second: name(alloc, b"b.vhd")?,
+    };
+    refusal_text(alloc, &refusal)
+}
+
+fn no_unit(alloc: Global) -> Result<Text, NoMemory> {
+    let refusal = Refusal::MissingUnit {
+        file: name(alloc, b"top.vhd")?,
+        library: text(alloc, b"lib")?,
+        unit: text(alloc, b"missing")?,
+    };
+    refusal_text(alloc, &refusal)
+}
+
+fn no_architecture(alloc: Global) -> Result<Text, NoMemory> {
+    let refusal = Refusal::MissingArchitecture {
+        file: name(alloc, b"top.vhd")?,
+        library: text(alloc, b"lib")?,
+        entity: text(alloc, b"e")?,
+        architecture: text(alloc, b"rtl")?,
+    };
+    refusal_text(alloc, &refusal)
+}
+
+fn cycle(alloc: Global) -> Result<Text, NoMemory> {
+    let mut files = FileList::new(alloc);
+    files.push(name(alloc, b"c.vhd")?)?;
+    files.push(name(alloc, b"d.vhd")?)?;
+    files.push(name(alloc, b"e.vhd")?)?;
+    refusal_text(alloc, &Refusal::Cycle { files })
+}
+
+#[test]
+fn faults_of_links_are_said(rt: HostRuntime) -> Result<(), Fail> {
+    let alloc = rt.alloc();
+    assert!(rt;
+        is(
+            duplicate(alloc)?.bytes(),
+            b"vunit_run: lib.e(rtl) stands in lib, a.vhd and lib, b.vhd\n"
+        )
+    );
+    assert!(rt;
+        is(
+            no_unit(alloc)?.bytes(),
+            b"vunit_run: lib, top.vhd: no unit lib.missing\n"
+        )
+    );
+    assert!(rt;
+        is(
+            no_architecture(alloc)?.bytes(),
+            b"vunit_run: lib, top.vhd: no architecture rtl of lib.e\n"
+        )
+    );
+    assert!(rt;
+        is(
+            cycle(alloc)?.bytes(),
+            b"vunit_run: cycle\n  lib, c.vhd\n  lib, d.vhd\n  lib, e.vhd\n"
+        )
+    );
+    Ok(())
+}
+
+/// A project of one file.
+fn project(alloc: Global) -> Result<Project, NoMemory> {
+    let mut files = ProjectFileList::new(alloc);
+    files.push(ProjectFile {
+        name: name(alloc, b"a.vhd")?,
+        command: TextList::new(alloc),
+    })?;
+    Ok(Project {
+        files,
+        simulator: TextList::new(alloc),
+        external: TextList::new(alloc),
+        bodies: false,
+        depends: PairList::new(alloc),
+        listed: false,
+    })
+}
+
+/// The text of one warning about the first file.
+fn warned(alloc: Global, library: &[u8]) -> Result<Text, NoMemory> {
+    let mut warnings = WarningList::new(alloc);
+    warnings.push(Warning {
+        file: 0,
+        library: text(alloc, library)?,
+    })?;
+    warning_text(alloc, &project(alloc)?, &warnings)
+}
+
+#[test]
+fn warnings_are_said(rt: HostRuntime) -> Result<(), Fail> {
+    assert!(rt;
+        is(
+            warned(rt.alloc(), b"other")?.bytes(),
+            b"vunit_run: warning: lib, a.vhd: use of other.all gives no dependency\n"
         )
     );
     Ok(())

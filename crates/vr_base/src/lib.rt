@@ -8,6 +8,7 @@ mod graph;
 mod items;
 mod lexical;
 mod limits;
+mod linking;
 mod memory;
 mod outcome;
 mod project;
@@ -25,6 +26,7 @@ pub use limits::{
     ARTEFACT_LIMIT, COMMAND_LIMIT, FILE_LIMIT, GRAPH_TEXT_LIMIT, LIBRARY_LIMIT, PATH_LIMIT,
     PROJECT_FILE_LIMIT, PROJECT_TEXT_LIMIT, RESULTS_LIMIT, SIMULATOR_LIMIT, TEXT_LIMIT, WORD_LIMIT,
 };
+pub use linking::{Edges, LinkFault, Linked, Order, OrderFault, Warning, WarningList};
 pub use memory::{DiskFailed, NoMemory};
 pub use outcome::{Limit, Mark, MarkList, Outcome, Refusal, Which};
 pub use project::{Pair, PairList, Project, ProjectFault, ProjectFile, ProjectFileList};

@@ -24,15 +24,50 @@ pub enum Refusal {
     /// There is no project file.
     NoProject,
     /// The fault is never out of memory.
-    Project { fault: ProjectFault },
+    Project {
+        fault: ProjectFault,
+    },
     /// A file of the project isn't there.
-    AbsentFile { file: FileName },
+    AbsentFile {
+        file: FileName,
+    },
     /// A file has a lexical fault, which is never out of memory.
-    Lex { file: FileName, fault: LexFault },
+    Lex {
+        file: FileName,
+        fault: LexFault,
+    },
     /// A file has a fault of the unit grammar, which is never out of memory.
-    Units { file: FileName, fault: UnitFault },
+    Units {
+        file: FileName,
+        fault: UnitFault,
+    },
+    /// Two units of one name: `L.U`, `L.E(A)` or `body L.P`, with the files in which they are.
+    DuplicateUnit {
+        unit: Text,
+        first: FileName,
+        second: FileName,
+    },
+    /// A file refers to a primary unit that its library doesn't have.
+    MissingUnit {
+        file: FileName,
+        library: Text,
+        unit: Text,
+    },
+    /// A file refers to an architecture that the entity doesn't have.
+    MissingArchitecture {
+        file: FileName,
+        library: Text,
+        entity: Text,
+        architecture: Text,
+    },
+    /// Each of these files depends on the next, and the last on the first.
+    Cycle {
+        files: FileList,
+    },
     /// The compiler refused these files, in compile order.
-    Compiler { files: FileList },
+    Compiler {
+        files: FileList,
+    },
     /// A part of the program that isn't built yet was asked for.
     NotBuilt,
 }
