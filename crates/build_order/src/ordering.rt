@@ -1,7 +1,7 @@
 //! The order of files.
 
 ghost use Rattle.std.specs.Prelude.{◌≡◌, ℕ, List, [], IfOk, OnOk};
-ghost use Rattle.order_spec.specs.BuildOrder.{AreEdges, GivesOrder, file_order, all_taken, first_free, with_taken};
+ghost use Rattle.order_spec.specs.BuildOrder.{AreEdges, GivesOrder, file_order, all_taken, first_free, with_taken, IsBuildOrder};
 ghost use Rattle.build_order.specs.Untakens.{IsUntaken};
 
 use crate::cycle::cycle_of;
@@ -41,7 +41,8 @@ fn take_files(alloc: Global, left: &mut Untaken, edges: &Edges) -> Result<Order,
 /// untaken dependency each time.
 pub fn order(alloc: Global, edges: &Edges) -> Result<Order, OrderFault>
     requires { AreEdges edges.now }
-    ensures { GivesOrder (file_order edges.now) result }
+    ensures exact { GivesOrder (file_order edges.now) result }
+    ensures sorted { IfOk result (IsBuildOrder edges.now) }
 {
     let mut left = Untaken::new(alloc, edges)?;
     let order = take_files(alloc, &mut left, edges)?;

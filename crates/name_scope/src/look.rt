@@ -7,7 +7,7 @@ ghost use Rattle.name_scope.specs.Links.{HasLooked};
 use crate::links::Link;
 use crate::row::Row;
 
-/// TakesLink what one link hands on, and says whether the row has grown.
+/// Takes what one link hands on, and says whether the row has grown.
 fn follow(link: Link, rows: &[Row], row: &mut Row) -> bool
     requires source { link.source < length rows.now }
     requires even { All (λ other. length other ≡ length row.old) rows.now }
@@ -16,7 +16,7 @@ fn follow(link: Link, rows: &[Row], row: &mut Row) -> bool
     row.has(link.gate) && row.join(&rows[link.source])
 }
 
-/// TakesLink what each link hands on, once each and in order, and says whether the row has grown.
+/// Takes what each link hands on, once each and in order, and says whether the row has grown.
 pub fn look(links: &[Link], rows: &[Row], row: &mut Row) -> bool
     requires sources { All (λ link. link.source < length rows.now) links.now }
     requires even { All (λ other. length other ≡ length row.old) rows.now }

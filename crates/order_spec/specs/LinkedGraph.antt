@@ -29,11 +29,15 @@ linked_entry edges order texts at file = record { name = file.name; command = fi
 unfoldable pub linked : List ProjectFile → List (List ℕ) → List (List ℕ) → List ℕ → List Entry
 linked files texts edges order = filter_map (λ at. option_map (linked_entry edges order texts at) (slice_get files at)) order
 
--- one text for each file, each within the limit of a text, and all together within that of a graph
+-- each text is within the limit of a text, and all together within that of a graph
+pub record AreSmall (texts : List (List ℕ)) : Type 0 where
+  pub short : All (λ text. length text ≤ TEXT_LIMIT) texts
+  pub few_bytes : sum_by (λ text. length text) texts ≤ GRAPH_TEXT_LIMIT
+
+-- and there is one for each file
 pub record FitTexts (files : List ProjectFile) (texts : List (List ℕ)) : Type 0 where
   pub each : length texts ≡ length files
-  pub short : All (λ text. length text ≤ TEXT_LIMIT) texts
-  pub small : sum_by (λ text. length text) texts ≤ GRAPH_TEXT_LIMIT
+  pub small : AreSmall texts
 
 -- ## What it is to depend on a file
 

@@ -1,0 +1,13 @@
+//! The graph of a linked project.
+#![tactic(auto)]
+
+mod closures;
+mod fitting;
+mod graphs;
+mod laws;
+#[cfg(test)]
+mod tests;
+
+pub use fitting::fit_texts;
+pub use graphs::graph_of;
+pub use laws::laws_of_linked_graphs;
