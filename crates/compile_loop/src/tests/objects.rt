@@ -5,6 +5,7 @@ use super::sets::has;
 use super::shapes::{Shape, file_of, graph_of, input_of, letter, text};
 use crate::{BuildEnd, BuildFault, build, build_marks};
 use record_store::RecordStore;
+use run_report::build_text;
 use std::alloc::Global;
 use std::process::Abort;
 use std::test::Fail;
@@ -24,6 +25,8 @@ pub(super) struct Told {
     pub marks: Vec<u8>,
     /// The letter and the text of each artefact of the whole, where there is one.
     pub whole: Vec<u8>,
+    /// What is printed of the build.
+    pub text: Vec<u8>,
     pub fault: Option<BuildFault>,
 }
 
@@ -186,8 +189,18 @@ fn tell_whole(alloc: Global, whole: &Option<Built>) -> Result<Vec<u8>, NoMemory>
     Ok(told)
 }
 
+/// What is printed of a build with these marks; nothing where they aren't those of the graph.
+fn tell_text(alloc: Global, graph: &Graph, marks: &MarkList) -> Result<Vec<u8>, NoMemory> {
+    if marks.len() != graph.len() {
+        return Ok(Vec::new(alloc));
+    }
+    let text = build_text(alloc, graph, marks)?;
+    Ok(Vec::from_slice(alloc, text.bytes())?)
+}
+
 fn tell(
     alloc: Global,
+    graph: &Graph,
     events: &[Event],
     end: &Result<BuildEnd, BuildFault>,
 ) -> Result<Told, NoMemory> {
@@ -197,12 +210,14 @@ fn tell(
             events,
             marks: tell_marks(alloc, &end.marks)?,
             whole: tell_whole(alloc, &end.whole)?,
+            text: tell_text(alloc, graph, &end.marks)?,
             fault: None,
         }),
         Err(fault) => Ok(Told {
             events,
             marks: Vec::new(alloc),
             whole: Vec::new(alloc),
+            text: Vec::new(alloc),
             fault: Some(*fault),
         }),
     }
@@ -228,7 +243,7 @@ pub(super) fn told_build(
         way.limit,
         way.keep_going,
     );
-    Ok(tell(alloc, procs.journal().as_slice(), &end)?)
+    Ok(tell(alloc, &graph, procs.journal().as_slice(), &end)?)
 }
 
 /// The fault that ends such a build, if one does.
