@@ -1,4 +1,4 @@
--- The definitions: words, the token cut, the unit grammar, where units are, references and visible libraries.
+-- The definitions: words, the token cut, the unit grammar, where units are, references, visible libraries and dependencies.
 pub mod Words
 pub mod Tokens
 pub mod Units
@@ -6,3 +6,4 @@ pub mod Scans
 pub mod UnitPlaces
 pub mod References
 pub mod Visibility
+pub mod Dependencies
