@@ -1,5 +1,5 @@
 -- What looks at places keep of the sets, and what one place less on the list of work leaves to do.
-use Rattle.std.proofs.Common.{◌≡◌, ◌≢◌, ℕ, zero, suc, ◌+◌, ◌*◌, ◌<◌, ◌≤◌, Bool, true, false, List, [], ◌∷◌, ◌++◌, IsTrue, Contains, length, get_or, replicate, nat_eq, ◌⊎◌, inl, inr, refl, sym, ◌∙◌, ap, subst, arith, length-append}
+use Rattle.std.proofs.Common.{◌≡◌, ◌≢◌, ℕ, zero, suc, ◌+◌, ◌*◌, ◌<◌, ◌≤◌, Bool, true, false, List, [], ◌∷◌, ◌++◌, ◌||◌, IsTrue, Contains, length, get_or, replicate, nat_eq, ◌⊎◌, inl, inr, refl, sym, ◌∙◌, ap, subst, arith, length-append}
 use Rattle.std.specs.List.{All, sum_by}
 use Rattle.std.proofs.Math.ListN.{set}
 use Rattle.std.proofs.Math.Nat.{mul-le-mul_left}
@@ -10,7 +10,7 @@ use Rattle.std.proofs.lemmas.List.Sums.{sum_by-set, get_or-le-sum_by}
 use Rattle.std.proofs.lemmas.List.Elements.{Contains-append_left, Contains-append_right, Contains-append_cases, All-contains, Contains-get_or}
 use Rattle.name_scope.specs.declared.links.Link.{Link}
 use Rattle.name_scope.specs.Bits.{AreWithin, gap, has, row_has}
-use Rattle.name_scope.specs.Links.{AreEven, AreTaken, HasLookedAt, HasSpread, TakesAll, links_at, place_row}
+use Rattle.name_scope.specs.Links.{AreEven, AreTaken, AreTakenTo, HasLookedAt, HasSpread, TakesAll, links_at, place_row}
 use Rattle.name_scope.specs.Work.{HasListed, HasRevisited, IsSettling, IsWork, KnowReaders, effort, readers_at}
 use Rattle.name_scope.proofs.LookLemmas.{one_of}
 
@@ -67,6 +67,36 @@ module _ (links : List (List Link)) (at : ℕ) (old new : List (List ℕ)) (grow
 pub spread_more : (links : List (List Link)) (first : List (List ℕ)) (at : ℕ) (old new : List (List ℕ)) (grown : Bool) → HasSpread links first old → HasLookedAt links at old new grown → HasSpread links first new
 spread_more links first at old new grown before look = spread_both links first old new before (spread_once links at old new grown look)
 
+-- a look that grew nothing
+module _ (links : List (List Link)) (at : ℕ) (old new : List (List ℕ)) (look : HasLookedAt links at old new false) where
+  pub same_rows : new ≡ old
+  same_rows = is_set links at old new false look ∙ (ap (λ (row : List ℕ). set old at row) (look.looked.same refl) ∙ set-get_or old at [])
+
+  before_too : AreTakenTo at links (has old) → AreTakenTo (at + 1) links (has old)
+  before_too taken other below = by_place (eqb_tells other at) where
+    by_place : ((nat_eq other at ≡ true) × (other ≡ at)) ⊎ ((nat_eq other at ≡ false) × (other ≢ at)) → TakesAll (links_at links other) (has old) (has old other)
+    by_place (inl (_, same)) = subst (λ (n : ℕ). TakesAll (links_at links n) (has old) (has old n)) (sym same) (look.looked.taken refl)
+    by_place (inr (_, differ)) = taken other (omega arith)
+
+  pub taken_here : AreTakenTo at links (has old) → AreTakenTo (at + 1) links (has new)
+  taken_here taken = subst (λ (rows : List (List ℕ)). AreTakenTo (at + 1) links (has rows)) (sym same_rows) (before_too taken)
+
+-- one look more, of which none may have grown anything
+pub taken_more : (links : List (List Link)) (at : ℕ) (old new : List (List ℕ)) (grown more : Bool) → HasLookedAt links at old new more → (grown ≡ false → AreTakenTo at links (has old)) → (grown || more) ≡ false → AreTakenTo (at + 1) links (has new)
+taken_more links at old new true more look taken still = let never : ⊥ = cc in absurd never
+taken_more links at old new false true look taken still = let never : ⊥ = cc in absurd never
+taken_more links at old new false false look taken still = taken_here links at old new look (taken refl)
+
+-- no place past the last has links
+pub taken_all : (links : List (List Link)) (rows : List (List ℕ)) (end : ℕ) → length links ≤ end → AreTakenTo end links (has rows) → AreTaken links (has rows)
+taken_all links rows end all taken at = by_place (cases_lt at end) where
+  by_place : (at < end) ⊎ (end ≤ at) → TakesAll (links_at links at) (has rows) (has rows at)
+  by_place (inl below) = taken at below
+  by_place (inr past) = λ (link : Link) (there : Contains (links_at links at) link).
+      let none : links_at links at ≡ [] = get_or_past links at [] (omega arith) in
+      let in_none : Contains [] link = subst (λ (l : List Link). Contains l link) none there in
+      absurd (omega (arith, in_none.1))
+
 in_work : (work : List ℕ) (at other : ℕ) → Contains (work ++ at ∷ []) other → other ≢ at → Contains work other
 in_work work at other there differ = by_part (Contains-append_cases work (at ∷ []) other there) where
   by_part : Contains work other ⊎ Contains (at ∷ []) other → Contains work other
@@ -111,7 +141,7 @@ from_place (first ∷ links) at = by_first (eqb_tells first.source at) (from_pla
 -- a place that was looked at, where its row is as it was
 module _ (links : List (List Link)) (readers : List (List ℕ)) (at : ℕ) (rows new : List (List ℕ)) (work : List ℕ) (marks : List Bool) (look : HasLookedAt links at rows new false) (list : IsWork (work ++ at ∷ []) marks) (within : at < length marks) where
   rows_same : new ≡ rows
-  rows_same = is_set links at rows new false look ∙ (ap (λ (row : List ℕ). set rows at row) (look.looked.same refl) ∙ set-get_or rows at [])
+  rows_same = same_rows links at rows new look
 
   settling_same : (first : List (List ℕ)) → IsSettling links first rows (work ++ at ∷ []) marks → IsSettling links first rows work (set marks at false)
   settling_same first before = record {
@@ -186,17 +216,13 @@ module _ (links : List (List Link)) (readers : List (List ℕ)) (at : ℕ) (rows
 
 -- at the end each place takes what its links hand on
 pub settled : (links : List (List Link)) (first rows : List (List ℕ)) (work : List ℕ) (marks : List Bool) → length links ≡ length rows → length work ≡ 0 → IsSettling links first rows work marks → AreTaken links (has rows)
-settled links first rows work marks each empty settling at = by_place (cases_lt at (length rows)) where
-  by_work : (Contains work at ⊎ TakesAll (links_at links at) (has rows) (has rows at)) → TakesAll (links_at links at) (has rows) (has rows at)
-  by_work (inl there) = absurd (omega (arith, there.1))
-  by_work (inr taken) = taken
+settled links first rows work marks each empty settling = taken_all links rows (length rows) (omega (arith, each)) each_taken where
+  by_work : (at : ℕ) → (Contains work at ⊎ TakesAll (links_at links at) (has rows) (has rows at)) → TakesAll (links_at links at) (has rows) (has rows at)
+  by_work at (inl there) = absurd (omega (arith, there.1))
+  by_work at (inr taken) = taken
 
-  by_place : (at < length rows) ⊎ (length rows ≤ at) → TakesAll (links_at links at) (has rows) (has rows at)
-  by_place (inl below) = by_work (settling.pending at below)
-  by_place (inr past) = λ (link : Link) (there : Contains (links_at links at) link).
-      let none : links_at links at ≡ [] = get_or_past links at [] (omega arith) in
-      let in_none : Contains [] link = subst (λ (l : List Link). Contains l link) none there in
-      absurd (omega (arith, in_none.1))
+  each_taken : AreTakenTo (length rows) links (has rows)
+  each_taken at below = by_work at (settling.pending at below)
 
 pub evens : (links : List (List Link)) (old new : List (List ℕ)) (words room : ℕ) → HasSpread links old new → AreEven words old → room ≡ words → AreEven room new
 evens links old new words room spread even same = subst (λ (n : ℕ). AreEven n new) (sym same) (spread.even words even)

@@ -2,6 +2,7 @@
 pub mod Bits
 pub mod Links
 pub mod Work
+pub mod Order
 pub mod Names
 pub mod Wants
 pub mod Scopes

@@ -20,6 +20,10 @@ TakesAll links sets own = (link : Link) → Contains links link → TakesLink se
 abbrev pub AreTaken : List (List Link) → (ℕ → ℕ → Bool) → Type 0
 AreTaken links sets = (at : ℕ) → TakesAll (links_at links at) sets (sets at)
 
+-- the set of each place before one takes what its links hand on
+abbrev pub AreTakenTo : ℕ → List (List Link) → (ℕ → ℕ → Bool) → Type 0
+AreTakenTo end links sets = (at : ℕ) → at < end → TakesAll (links_at links at) sets (sets at)
+
 -- a row after it took, once each and in order, what links hand on from the sets of other rows, and whether it grew:
 -- it has nothing that closed sets around it don't have, and where it didn't grow it takes what they hand on
 pub record HasLooked (links : List Link) (rows : List (List ℕ)) (old new : List ℕ) (grown : Bool) : Type 0 where

@@ -8,6 +8,7 @@ mod links;
 mod listing;
 mod look;
 mod names;
+mod order;
 mod own;
 mod row;
 mod scope;

@@ -1,12 +1,14 @@
 //! The sets of all places, grown along links until each takes all that its links hand on.
 
-ghost use Rattle.std.specs.Prelude.{◌≡◌, ℕ, ◌+◌, ◌<◌, ◌∷◌, ◌++◌, [], Contains, length, IfOk, OnOk, slice_index};
+ghost use Rattle.std.specs.Prelude.{◌≡◌, ℕ, ◌+◌, ◌<◌, ◌∷◌, ◌++◌, [], Contains, false, length, IfOk, OnOk, slice_index};
+ghost use Rattle.std.specs.List.{All};
 ghost use Rattle.name_scope.specs.Bits.{has};
 ghost use Rattle.name_scope.specs.Links.{AreBelow, AreEven, AreTaken, HasLookedAt, HasSpread};
 ghost use Rattle.name_scope.specs.Work.{AreReaders, HasRevisited, IsSettling, IsWork, KnowReaders};
 
 use crate::links::Link;
 use crate::look::look;
+use crate::order::order_of;
 use crate::row::Row;
 use crate::work::{list_all, list_one, readers_of};
 use std::alloc::Global;
@@ -29,30 +31,62 @@ fn look_at(links: &[Items<Link>], rows: &mut [Row], at: usize, room: &mut Row) -
     grown
 }
 
-/// Looks at each place once, from the first on.
-fn sweep_up(links: &[Items<Link>], rows: &mut [Row], room: &mut Row)
+/// Looks at places, in order.
+fn sweep(links: &[Items<Link>], rows: &mut [Row], order: &[usize], room: &mut Row)
     requires each { length links.now ≡ length rows.old }
     requires even { AreEven (length room.old) rows.old }
     requires below { AreBelow (length rows.old) links.now }
+    requires within { All (λ at. at < length rows.old) order.now }
     ensures room { length room.new ≡ length room.old }
     ensures spread { HasSpread links.now rows.old rows.new }
 {
-    for at in 0..rows.len() {
-        look_at(links, rows, at, room);
+    for at in order {
+        look_at(links, rows, *at, room);
     }
 }
 
-/// Looks at each place once, from the last on.
-fn sweep_down(links: &[Items<Link>], rows: &mut [Row], room: &mut Row)
+/// Looks at places, from the last on.
+fn sweep_back(links: &[Items<Link>], rows: &mut [Row], order: &[usize], room: &mut Row)
+    requires each { length links.now ≡ length rows.old }
+    requires even { AreEven (length room.old) rows.old }
+    requires below { AreBelow (length rows.old) links.now }
+    requires within { All (λ at. at < length rows.old) order.now }
+    ensures room { length room.new ≡ length room.old }
+    ensures spread { HasSpread links.now rows.old rows.new }
+{
+    for index in (0..order.len()).rev() {
+        look_at(links, rows, order[index], room);
+    }
+}
+
+/// Looks at places twice, in order.
+fn sweep_twice(links: &[Items<Link>], rows: &mut [Row], order: &[usize], room: &mut Row)
+    requires each { length links.now ≡ length rows.old }
+    requires even { AreEven (length room.old) rows.old }
+    requires below { AreBelow (length rows.old) links.now }
+    requires within { All (λ at. at < length rows.old) order.now }
+    ensures room { length room.new ≡ length room.old }
+    ensures spread { HasSpread links.now rows.old rows.new }
+{
+    sweep(links, rows, order, room);
+    sweep(links, rows, order, room);
+}
+
+/// Looks at each place once, and says whether a row has grown.
+fn sweep_all(links: &[Items<Link>], rows: &mut [Row], room: &mut Row) -> bool
     requires each { length links.now ≡ length rows.old }
     requires even { AreEven (length room.old) rows.old }
     requires below { AreBelow (length rows.old) links.now }
     ensures room { length room.new ≡ length room.old }
     ensures spread { HasSpread links.now rows.old rows.new }
+    ensures taken { result ≡ false → AreTaken links.now (has rows.new) }
 {
-    for at in (0..rows.len()).rev() {
-        look_at(links, rows, at, room);
+    let mut grown = false;
+    for at in 0..rows.len() {
+        let more = look_at(links, rows, at, room);
+        grown |= more;
     }
+    grown
 }
 
 /// Looks at a place that was taken from the list of work. Where its row has grown, the place and its readers are listed.
@@ -123,9 +157,35 @@ fn all_places(alloc: Global, places: usize) -> Result<Vec<usize>, NoMemory>
     Ok(work)
 }
 
+/// Looks at places until each takes all that its links hand on: again where a set that it takes from has grown.
+fn settle_all(
+    alloc: Global,
+    links: &[Items<Link>],
+    rows: &mut [Row],
+    room: &mut Row,
+) -> Result<(), NoMemory>
+    requires each { length links.now ≡ length rows.old }
+    requires even { AreEven (length room.old) rows.old }
+    requires below { AreBelow (length rows.old) links.now }
+    ensures spread { OnOk result (HasSpread links.now rows.old rows.new) }
+    ensures taken { OnOk result (AreTaken links.now (has rows.new)) }
+{
+    let readers = readers_of(alloc, links)?;
+    let mut work = all_places(alloc, rows.len())?;
+    let mut marks = vec![in alloc; true; rows.len()]?;
+    settle(
+        links,
+        readers.as_slice(),
+        rows,
+        room,
+        &mut work,
+        marks.as_mut_slice(),
+    )
+}
+
 /// Grows the sets of all places until each takes all that its links hand on: they are then the least that hold the given
-/// ones and take it. A place is looked at again where a set that it takes from has grown; two looks at each, up and
-/// down, come first, since they settle most.
+/// ones and take it. Two sweeps, in an order in which a place comes after those that it takes from, settle rings and
+/// what has none; a sweep back and the list of work settle the rest.
 pub fn spread(
     alloc: Global,
     links: &[Items<Link>],
@@ -139,17 +199,11 @@ pub fn spread(
     ensures taken { OnOk result (AreTaken links.now (has rows.new)) }
 {
     let mut room = Row::new(alloc, words)?;
-    sweep_up(links, rows, &mut room);
-    sweep_down(links, rows, &mut room);
-    let readers = readers_of(alloc, links)?;
-    let mut work = all_places(alloc, rows.len())?;
-    let mut marks = vec![in alloc; true; rows.len()]?;
-    settle(
-        links,
-        readers.as_slice(),
-        rows,
-        &mut room,
-        &mut work,
-        marks.as_mut_slice(),
-    )
+    let order = order_of(alloc, links)?;
+    sweep_twice(links, rows, order.as_slice(), &mut room);
+    if !sweep_all(links, rows, &mut room) {
+        return Ok(());
+    }
+    sweep_back(links, rows, order.as_slice(), &mut room);
+    settle_all(alloc, links, rows, &mut room)
 }

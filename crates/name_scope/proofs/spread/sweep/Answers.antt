@@ -2,7 +2,7 @@
 use Rattle.std.proofs.Common.{ℕ, ◌∙◌, refl, subst, sym}
 use Rattle.name_scope.specs.Links.{AreEven}
 use Rattle.name_scope.proofs.SpreadLemmas.{spread_more, spread_none}
-use Rattle.name_scope.proofs.spread.sweep_down.Goals as goal
+use Rattle.name_scope.proofs.spread.sweep.Goals as goal
 
 pub loop-at-init : goal.loop-at-init
 loop-at-init c = record { room = refl; spread = spread_none _ _ }

@@ -1,7 +1,7 @@
 -- So far the sets are spread.
 use Rattle.std.proofs.Common.{◌≡◌, length}
 use Rattle.name_scope.specs.Links.{HasSpread}
-use Rattle.name_scope.proofs.spread.sweep_up.Given as goal
+use Rattle.name_scope.proofs.spread.sweep.Given as goal
 
 abbrev pub invariant-loop-at : goal.invariant-loop-at
 invariant-loop-at l = record {

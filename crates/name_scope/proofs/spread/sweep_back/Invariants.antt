@@ -1,10 +1,10 @@
 -- So far the sets are spread.
 use Rattle.std.proofs.Common.{◌≡◌, length}
 use Rattle.name_scope.specs.Links.{HasSpread}
-use Rattle.name_scope.proofs.spread.sweep_down.Given as goal
+use Rattle.name_scope.proofs.spread.sweep_back.Given as goal
 
-abbrev pub invariant-loop-at : goal.invariant-loop-at
-invariant-loop-at l = record {
+abbrev pub invariant-loop-index : goal.invariant-loop-index
+invariant-loop-index l = record {
   room : length l.room ≡ length l.initial.room;
   spread : HasSpread l.links l.initial.rows l.rows;
 }
