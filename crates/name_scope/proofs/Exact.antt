@@ -23,7 +23,7 @@ use Rattle.name_scope.specs.Bits.{AreWithin, has, row_has}
 use Rattle.name_scope.specs.Groups.{is_same_group}
 use Rattle.name_scope.specs.Links.{AreTaken, links_at, place_row}
 use Rattle.name_scope.specs.Names.{group_number, implicit, name_of_number, number_of}
-use Rattle.name_scope.specs.Wants.{context_want, group_of, own_groups, wants_of}
+use Rattle.name_scope.specs.Wants.{context_want, gate_of, group_of, own_groups, wants_of}
 use Rattle.name_scope.specs.Scopes.{as_scope}
 use Rattle.name_scope.specs.Graph.{IsRowOf}
 use Rattle.name_scope.specs.Joins.{IsLinkFor, IsLinked, IsOneOf, link_of, scope_at}
@@ -32,7 +32,7 @@ use Rattle.name_scope.proofs.BitLemmas.{past}
 use Rattle.name_scope.proofs.KeyLemmas.{numbered}
 use Rattle.name_scope.proofs.NameLemmas.{Contains-map, same_bytes, same_group, told_group, told_same}
 use Rattle.name_scope.proofs.ScopeLemmas.{as_long, at_place}
-use Rattle.name_scope.proofs.OwnGroups.{context_wanted, is_context, is_primary, primary_wanted, want_cases, want_of_context, want_of_primary}
+use Rattle.name_scope.proofs.OwnGroups.{context_wanted, gate_is, is_context, is_primary, primary_wanted, want_cases, want_of_context, want_of_primary}
 
 pub no_unit : ScopeUnit
 no_unit = record { library = []; unit = record { kind = kinds.Entity; name = []; owner = Nothing; lead = 0; first = 0; last = 0 }; names = []; contexts = [] }
@@ -209,18 +209,18 @@ module _ (units : List ScopeUnit) (names : List (List ℕ)) (rows : List (List �
         (subst (λ (b : Bool). (not b && list_any (λ (r : Ref). sees units user r.library && list_any (λ (c : ScopeUnit). is_context_of user r c && sees units c name) units) user.contexts) ≡ true) (sym told) some))
 
   -- what a group that is wanted has is seen
-  from_group : (user : ScopeUnit) (want : Want) (name : List ℕ) → Contains units user → Contains (wants_of user.library user.unit user.contexts) want → sees units user want.gate ≡ true → in_group want.group name ≡ true → sees units user name ≡ true
+  from_group : (user : ScopeUnit) (want : Want) (name : List ℕ) → Contains units user → Contains (wants_of user.library user.unit user.contexts) want → sees units user (gate_of want) ≡ true → in_group want.group name ≡ true → sees units user name ≡ true
   from_group user want name there wanted gate handed = by_handed (or_cases (is_implicit name) (list_any (λ v. is_in want.group v && sees units v name) units) handed) where
     in_own_groups : (v : ScopeUnit) → is_in want.group v ≡ true → Contains (own_groups v.library v.unit) want.group
     in_own_groups v told =
         let found = some_of (is_same_group want.group) (own_groups v.library v.unit) told in
         subst (Contains (own_groups v.library v.unit)) (sym (same_group want.group found.0 found.2)) found.1
 
-    by_want : (v : ScopeUnit) → Contains units v → Contains (own_groups v.library v.unit) want.group → sees units v name ≡ true → (((given : List ℕ) × (primary_name user.unit.kind user.unit ≡ Given given) × (want ≡ record { gate = work; group = group_of false user.library given })) ⊎ ((ref : Ref) × Contains user.contexts ref × (context_want user.library ref ≡ want))) → sees units user name ≡ true
+    by_want : (v : ScopeUnit) → Contains units v → Contains (own_groups v.library v.unit) want.group → sees units v name ≡ true → (((given : List ℕ) × (primary_name user.unit.kind user.unit ≡ Given given) × (want ≡ record { own = true; group = group_of false user.library given })) ⊎ ((ref : Ref) × Contains user.contexts ref × (context_want user.library ref ≡ want))) → sees units user name ≡ true
     by_want v v_there in_it seen (inl (given, given_is, same)) =
         by_primary user v name there v_there (is_primary user v given given_is (subst (λ (w : Want). Contains (own_groups v.library v.unit) w.group) same in_it)) seen
     by_want v v_there in_it seen (inr (ref, ref_there, same)) =
-        by_context user v ref name there v_there ref_there (subst (λ (w : Want). sees units user w.gate ≡ true) (sym same) gate)
+        by_context user v ref name there v_there ref_there (subst (λ (n : List ℕ). sees units user n ≡ true) (gate_is user.library ref) (subst (λ (w : Want). sees units user (gate_of w) ≡ true) (sym same) gate))
         (is_context user ref v (subst (λ (w : Want). Contains (own_groups v.library v.unit) w.group) (sym same) in_it)) seen
 
     by_handed : (is_implicit name ≡ true) ⊎ (list_any (λ v. is_in want.group v && sees units v name) units ≡ true) → sees units user name ≡ true
@@ -239,11 +239,11 @@ module _ (units : List ScopeUnit) (names : List (List ℕ)) (rows : List (List �
     by_link : Contains [] link ⊎ IsLinkFor names is.groups (length units) (wants_at units at) link → IsTrue (sets at number)
     by_link (inl none) = absurd (omega (arith, none.1))
     by_link (inr for) =
-        let gate_is : link.gate ≡ number_of names for.want.gate = ap (λ (l : Link). l.gate) for.is in
+        let gate_is : link.gate ≡ number_of names (gate_of for.want) = ap (λ (l : Link). l.gate) for.is in
         let source_is : link.source ≡ length units + group_number is.groups for.want.group = ap (λ (l : Link). l.source) for.is in
-        let name_is : name_of_number names link.gate ≡ for.want.gate = ap (name_of_number names) gate_is ∙ (numbered bytes_eq same_bytes told_same names for.want.gate [] for.there.gate).1 in
+        let name_is : name_of_number names link.gate ≡ (gate_of for.want) = ap (name_of_number names) gate_is ∙ (numbered bytes_eq same_bytes told_same names (gate_of for.want) [] for.there.gate).1 in
         let group_is : group_at (group_number is.groups for.want.group) ≡ for.want.group = (numbered is_same_group same_group told_group is.groups for.want.group (group_of false [] []) for.there.group).1 in
-        let open_gate : sees units (unit_at units at) for.want.gate ≡ true = subst (λ (n : List ℕ). sees units (unit_at units at) n ≡ true) name_is (sym (set_unit at link.gate within) ∙ gate) in
+        let open_gate : sees units (unit_at units at) (gate_of for.want) ≡ true = subst (λ (n : List ℕ). sees units (unit_at units at) n ≡ true) name_is (sym (set_unit at link.gate within) ∙ gate) in
         let given : in_group for.want.group (name_of_number names number) ≡ true =
         subst (λ (g : Group). in_group g (name_of_number names number) ≡ true) group_is (sym (set_group (group_number is.groups for.want.group) number) ∙ subst (λ (n : ℕ). sets n number ≡ true) source_is handed) in
         set_unit at number within ∙ from_group (unit_at units at) for.want (name_of_number names number) (unit_there at within) for.wanted open_gate given
@@ -306,7 +306,7 @@ module _ (units : List ScopeUnit) (names : List (List ℕ)) (rows : List (List �
       (own_named (unit_at units at) name (unit_there at within) own, is.spread.larger at (number_of names name) ((row_unit at within).put name own))
 
   -- a row takes what the row of a unit has that it wants
-  through : (at : ℕ) → at < length units → (from : ℕ) → from < length units → (want : Want) → Contains (wants_at units at) want → Contains (own_groups (unit_at units from).library (unit_at units from).unit) want.group → Contains names want.gate × (has rows at (number_of names want.gate) ≡ true) → (number : ℕ) → has rows from number ≡ true → has rows at number ≡ true
+  through : (at : ℕ) → at < length units → (from : ℕ) → from < length units → (want : Want) → Contains (wants_at units at) want → Contains (own_groups (unit_at units from).library (unit_at units from).unit) want.group → Contains names (gate_of want) × (has rows at (number_of names (gate_of want)) ≡ true) → (number : ℕ) → has rows from number ≡ true → has rows at number ≡ true
   through at within from from_within want wanted owned gate number told =
       let group_known : Contains is.groups want.group = is.groups_are.added want.group (in_parts (λ (unit : UnitScope). unit.groups) (map as_scope units) (as_scope (unit_at units from)) want.group (scope_there (unit_at units from) (unit_there from from_within)) owned) in
       let group : ℕ = group_number is.groups want.group in
@@ -335,7 +335,7 @@ module _ (units : List ScopeUnit) (names : List (List ℕ)) (rows : List (List �
       let place = place_of found.0 found.1 in
       let given = primary_wanted (unit_at units at) found.0 (parts.0) in
       let seen = before place.0 (place.1) name (subst (λ (v : ScopeUnit). seen_after units steps v name ≡ true) (sym place.2) (parts.1)) in
-      let want : Want = record { gate = work; group = group_of false (unit_at units at).library given.0 } in (
+      let want : Want = record { own = true; group = group_of false (unit_at units at).library given.0 } in (
         seen.0,
         through at within place.0 (place.1) want
             (want_of_primary (unit_at units at).library (unit_at units at).unit (unit_at units at).contexts given.0 given.1)
@@ -358,7 +358,8 @@ module _ (units : List ScopeUnit) (names : List (List ℕ)) (rows : List (List �
         through at within place.0 (place.1) (context_want (unit_at units at).library ref.0)
             (want_of_context (unit_at units at).library (unit_at units at).unit (unit_at units at).contexts ref.0 ref.1)
             (subst (λ (v : ScopeUnit). Contains (own_groups v.library v.unit) (context_want (unit_at units at).library ref.0).group) (sym place.2) (context_wanted (unit_at units at) ref.0 found.0 (parts.0)))
-            gate (number_of names name) (seen.1),
+            (subst (λ (n : List ℕ). Contains names n × (has rows at (number_of names n) ≡ true)) (sym (gate_is (unit_at units at).library ref.0)) gate)
+            (number_of names name) (seen.1),
       )
 
   by_grown : (steps : ℕ) → HasSeen steps → (at : ℕ) → at < length units → (name : List ℕ) → grown units (seen_after units steps) (unit_at units at) name ≡ true → Contains names name × (has rows at (number_of names name) ≡ true)

@@ -14,12 +14,13 @@ use Rattle.name_scope.specs.declared.want.Want.{Want}
 use Rattle.name_scope.specs.Groups.{is_same_group}
 use Rattle.name_scope.specs.Links.{links_at}
 use Rattle.name_scope.specs.Names.{group_number, number_of}
+use Rattle.name_scope.specs.Wants.{gate_of}
 use Rattle.name_scope.specs.Joins.{AreMembersTo, HasLinked, HasMember, IsLinkFor, IsOneOf, IsThere, link_of, scope_at}
 use Rattle.name_scope.proofs.KeyLemmas.{there_by}
 use Rattle.name_scope.proofs.LookLemmas.{one_of}
 use Rattle.name_scope.proofs.NameLemmas.{same_bytes, same_group, told_group, told_same}
 
-pub linked_one : (names : List (List ℕ)) (groups : List Group) (places : ℕ) (want : Want) (old : List Link) (gate group : ℕ) → gate ≡ number_of names want.gate → gate < length names → group ≡ group_number groups want.group → group < length groups → HasLinked names groups places (want ∷ []) old (old ++ record { gate = gate; source = places + group } ∷ [])
+pub linked_one : (names : List (List ℕ)) (groups : List Group) (places : ℕ) (want : Want) (old : List Link) (gate group : ℕ) → gate ≡ number_of names (gate_of want) → gate < length names → group ≡ group_number groups want.group → group < length groups → HasLinked names groups places (want ∷ []) old (old ++ record { gate = gate; source = places + group } ∷ [])
 linked_one names groups places want old gate group is_gate gate_within is_group group_within = record {
   unchanged = λ (link : Link) there. Contains-append_left old (new ∷ []) link there;
   linked = λ (other : Want) (there : Contains (want ∷ []) other) (known : IsThere names groups other).
@@ -35,7 +36,7 @@ linked_one names groups places want old gate group is_gate gate_within is_group 
 
   known : IsThere names groups want
   known = record {
-    gate = there_by bytes_eq same_bytes told_same names want.gate (subst (λ (n : ℕ). n < length names) is_gate gate_within);
+    gate = there_by bytes_eq same_bytes told_same names (gate_of want) (subst (λ (n : ℕ). n < length names) is_gate gate_within);
     group = there_by is_same_group same_group told_group groups want.group (subst (λ (n : ℕ). n < length groups) is_group group_within);
   }
 

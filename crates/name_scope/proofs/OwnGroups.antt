@@ -11,7 +11,7 @@ use Rattle.scan_spec.specs.Visibility.{ScopeUnit, is_context_of, is_given, is_pr
 use Rattle.scan_spec.proofs.SomeTests.{and_both, and_cases, Contains-first, Contains-later}
 use Rattle.name_scope.specs.declared.want.Group.{Group}
 use Rattle.name_scope.specs.declared.want.Want.{Want}
-use Rattle.name_scope.specs.Wants.{context_want, group_of, own_groups, primary_wants, wants_of}
+use Rattle.name_scope.specs.Wants.{context_want, gate_of, group_of, own_groups, primary_wants, wants_of}
 use Rattle.name_scope.proofs.LookLemmas.{one_of}
 use Rattle.name_scope.proofs.NameLemmas.{Contains-map, same_bytes, told_same}
 
@@ -104,10 +104,18 @@ context_wanted user ref v told =
     subst (λ (n : List ℕ). Contains (own_groups v.library v.unit) (group_of true (resolved user ref.library) n)) (same_bytes v.unit.name ref.name (parts.1))
     (subst (λ (l : List ℕ). Contains (own_groups v.library v.unit) (group_of true l v.unit.name)) (same_bytes v.library (resolved user ref.library) (firsts.1)) (context_there v (firsts.0)))
 
-pub want_of_primary : (library : List ℕ) (unit : DesignUnit) (contexts : List Ref) (name : List ℕ) → primary_name unit.kind unit ≡ Given name → Contains (wants_of library unit contexts) (record { gate = work; group = group_of false library name })
+gate_by : (own : Bool) (library named : List ℕ) → (own ≡ true → named ≡ work) → (if own then work else (if own then library else named)) ≡ named
+gate_by true library named is = sym (is refl)
+gate_by false library named is = refl
+
+-- what a reference wants is there where the library that it names is seen
+pub gate_is : (library : List ℕ) (ref : Ref) → gate_of (context_want library ref) ≡ ref.library
+gate_is library ref = gate_by (bytes_eq ref.library work) library ref.library (same_bytes ref.library work)
+
+pub want_of_primary : (library : List ℕ) (unit : DesignUnit) (contexts : List Ref) (name : List ℕ) → primary_name unit.kind unit ≡ Given name → Contains (wants_of library unit contexts) (record { own = true; group = group_of false library name })
 want_of_primary library unit contexts name given =
-    Contains-append_left (primary_wants library (primary_name unit.kind unit)) (map (context_want library) contexts) (record { gate = work; group = group_of false library name })
-    (subst (λ (m : MaybeText). Contains (primary_wants library m) (record { gate = work; group = group_of false library name })) (sym given) (Contains-first _ []))
+    Contains-append_left (primary_wants library (primary_name unit.kind unit)) (map (context_want library) contexts) (record { own = true; group = group_of false library name })
+    (subst (λ (m : MaybeText). Contains (primary_wants library m) (record { own = true; group = group_of false library name })) (sym given) (Contains-first _ []))
 
 pub want_of_context : (library : List ℕ) (unit : DesignUnit) (contexts : List Ref) (ref : Ref) → Contains contexts ref → Contains (wants_of library unit contexts) (context_want library ref)
 want_of_context library unit contexts ref there =
@@ -119,12 +127,12 @@ from_map f (x ∷ xs) y (zero, within, is) = (x, Contains-first x xs, is)
 from_map f (x ∷ xs) y (suc k, within, is) = let rest = from_map f xs y (k, omega arith, is) in (rest.0, Contains-later x rest.0 xs rest.1, rest.2)
 
 -- what is wanted is a primary unit's or a context declaration's
-pub want_cases : (library : List ℕ) (unit : DesignUnit) (contexts : List Ref) (want : Want) → Contains (wants_of library unit contexts) want → ((name : List ℕ) × (primary_name unit.kind unit ≡ Given name) × (want ≡ record { gate = work; group = group_of false library name })) ⊎ ((ref : Ref) × Contains contexts ref × (context_want library ref ≡ want))
+pub want_cases : (library : List ℕ) (unit : DesignUnit) (contexts : List Ref) (want : Want) → Contains (wants_of library unit contexts) want → ((name : List ℕ) × (primary_name unit.kind unit ≡ Given name) × (want ≡ record { own = true; group = group_of false library name })) ⊎ ((ref : Ref) × Contains contexts ref × (context_want library ref ≡ want))
 want_cases library unit contexts want there = by_part (Contains-append_cases (primary_wants library (primary_name unit.kind unit)) (map (context_want library) contexts) want there) where
-  by_name : (m : MaybeText) → primary_name unit.kind unit ≡ m → Contains (primary_wants library m) want → (name : List ℕ) × (primary_name unit.kind unit ≡ Given name) × (want ≡ record { gate = work; group = group_of false library name })
+  by_name : (m : MaybeText) → primary_name unit.kind unit ≡ m → Contains (primary_wants library m) want → (name : List ℕ) × (primary_name unit.kind unit ≡ Given name) × (want ≡ record { own = true; group = group_of false library name })
   by_name Nothing is none = absurd (omega (arith, none.1))
   by_name (Given name) is one = (name, is, sym (one_of _ want one))
 
-  by_part : Contains (primary_wants library (primary_name unit.kind unit)) want ⊎ Contains (map (context_want library) contexts) want → ((name : List ℕ) × (primary_name unit.kind unit ≡ Given name) × (want ≡ record { gate = work; group = group_of false library name })) ⊎ ((ref : Ref) × Contains contexts ref × (context_want library ref ≡ want))
+  by_part : Contains (primary_wants library (primary_name unit.kind unit)) want ⊎ Contains (map (context_want library) contexts) want → ((name : List ℕ) × (primary_name unit.kind unit ≡ Given name) × (want ≡ record { own = true; group = group_of false library name })) ⊎ ((ref : Ref) × Contains contexts ref × (context_want library ref ≡ want))
   by_part (inl first) = inl (by_name (primary_name unit.kind unit) refl first)
   by_part (inr second) = inr (from_map (context_want library) contexts want second)

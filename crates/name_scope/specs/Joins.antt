@@ -6,14 +6,15 @@ use Rattle.name_scope.specs.declared.want.Group.{Group}
 use Rattle.name_scope.specs.declared.want.Want.{Want}
 use Rattle.name_scope.specs.Links.{links_at}
 use Rattle.name_scope.specs.Names.{group_number, number_of}
+use Rattle.name_scope.specs.Wants.{gate_of}
 
 -- the link for what is wanted: to the place of the group, after those of the units
 abbrev pub link_of : List (List ℕ) → List Group → ℕ → Want → Link
-link_of names groups places want = record { gate = number_of names want.gate; source = places + group_number groups want.group }
+link_of names groups places want = record { gate = number_of names (gate_of want); source = places + group_number groups want.group }
 
 -- the library and the group that are wanted have numbers
 pub record IsThere (names : List (List ℕ)) (groups : List Group) (want : Want) : Type 0 where
-  pub gate : Contains names want.gate
+  pub gate : Contains names (gate_of want)
   pub group : Contains groups want.group
 
 -- a link is one for what is wanted

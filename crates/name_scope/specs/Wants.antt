@@ -20,11 +20,15 @@ own_groups library unit = (if is_secondary unit.kind then [] else group_of false
 -- a secondary unit wants the primary units that it belongs to
 abbrev pub primary_wants : List ℕ → MaybeText → List Want
 primary_wants library Nothing = []
-primary_wants library (Given name) = record { gate = work; group = group_of false library name } ∷ []
+primary_wants library (Given name) = record { own = true; group = group_of false library name } ∷ []
 
 -- a reference to a context declaration wants the context declarations of its name, where its library is visible
 abbrev pub context_want : List ℕ → Ref → Want
-context_want library ref = record { gate = ref.library; group = group_of true (if bytes_eq ref.library work then library else ref.library) ref.name }
+context_want library ref = record { own = bytes_eq ref.library work; group = group_of true (if bytes_eq ref.library work then library else ref.library) ref.name }
+
+-- the name of the library that a unit has to see to get what it wants: `work` is always seen
+abbrev pub gate_of : Want → List ℕ
+gate_of want = if want.own then work else want.group.library
 
 abbrev pub wants_of : List ℕ → DesignUnit → List Ref → List Want
 wants_of library unit contexts = primary_wants library (primary_name unit.kind unit) ++ map (context_want library) contexts

@@ -10,6 +10,7 @@ use crate::links::Link;
 use crate::names::{self, Names};
 use crate::scope::UnitScope;
 use crate::want::{Group, Want};
+use crate::wants::gate_of;
 use std::alloc::Global;
 use vr_base::{Items, NoMemory};
 
@@ -26,7 +27,7 @@ fn add_link(
     ensures { OnOk result
         (HasLinked (keys_of names.now) groups.now.keys places (want.now ∷ []) links.old links.new) }
 {
-    let Some(gate) = names::find(names, want.gate.bytes()) else {
+    let Some(gate) = names::find(names, gate_of(want)) else {
         return Ok(());
     };
     let Some(group) = groups::find(groups, &want.group) else {

@@ -48,7 +48,7 @@ fn scope_of(
     Ok(UnitScope {
         groups: own_groups(alloc, library, unit)?,
         names: library_names(alloc, text, scan, roles, number)?,
-        wants: wants_of(alloc, library, unit, &contexts)?,
+        wants: wants_of(alloc, library, unit, contexts)?,
     })
 }
 

@@ -44,9 +44,9 @@ impl Hash for Group {
     }
 }
 
-/// A group whose libraries a unit sees too, where it sees the library `gate`.
+/// A group whose libraries a unit sees too, where it sees the library of the group: always, where that is its own.
 #[derive(Drop)]
 pub struct Want {
-    pub gate: Text,
+    pub own: bool,
     pub group: Group,
 }

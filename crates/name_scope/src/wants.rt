@@ -4,7 +4,7 @@ ghost use Rattle.std.specs.Prelude.{◌≡◌, ◌++◌, IfOk, OnOk, map};
 ghost use Rattle.std.specs.Str.{bytes_eq};
 ghost use Rattle.scan_spec.specs.References.{work, is_context_kind};
 ghost use Rattle.scan_spec.specs.Visibility.{is_secondary, primary_name};
-ghost use Rattle.name_scope.specs.Wants.{context_want, group_of, own_groups, primary_wants, wants_of};
+ghost use Rattle.name_scope.specs.Wants.{context_want, gate_of, group_of, own_groups, primary_wants, wants_of};
 
 use crate::want::{Group, Want};
 use std::alloc::Global;
@@ -80,7 +80,7 @@ fn primary_wants(alloc: Global, library: &Text, name: MaybeText) -> Result<Items
     match name {
         MaybeText::Nothing => {}
         MaybeText::Given(name) => wants.push(Want {
-            gate: Text::from_slice(alloc, WORK.as_slice())?,
+            own: true,
             group: group_of(alloc, false, library, &name)?,
         })?,
     }
@@ -88,15 +88,37 @@ fn primary_wants(alloc: Global, library: &Text, name: MaybeText) -> Result<Items
 }
 
 /// What a reference wants of context declarations.
-fn context_want(alloc: Global, library: &Text, reference: &Ref) -> Result<Want, NoMemory>
-    ensures { IfOk result (λ want. want ≡ context_want library.now reference.now) }
+fn context_want(alloc: Global, library: &Text, reference: Ref) -> Result<Want, NoMemory>
+    ensures { IfOk result (λ want. want ≡ context_want library.now reference) }
 {
-    let gate = &reference.library;
-    let resolved = if is_work(gate.bytes()) { library } else { gate };
+    let Ref {
+        library: named,
+        name,
+        architecture: _,
+        strict: _,
+        at: _,
+    } = reference;
+    let own = is_work(named.bytes());
+    let library = if own { library.copy(alloc)? } else { named };
     Ok(Want {
-        gate: gate.copy(alloc)?,
-        group: group_of(alloc, true, resolved, &reference.name)?,
+        own,
+        group: Group {
+            context: true,
+            library,
+            name,
+        },
     })
+}
+
+/// The name of the library that a unit has to see.
+pub fn gate_of(want: &Want) -> &[u8]
+    ensures { result.now ≡ gate_of want.now }
+{
+    if want.own {
+        WORK.as_slice()
+    } else {
+        want.group.library.bytes()
+    }
 }
 
 /// What a unit of a library wants, with its references to context declarations.
@@ -104,12 +126,12 @@ pub fn wants_of(
     alloc: Global,
     library: &Text,
     unit: &Unit,
-    contexts: &RefList,
+    contexts: RefList,
 ) -> Result<Items<Want>, NoMemory>
-    ensures { IfOk result (λ wants. wants ≡ wants_of library.now unit.now contexts.now) }
+    ensures { IfOk result (λ wants. wants ≡ wants_of library.now unit.now contexts) }
 {
     let mut wants = primary_wants(alloc, library, primary_name(alloc, unit)?)?;
-    for reference in contexts.as_slice() {
+    for reference in contexts.into_vec() {
         wants.push(context_want(alloc, library, reference)?)?;
     }
     Ok(wants)
