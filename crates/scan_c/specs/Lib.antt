@@ -1,2 +1,3 @@
 -- The definitions that the calls for benches cite.
 pub mod Counts
+pub mod Projects

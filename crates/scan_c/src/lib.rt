@@ -2,12 +2,16 @@
 //! it, so it hands out counts and no tokens or units. A caller in C must hand over at most 4,194,304 bytes.
 #![tactic(auto)]
 
+mod scopes;
+
 ghost use Rattle.std.specs.Prelude.{◌≡◌, ◌≤◌, ◌%◌, ◌^◌, IfOk, false, length, true};
 ghost use Rattle.vr_base.specs.declared.lexical.LexFault.{LexFault};
 ghost use Rattle.scan_spec.specs.Scans.{IsScanOf};
 ghost use Rattle.scan_spec.specs.Units.{AreTokensOf, roles_of};
+ghost use Rattle.scan_c.specs.Projects.{HasLibraries, HasScans};
 ghost use Rattle.scan_c.specs.Counts.{HasTokens, HasUnits, HasLexicalFault, IsFaulty, IsReferred, ref_count};
 
+use crate::scopes::{library_count, scan_files};
 use std::alloc::Global;
 use vhdl_lex::scan_tokens;
 use vhdl_refs::find_refs;
@@ -191,4 +195,43 @@ pub extern "C" fn bench_refs(alloc: Global, text: &[u8], out: &mut Referred)
     ensures { IsReferred text.now out.new }
 {
     *out = refer_text(alloc, text);
+}
+
+/// What was told of a project: whether all went well, and how many libraries its first unit sees.
+#[derive(Clone, Copy)]
+#[repr(C)]
+pub struct Seen {
+    pub whole: bool,
+    pub libraries: u64,
+}
+
+/// Scans and outlines each file of a project, which is one text with the places where its files end, all of library `l`.
+/// Nothing is told where the places don't rise within the text, where a file is longer than 4,194,304 bytes or has a
+/// fault, or where there was no memory. C declares it as
+/// `void bench_files(const uint8_t *text, size_t length, const size_t *ends, size_t count, struct seen *out)`.
+#[unsafe(no_mangle)]
+pub extern "C" fn bench_files(alloc: Global, text: &[u8], ends: &[usize], out: &mut Seen)
+    ensures { out.new.whole ≡ true → HasScans text.now ends.now }
+{
+    let whole = match scan_files(alloc, text, ends) {
+        Ok(_done) => true,
+        Err(_nothing) => false,
+    };
+    *out = Seen {
+        whole,
+        libraries: 0,
+    };
+}
+
+/// The same, and the visible libraries of all units; it counts those of the first unit of the first file. C declares it as
+/// `void bench_scopes(const uint8_t *text, size_t length, const size_t *ends, size_t count, struct seen *out)`.
+#[unsafe(no_mangle)]
+pub extern "C" fn bench_scopes(alloc: Global, text: &[u8], ends: &[usize], out: &mut Seen)
+    ensures { out.new.whole ≡ true → HasLibraries text.now ends.now out.new.libraries }
+{
+    let (whole, libraries) = match library_count(alloc, text, ends) {
+        Ok(count) => (true, count),
+        Err(_nothing) => (false, 0),
+    };
+    *out = Seen { whole, libraries };
 }

@@ -1,0 +1,99 @@
+/* Times the visible libraries of hostile projects, without the scans that they are made from: contexts in a ring, each
+ * with a library of its own, in both directions of their files and in a shuffled order; and contexts that each refer to
+ * all. Ends with 1 where the number of libraries isn't that of hand calculation.
+ *
+ *   scope ROUNDS
+ */
+#include <stdbool.h>
+#include <stdint.h>
+#include <stdio.h>
+#include <stdlib.h>
+#include <string.h>
+#include <time.h>
+
+struct seen {
+    bool whole;
+    uint64_t libraries;
+};
+
+void bench_files(const uint8_t *text, size_t length, const size_t *ends, size_t count, struct seen *out);
+void bench_scopes(const uint8_t *text, size_t length, const size_t *ends, size_t count, struct seen *out);
+
+static char *text;
+static size_t length, ends[4096];
+
+static double now(void) {
+    struct timespec time;
+    clock_gettime(CLOCK_PROCESS_CPUTIME_ID, &time);
+    return time.tv_sec + time.tv_nsec / 1e9;
+}
+
+static int later(const void *a, const void *b) {
+    double x = *(const double *)a, y = *(const double *)b;
+    return (x > y) - (x < y);
+}
+
+static double median(double *times, long count) {
+    qsort(times, count, sizeof *times, later);
+    return times[count / 2];
+}
+
+/* A ring of contexts: each refers to the one of the next number in a full cycle of x -> factor * x + step. */
+static void make_ring(size_t count, size_t factor, size_t step) {
+    length = 0;
+    for (size_t i = 0; i < count; i++) {
+        length += sprintf(text + length, "context c%zu is library l%zu; context work.c%zu; end;", i, i,
+                          (factor * i + step) % count);
+        ends[i] = length;
+    }
+}
+
+/* Contexts that each refer to all. */
+static void make_net(size_t count) {
+    length = 0;
+    for (size_t i = 0; i < count; i++) {
+        length += sprintf(text + length, "context c%zu is library l%zu, l; context l.c0", i, i);
+        for (size_t j = 1; j < count; j++) length += sprintf(text + length, ",l.c%zu", j);
+        length += sprintf(text + length, "; end;");
+        ends[i] = length;
+    }
+}
+
+/* The median seconds of the whole call less those of the scans. */
+static bool measure(const char *name, size_t count, uint64_t libraries, long rounds) {
+    double *scans = malloc(rounds * sizeof *scans), *all = malloc(rounds * sizeof *all);
+    struct seen seen = {0};
+    if (!scans || !all) return false;
+    for (long i = 0; i < rounds; i++) {
+        double from = now();
+        bench_files((uint8_t *)text, length, ends, count, &seen);
+        scans[i] = now() - from;
+        if (!seen.whole) return false;
+        from = now();
+        bench_scopes((uint8_t *)text, length, ends, count, &seen);
+        all[i] = now() - from;
+        if (!seen.whole || seen.libraries != libraries) return false;
+    }
+    double a = median(scans, rounds), b = median(all, rounds);
+    printf("%s: %.3f seconds, scans %.3f\n", name, b - a, a);
+    fflush(stdout);
+    free(scans);
+    free(all);
+    return true;
+}
+
+int main(int count, char **words) {
+    long rounds = count == 2 ? atol(words[1]) : 0;
+    text = malloc(100000000);
+    if (rounds < 1 || !text) return 2;
+    /* each has 4,096 libraries, or 2,700 and `l`; and `work` and `std` */
+    make_ring(4096, 1, 1);
+    if (!measure("ring of 4096, each to the next file", 4096, 4098, rounds)) return 1;
+    make_ring(4096, 1, 4095);
+    if (!measure("ring of 4096, each to the file before", 4096, 4098, rounds)) return 1;
+    make_ring(4096, 1229, 2731);
+    if (!measure("ring of 4096, shuffled", 4096, 4098, rounds)) return 1;
+    make_net(2700);
+    if (!measure("2700 that each refer to all", 2700, 2703, rounds)) return 1;
+    return 0;
+}

@@ -1,0 +1,14 @@
+#!/usr/bin/env bash
+# Prints the seconds that the visible libraries of hostile projects take: 4,096 contexts in a ring, in three orders, and
+# 2,700 contexts that each refer to all, which is 7,290,000 references.
+#
+# usage: scope.sh [ROUNDS]
+set -e
+cd "$(dirname "$0")"
+kit=$(dirname "$(rt doc)")
+while [ ! -f "$kit/c/liblibc_c.a" ]; do kit=$(dirname "$kit"); done
+work=$(mktemp -d)
+trap 'rm -rf "$work"' EXIT
+(cd ../crates/scan_c && rt lib >"$work/log" 2>&1) || { tail -5 "$work/log"; exit 1; }
+${CC:-cc} -O2 -o "$work/scope" scope.c ../crates/scan_c/out/libscan_c.a "$kit/c/liblibc_c.a"
+"$work/scope" "${1:-5}"

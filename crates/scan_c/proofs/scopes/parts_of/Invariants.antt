@@ -1,0 +1,12 @@
+-- So far the files before the index; the others follow.
+use Rattle.std.proofs.Common.{◌≡◌, ◌++◌, drop}
+use Rattle.std.specs.List.{All}
+use Rattle.name_scope.specs.Scopes.{IsTextSmall}
+use Rattle.scan_c.specs.Projects.{parts_at}
+use Rattle.scan_c.proofs.scopes.parts_of.Given as goal
+
+abbrev pub invariant-loop-end : goal.invariant-loop-end
+invariant-loop-end l = record {
+  parts : parts_at l.text 0 l.ends ≡ l.parts ++ parts_at l.text l.from (drop l.end-index l.ends);
+  small : All IsTextSmall l.parts;
+}
