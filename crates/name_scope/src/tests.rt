@@ -1,6 +1,6 @@
 //! Small projects, with the libraries that their units see, written out by hand.
 
-ghost use Rattle.std.specs.Prelude.{◌≡◌, ◌≤◌, length, IfOk, IsTrue};
+ghost use Rattle.std.specs.Prelude.{◌≡◌, ◌<◌, ◌≤◌, length, IfOk, IsTrue};
 ghost use Rattle.std.specs.List.{All};
 ghost use Rattle.scan_spec.specs.Scans.{AreScansOf, IsScanOf};
 ghost use Rattle.name_scope.specs.Scopes.{IsTextSmall};
@@ -56,6 +56,17 @@ fn file_of(alloc: Global, library: &[u8]) -> Result<ProjectFile, Fail> {
     })
 }
 
+fn project_with(alloc: Global, files: Items<ProjectFile>) -> Project {
+    Project {
+        files,
+        simulator: Items::new(alloc),
+        external: Items::new(alloc),
+        bodies: false,
+        depends: Items::new(alloc),
+        listed: false,
+    }
+}
+
 /// The project of files that are parted by `#`, each with its library before a `%`; and the texts of the files.
 fn project_of(alloc: Global, files: &[u8]) -> Result<(Project, TextList), Fail> {
     let mut list = Items::new(alloc);
@@ -67,15 +78,7 @@ fn project_of(alloc: Global, files: &[u8]) -> Result<(Project, TextList), Fail> 
         list.push(file_of(alloc, library)?)?;
         texts.push(Text::from_slice(alloc, text)?)?;
     }
-    let project = Project {
-        files: list,
-        simulator: Items::new(alloc),
-        external: Items::new(alloc),
-        bodies: false,
-        depends: Items::new(alloc),
-        listed: false,
-    };
-    Ok((project, texts))
+    Ok((project_with(alloc, list), texts))
 }
 
 /// Adds names, each with a comma, and a bar.
@@ -236,4 +239,83 @@ fn one_call(rt: HostRuntime) -> Result<(), Fail> {
         );
     }
     Ok(())
+}
+
+/// Contexts in a ring: each has a library of its own, and refers to the one so many places after it.
+fn ring_of(alloc: Global, count: u32, step: u32) -> Result<(Project, TextList), Fail>
+    requires { 0 < count }
+{
+    let mut list = Items::new(alloc);
+    let mut texts = TextList::new(alloc);
+    for i in 0..count {
+        let next = (u64::from(i) + u64::from(step)) % u64::from(count);
+        let text = format!(in alloc; "context c{i} is library l{i}; context work.c{next}; end;")?;
+        list.push(file_of(alloc, b"lib")?)?;
+        texts.push(Text::from_slice(alloc, text.as_bytes())?)?;
+    }
+    Ok((project_with(alloc, list), texts))
+}
+
+/// Contexts that each have a library of their own, and refer to all.
+fn net_of(alloc: Global, count: u32) -> Result<(Project, TextList), Fail> {
+    let mut list = Items::new(alloc);
+    let mut texts = TextList::new(alloc);
+    for i in 0..count {
+        let mut text = Vec::new(alloc);
+        let begin = format!(in alloc; "context c{i} is library l{i}, lib; context lib.c0")?;
+        text.extend_from_slice(begin.as_bytes())?;
+        for j in 1..count {
+            let part = format!(in alloc; ",lib.c{j}")?;
+            text.extend_from_slice(part.as_bytes())?;
+        }
+        text.extend_from_slice(b"; end;")?;
+        list.push(file_of(alloc, b"lib")?)?;
+        texts.push(Text::from_vec(text))?;
+    }
+    Ok((project_with(alloc, list), texts))
+}
+
+/// A ring, or contexts that each refer to all, where the step is 0.
+fn hostile_of(alloc: Global, count: u32, step: u32) -> Result<(Project, TextList), Fail> {
+    if count == 0 || step == 0 {
+        net_of(alloc, count)
+    } else {
+        ring_of(alloc, count, step)
+    }
+}
+
+/// How many libraries the first unit of the first file sees.
+fn first_sees(alloc: Global, project: &Project, texts: &TextList) -> Result<u64, Fail> {
+    if !are_small(texts) || texts.len() != project.files.len() || project.files.is_empty() {
+        return Err(Fail::from("small files"));
+    }
+    let scans = scans_of(alloc, texts)?;
+    let first = UnitId { file: 0, unit: 0 };
+    let names = visible_libraries(alloc, project, texts, &scans, first)?;
+    Ok(names.len())
+}
+
+/// Rings, by the number of their contexts and the step from each to the next, and contexts that each refer to all, which
+/// have the step 0; and how many libraries the first of them sees.
+static HOSTILE: &[(u32, u32, u64)] = &[
+    // each context's own library, `work` and `std`
+    (64, 1, 66),
+    (64, 63, 66),
+    (64, 27, 66),
+    // and the library of the files
+    (40, 0, 43),
+];
+
+fn check_hostile(rt: &impl Abort, alloc: Global, table: &[(u32, u32, u64)]) -> Result<(), Fail> {
+    for (count, step, want) in table {
+        let (project, texts) = hostile_of(alloc, *count, *step)?;
+        let seen = first_sees(alloc, &project, &texts)?;
+        assert!(rt; seen == *want, "{count} contexts, step {step}: {seen}");
+    }
+    Ok(())
+}
+
+#[test]
+fn hostile(rt: HostRuntime) -> Result<(), Fail> {
+    check_hostile(&rt, rt.alloc(), HOSTILE)
 }
