@@ -10,5 +10,5 @@ mod views;
 pub use closed_parts::laws_of_parts;
 pub use kept_views::is_view_of;
 pub use listed::listed_graph;
-pub use same::same_view;
+pub use same::{same_view, same_words};
 pub use views::{laws_of_views, view_of};

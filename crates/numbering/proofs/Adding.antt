@@ -1,0 +1,30 @@
+-- A number that is added keeps each number at its place.
+use Rattle.std.proofs.Common.{◌≡◌, ℕ, ◌<◌, Bool, true, false, List, [], ◌∷◌, ◌++◌, length, get_or, set, None, Some, Option, is_some, refl, sym, ap, ◌∙◌, arith, inl, inr, length-append}
+use Rattle.std.specs.Prelude.{All, Contains}
+use Rattle.std.proofs.lemmas.Bool.{cases_lt}
+use Rattle.std.proofs.lemmas.List.{get_or-set_other, get_or-set_same, get_or_append_left, get_or_at, get_or_default, length-set}
+use Rattle.std.proofs.lemmas.List.Elements.{All-push, Contains-get_or}
+use Rattle.std.proofs.lemmas.Option.{get_or_from_slice_get, slice_get_within}
+use Rattle.numbering.specs.Numbers.{AreFound, IsPlaceOf}
+
+pub absent : (numbers : List ℕ) (number : ℕ) (place : Option ℕ) → IsPlaceOf numbers number place → is_some place ≡ false → ¬ Contains numbers number
+absent numbers number None is none = is
+absent numbers number (Some place) is none = absurd cc
+
+pub added : (places numbers : List ℕ) (number : ℕ) → AreFound places numbers → number < length places → ¬ Contains numbers number → AreFound (set places number (length numbers)) (numbers ++ number ∷ [])
+added places numbers number found low new =
+    let size : length (set places number (length numbers)) ≡ length places = length-set places number (length numbers) in
+    record {
+      below = rw size (All-push (λ n. n < length places) numbers number found.below low);
+      noted = λ k l.
+          elim (cases_lt k (length numbers)) [
+            | inl a ↦
+                let other : ℕ = get_or numbers k 0 in
+                let here : get_or (numbers ++ number ∷ []) k 0 ≡ other = get_or_append_left numbers (number ∷ []) 0 k a in
+                rw here
+                (get_or-set_other places number other (length numbers) 0 (λ e. new (k, a, get_or_default numbers k number 0 a ∙ e)) ∙ found.noted k a)
+            | inr a ↦
+                let end : length numbers ≡ k = omega (arith, length-append numbers (number ∷ [])) in
+                rw (get_or_at numbers number [] 0 k end) (get_or-set_same places number (length numbers) 0 low ∙ end)
+          ];
+    }

@@ -1,0 +1,3 @@
+-- The lemmas.
+pub mod Adding
+pub mod Finding

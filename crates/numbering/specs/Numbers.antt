@@ -1,0 +1,32 @@
+-- Numbers below a size, and their places in an order.
+use Rattle.std.specs.Prelude.{◌≡◌, ◌⊎◌, ℕ, ◌<◌, ◌++◌, ◌∷◌, [], Bool, true, false, List, length, All, Contains, slice_get, slice_index, Option, Some, None}
+
+-- A size, and numbers below it, in order.
+pub record NumbersBelow : Type 0 where
+  pub size : ℕ
+  pub numbers : List ℕ
+
+-- the place of a number among numbers, or that it isn't among them
+abbrev pub IsPlaceOf : {X : Type 0} → List X → X → Option ℕ → Type 0
+IsPlaceOf items item None = ¬ Contains items item
+IsPlaceOf items item (Some place) = slice_get items place ≡ Some item
+
+-- a number was added at the end, or it was there
+abbrev pub IsAdded : Bool → ℕ → NumbersBelow → NumbersBelow → Type 0
+IsAdded true number old new = (¬ Contains old.numbers number) × (new ≡ record { size = old.size; numbers = old.numbers ++ number ∷ [] })
+IsAdded false number old new = Contains old.numbers number × (new ≡ old)
+
+-- each number has its place noted
+pub record AreFound (places numbers : List ℕ) : Type 0 where
+  pub below : All (λ number. number < length places) numbers
+  pub noted : (k : ℕ) → k < length numbers → slice_index places (slice_index numbers k) ≡ k
+
+-- Keys in order, and for how many more there is room.
+pub record KeyList (K : Type 0) : Type 0 where
+  pub keys : List K
+  pub room : ℕ
+
+-- A key has a number among keys that were so before, or has come after those.
+pub record IsNumbered {K : Type 0} (key : K) (number : ℕ) (old new : List K) : Type 0 where
+  pub numbered : slice_get new number ≡ Some key
+  pub grown : (new ≡ old) ⊎ (new ≡ old ++ key ∷ [])
