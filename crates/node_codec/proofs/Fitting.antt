@@ -7,7 +7,8 @@ use Rattle.std.proofs.lemmas.List.{get_or-map, get_or_append_left, get_or_at, ge
 use Rattle.std.proofs.lemmas.List.Sums.{fails_before_first, passes_at_first, position_or_len_is, sum_by-cons, sum_by_push}
 use Rattle.vr_base.specs.declared.graph.Entry.{Entry}
 use Rattle.vr_base.specs.Graphs.{IsEntryAt, IsGraph}
-use Rattle.vr_base.specs.View.{part, place_in, renumbered, view, viewed}
+use Rattle.vr_base.specs.View.{IsView, part, place_in, renumbered, view, viewed}
+use Rattle.record_codec.proofs.Standing.{is_whole}
 use Rattle.source_view.proofs.Parts.{map_same, no_entry, part_is}
 use Rattle.source_view.proofs.Rising.{before_later}
 use Rattle.source_view.proofs.ViewLaws.{viewed_is}
@@ -275,6 +276,13 @@ module _ (files : List Entry) (entry : Entry) (unfolds : Unfolds files (length f
     }
 
   module _ (valid : IsGraph (view all n)) where
+    pub graph_whole : IsView (view all n)
+    graph_whole =
+        let low : length deps < length (view all n) = omega (arith, count) in
+        is_whole (view all n) (length deps) (renumbered positions entry) (omega (arith, count))
+        (sym (get_or_default (view all n) (length deps) (renumbered positions entry) no_entry low ∙ last_file))
+        (λ place l other. valid.each place other l) (length-map deps (place_in positions))
+
     name_at : (k : ℕ) → k < length deps → (get_or (view all n) k no_entry).name ≡ (file k).name
     name_at k l = ap (λ (e : Entry). e.name) (inner_file k l)
 

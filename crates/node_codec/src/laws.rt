@@ -12,7 +12,7 @@ ghost use Rattle.node_codec.specs.Forms.{Draft, NodePayload, HasDraftSpelling, H
 ghost use Rattle.node_codec.specs.Forms.NodePayload.{OfNode, OfDraft};
 ghost use Rattle.node_codec.specs.Known.{AreKnown, IsFileOf, IsNodeOf};
 ghost use Rattle.node_codec.specs.Fitting.{FitsNew, IsListed};
-ghost use Rattle.node_codec.specs.Shelves.{Shelf, after_payload, draft_node, is_same_node, is_source, shelf_of, source_number, with_draft, with_one, with_source};
+ghost use Rattle.node_codec.specs.Shelves.{Shelf, after_payload, draft_node, is_draft, is_same_node, is_source, shelf_of, source_number, with_draft, with_one, with_source};
 
 /// What holds of the bytes of payloads, whoever writes or reads them.
 pub fn laws_of_payloads()
@@ -56,6 +56,14 @@ pub fn laws_of_new_nodes()
         AreNodes texts nodes → All (λ dep. dep < length nodes) node.deps →
         FitsNew (node_files texts nodes) (node_file (texts ++ more) node) other
         ↔ IsGraph (unfolded (texts ++ more) (nodes ++ node ∷ []) (length nodes)) }
+    // So a draft of a new node, whose text and dependencies are there, is one exactly where it fits them.
+    ensures draft { (shelf : Shelf) (draft : Draft) (other : Entry) →
+        AreNodes shelf.texts shelf.nodes → is_source shelf.texts draft.source ≡ true →
+        list_any (is_same_node (draft_node shelf.texts draft)) shelf.nodes ≡ false →
+        All (λ dep. dep < length shelf.nodes) draft.deps →
+        (is_draft shelf draft ≡ true)
+        ↔ FitsNew (node_files shelf.texts shelf.nodes)
+        (node_file (with_source shelf.texts draft.source) (draft_node shelf.texts draft)) other }
     // A dependency that a listed one lists is listed, so it needs no test of its own.
     ensures listed { (texts : List (List ℕ)) (nodes : List Node) (deps : List ℕ) (other : Node) →
         (k j : ℕ) → AreNodes texts nodes → All (λ dep. dep < length nodes) deps →

@@ -10,7 +10,7 @@ mod views;
 mod writing;
 
 pub use laws::laws_of_records;
-pub use reading::read_record;
+pub use reading::{read_record, read_words};
 pub use writing::record_bytes;
 
 #[cfg(test)]

@@ -23,7 +23,8 @@ struct Parts {
     artefact: Text,
 }
 
-fn words_of(alloc: Global, reader: &mut ByteReader<'_>) -> Result<Option<TextList>, NoMemory>
+/// Words after their number, each a text; or none where bytes are missing.
+pub fn read_words(alloc: Global, reader: &mut ByteReader<'_>) -> Result<Option<TextList>, NoMemory>
     ensures { IfOk result
         (λ words. Reads (λ same. same) words reader.new (counted_at text_at reader.old)) }
 {
@@ -66,7 +67,7 @@ fn entry_of(alloc: Global, reader: &mut ByteReader<'_>) -> Result<Option<Entry>,
     let Some(name) = reader.name(alloc)? else {
         return Ok(None);
     };
-    let Some(command) = words_of(alloc, reader)? else {
+    let Some(command) = read_words(alloc, reader)? else {
         return Ok(None);
     };
     let Some(text) = reader.owned_text(alloc)? else {

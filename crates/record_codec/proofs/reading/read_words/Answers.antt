@@ -1,6 +1,6 @@
 use Rattle.byte_codec.specs.Reading.{text_at, counted_at}
 use Rattle.byte_codec.proofs.Many.{begins, no_count, goes_on, stops, is_done}
-use Rattle.record_codec.proofs.reading.words_of.Goals as goal
+use Rattle.record_codec.proofs.reading.read_words.Goals as goal
 
 pub returns-in_default : goal.returns-in_default
 returns-in_default c = no_count text_at c.args.reader.now c.in_default.ensures
