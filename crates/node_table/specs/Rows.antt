@@ -59,6 +59,7 @@ node_of names commands row = record { name = slice_index_or names row.name no_na
 pub record NodesByNumber : Type 0 where
   pub names : List FileName
   pub commands : List (List (List ℕ))
+  pub rows : List Row
   pub nodes : List Node
   pub room : ℕ
 
@@ -75,3 +76,8 @@ pub record AreRows (names : List FileName) (commands : List (List (List ℕ))) (
   pub names_once : AllPairs (λ a b. a ≢ b) names
   pub commands_once : AllPairs (λ a b. a ≢ b) commands
   pub rows_in : All (IsRowIn names commands) rows
+
+-- The nodes of a table are its rows, by names and commands that are there once.
+pub record IsTable (table : NodesByNumber) : Type 0 where
+  pub nodes : table.nodes ≡ map (node_in table) table.rows
+  pub rows : AreRows table.names table.commands table.rows

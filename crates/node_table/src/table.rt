@@ -2,7 +2,7 @@
 
 ghost use Rattle.std.specs.Prelude.{◌≡◌, ◌≢◌, ◌<◌, ◌++◌, ◌∷◌, [], AllPairs, Contains, length, slice_get, Some, IfOk, OnOk, OnErr};
 ghost use Rattle.numbering.specs.Numbers.{IsPlaceOf, IsNumbered};
-ghost use Rattle.node_table.specs.Rows.{IsRowIn, node_in};
+ghost use Rattle.node_table.specs.Rows.{IsRowIn, IsTable, node_in};
 
 use crate::{Command, Row};
 use numbering::Numbered;
@@ -25,7 +25,7 @@ impl Model for NodeTable {
 
     ghost Value = { NodesByNumber };
 
-    ghost view = { λ a. record { names = a.names.keys; commands = words_of a.commands.keys; nodes = map (node_of a.names.keys (words_of a.commands.keys)) a.rows.keys; room = a.rows.room } };
+    ghost view = { λ a. record { names = a.names.keys; commands = words_of a.commands.keys; rows = a.rows.keys; nodes = map (node_of a.names.keys (words_of a.commands.keys)) a.rows.keys; room = a.rows.room } };
 
     ghost invariant = { λ a. AreRows a.names.keys (words_of a.commands.keys) a.rows.keys };
 }
@@ -34,6 +34,7 @@ impl NodeTable {
     /// No node, which takes no memory.
     pub fn new(alloc: Global) -> NodeTable
         ensures names { result.names ≡ [] }
+        ensures rows { result.rows ≡ [] }
         ensures nodes { result.nodes ≡ [] }
     {
         NodeTable {
@@ -45,7 +46,8 @@ impl NodeTable {
 
     /// The number of nodes.
     pub fn len(&self) -> usize
-        ensures { result ≡ length self.now.nodes }
+        ensures len { result ≡ length self.now.nodes }
+        ensures table { IsTable self.now }
     {
         self.rows.len()
     }
@@ -56,6 +58,14 @@ impl NodeTable {
         ensures once { AllPairs (λ a b. a ≢ b) self.now.names }
     {
         self.names.len()
+    }
+
+    /// The name of a number.
+    pub fn name(&self, number: usize) -> &FileName
+        requires { number < length self.now.names }
+        ensures { slice_get self.now.names number ≡ Some result.now }
+    {
+        self.names.key(number)
     }
 
     /// The number of a name, if it has one.
@@ -71,6 +81,7 @@ impl NodeTable {
         ensures err { OnErr result (self.new.names ≡ self.old.names) }
         ensures commands { self.new.commands ≡ self.old.commands }
         ensures nodes { self.new.nodes ≡ self.old.nodes }
+        ensures rows { self.new.rows ≡ self.old.rows }
     {
         self.names.add(name)
     }
@@ -97,6 +108,7 @@ impl NodeTable {
         ensures err { OnErr result (self.new.commands ≡ self.old.commands) }
         ensures names { self.new.names ≡ self.old.names }
         ensures nodes { self.new.nodes ≡ self.old.nodes }
+        ensures rows { self.new.rows ≡ self.old.rows }
     {
         self.commands.add(Command { words })
     }
@@ -112,6 +124,7 @@ impl NodeTable {
     /// The node of a number, as a row.
     pub fn row(&self, number: usize) -> &Row
         requires { number < length self.now.nodes }
+        ensures row { slice_get self.now.rows number ≡ Some result.now }
         ensures node { slice_get self.now.nodes number ≡ Some (node_in self.now result.now) }
         ensures in_table { IsRowIn self.now.names self.now.commands result.now }
     {
@@ -123,6 +136,7 @@ impl NodeTable {
         ensures names { self.new.names ≡ self.old.names }
         ensures commands { self.new.commands ≡ self.old.commands }
         ensures nodes { self.new.nodes ≡ self.old.nodes }
+        ensures rows { self.new.rows ≡ self.old.rows }
         ensures room { OnOk result (0 < self.new.room) }
     {
         self.rows.reserve()
@@ -134,6 +148,7 @@ impl NodeTable {
         requires in_table { IsRowIn self.old.names self.old.commands row }
         requires new { ¬ Contains self.old.nodes (node_in self.old row) }
         ensures nodes { self.new.nodes ≡ self.old.nodes ++ node_in self.old row ∷ [] }
+        ensures rows { self.new.rows ≡ self.old.rows ++ row ∷ [] }
         ensures names { self.new.names ≡ self.old.names }
         ensures commands { self.new.commands ≡ self.old.commands }
     {
@@ -143,6 +158,7 @@ impl NodeTable {
     /// Removes all nodes and names.
     pub fn clear(&mut self)
         ensures names { self.new.names ≡ [] }
+        ensures rows { self.new.rows ≡ [] }
         ensures nodes { self.new.nodes ≡ [] }
     {
         self.rows.clear();

@@ -1,6 +1,6 @@
 -- A number that is added keeps each number at its place.
 use Rattle.std.proofs.Common.{◌≡◌, ℕ, ◌<◌, Bool, true, false, List, [], ◌∷◌, ◌++◌, length, get_or, set, None, Some, Option, is_some, refl, sym, ap, ◌∙◌, arith, inl, inr, length-append}
-use Rattle.std.specs.Prelude.{All, Contains}
+use Rattle.std.specs.Prelude.{◌≢◌, All, AllPairs, Contains}
 use Rattle.std.proofs.lemmas.Bool.{cases_lt}
 use Rattle.std.proofs.lemmas.List.{get_or-set_other, get_or-set_same, get_or_append_left, get_or_at, get_or_default, length-set}
 use Rattle.std.proofs.lemmas.List.Elements.{All-push, Contains-get_or}
@@ -28,3 +28,10 @@ added places numbers number found low new =
                 rw (get_or_at numbers number [] 0 k end) (get_or-set_same places number (length numbers) 0 low ∙ end)
           ];
     }
+
+-- no number has two places
+pub once : (places numbers : List ℕ) → AreFound places numbers → AllPairs (λ a b. a ≢ b) numbers
+once places numbers found i j d a b e =
+    let i_low : i < length numbers = omega arith in
+    let same : get_or numbers i 0 ≡ get_or numbers j 0 = get_or_default numbers i 0 d i_low ∙ e ∙ get_or_default numbers j d 0 b in
+    omega (arith, found.noted i i_low, found.noted j b, ap (λ (n : ℕ). get_or places n 0) same, a)

@@ -1,6 +1,6 @@
 //! A set of numbers below a size: each is found, added, and all are removed, in a time that no number of them changes.
 
-ghost use Rattle.std.specs.Prelude.{◌≡◌, ◌<◌, ◌+◌, [], OnOk, IfOk, OnErr};
+ghost use Rattle.std.specs.Prelude.{◌≡◌, ◌≢◌, ◌<◌, ◌≤◌, ◌+◌, [], AllPairs, OnOk, IfOk, OnErr};
 ghost use Rattle.numbering.specs.Numbers.{IsPlaceOf, IsAdded};
 
 use std::alloc::Global;
@@ -52,6 +52,25 @@ impl NumberSet {
     {
         self.places.push(0)?;
         Ok(())
+    }
+
+    /// Makes the size no less than another. The numbers are unchanged.
+    pub fn grow_to(&mut self, size: usize) -> Result<(), NoMemory>
+        ensures ok { OnOk result (size ≤ self.new.size) }
+        ensures same { self.new.numbers ≡ self.old.numbers }
+    {
+        for _ in self.places.len()..size {
+            self.grow()?;
+        }
+        Ok(())
+    }
+
+    /// The numbers, in order. No two are the same.
+    pub fn as_slice(&self) -> &[usize]
+        ensures numbers { result.now ≡ self.now.numbers }
+        ensures once { AllPairs (λ a b. a ≢ b) self.now.numbers }
+    {
+        &self.numbers
     }
 
     /// The place of a number in the order, if it is in the set.

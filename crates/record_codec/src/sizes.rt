@@ -18,7 +18,8 @@ fn are_short(words: &[Text]) -> bool
     true
 }
 
-fn fits_command(command: &TextList) -> bool
+/// Whether words are a command: 1 to 64 of at most 1,024 bytes each.
+pub fn fits_command(command: &TextList) -> bool
     ensures { IsTrue result ↔ FitsCommand command.now }
 {
     let words = command.as_slice();
