@@ -86,6 +86,14 @@ impl NodeTable {
         self.names.add(name)
     }
 
+    /// The command of a number.
+    pub fn command(&self, number: usize) -> &TextList
+        requires { number < length self.now.commands }
+        ensures { slice_get self.now.commands number ≡ Some result.now }
+    {
+        &self.commands.key(number).words
+    }
+
     /// The number of a command, if it has one.
     pub fn command_number(
         &self,

@@ -1,0 +1,5 @@
+-- The lemmas.
+pub mod Places
+pub mod Filling
+pub mod Listed
+pub mod Fitted
