@@ -53,7 +53,8 @@ impl Payloads {
 
     /// The number of payloads.
     pub fn len(&self) -> u64
-        ensures { result ≡ length self.now }
+        ensures len { result ≡ length self.now }
+        ensures small { result < 2 ^ 63 }
     {
         self.places.len() as u64
     }

@@ -1,0 +1,46 @@
+//! The texts of a store, as places in its payloads.
+
+ghost use Rattle.std.specs.Prelude.{◌≡◌, ◌<◌, length};
+ghost use Rattle.numbering.specs.Numbers.{IsPlaceOf};
+ghost use Rattle.node_shelf.specs.Places.{AreTexts, text_in, texts_in};
+
+use crate::Pieces;
+use mark_index::{MarkIndex, mark_of};
+use node_codec::{Span, bytes_of};
+
+/// Where a text is: the number of its payload, and its bytes there.
+#[derive(Clone, Copy)]
+pub struct TextPlace {
+    pub payload: usize,
+    pub span: Span,
+}
+
+/// Texts, each once, numbered from 0 in the order in which they came, and found by their marks.
+#[derive(Drop)]
+pub struct TextPlaces {
+    pub places: Vec<TextPlace>,
+    pub marks: MarkIndex,
+}
+
+/// The bytes of a text.
+pub fn text_at(pieces: &Pieces, place: TextPlace) -> &[u8]
+    requires { place.payload < length pieces.now.payloads }
+    ensures { result.now ≡ text_in pieces.now.payloads place }
+{
+    bytes_of(pieces.get(place.payload), place.span)
+}
+
+/// The number of a text, if it is there. Only texts of the same mark are compared with it.
+pub fn find_text(pieces: &Pieces, texts: &TextPlaces, text: &[u8]) -> Option<usize>
+    requires { AreTexts pieces.now.payloads texts.now }
+    ensures { IsPlaceOf (texts_in pieces.now.payloads texts.now) text.now result }
+{
+    let mut candidate = texts.marks.last(mark_of(text));
+    while let Some(number) = candidate {
+        if text_at(pieces, texts.places[number]) == text {
+            return Some(number);
+        }
+        candidate = texts.marks.earlier(number);
+    }
+    None
+}
