@@ -1,2 +1,4 @@
 -- The lemmas.
 pub mod Marked
+pub mod SameNodes
+pub mod Drafted
