@@ -84,4 +84,12 @@ impl MarkIndex {
             Err(_) => unreachable!(),
         }
     }
+
+    /// Removes all marks.
+    pub fn clear(&mut self)
+        ensures { self.new.marks ≡ [] }
+    {
+        self.last.clear();
+        self.entries.clear();
+    }
 }

@@ -2,3 +2,5 @@
 pub mod Marked
 pub mod SameNodes
 pub mod Drafted
+pub mod Taken
+pub mod Shelved

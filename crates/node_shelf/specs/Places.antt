@@ -1,5 +1,6 @@
 -- Texts, nodes and records as places in payloads.
 use Rattle.std.specs.Prelude.{◌≡◌, ◌≢◌, ℕ, ◌<◌, ◌≤◌, List, [], length, map, All, Option, Some, slice_get, slice_index, slice_index_or}
+use Rattle.std.specs.Vec.{vec_len, vec_capacity}
 use Rattle.vr_base.specs.declared.limits.TheConstants.{ARTEFACT_LIMIT}
 use Rattle.vr_outside.specs.declared.records.Record.{Record}
 use Rattle.mark_index.specs.Indexes.{IsLastWith}
@@ -67,3 +68,12 @@ pub record IsUpTo (texts : List (List ℕ)) (marks : List ℕ) (text : List ℕ)
   pub within : bound ≤ length marks
   pub last : IsLastWith marks (mark_of text) bound candidate
   pub others : (k : ℕ) → bound ≤ k → k < length texts → slice_index_or texts k [] ≢ text
+
+-- there is room for one more text, and for one more record
+pub record HasTextRoom (texts : TextPlaces) : Type 0 where
+  pub place : vec_len texts.places < vec_capacity texts.places
+  pub mark : 0 < texts.marks.room
+
+pub record HasRecordRoom (records : RecordPlaces) : Type 0 where
+  pub place : vec_len records.places < vec_capacity records.places
+  pub name : 0 < records.names.room

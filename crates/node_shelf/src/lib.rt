@@ -12,6 +12,7 @@ mod texts;
 pub use pieces::Pieces;
 pub use records::{RecordPlace, RecordPlaces};
 pub use shelf::ShelfPlaces;
+pub use taking::shelf_of;
 pub use texts::{TextPlace, TextPlaces, find_text, text_at};
 
 #[cfg(test)]

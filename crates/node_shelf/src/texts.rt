@@ -1,12 +1,14 @@
 //! The texts of a store, as places in its payloads.
 
-ghost use Rattle.std.specs.Prelude.{◌≡◌, ◌<◌, length};
+ghost use Rattle.std.specs.Prelude.{◌≡◌, ◌<◌, ◌++◌, ◌∷◌, [], length, OnOk};
 ghost use Rattle.numbering.specs.Numbers.{IsPlaceOf};
-ghost use Rattle.node_shelf.specs.Places.{AreTexts, text_in, texts_in};
+ghost use Rattle.node_shelf.specs.Places.{AreTexts, HasTextRoom, text_in, texts_in};
 
 use crate::Pieces;
 use mark_index::{MarkIndex, mark_of};
 use node_codec::{Span, bytes_of};
+use std::alloc::Global;
+use vr_base::NoMemory;
 
 /// Where a text is: the number of its payload, and its bytes there.
 #[derive(Clone, Copy)]
@@ -20,6 +22,48 @@ pub struct TextPlace {
 pub struct TextPlaces {
     pub places: Vec<TextPlace>,
     pub marks: MarkIndex,
+}
+
+impl TextPlaces {
+    /// No text, which takes no memory.
+    pub fn new(alloc: Global) -> TextPlaces
+        ensures places { result.places.items ≡ [] }
+        ensures marks { result.marks.marks ≡ [] }
+    {
+        TextPlaces {
+            places: Vec::new(alloc),
+            marks: MarkIndex::new(alloc),
+        }
+    }
+
+    /// Makes room for one more text. The texts are unchanged.
+    pub fn reserve(&mut self) -> Result<(), NoMemory>
+        ensures places { self.new.places.items ≡ self.old.places.items }
+        ensures marks { self.new.marks.marks ≡ self.old.marks.marks }
+        ensures room { OnOk result (HasTextRoom self.new) }
+    {
+        self.places.reserve(1)?;
+        self.marks.reserve()
+    }
+
+    /// Adds a text of a mark at the end. It takes no memory.
+    pub fn put(&mut self, place: TextPlace, mark: u64)
+        requires { HasTextRoom self.old }
+        ensures places { self.new.places.items ≡ self.old.places.items ++ place ∷ [] }
+        ensures marks { self.new.marks.marks ≡ self.old.marks.marks ++ mark ∷ [] }
+    {
+        self.places.push_reserved(place);
+        self.marks.put(mark);
+    }
+
+    /// Removes all texts.
+    pub fn clear(&mut self)
+        ensures places { self.new.places.items ≡ [] }
+        ensures marks { self.new.marks.marks ≡ [] }
+    {
+        self.places.clear();
+        self.marks.clear();
+    }
 }
 
 /// The bytes of a text.
