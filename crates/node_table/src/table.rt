@@ -68,9 +68,10 @@ impl NodeTable {
         self.names.key(number)
     }
 
-    /// The number of a name, if it has one.
+    /// The number of a name, if it has one. No two names are the same.
     pub fn name_number(&self, name: &FileName) -> Option<usize>
-        ensures { IsPlaceOf self.now.names name.now result }
+        ensures number { IsPlaceOf self.now.names name.now result }
+        ensures once { AllPairs (λ a b. a ≢ b) self.now.names }
     {
         self.names.number(name)
     }

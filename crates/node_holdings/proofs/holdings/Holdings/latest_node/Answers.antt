@@ -1,0 +1,16 @@
+use Rattle.std.proofs.Common.{◌≡◌, ℕ, List, Some, Option, sym, ap, subst, ◌∙◌}
+use Rattle.node_codec.specs.Shelves.{Shelf, shelf_of}
+use Rattle.node_shelf.specs.Places.{texts_in}
+use Rattle.node_holdings.specs.Held.{HasNode, HoldingState, IsLatestAt}
+use Rattle.node_holdings.proofs.Latest.{node_of_latest}
+use Rattle.node_holdings.proofs.holdings.Holdings.latest_node.Goals as goal
+
+pub returns : goal.returns
+returns c =
+    let payloads = c.self.inside.pieces.payloads in
+    let shelf = c.self.inside.shelf in
+    let name = c.args.name.now in
+    let texts : List (List ℕ) = texts_in payloads shelf.texts in
+    let known : IsLatestAt (shelf_of payloads).records name (Some c.in-Some.number) = subst (λ (s : HoldingState). IsLatestAt (shelf_of s.payloads).records name (Some c.in-Some.number)) (sym c.self.view_is) c.in-Some.ensures in
+    let here = node_of_latest payloads texts shelf.table shelf.records name c.self.invariant.are.records c.in-Some.number c.index.result.now c.index.ensures (subst (λ (s : Shelf). IsLatestAt s.records name (Some c.in-Some.number)) (sym c.self.invariant.is) known) in
+    subst (λ (s : HoldingState). HasNode (shelf_of s.payloads) name c.index.result.now.node) c.self.view_is (subst (λ (s : Shelf). HasNode s name c.index.result.now.node) c.self.invariant.is here)

@@ -1,0 +1,41 @@
+-- Payloads with what they stand for.
+use Rattle.std.specs.Prelude.{◌≡◌, ℕ, ◌<◌, ◌-◌, min, List, length, Option, None, Some, slice_get}
+use Rattle.std.specs.Vec.{vec_len, vec_capacity}
+use Rattle.vr_base.specs.declared.file.FileName.{FileName}
+use Rattle.vr_outside.specs.declared.records.Record.{Record}
+use Rattle.vr_outside.specs.Records.{latest}
+use Rattle.node_codec.specs.Nodes.{unfolded}
+use Rattle.node_codec.specs.Shelves.{Shelf, shelf_of}
+use Rattle.node_shelf.specs.declared.shelf.ShelfPlaces.{ShelfPlaces}
+use Rattle.node_shelf.specs.Places.{IsShelf, PieceList, shelf_in}
+
+-- payloads, the names and commands that are numbered, and for how many more payloads there is room
+pub record HoldingState : Type 0 where
+  pub payloads : List (List ℕ)
+  pub names : List FileName
+  pub commands : List (List (List ℕ))
+  pub room : ℕ
+
+abbrev pub room_of : PieceList → ShelfPlaces → ℕ
+room_of pieces shelf = min pieces.room (min shelf.table.room (min (vec_capacity shelf.texts.places - vec_len shelf.texts.places) (min shelf.texts.marks.room (min (vec_capacity shelf.records.places - vec_len shelf.records.places) shelf.records.names.room))))
+
+-- A shelf is what payloads stand for.
+pub record IsHolding (payloads : List (List ℕ)) (shelf : ShelfPlaces) : Type 0 where
+  pub are : IsShelf payloads shelf
+  pub is : shelf_in payloads shelf ≡ shelf_of payloads
+
+-- the latest record of a name is that of a number, or there is none
+abbrev pub IsLatestAt : List Record → FileName → Option ℕ → Type 0
+IsLatestAt records name None = latest name records ≡ None
+IsLatestAt records name (Some number) = (number < length records) × (latest name records ≡ slice_get records number)
+
+-- A node is that of the latest record of a name.
+pub record HasNode (shelf : Shelf) (name : FileName) (number : ℕ) : Type 0 where
+  pub there : number < length shelf.nodes
+  pub artefact : List ℕ
+  pub latest_is : latest name shelf.records ≡ Some (record { view = unfolded shelf.texts shelf.nodes number; artefact = artefact })
+
+-- such a node, or that the name has no record
+abbrev pub IsLatestNode : Shelf → FileName → Option ℕ → Type 0
+IsLatestNode shelf name None = latest name shelf.records ≡ None
+IsLatestNode shelf name (Some number) = HasNode shelf name number

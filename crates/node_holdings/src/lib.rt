@@ -1,0 +1,10 @@
+//! Payloads of a store of nodes, with what they stand for: which records are the latest, which files have one of their
+//! present view, and what one more record adds.
+#![tactic(auto)]
+
+mod holdings;
+
+pub use holdings::Holdings;
+
+#[cfg(test)]
+mod tests;
