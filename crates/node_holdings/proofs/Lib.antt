@@ -1,2 +1,4 @@
 -- The lemmas.
 pub mod Latest
+pub mod Sought
+pub mod Fresh

@@ -1,7 +1,9 @@
 -- Payloads with what they stand for.
-use Rattle.std.specs.Prelude.{◌≡◌, ℕ, ◌<◌, ◌-◌, min, List, length, Option, None, Some, slice_get}
+use Rattle.std.specs.Prelude.{◌≡◌, ◌≢◌, ◌↔◌, map, slice_index_or, ℕ, ◌<◌, ◌-◌, min, List, length, Option, None, Some, slice_get}
 use Rattle.std.specs.Vec.{vec_len, vec_capacity}
 use Rattle.vr_base.specs.declared.file.FileName.{FileName}
+use Rattle.vr_base.specs.declared.graph.Entry.{Entry}
+use Rattle.vr_base.specs.View.{view}
 use Rattle.vr_outside.specs.declared.records.Record.{Record}
 use Rattle.vr_outside.specs.Records.{latest}
 use Rattle.node_codec.specs.Nodes.{unfolded}
@@ -39,3 +41,12 @@ pub record HasNode (shelf : Shelf) (name : FileName) (number : ℕ) : Type 0 whe
 abbrev pub IsLatestNode : Shelf → FileName → Option ℕ → Type 0
 IsLatestNode shelf name None = latest name shelf.records ≡ None
 IsLatestNode shelf name (Some number) = HasNode shelf name number
+
+-- these numbers are at the positions of a table, or one of them lacks a number
+abbrev pub ArePlacedBy : List (Option ℕ) → List ℕ → Option (List ℕ) → Type 0
+ArePlacedBy known positions None = (numbers : List ℕ) → map (λ n. Some n) numbers ≢ map (λ position. slice_index_or known position None) positions
+ArePlacedBy known positions (Some numbers) = map (λ n. Some n) numbers ≡ map (λ position. slice_index_or known position None) positions
+
+-- the number of the node that unfolds to the present view of a file, if one does
+abbrev pub IsNumberOfView : Shelf → List Entry → ℕ → Option ℕ → Type 0
+IsNumberOfView shelf graph at number = (n : ℕ) → (number ≡ Some n) ↔ ((n < length shelf.nodes) × (unfolded shelf.texts shelf.nodes n ≡ view graph at))

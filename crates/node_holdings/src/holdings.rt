@@ -1,17 +1,21 @@
 //! Payloads, and the texts, nodes and records that they stand for.
 
-ghost use Rattle.std.specs.Prelude.{◌≡◌, ◌<◌, ◌≤◌, [], None, Some, length, IfOk, IfSome, option_map, slice_get};
+ghost use Rattle.std.specs.Prelude.{◌≡◌, ◌↔◌, ◌<◌, ◌≤◌, length, All, IsTrue, IfOk, IfSome, option_map};
 ghost use Rattle.vr_base.specs.declared.limits.TheConstants.{ARTEFACT_LIMIT};
-ghost use Rattle.vr_outside.specs.Records.{latest};
+ghost use Rattle.vr_outside.specs.Records.{AreNeeds, IsRecorded, latest};
+ghost use Rattle.vr_outside.specs.declared.records.Need.TheVariants.{Fresh};
+ghost use Rattle.node_codec.specs.Known.{AreKnown, IsKnown};
 ghost use Rattle.node_codec.specs.Shelves.{shelf_of};
-ghost use Rattle.node_holdings.specs.Held.{IsLatestAt, IsLatestNode};
+ghost use Rattle.node_holdings.specs.Held.{IsLatestAt, IsLatestNode, IsNumberOfView};
 
+use crate::files::file_number;
 use gate_journal::Payloads;
 use node_codec::bytes_of;
 use node_shelf::{Pieces, ShelfPlaces, shelf_of};
 use std::alloc::Global;
 use std::marker::Model;
-use vr_base::{FileName, NoMemory};
+use vr_base::{Entry, FileName, Graph, NoMemory};
+use vr_outside::{Need, Needs};
 
 /// Payloads, in order, with what they stand for. Contracts see the payloads, the names and commands that are numbered,
 /// and for how many more payloads there is room.
@@ -74,5 +78,91 @@ impl Holdings {
         };
         let place = self.shelf.records.places[number];
         Some(bytes_of(self.pieces.get(place.payload), place.artefact))
+    }
+
+    /// The number of the text of the latest record of a name.
+    fn likely_text(&self, name: &FileName) -> Option<usize>
+        ensures { IfSome result
+            (λ number. number < length (shelf_of self.now.payloads).texts) }
+    {
+        let Some(node) = self.latest_node(name) else {
+            return None;
+        };
+        Some(self.shelf.table.row(node).text)
+    }
+
+    /// The number of the node that a file is, if one is. The nodes of the files that it depends on are known.
+    fn file_number(
+        &self,
+        alloc: Global,
+        entry: &Entry,
+        known: &[Option<usize>],
+    ) -> Result<Option<usize>, NoMemory>
+        requires { All (λ dep. dep < length known.now) entry.now.deps }
+        ensures { IfOk result
+            (IsKnown (shelf_of self.now.payloads).texts (shelf_of self.now.payloads).nodes
+            known.now entry.now) }
+    {
+        let likely = self.likely_text(&entry.name);
+        file_number(alloc, &self.pieces, &self.shelf, entry, likely, known)
+    }
+
+    /// The number of the node that each file of a graph is, if one is.
+    fn known_numbers(&self, alloc: Global, graph: &Graph) -> Result<Vec<Option<usize>>, NoMemory>
+        ensures { IfOk result
+            (λ known.
+            AreKnown (shelf_of self.now.payloads).texts (shelf_of self.now.payloads).nodes
+            graph.now known.items) }
+    {
+        let mut known = Vec::new(alloc);
+        for at in 0..graph.len() {
+            let number = self.file_number(alloc, graph.get(at), &known)?;
+            known.push(number)?;
+        }
+        Ok(known)
+    }
+
+    /// Whether the latest record of a file has its present view, which is that of the node of a number.
+    fn is_fresh(&self, graph: &Graph, at: u64, number: Option<usize>) -> bool
+        requires at { at < length graph.now }
+        requires number { IsNumberOfView (shelf_of self.now.payloads) graph.now at number }
+        ensures { IsTrue result
+            ↔ IsRecorded (λ name. latest name (shelf_of self.now.payloads).records) graph.now at }
+    {
+        let Some(latest) = self.latest_node(&graph.get(at).name) else {
+            return false;
+        };
+        let Some(number) = number else {
+            return false;
+        };
+        latest == number
+    }
+
+    /// The need of a file, by the number of the node that unfolds to its present view.
+    fn need(&self, graph: &Graph, at: u64, number: Option<usize>) -> Need
+        requires at { at < length graph.now }
+        requires number { IsNumberOfView (shelf_of self.now.payloads) graph.now at number }
+        ensures { (result ≡ Fresh)
+            ↔ IsRecorded (λ name. latest name (shelf_of self.now.payloads).records) graph.now at }
+    {
+        if self.is_fresh(graph, at, number) {
+            Need::Fresh
+        } else {
+            Need::Stale
+        }
+    }
+
+    /// For each file of a graph, whether its latest record has its present view.
+    pub fn needs(&self, alloc: Global, graph: &Graph) -> Result<Needs, NoMemory>
+        ensures { IfOk result
+            (AreNeeds (λ name. latest name (shelf_of self.now.payloads).records) graph.now) }
+    {
+        let known = self.known_numbers(alloc, graph)?;
+        let mut needs = Needs::new(alloc);
+        for at in 0..graph.len() {
+            let number = known[at as usize];
+            needs.push(self.need(graph, at, number))?;
+        }
+        Ok(needs)
     }
 }

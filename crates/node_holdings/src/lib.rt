@@ -2,6 +2,7 @@
 //! present view, and what one more record adds.
 #![tactic(auto)]
 
+mod files;
 mod holdings;
 
 pub use holdings::Holdings;

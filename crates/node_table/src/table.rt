@@ -68,10 +68,10 @@ impl NodeTable {
         self.names.key(number)
     }
 
-    /// The number of a name, if it has one. No two names are the same.
+    /// The number of a name, if it has one.
     pub fn name_number(&self, name: &FileName) -> Option<usize>
         ensures number { IsPlaceOf self.now.names name.now result }
-        ensures once { AllPairs (λ a b. a ≢ b) self.now.names }
+        ensures table { IsTable self.now }
     {
         self.names.number(name)
     }
