@@ -71,3 +71,26 @@ new_view texts more_texts nodes graph at node are valid lt is =
     (ap (λ (e : Entry). e.name) mine ∙ is.name)
     (ap (λ (e : Entry). e.command) mine ∙ is.command)
     (ap (λ (e : Entry). e.text) mine ∙ is.text_is)
+
+-- a node that is a file of a graph unfolds to its present view
+pub old_view : (texts : List (List ℕ)) (nodes : List Node) (graph : List Entry) (at n : ℕ) → AreNodes texts nodes → IsGraph graph → at < length graph → n < length nodes → IsNodeOf texts nodes graph (get_or graph at no_entry) (get_or nodes n no_node) (numbered_text texts (get_or nodes n no_node).text) → unfolded texts nodes n ≡ view graph at
+old_view texts nodes graph at n are valid lt low is =
+    let files : List Entry = node_files texts nodes in
+    let node : Node = get_or nodes n no_node in
+    let size : length files ≡ length nodes = files_length texts nodes in
+    let all : Unfolds files (length nodes) = nodes_unfold texts nodes are in
+    let u : Unfolds files n = record { within = omega (arith, all.within, low); below = λ k l. all.below k (omega (arith, l, low)); closed = λ k l. all.closed k (omega (arith, l, low)) } in
+    let mine : get_or files n no_entry ≡ node_file texts node = file_at texts nodes n low in
+    let deps_is : (get_or files n no_entry).deps ≡ node.deps = ap (λ (e : Entry). e.deps) mine in
+    let below : All (λ dep. dep < n) (get_or files n no_entry).deps = deps_below texts nodes n are low in
+    let same : HasSameDeps files graph n at = record {
+      count = ap length deps_is ∙ is.count;
+      each = λ i l.
+          let l_node : i < length node.deps = omega (arith, ap length deps_is) in
+          ap (λ (ds : List ℕ). view files (get_or ds i 0)) deps_is ∙ (is.each i l_node).1;
+    } in
+    let apart : TellsApart files n = λ a b l m e. one_number texts nodes a b are (omega (arith, l, low)) (omega (arith, m, low)) e in
+    whole_same files graph (length graph) n at u (graph_unfolds graph valid) (omega (arith, size, low)) lt below same apart (graph_apart graph valid)
+    (ap (λ (e : Entry). e.name) mine ∙ is.name)
+    (ap (λ (e : Entry). e.command) mine ∙ is.command)
+    (ap (λ (e : Entry). e.text) mine ∙ is.text_is)

@@ -4,12 +4,14 @@
 
 mod drafts;
 mod pieces;
+mod putting;
 mod records;
 mod shelf;
 mod taking;
 mod texts;
 
 pub use pieces::Pieces;
+pub use putting::{put_node, put_record};
 pub use records::{RecordPlace, RecordPlaces};
 pub use shelf::ShelfPlaces;
 pub use taking::shelf_of;

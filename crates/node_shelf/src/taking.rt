@@ -11,7 +11,7 @@ ghost use Rattle.node_shelf.specs.Drafts.{HasMoreNames};
 ghost use Rattle.node_shelf.specs.Taking.{TextsAre, TookDraft, TookNode, TookUp};
 
 use crate::drafts::new_row;
-use crate::{Pieces, RecordPlace, ShelfPlaces, TextPlace, TextPlaces, text_at};
+use crate::{Pieces, ShelfPlaces, TextPlace, TextPlaces, put_record, text_at};
 use mark_index::mark_of;
 use node_codec::{DraftSpans, PayloadSpans, SourceSpan, Span, bytes_of, read_payload};
 use node_fits::NodeTest;
@@ -145,16 +145,8 @@ fn add_record(
         (spanned (payload_at pieces.now.payloads at) artefact)) }
     ensures texts { shelf.new.texts ≡ shelf.old.texts }
 {
-    let name = shelf.table.row(node).name;
     shelf.records.reserve()?;
-    shelf.records.put(
-        RecordPlace {
-            node,
-            payload: at,
-            artefact,
-        },
-        name,
-    );
+    put_record(shelf, pieces, node, at, artefact);
     Ok(())
 }
 

@@ -12,7 +12,7 @@ mod writing;
 pub use laws::laws_of_records;
 pub use reading::{read_record, read_words};
 pub use sizes::fits_command;
-pub use writing::record_bytes;
+pub use writing::{put_words, record_bytes};
 
 #[cfg(test)]
 mod tests;

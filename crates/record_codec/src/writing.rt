@@ -8,8 +8,9 @@ use byte_codec::ByteWriter;
 use std::alloc::Global;
 use vr_base::{ARTEFACT_LIMIT, Entry, Graph, NoMemory, Text, TextList};
 
+/// Writes words: their number in four bytes, and each as a text.
 #[tactic(auto, unfolding(crate::specs::Spelling::words_bytes))]
-fn put_words(out: &mut ByteWriter, words: &TextList) -> Result<(), NoMemory>
+pub fn put_words(out: &mut ByteWriter, words: &TextList) -> Result<(), NoMemory>
     requires count { length words.now < 2 ^ 32 }
     requires words { All (λ word. length word < 2 ^ 32) words.now }
     ensures { OnOk result (out.new ≡ out.old ++ words_bytes words.now) }
