@@ -12,3 +12,4 @@ pub mod Fitting
 pub mod Spanning
 pub mod Prepared
 pub mod NodeFits
+pub mod Sized

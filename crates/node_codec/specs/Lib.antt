@@ -5,3 +5,4 @@ pub mod Spans
 pub mod Shelves
 pub mod Known
 pub mod Fitting
+pub mod Writing

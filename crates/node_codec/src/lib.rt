@@ -4,9 +4,11 @@
 mod copying;
 mod laws;
 mod reading;
+mod writing;
 
 pub use copying::{bytes_of, name_of, numbers_of, words_of};
 pub use laws::{laws_of_new_nodes, laws_of_nodes, laws_of_payloads};
+pub use writing::{draft_payload, node_payload};
 pub use reading::{DraftSpans, PayloadSpans, SourceSpan, Span, read_payload};
 
 #[cfg(test)]

@@ -14,18 +14,18 @@ use Rattle.source_view.proofs.Rising.{few}
 use Rattle.record_codec.specs.Spelling.{words_bytes, positions_bytes, entry_bytes, record_bytes}
 use Rattle.vr_base.specs.declared.limits.TheConstants.{ARTEFACT_LIMIT, FILE_LIMIT}
 
-length-number_bytes : (n : ℕ) → length (number_bytes n) ≡ 4
+pub length-number_bytes : (n : ℕ) → length (number_bytes n) ≡ 4
 length-number_bytes n = refl
 
-length-text_bytes : (text : List ℕ) → length (text_bytes text) ≡ length text + 4
+pub length-text_bytes : (text : List ℕ) → length (text_bytes text) ≡ length text + 4
 unfolding text_bytes
 length-text_bytes text = omega (arith, length-append (number_bytes (length text)) text, length-number_bytes (length text))
 
-name_small : (name : FileName) → FitsName name → length (name_bytes name) ≤ 1096
+pub name_small : (name : FileName) → FitsName name → length (name_bytes name) ≤ 1096
 unfolding name_bytes
 name_small name fits = omega (arith, length-append (text_bytes name.library) (text_bytes name.path), length-text_bytes name.library, length-text_bytes name.path, fits.library.at_most, fits.path.at_most)
 
-words_small : (words : List (List ℕ)) → FitsCommand words → length (words_bytes words) ≤ 65796
+pub words_small : (words : List (List ℕ)) → FitsCommand words → length (words_bytes words) ≤ 65796
 unfolding words_bytes
 words_small words fits =
     let each : All (λ word. length (text_bytes word) ≤ 1028) words = λ k d l. omega (arith, length-text_bytes (get_or words k d), fits.words k d l) in
