@@ -1,4 +1,4 @@
-//! Tests of what no clause says: that testing succeeds.
+//! Tests of what no clause says: that a node is tested.
 
 use crate::NodeTest;
 use node_table::{NodeTable, Row};
@@ -6,22 +6,28 @@ use std::alloc::Global;
 use std::test::Fail;
 use vr_base::{FileName, Items, NoMemory, Text, TextList};
 
-/// A table with one name and one command, and the row of a node without dependencies.
-fn one(alloc: Global) -> Result<(NodeTable, Row), NoMemory> {
+/// Whether a node without dependencies fits that has a text of so many bytes and a path of this one byte.
+fn fits(alloc: Global, path: u8, own: usize) -> Result<bool, NoMemory> {
     let mut table = NodeTable::new(alloc);
     let name = table.add_name(FileName {
         library: Text::from_slice(alloc, b"lib")?,
-        path: Text::from_slice(alloc, b"a.vhd")?,
+        path: Text::from_slice(alloc, &[path])?,
     })?;
     let mut words = TextList::new(alloc);
     words.push(Text::from_slice(alloc, b"cc")?)?;
     let command = table.add_command(words)?;
-    let deps = Items::new(alloc);
     let row = Row {
         name,
         command,
         text: 0,
-        deps,
+        deps: Items::new(alloc),
     };
-    Ok((table, row))
+    NodeTest::new(alloc).fits(&table, &row, own)
+}
+
+#[test]
+fn a_node_fits_by_the_size_of_its_text(rt: HostRuntime) -> Result<(), Fail> {
+    assert!(rt; fits(rt.alloc(), b'a', 4_194_304)?);
+    assert!(rt; !fits(rt.alloc(), b'a', 4_194_305)?);
+    Ok(())
 }
