@@ -55,6 +55,22 @@ taken_new shelf graph at draft artefact are valid lt source none is small =
     (subst (λ (v : List Entry). IsGraph v × IsView v) (sym same) (view_is_graph graph at valid lt, view_is_whole graph at valid lt)) in
     rw (source, none, deps, whole, artefact_fits artefact small) (ap (λ (v : List Entry). with_one (with_draft shelf draft) v artefact) same)
 
+-- such a draft is one
+pub new_draft : (shelf : Shelf) (graph : List Entry) (at : ℕ) (draft : Draft) → AreNodes shelf.texts shelf.nodes → IsGraph graph → at < length graph → is_source shelf.texts draft.source ≡ true → list_any (is_same_node (draft_node shelf.texts draft)) shelf.nodes ≡ false → IsNodeOf shelf.texts shelf.nodes graph (get_or graph at no_entry) (draft_node shelf.texts draft) (numbered_text (with_source shelf.texts draft.source) (source_number shelf.texts draft.source)) → is_draft shelf draft ≡ true
+unfolding is_draft
+new_draft shelf graph at draft are valid lt source none is =
+    let node : Node = draft_node shelf.texts draft in
+    let texts_are : with_source shelf.texts draft.source ≡ shelf.texts ++ more_of draft.source = source_more shelf.texts draft.source in
+    let is_there : IsNodeOf shelf.texts shelf.nodes graph (get_or graph at no_entry) node (numbered_text (shelf.texts ++ more_of draft.source) node.text) =
+    subst (λ (ts : List (List ℕ)). IsNodeOf shelf.texts shelf.nodes graph (get_or graph at no_entry) node (numbered_text ts node.text)) texts_are is in
+    let same : unfolded (with_draft shelf draft).texts (with_draft shelf draft).nodes (length shelf.nodes) ≡ view graph at =
+    ap (λ (ts : List (List ℕ)). unfolded ts (shelf.nodes ++ node ∷ []) (length shelf.nodes)) texts_are ∙ new_view shelf.texts (more_of draft.source) shelf.nodes graph at node are valid lt is_there in
+    let deps : list_all (λ dep. nat_lt dep (length shelf.nodes)) draft.deps ≡ true = all_true (length shelf.nodes) draft.deps (λ k d l. rw (get_or_default draft.deps k d 0 l) ((is.each k l).0)) in
+    let whole : is_view (unfolded (with_draft shelf draft).texts (with_draft shelf draft).nodes (length shelf.nodes)) ≡ true =
+    (is_view-Decides (unfolded (with_draft shelf draft).texts (with_draft shelf draft).nodes (length shelf.nodes))).1
+    (subst (λ (v : List Entry). IsGraph v × IsView v) (sym same) (view_is_graph graph at valid lt, view_is_whole graph at valid lt)) in
+    rw (source, none, deps, whole) refl
+
 -- and so it is of its bytes
 pub taken_as_bytes : (shelf : Shelf) (payload : NodePayload) → HasPayloadSpelling payload → after_payload shelf (node_payload_bytes payload) ≡ with_payload shelf payload
 unfolding after_payload

@@ -2,3 +2,5 @@
 pub mod Latest
 pub mod Sought
 pub mod Fresh
+pub mod Adding
+pub mod Parts

@@ -1,20 +1,22 @@
 //! Payloads, and the texts, nodes and records that they stand for.
 
-ghost use Rattle.std.specs.Prelude.{◌≡◌, ◌↔◌, ◌<◌, ◌≤◌, length, All, IsTrue, IfOk, IfSome, option_map};
+ghost use Rattle.std.specs.Prelude.{◌≡◌, ◌↔◌, ◌<◌, ◌≤◌, ◌++◌, ◌∷◌, [], length, All, IsTrue, IfOk, IfSome, option_map};
 ghost use Rattle.vr_base.specs.declared.limits.TheConstants.{ARTEFACT_LIMIT};
 ghost use Rattle.vr_outside.specs.Records.{AreNeeds, IsRecorded, latest};
 ghost use Rattle.vr_outside.specs.declared.records.Need.TheVariants.{Fresh};
 ghost use Rattle.node_codec.specs.Known.{AreKnown, IsKnown};
 ghost use Rattle.node_codec.specs.Shelves.{shelf_of};
+ghost use Rattle.node_holdings.specs.Additions.{AddsNode, AddsRecord, IsAddition};
 ghost use Rattle.node_holdings.specs.Held.{IsLatestAt, IsLatestNode, IsNumberOfView};
 
 use crate::files::file_number;
+use crate::{Addition, KnownNode, NewNode};
 use gate_journal::Payloads;
 use node_codec::bytes_of;
-use node_shelf::{Pieces, ShelfPlaces, shelf_of};
+use node_shelf::{Pieces, ShelfPlaces, put_node, put_record, shelf_of};
 use std::alloc::Global;
 use std::marker::Model;
-use vr_base::{Entry, FileName, Graph, NoMemory};
+use vr_base::{Entry, FileName, Graph, NoMemory, Text};
 use vr_outside::{Need, Needs};
 
 /// Payloads, in order, with what they stand for. Contracts see the payloads, the names and commands that are numbered,
@@ -164,5 +166,54 @@ impl Holdings {
             needs.push(self.need(graph, at, number))?;
         }
         Ok(needs)
+    }
+
+    /// Adds a payload that was prepared, at the end. It takes no memory.
+    pub fn put(&mut self, addition: Addition, piece: Text)
+        requires ready { IsAddition self.old piece addition }
+        requires room { 0 < self.old.room }
+        ensures { self.new.payloads ≡ self.old.payloads ++ piece ∷ [] }
+    {
+        match addition {
+            Addition::Known(known) => self.put_known(known, piece),
+            Addition::New(new) => self.put_new(new, piece),
+        }
+    }
+
+    /// Adds the payload of one more record of a node.
+    fn put_known(&mut self, known: KnownNode, piece: Text)
+        requires ready { AddsRecord self.old piece known }
+        requires room { 0 < self.old.room }
+        ensures { self.new.payloads ≡ self.old.payloads ++ piece ∷ [] }
+    {
+        let at = self.pieces.len();
+        self.pieces.put(piece);
+        put_record(&mut self.shelf, &self.pieces, known.node, at, known.artefact);
+    }
+
+    /// Adds the payload of a new node and its record.
+    fn put_new(&mut self, new: NewNode, piece: Text)
+        requires ready { AddsNode self.old piece new }
+        requires room { 0 < self.old.room }
+        ensures { self.new.payloads ≡ self.old.payloads ++ piece ∷ [] }
+    {
+        let NewNode {
+            row,
+            source,
+            artefact,
+        } = new;
+        let at = self.pieces.len();
+        let number = self.shelf.table.len();
+        self.pieces.put(piece);
+        put_node(&mut self.shelf, &self.pieces, at, row, source);
+        put_record(&mut self.shelf, &self.pieces, number, at, artefact);
+    }
+
+    /// Removes all payloads. It takes no memory.
+    pub fn clear(&mut self)
+        ensures { self.new.payloads ≡ [] }
+    {
+        self.pieces.clear();
+        self.shelf.clear();
     }
 }

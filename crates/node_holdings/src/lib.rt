@@ -2,9 +2,11 @@
 //! present view, and what one more record adds.
 #![tactic(auto)]
 
+mod additions;
 mod files;
 mod holdings;
 
+pub use additions::{Addition, KnownNode, NewNode};
 pub use holdings::Holdings;
 
 #[cfg(test)]

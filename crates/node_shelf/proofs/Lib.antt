@@ -4,3 +4,4 @@ pub mod SameNodes
 pub mod Drafted
 pub mod Taken
 pub mod Shelved
+pub mod Grown

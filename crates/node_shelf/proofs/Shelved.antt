@@ -43,7 +43,7 @@ drafted_by shelf draft records e = e
 shelf_by : List (List ℕ) → List Node → List Record → Shelf
 shelf_by texts nodes records = record { texts = texts; nodes = nodes; records = records }
 
-no_place : RecordPlace
+pub no_place : RecordPlace
 no_place = record { node = 0; payload = 0; artefact = record { start = 0; count = 0 } }
 
 -- the name of a node by its number
