@@ -4,3 +4,4 @@ pub mod Sought
 pub mod Fresh
 pub mod Adding
 pub mod Parts
+pub mod NodesAt

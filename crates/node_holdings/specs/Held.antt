@@ -1,5 +1,5 @@
 -- Payloads with what they stand for.
-use Rattle.std.specs.Prelude.{◌≡◌, ◌≢◌, ◌↔◌, map, slice_index_or, ℕ, ◌<◌, ◌-◌, min, List, length, Option, None, Some, slice_get}
+use Rattle.std.specs.Prelude.{◌≡◌, ◌≢◌, ◌↔◌, map, slice_index, slice_index_or, ℕ, ◌<◌, ◌-◌, min, List, length, Option, None, Some, slice_get}
 use Rattle.std.specs.Vec.{vec_len, vec_capacity}
 use Rattle.vr_base.specs.declared.file.FileName.{FileName}
 use Rattle.vr_base.specs.declared.graph.Entry.{Entry}
@@ -50,3 +50,12 @@ ArePlacedBy known positions (Some numbers) = map (λ n. Some n) numbers ≡ map 
 -- the number of the node that unfolds to the present view of a file, if one does
 abbrev pub IsNumberOfView : Shelf → List Entry → ℕ → Option ℕ → Type 0
 IsNumberOfView shelf graph at number = (n : ℕ) → (number ≡ Some n) ↔ ((n < length shelf.nodes) × (unfolded shelf.texts shelf.nodes n ≡ view graph at))
+
+-- a node unfolds to the present view of a file
+abbrev pub IsNodeAt : Shelf → List Entry → ℕ → ℕ → Type 0
+IsNodeAt shelf graph at number = (number < length shelf.nodes) × (unfolded shelf.texts shelf.nodes number ≡ view graph at)
+
+-- nodes unfold to the present views of files, one by one
+pub record AreNodesAt (shelf : Shelf) (graph : List Entry) (deps numbers : List ℕ) : Type 0 where
+  pub count : length numbers ≡ length deps
+  pub each : (i : ℕ) → i < length numbers → IsNodeAt shelf graph (slice_index deps i) (slice_index numbers i)

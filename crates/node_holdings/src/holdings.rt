@@ -1,13 +1,13 @@
 //! Payloads, and the texts, nodes and records that they stand for.
 
-ghost use Rattle.std.specs.Prelude.{◌≡◌, ◌↔◌, ◌<◌, ◌≤◌, ◌++◌, ◌∷◌, [], length, All, IsTrue, IfOk, IfSome, option_map};
+ghost use Rattle.std.specs.Prelude.{◌≡◌, ◌↔◌, ◌<◌, ◌≤◌, ◌++◌, ◌∷◌, [], length, All, IsTrue, IfOk, IfSome, OnOk, option_map};
 ghost use Rattle.vr_base.specs.declared.limits.TheConstants.{ARTEFACT_LIMIT};
 ghost use Rattle.vr_outside.specs.Records.{AreNeeds, IsRecorded, latest};
 ghost use Rattle.vr_outside.specs.declared.records.Need.TheVariants.{Fresh};
 ghost use Rattle.node_codec.specs.Known.{AreKnown, IsKnown};
 ghost use Rattle.node_codec.specs.Shelves.{shelf_of};
 ghost use Rattle.node_holdings.specs.Additions.{AddsNode, AddsRecord, IsAddition};
-ghost use Rattle.node_holdings.specs.Held.{IsLatestAt, IsLatestNode, IsNumberOfView};
+ghost use Rattle.node_holdings.specs.Held.{AreNodesAt, IsLatestAt, IsLatestNode, IsNodeAt, IsNumberOfView};
 
 use crate::files::file_number;
 use crate::{Addition, KnownNode, NewNode};
@@ -16,7 +16,7 @@ use node_codec::bytes_of;
 use node_shelf::{Pieces, ShelfPlaces, put_node, put_record, shelf_of};
 use std::alloc::Global;
 use std::marker::Model;
-use vr_base::{Entry, FileName, Graph, NoMemory, Text};
+use vr_base::{Entry, FileName, Graph, Items, NoMemory, Text};
 use vr_outside::{Need, Needs};
 
 /// Payloads, in order, with what they stand for. Contracts see the payloads, the names and commands that are numbered,
@@ -166,6 +166,51 @@ impl Holdings {
             needs.push(self.need(graph, at, number))?;
         }
         Ok(needs)
+    }
+
+    /// The node of the present view of a file, which is recorded.
+    fn recorded_node(&self, graph: &Graph, at: u64) -> usize
+        requires at { at < length graph.now }
+        requires recorded { IsRecorded (λ name. latest name (shelf_of self.now.payloads).records)
+            graph.now at }
+        ensures { IsNodeAt (shelf_of self.now.payloads) graph.now at result }
+    {
+        let Some(node) = self.latest_node(&graph.get(at).name) else {
+            unreachable!();
+        };
+        node
+    }
+
+    /// The nodes of the present views of files, which are recorded.
+    fn nodes_at(
+        &self,
+        alloc: Global,
+        graph: &Graph,
+        places: &[u32],
+    ) -> Result<Items<usize>, NoMemory>
+        requires places { All (λ at. at < length graph.now) places.now }
+        requires recorded { All
+            (IsRecorded (λ name. latest name (shelf_of self.now.payloads).records) graph.now)
+            places.now }
+        ensures { IfOk result
+            (AreNodesAt (shelf_of self.now.payloads) graph.now places.now) }
+    {
+        let mut nodes = Items::new(alloc);
+        for at in places {
+            nodes.push(self.recorded_node(graph, *at as u64))?;
+        }
+        Ok(nodes)
+    }
+
+    /// Makes room for one more payload. What is held is unchanged.
+    pub fn reserve(&mut self) -> Result<(), NoMemory>
+        ensures payloads { self.new.payloads ≡ self.old.payloads }
+        ensures names { self.new.names ≡ self.old.names }
+        ensures commands { self.new.commands ≡ self.old.commands }
+        ensures room { OnOk result (0 < self.new.room) }
+    {
+        self.pieces.reserve()?;
+        self.shelf.reserve()
     }
 
     /// Adds a payload that was prepared, at the end. It takes no memory.

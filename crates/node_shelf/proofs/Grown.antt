@@ -1,10 +1,11 @@
 -- Payloads with more behind them.
 use Rattle.std.proofs.Common.{◌≡◌, ℕ, ◌+◌, ◌<◌, ◌≤◌, List, [], ◌∷◌, ◌++◌, length, map, get_or, None, Some, Option, refl, sym, ap, subst, ◌∙◌, arith, length-append}
-use Rattle.std.specs.Prelude.{All}
+use Rattle.std.specs.Prelude.{All, slice_get}
 use Rattle.std.specs.List.{fold}
 use Rattle.std.specs.Option.{option_map_or}
 use Rattle.std.proofs.lemmas.List.{get_or_append_left, get_or_at}
 use Rattle.std.proofs.lemmas.List.Sums.{fold_push}
+use Rattle.vr_base.specs.declared.file.FileName.{FileName}
 use Rattle.vr_base.specs.declared.limits.TheConstants.{ARTEFACT_LIMIT}
 use Rattle.vr_outside.specs.declared.records.Record.{Record}
 use Rattle.source_view.proofs.Parts.{map_same}
@@ -13,6 +14,7 @@ use Rattle.node_codec.specs.Forms.{NodePayload, node_payload_in}
 use Rattle.node_codec.specs.Nodes.{Node, unfolded}
 use Rattle.node_codec.specs.Shelves.{Shelf, after_payload, empty_shelf, shelf_of, with_payload}
 use Rattle.node_codec.specs.Spans.{spanned}
+use Rattle.node_fits.specs.Fits.{blank_node}
 use Rattle.node_shelf.specs.declared.records.RecordPlace.{RecordPlace}
 use Rattle.node_shelf.specs.declared.shelf.ShelfPlaces.{ShelfPlaces}
 use Rattle.node_shelf.specs.declared.texts.TextPlace.{TextPlace}
@@ -70,8 +72,8 @@ same_shelf payloads more shelf are =
     let records_same : map (record_in (payloads ++ more) texts nodes) places ≡ map (record_in payloads texts nodes) places =
     map_same (record_in (payloads ++ more) texts nodes) (record_in payloads texts nodes) places no_place
     (λ k l.
-        let place : RecordPlace = get_or places k no_place in
-        ap (λ (bytes : List ℕ). record { view = unfolded texts nodes place.node; artefact = spanned bytes place.artefact }) (payload_still payloads more place.payload (are.records.kept k no_place l).payload)) in
+    let place : RecordPlace = get_or places k no_place in
+    ap (λ (bytes : List ℕ). record { view = unfolded texts nodes place.node; artefact = spanned bytes place.artefact }) (payload_still payloads more place.payload (are.records.kept k no_place l).payload)) in
     ap (λ (ts : List (List ℕ)). shelf_with ts nodes (map (record_in (payloads ++ more) ts nodes) places)) texts_same ∙ ap (shelf_with texts nodes) records_same
 
 -- what the last payload adds
@@ -84,3 +86,30 @@ shelf_push payloads piece payload read =
 pub shelf_empty : shelf_of [] ≡ empty_shelf
 unfolding shelf_of
 shelf_empty = refl
+
+-- with other room the shelf is the same
+pub still_parts : (payloads : List (List ℕ)) (old new : ShelfPlaces) → new.texts.places.items ≡ old.texts.places.items → new.texts.marks.marks ≡ old.texts.marks.marks → new.table.names ≡ old.table.names → new.table.nodes ≡ old.table.nodes → new.records.places.items ≡ old.records.places.items → new.records.names.marks ≡ old.records.names.marks → IsShelf payloads old → IsShelf payloads new
+still_parts payloads old new places marks names nodes records kept_names are = record {
+  texts = record {
+    placed = subst (All (λ (p : TextPlace). p.payload < length payloads)) (sym places) are.texts.placed;
+    marked = marks ∙ are.texts.marked ∙ ap (λ (ps : List TextPlace). map mark_of (map (text_in payloads) ps)) (sym places);
+  };
+  records = record {
+    kept = subst (λ (ns : List Node). All (IsKeptIn payloads ns) new.records.places.items) (sym nodes) (subst (All (IsKeptIn payloads old.table.nodes)) (sym records) are.records.kept);
+    as_many = ap length kept_names ∙ are.records.as_many ∙ sym (ap length records);
+    named = λ k other l.
+        let low : k < length old.records.places.items = subst (λ (ps : List RecordPlace). k < length ps) records l in
+        ap (λ (ms : List ℕ). slice_get new.table.names (get_or ms k 0)) kept_names
+        ∙ ap (λ (ns : List FileName). slice_get ns (get_or old.records.names.marks k 0)) names
+        ∙ are.records.named k other low
+        ∙ ap (λ (ps : List RecordPlace). Some (get_or old.table.nodes (get_or ps k other).node blank_node).name) (sym records)
+        ∙ ap (λ (ns : List Node). Some (get_or ns (get_or new.records.places.items k other).node blank_node).name) (sym nodes);
+  };
+}
+
+pub same_parts : (payloads : List (List ℕ)) (old new : ShelfPlaces) → new.texts.places.items ≡ old.texts.places.items → new.table.nodes ≡ old.table.nodes → new.records.places.items ≡ old.records.places.items → shelf_in payloads new ≡ shelf_in payloads old
+unfolding shelf_with
+same_parts payloads old new places nodes records =
+    ap (λ (ps : List TextPlace). shelf_with (map (text_in payloads) ps) new.table.nodes (map (record_in payloads (map (text_in payloads) ps) new.table.nodes) new.records.places.items)) places
+    ∙ ap (λ (ns : List Node). shelf_with (texts_in payloads old.texts) ns (map (record_in payloads (texts_in payloads old.texts) ns) new.records.places.items)) nodes
+    ∙ ap (λ (ps : List RecordPlace). shelf_with (texts_in payloads old.texts) old.table.nodes (map (record_in payloads (texts_in payloads old.texts) old.table.nodes) ps)) records

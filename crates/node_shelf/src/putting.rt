@@ -46,13 +46,7 @@ fn put_source(texts: &mut TextPlaces, pieces: &Pieces, at: usize, source: Source
 }
 
 /// Puts a draft on a shelf, by its row and the text that a payload has for it.
-pub fn put_node(
-    shelf: &mut ShelfPlaces,
-    pieces: &Pieces,
-    at: usize,
-    row: Row,
-    source: SourceSpan,
-)
+pub fn put_node(shelf: &mut ShelfPlaces, pieces: &Pieces, at: usize, row: Row, source: SourceSpan)
     requires text_room { HasTextRoom shelf.old.texts }
     requires node_room { 0 < shelf.old.table.room }
     requires at { at < length pieces.now.payloads }
@@ -80,13 +74,7 @@ pub fn put_node(
 }
 
 /// Puts a record of a node, whose artefact is in a payload, at the end.
-pub fn put_record(
-    shelf: &mut ShelfPlaces,
-    pieces: &Pieces,
-    node: usize,
-    at: usize,
-    artefact: Span,
-)
+pub fn put_record(shelf: &mut ShelfPlaces, pieces: &Pieces, node: usize, at: usize, artefact: Span)
     requires room { HasRecordRoom shelf.old.records }
     requires node { node < length shelf.old.table.nodes }
     requires at { at < length pieces.now.payloads }

@@ -1,12 +1,13 @@
 //! Texts, nodes and records together.
 
-ghost use Rattle.std.specs.Prelude.{◌≡◌, ℕ, List};
+ghost use Rattle.std.specs.Prelude.{◌≡◌, ◌<◌, ℕ, List, OnOk};
 ghost use Rattle.node_codec.specs.Shelves.{empty_shelf};
-ghost use Rattle.node_shelf.specs.Places.{IsShelf, shelf_in};
+ghost use Rattle.node_shelf.specs.Places.{HasRecordRoom, HasTextRoom, IsShelf, shelf_in};
 
 use crate::{RecordPlaces, TextPlaces};
 use node_table::NodeTable;
 use std::alloc::Global;
+use vr_base::NoMemory;
 
 /// The texts, nodes and records that payloads stand for.
 #[derive(Drop)]
@@ -27,6 +28,22 @@ impl ShelfPlaces {
             texts: TextPlaces::new(alloc),
             records: RecordPlaces::new(alloc),
         }
+    }
+
+    /// Makes room for one more text, node and record. What they stand for is unchanged.
+    #[tactic(auto, using(crate::proofs::Grown::still_parts, crate::proofs::Grown::same_parts))]
+    pub fn reserve(&mut self) -> Result<(), NoMemory>
+        ensures are { (payloads : List (List ℕ)) → IsShelf payloads self.old → IsShelf payloads self.new }
+        ensures is { (payloads : List (List ℕ)) → shelf_in payloads self.new ≡ shelf_in payloads self.old }
+        ensures names { self.new.table.names ≡ self.old.table.names }
+        ensures commands { self.new.table.commands ≡ self.old.table.commands }
+        ensures texts { OnOk result (HasTextRoom self.new.texts) }
+        ensures records { OnOk result (HasRecordRoom self.new.records) }
+        ensures nodes { OnOk result (0 < self.new.table.room) }
+    {
+        self.table.reserve()?;
+        self.texts.reserve()?;
+        self.records.reserve()
     }
 
     /// Removes all. It takes no memory.
