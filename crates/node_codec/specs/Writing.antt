@@ -1,5 +1,5 @@
 -- A file of a graph as a draft.
-use Rattle.std.specs.Prelude.{ℕ, ◌<◌, ◌≤◌, List, length, Option, Some, None}
+use Rattle.std.specs.Prelude.{ℕ, ◌≤◌, List, length, Option, Some, None}
 use Rattle.vr_base.specs.declared.graph.Entry.{Entry}
 use Rattle.vr_base.specs.declared.limits.TheConstants.{FILE_LIMIT, TEXT_LIMIT}
 use Rattle.vr_base.specs.Names.{FitsCommand, FitsName}

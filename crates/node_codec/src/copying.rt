@@ -33,12 +33,7 @@ pub fn bytes_of(bytes: &[u8], span: Span) -> &[u8]
 }
 
 /// A copy of the name whose library and path these spans are.
-pub fn name_of(
-    alloc: Global,
-    bytes: &[u8],
-    library: Span,
-    path: Span,
-) -> Result<FileName, NoMemory>
+pub fn name_of(alloc: Global, bytes: &[u8], library: Span, path: Span) -> Result<FileName, NoMemory>
     ensures { IfOk result
         (λ name.
         name ≡ record { library = spanned bytes.now library; path = spanned bytes.now path }) }

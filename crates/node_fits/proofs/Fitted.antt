@@ -1,8 +1,7 @@
 -- A new row that passes the tests fits the nodes that it depends on.
-use Rattle.std.proofs.Common.{◌≡◌, ◌≢◌, ℕ, ◌+◌, ◌<◌, ◌≤◌, true, List, [], ◌∷◌, ◌++◌, length, map, get_or, refl, sym, ap, subst, ◌∙◌, arith, inl, inr}
-use Rattle.std.specs.Prelude.{◌↔◌, All, AllPairs, Contains, sum_by}
-use Rattle.std.proofs.lemmas.List.{get_or-map, get_or_default, length-map}
-use Rattle.vr_base.specs.declared.file.FileName.{FileName}
+use Rattle.std.proofs.Common.{◌≡◌, ◌≢◌, ℕ, ◌<◌, List, [], ◌++◌, length, map, get_or, sym, ap, subst, ◌∙◌, arith}
+use Rattle.std.specs.Prelude.{◌↔◌, All, AllPairs, sum_by}
+use Rattle.std.proofs.lemmas.List.{get_or-map, length-map}
 use Rattle.vr_base.specs.declared.graph.Entry.{Entry}
 use Rattle.node_codec.specs.Fitting.{FitsNew, IsListed}
 use Rattle.node_codec.specs.Nodes.{AreNodes, Node, node_file, node_files, numbered_text}

@@ -1,15 +1,12 @@
 -- Dependencies that are listed, from the last one down.
-use Rattle.std.proofs.Common.{◌≡◌, ◌≢◌, ℕ, ◌+◌, ◌-◌, ◌<◌, ◌≤◌, List, [], length, get_or, Option, None, Some, is_some, true, refl, sym, ap, subst, ◌∙◌, arith, inl, inr}
-use Rattle.std.specs.Prelude.{◌⊎◌, All, AllPairs, Contains, slice_get}
+use Rattle.std.proofs.Common.{◌≡◌, ◌≢◌, ℕ, ◌+◌, ◌<◌, ◌≤◌, List, [], length, get_or, Option, None, Some, is_some, true, sym, ap, subst, arith, inl, inr}
+use Rattle.std.specs.Prelude.{All, AllPairs, Contains, slice_get}
 use Rattle.std.proofs.lemmas.Bool.{cases_lt}
-use Rattle.std.proofs.lemmas.List.{get_or_default}
-use Rattle.std.proofs.lemmas.List.Elements.{Contains-get_or}
 use Rattle.std.proofs.lemmas.Option.{get_or_from_slice_get, slice_get_within}
 use Rattle.node_codec.specs.Fitting.{IsListed}
-use Rattle.node_codec.specs.Nodes.{AreNodes, Node}
+use Rattle.node_codec.specs.Nodes.{Node}
 use Rattle.node_codec.proofs.NodeFits.{node_listed}
 use Rattle.numbering.specs.Numbers.{IsPlaceOf}
-use Rattle.node_table.specs.declared.rows.Row.{Row}
 use Rattle.node_fits.specs.Fits.{AreDone, AreFrom, AreListed, AreSomeNodes, blank_node, deps_at}
 use Rattle.node_fits.proofs.Places.{are_once}
 

@@ -1,6 +1,6 @@
 -- Numbers at rising places among others, one after the other.
-use Rattle.std.proofs.Common.{◌≡◌, ◌≢◌, ℕ, zero, suc, ◌+◌, ◌<◌, ◌≤◌, List, [], ◌∷◌, ◌++◌, length, map, get_or, None, Some, Option, refl, sym, ap, subst, ◌∙◌, arith, inl, inr}
-use Rattle.std.specs.Prelude.{All, AllPairs, Contains, slice_get}
+use Rattle.std.proofs.Common.{◌≡◌, ◌≢◌, ℕ, zero, suc, ◌+◌, ◌<◌, ◌≤◌, List, length, map, get_or, Some, refl, sym, ap, ◌∙◌, arith, inl, inr}
+use Rattle.std.specs.Prelude.{AllPairs, Contains, slice_get}
 use Rattle.std.proofs.lemmas.Bool.{cases_lt}
 use Rattle.std.proofs.lemmas.List.{get_or-map, get_or_default, length-map}
 use Rattle.std.proofs.lemmas.Option.{get_or_from_slice_get, slice_get_within}
@@ -8,7 +8,6 @@ use Rattle.vr_base.specs.View.{place_in}
 use Rattle.node_codec.specs.Fitting.{IsListed}
 use Rattle.node_codec.specs.Nodes.{AreOnce}
 use Rattle.node_codec.proofs.Closed.{found_at, place_at}
-use Rattle.numbering.specs.Numbers.{IsPlaceOf}
 use Rattle.node_table.proofs.Nodes.{one_place}
 use Rattle.node_fits.specs.Fits.{ArePlaced}
 

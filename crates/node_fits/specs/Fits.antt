@@ -31,7 +31,6 @@ length_at nodes lengths number = slice_index lengths (slice_index_or nodes numbe
 abbrev pub AreListed : List Node → List ℕ → Type 0
 AreListed nodes deps = (k : ℕ) → k < length deps → IsListed deps k (deps_at nodes (slice_index deps k))
 
-
 -- Some texts make these nodes, each once.
 pub record AreSomeNodes (nodes : List Node) : Type 0 where
   pub texts : List (List ℕ)

@@ -1,9 +1,9 @@
 -- What one more payload adds.
-use Rattle.std.proofs.Common.{◌≡◌, ℕ, ◌+◌, ◌<◌, true, List, [], ◌∷◌, ◌++◌, length, Some, refl, sym, ap, subst, ◌∙◌, arith, length-append}
-use Rattle.node_codec.specs.Forms.{Draft, NodePayload, TextSource, node_payload_in}
+use Rattle.std.proofs.Common.{◌≡◌, ℕ, ◌<◌, true, List, [], ◌∷◌, ◌++◌, length, sym, ap, subst, ◌∙◌}
+use Rattle.node_codec.specs.Forms.{Draft}
 use Rattle.node_codec.specs.Forms.NodePayload.{OfDraft, OfNode}
 use Rattle.node_codec.specs.Nodes.{AreNodes}
-use Rattle.node_codec.specs.Shelves.{Shelf, empty_shelf, is_artefact, is_draft, shelf_of, source_number, with_draft, with_node_record}
+use Rattle.node_codec.specs.Shelves.{Shelf, empty_shelf, is_draft, shelf_of, source_number, with_draft, with_node_record}
 use Rattle.node_codec.specs.Spans.{source_in, spanned}
 use Rattle.node_codec.proofs.Taking.{nodes_of}
 use Rattle.node_table.specs.Rows.{node_of}

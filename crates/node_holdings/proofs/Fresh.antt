@@ -1,20 +1,19 @@
 -- Which files have a record of their present view.
-use Rattle.std.proofs.Common.{◌≡◌, ◌≢◌, ℕ, ◌+◌, ◌<◌, ◌≤◌, true, false, nat_eq, List, [], ◌∷◌, ◌++◌, length, map, get_or, None, Some, Option, refl, sym, ap, subst, ◌∙◌, arith, inl, inr, length-append}
+use Rattle.std.proofs.Common.{◌≡◌, ℕ, ◌+◌, ◌<◌, ◌≤◌, nat_eq, List, [], ◌∷◌, ◌++◌, length, map, get_or, None, Some, Option, refl, sym, ap, subst, ◌∙◌, arith, inl, inr}
 use Rattle.std.specs.Prelude.{◌↔◌, All, IsTrue, slice_get}
 use Rattle.std.proofs.lemmas.Bool.{cases_lt}
 use Rattle.std.proofs.lemmas.Bool.Decides.{Decides-eqb}
-use Rattle.std.proofs.lemmas.List.{get_or_append_left, get_or_at, get_or_default}
+use Rattle.std.proofs.lemmas.List.{get_or_append_left, get_or_at}
 use Rattle.std.proofs.lemmas.Option.{get_or_from_slice_get, none-some}
 use Rattle.vr_base.specs.declared.graph.Entry.{Entry}
 use Rattle.vr_base.specs.Graphs.{IsGraph}
 use Rattle.vr_base.specs.View.{view}
 use Rattle.vr_outside.specs.declared.records.Record.{Record}
 use Rattle.vr_outside.specs.Records.{IsRecorded, latest}
-use Rattle.source_view.proofs.Parts.{map_same, no_entry}
+use Rattle.source_view.proofs.Parts.{map_same}
 use Rattle.node_codec.specs.Known.{IsFileOf, IsKnown}
-use Rattle.node_codec.specs.Nodes.{AreNodes, Node, unfolded}
+use Rattle.node_codec.specs.Nodes.{Node, unfolded}
 use Rattle.node_codec.specs.Shelves.{Shelf}
-use Rattle.node_codec.proofs.Once.{one_number}
 use Rattle.node_holdings.specs.Held.{HasNode, IsNumberOfView}
 use Rattle.node_holdings.proofs.Sought.{some_inner}
 

@@ -1,24 +1,21 @@
 -- The latest record of a name, by the names of all records.
-use Rattle.std.proofs.Common.{◌≡◌, ◌≢◌, ℕ, zero, suc, ◌+◌, ◌-◌, ◌<◌, ◌≤◌, Bool, true, false, nat_eq, List, [], ◌∷◌, ◌++◌, length, map, get_or, None, Some, Option, refl, sym, ap, subst, ◌∙◌, arith, inl, inr, length-append, if◌then◌else◌}
-use Rattle.std.specs.Prelude.{All, AllPairs, Contains, slice_get}
-use Rattle.std.specs.Option.{option_map_or, option_or}
-use Rattle.std.proofs.lemmas.Bool.{cases_lt}
-use Rattle.std.proofs.lemmas.List.{get_or-map, get_or_append_left, get_or_at, get_or_default, length-map}
+use Rattle.std.proofs.Common.{◌≡◌, ◌≢◌, ℕ, zero, suc, ◌+◌, ◌-◌, ◌<◌, Bool, true, false, List, [], ◌∷◌, ◌++◌, length, map, get_or, None, Some, Option, refl, sym, ap, subst, ◌∙◌, arith, length-append}
+use Rattle.std.specs.Prelude.{AllPairs, Contains, slice_get}
+use Rattle.std.specs.Option.{option_map_or}
+use Rattle.std.proofs.lemmas.List.{get_or-map, get_or_at, get_or_default, length-map}
 use Rattle.std.proofs.lemmas.Option.{get_or_from_slice_get, slice_get-get_or, slice_get_within}
 use Rattle.vr_base.specs.declared.file.FileName.{FileName}
 use Rattle.vr_base.specs.declared.graph.Entry.{Entry}
 use Rattle.vr_base.specs.Names.{is_same_name}
-use Rattle.vr_base.specs.View.{part, renumbered, view, viewed}
+use Rattle.vr_base.specs.View.{renumbered, view, viewed}
 use Rattle.vr_outside.specs.declared.records.Record.{Record}
 use Rattle.vr_outside.specs.Records.{is_of, last_entry, latest}
 use Rattle.source_view.proofs.Parts.{no_entry}
 use Rattle.source_view.proofs.ViewLaws.{viewed_is}
 use Rattle.mark_index.specs.Indexes.{IsLastWith}
 use Rattle.numbering.specs.NameLaws.{names_decide}
-use Rattle.numbering.specs.Numbers.{IsPlaceOf}
-use Rattle.node_codec.specs.Nodes.{AreNodes, Node, node_file, node_files, unfolded}
-use Rattle.node_codec.specs.Shelves.{Shelf}
-use Rattle.node_codec.proofs.Closed.{Unfolds, file_of_part, length-closed}
+use Rattle.node_codec.specs.Nodes.{AreNodes, Node, node_files, unfolded}
+use Rattle.node_codec.proofs.Closed.{file_of_part, length-closed}
 use Rattle.node_codec.proofs.Growing.{file_at, files_length, no_node}
 use Rattle.node_codec.proofs.Once.{nodes_unfold}
 use Rattle.node_table.specs.Rows.{NodesByNumber, no_name}

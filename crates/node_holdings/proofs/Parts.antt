@@ -6,9 +6,9 @@ use Rattle.vr_base.specs.declared.graph.Entry.{Entry}
 use Rattle.vr_base.specs.declared.limits.TheConstants.{ARTEFACT_LIMIT}
 use Rattle.node_codec.specs.declared.reading.PayloadSpans.{PayloadSpans}
 use Rattle.node_codec.specs.declared.reading.PayloadSpans.TheVariants as spans
-use Rattle.node_codec.specs.Forms.{Draft, HasDraftSpelling, HasSourceSpelling, NodePayload, TextSource, node_payload_bytes, node_payload_in}
+use Rattle.node_codec.specs.Forms.{HasDraftSpelling, HasSourceSpelling, NodePayload, TextSource, node_payload_bytes, node_payload_in}
 use Rattle.node_codec.specs.Forms.NodePayload.{DraftAlone, OfDraft, OfNode}
-use Rattle.node_codec.specs.Forms.TextSource.{Known, New}
+use Rattle.node_codec.specs.Forms.TextSource.{Known}
 use Rattle.node_codec.specs.Spans.{artefact_span, payload_in_spans, source_in, source_span_of, spanned}
 use Rattle.node_codec.specs.Writing.{IsSmallFile, draft_of, source_of}
 use Rattle.byte_codec.proofs.Fields.{some_is}

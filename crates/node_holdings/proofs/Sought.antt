@@ -1,18 +1,18 @@
 -- The node that a file is.
-use Rattle.std.proofs.Common.{◌≡◌, ◌≢◌, ℕ, suc, ◌+◌, ◌<◌, ◌≤◌, List, [], ◌∷◌, ◌++◌, length, map, take, get_or, None, Some, Option, refl, sym, ap, subst, ◌∙◌, arith}
-use Rattle.std.specs.Prelude.{◌↔◌, All, Contains, slice_get}
+use Rattle.std.proofs.Common.{◌≡◌, ◌≢◌, ℕ, suc, ◌+◌, ◌<◌, List, [], ◌∷◌, ◌++◌, length, map, take, get_or, None, Some, Option, refl, sym, ap, subst, ◌∙◌, arith}
+use Rattle.std.specs.Prelude.{Contains}
 use Rattle.std.specs.Option.{option_map_or}
 use Rattle.std.proofs.lemmas.List.{get_or-map, get_or_default, length-map, map-append}
-use Rattle.std.proofs.lemmas.Option.{get_or_from_slice_get, none-some, slice_get-get_or, slice_get_within}
+use Rattle.std.proofs.lemmas.Option.{get_or_from_slice_get, none-some, slice_get_within}
 use Rattle.std.proofs.Math.Seq.{take-suc}
 use Rattle.vr_base.specs.declared.file.FileName.{FileName}
 use Rattle.vr_base.specs.declared.graph.Entry.{Entry}
 use Rattle.numbering.specs.Numbers.{IsPlaceOf}
 use Rattle.node_codec.specs.Known.{IsFileOf, IsKnown}
-use Rattle.node_codec.specs.Nodes.{AreNodes, Node, numbered_text}
+use Rattle.node_codec.specs.Nodes.{AreNodes, Node}
 use Rattle.node_table.specs.declared.rows.Row.{Row}
 use Rattle.node_table.specs.Rows.{IsRowIn, IsTable, NodesByNumber, no_name, node_in}
-use Rattle.node_fits.specs.Fits.{blank_node, blank_row}
+use Rattle.node_fits.specs.Fits.{blank_row}
 
 pub some_inner : {X : Type 0} (a b : X) → Some a ≡ Some b → a ≡ b
 some_inner {X = X} a b e = ap (λ (o : Option X). option_map_or (λ x. x) o a) e

@@ -1,5 +1,5 @@
 -- What one more payload adds.
-use Rattle.std.specs.Prelude.{◌≡◌, ℕ, ◌<◌, true, List, length, Option, Some, slice_get}
+use Rattle.std.specs.Prelude.{◌≡◌, ℕ, ◌<◌, true, List, length, Option, Some}
 use Rattle.vr_base.specs.declared.graph.Entry.{Entry}
 use Rattle.node_codec.specs.Forms.{node_payload_bytes, node_payload_in}
 use Rattle.node_codec.specs.Forms.NodePayload.{OfDraft, OfNode}

@@ -233,7 +233,13 @@ impl Holdings {
     {
         let at = self.pieces.len();
         self.pieces.put(piece);
-        put_record(&mut self.shelf, &self.pieces, known.node, at, known.artefact);
+        put_record(
+            &mut self.shelf,
+            &self.pieces,
+            known.node,
+            at,
+            known.artefact,
+        );
     }
 
     /// Adds the payload of a new node and its record.

@@ -79,6 +79,8 @@ fn the_latest_artefact_is_lent(rt: HostRuntime) -> Result<(), Fail> {
     if graph.is_empty() {
         return Err(Fail::from("the graph has one file"));
     }
-    assert!(rt; matches!(held.artefact(&graph.get(0).name), Some(bytes) if bytes == b"z".as_slice()));
+    assert!(rt;
+        matches!(held.artefact(&graph.get(0).name), Some(bytes) if bytes == b"z".as_slice())
+    );
     Ok(())
 }

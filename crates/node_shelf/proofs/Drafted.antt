@@ -1,17 +1,12 @@
 -- Rows of drafts.
-use Rattle.std.proofs.Common.{◌≡◌, ℕ, ◌+◌, ◌<◌, Bool, true, false, true≢false, List, [], ◌∷◌, ◌++◌, length, get_or, None, Some, Option, is_some, refl, sym, ap, subst, ◌∙◌, arith}
+use Rattle.std.proofs.Common.{◌≡◌, ℕ, ◌<◌, Bool, true, false, true≢false, List, length, None, Some, Option, is_some, refl, sym, ◌∙◌}
 use Rattle.std.specs.Prelude.{All, Contains}
-use Rattle.std.specs.List.{list_any}
 use Rattle.std.proofs.lemmas.Option.{get_or_from_slice_get, slice_get_within}
 use Rattle.node_codec.specs.Forms.{Draft}
-use Rattle.node_codec.specs.Nodes.{Node}
-use Rattle.node_codec.specs.Shelves.{Shelf, draft_node, is_draft, is_same_node, is_source}
+use Rattle.node_codec.specs.Shelves.{Shelf, draft_node, is_draft, is_source}
 use Rattle.node_codec.proofs.Taking.{IsNew, is_new}
 use Rattle.numbering.specs.Numbers.{IsPlaceOf}
-use Rattle.node_table.specs.declared.rows.Row.{Row}
-use Rattle.node_table.specs.Rows.{IsRowIn, NodesByNumber, node_in}
-use Rattle.node_shelf.specs.Drafts.{IsDraftRow, IsRowOfDraft}
-use Rattle.node_shelf.proofs.SameNodes.{any_decides, nodes_decide, none_any}
+use Rattle.node_shelf.proofs.SameNodes.{any_decides, nodes_decide}
 
 -- what lacks a part is no draft
 pub no_draft : (shelf : Shelf) (draft : Draft) → ¬ (IsNew shelf draft) → is_draft shelf draft ≡ false

@@ -1,7 +1,6 @@
 -- Payloads with more behind them.
-use Rattle.std.proofs.Common.{◌≡◌, ℕ, ◌+◌, ◌<◌, ◌≤◌, List, [], ◌∷◌, ◌++◌, length, map, get_or, None, Some, Option, refl, sym, ap, subst, ◌∙◌, arith, length-append}
+use Rattle.std.proofs.Common.{◌≡◌, ℕ, ◌+◌, ◌<◌, ◌≤◌, List, [], ◌∷◌, ◌++◌, length, map, get_or, Some, Option, refl, sym, ap, subst, ◌∙◌, arith, length-append}
 use Rattle.std.specs.Prelude.{All, slice_get}
-use Rattle.std.specs.List.{fold}
 use Rattle.std.specs.Option.{option_map_or}
 use Rattle.std.proofs.lemmas.List.{get_or_append_left, get_or_at}
 use Rattle.std.proofs.lemmas.List.Sums.{fold_push}
@@ -19,7 +18,7 @@ use Rattle.node_shelf.specs.declared.records.RecordPlace.{RecordPlace}
 use Rattle.node_shelf.specs.declared.shelf.ShelfPlaces.{ShelfPlaces}
 use Rattle.node_shelf.specs.declared.texts.TextPlace.{TextPlace}
 use Rattle.node_shelf.specs.declared.texts.TextPlaces.{TextPlaces}
-use Rattle.node_shelf.specs.Places.{AreTexts, IsKeptIn, IsShelf, artefact_in, payload_at, record_in, shelf_in, text_in, texts_in}
+use Rattle.node_shelf.specs.Places.{AreTexts, IsKeptIn, IsShelf, payload_at, record_in, shelf_in, text_in, texts_in}
 use Rattle.node_shelf.proofs.Shelved.{no_place}
 
 no_text : TextPlace

@@ -1,12 +1,11 @@
 -- A text is found among those of its mark.
-use Rattle.std.proofs.Common.{◌≡◌, ◌≢◌, ℕ, suc, ◌+◌, ◌<◌, ◌≤◌, List, [], length, map, get_or, None, Some, Option, refl, sym, ap, subst, ◌∙◌, arith, inl, inr}
+use Rattle.std.proofs.Common.{◌≡◌, ◌≢◌, ℕ, ◌<◌, List, [], length, map, get_or, None, Some, Option, ap, subst, ◌∙◌, arith, inl, inr}
 use Rattle.std.specs.Prelude.{Contains, slice_get}
 use Rattle.std.proofs.lemmas.Bool.{cases_lt}
 use Rattle.std.proofs.lemmas.List.{get_or-map, get_or_default, length-map}
 use Rattle.std.proofs.lemmas.Option.{slice_get-get_or}
 use Rattle.mark_index.specs.Indexes.{IsLastWith}
 use Rattle.mark_index.specs.Marks.{mark_of}
-use Rattle.numbering.specs.Numbers.{IsPlaceOf}
 use Rattle.node_shelf.specs.Places.{IsUpTo}
 
 module _ (texts : List (List ℕ)) (marks : List ℕ) (text : List ℕ) (marked : marks ≡ map mark_of texts) where

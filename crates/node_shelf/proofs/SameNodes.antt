@@ -1,5 +1,5 @@
 -- Nodes are the same exactly where the test of nodes says so.
-use Rattle.std.proofs.Common.{◌≡◌, ℕ, Bool, true, false, ◌&&◌, ◌==◌, List, [], ◌∷◌, None, Some, Option, is_some, not, get_or, refl, sym, ap, ◌∙◌}
+use Rattle.std.proofs.Common.{◌≡◌, ℕ, Bool, true, false, ◌==◌, List, [], ◌∷◌, None, Some, Option, is_some, not, get_or, refl, ap, ◌∙◌}
 use Rattle.std.specs.Prelude.{Contains, SomeIff}
 use Rattle.std.specs.Bool.{Decides}
 use Rattle.std.specs.List.{list_any}
@@ -9,9 +9,7 @@ use Rattle.std.proofs.lemmas.Bool.Decides.{Decides-and, Decides-eqb}
 use Rattle.std.proofs.lemmas.Map.Views.{Contains-from_any, list_any-from_Contains}
 use Rattle.std.proofs.lemmas.Slice.Eq.{bytes_eq-Decides}
 use Rattle.vr_base.specs.declared.file.FileName.{FileName}
-use Rattle.vr_base.specs.Names.{is_same_name}
 use Rattle.numbering.specs.NameLaws.{names_decide}
-use Rattle.numbering.specs.Numbers.{IsPlaceOf}
 use Rattle.node_codec.specs.Nodes.{Node}
 use Rattle.node_codec.specs.Shelves.{are_same_by, is_same_node}
 

@@ -5,7 +5,7 @@ use Rattle.std.specs.List.{fold}
 use Rattle.std.specs.Option.{option_map_or}
 use Rattle.std.proofs.lemmas.Bool.{cases_lt}
 use Rattle.std.proofs.lemmas.Bool.Decides.{nat_tests}
-use Rattle.std.proofs.lemmas.List.{append-nil, get_or_append_left, get_or_at, get_or_default, length-map, map-append}
+use Rattle.std.proofs.lemmas.List.{append-nil, get_or_append_left, get_or_at, map-append}
 use Rattle.std.proofs.lemmas.List.Elements.{All-push}
 use Rattle.std.proofs.lemmas.List.Sums.{fold_push}
 use Rattle.std.proofs.Math.Seq.{take-suc}
@@ -17,7 +17,7 @@ use Rattle.vr_outside.specs.declared.records.Record.{Record}
 use Rattle.source_view.proofs.Parts.{map_same}
 use Rattle.node_codec.specs.Forms.{Draft, NodePayload, TextSource, node_payload_in}
 use Rattle.node_codec.specs.Forms.NodePayload.{DraftAlone, OfDraft, OfNode}
-use Rattle.node_codec.specs.Nodes.{AreNodes, Node, unfolded}
+use Rattle.node_codec.specs.Nodes.{AreNodes, Node}
 use Rattle.node_codec.specs.Shelves.{Shelf, after_payload, draft_node, empty_shelf, is_artefact, is_draft, shelf_of, source_number, with_draft, with_node_record, with_payload, with_source}
 use Rattle.node_codec.proofs.Growing.{unfolded_grown}
 use Rattle.node_codec.proofs.Taking.{more_of, source_more}
@@ -27,10 +27,9 @@ use Rattle.node_fits.specs.Fits.{blank_node}
 use Rattle.node_shelf.specs.declared.records.RecordPlace.{RecordPlace}
 use Rattle.node_shelf.specs.declared.records.RecordPlaces.{RecordPlaces}
 use Rattle.node_shelf.specs.declared.shelf.ShelfPlaces.{ShelfPlaces}
-use Rattle.node_shelf.specs.declared.texts.TextPlaces.{TextPlaces}
 use Rattle.node_shelf.specs.Drafts.{HasMoreNames, draft_by}
 use Rattle.node_shelf.specs.Places.{AreRecords, AreTexts, IsKeptIn, IsShelf, artefact_in, payload_at, record_in, shelf_in, texts_in}
-use Rattle.node_shelf.specs.Taking.{TextsAre, TookDraft, TookNode, TookUp}
+use Rattle.node_shelf.specs.Taking.{TookDraft, TookNode, TookUp}
 
 node_with_text : Node → ℕ → Node
 node_with_text node text = record { name = node.name; command = node.command; text = text; deps = node.deps }

@@ -1,20 +1,18 @@
 -- What is there after a draft was taken up.
-use Rattle.std.proofs.Common.{◌≡◌, ℕ, ◌<◌, Bool, true, false, true≢false, List, [], ◌∷◌, ◌++◌, length, map, get_or, Some, refl, sym, ap, subst, ◌∙◌, arith}
-use Rattle.std.specs.Prelude.{◌↔◌, All, Contains, slice_get}
-use Rattle.std.specs.Bool.{Decides, one_answer}
-use Rattle.std.specs.List.{list_any}
+use Rattle.std.proofs.Common.{◌≡◌, ℕ, ◌<◌, Bool, true≢false, List, [], ◌∷◌, ◌++◌, length, map, Some, sym, ap, subst, ◌∙◌}
+use Rattle.std.specs.Prelude.{All, Contains, slice_get}
+use Rattle.std.specs.Bool.{one_answer}
 use Rattle.std.proofs.lemmas.List.{map-append}
 use Rattle.std.proofs.lemmas.List.Elements.{All-push}
 use Rattle.std.proofs.lemmas.Option.{get_or_from_slice_get}
 use Rattle.vr_base.specs.declared.file.FileName.{FileName}
-use Rattle.vr_base.specs.declared.graph.Entry.{Entry}
 use Rattle.vr_outside.specs.declared.records.Record.{Record}
 use Rattle.source_view.proofs.Parts.{no_entry}
 use Rattle.mark_index.specs.Marks.{mark_of}
 use Rattle.node_codec.specs.Fitting.{FitsNew}
 use Rattle.node_codec.specs.Forms.{Draft}
 use Rattle.node_codec.specs.Nodes.{AreNodes, Node, node_file, node_files, numbered_text}
-use Rattle.node_codec.specs.Shelves.{Shelf, draft_node, is_draft, is_same_node, source_number, with_source}
+use Rattle.node_codec.specs.Shelves.{Shelf, draft_node, is_draft, source_number, with_source}
 use Rattle.node_codec.proofs.NodeFits.{draft_fits}
 use Rattle.node_codec.proofs.Taking.{more_of, source_more}
 use Rattle.node_table.specs.declared.rows.Row.{Row}

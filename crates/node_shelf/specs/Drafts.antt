@@ -1,5 +1,5 @@
 -- Drafts as rows of the table.
-use Rattle.std.specs.Prelude.{◌≡◌, ℕ, ◌<◌, ◌++◌, true, false, List, length, map, All, Option, None, Some}
+use Rattle.std.specs.Prelude.{◌≡◌, ℕ, ◌<◌, ◌++◌, true, false, List, length, All, Option, None, Some}
 use Rattle.std.specs.List.{list_any}
 use Rattle.vr_base.specs.declared.file.FileName.{FileName}
 use Rattle.vr_outside.specs.declared.records.Record.{Record}

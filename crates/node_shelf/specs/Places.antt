@@ -8,7 +8,7 @@ use Rattle.mark_index.specs.Marks.{mark_of}
 use Rattle.node_codec.specs.Nodes.{Node, unfolded}
 use Rattle.node_codec.specs.Shelves.{Shelf}
 use Rattle.node_codec.specs.Spans.{spanned}
-use Rattle.node_table.specs.Rows.{NodesByNumber, no_name}
+use Rattle.node_table.specs.Rows.{NodesByNumber}
 use Rattle.node_fits.specs.Fits.{blank_node}
 use Rattle.node_shelf.specs.declared.texts.TextPlace.{TextPlace}
 use Rattle.node_shelf.specs.declared.texts.TextPlaces.{TextPlaces}

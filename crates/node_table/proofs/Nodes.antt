@@ -1,8 +1,8 @@
 -- Rows and the nodes that they are.
-use Rattle.std.proofs.Common.{◌≡◌, ◌≢◌, ℕ, ◌+◌, ◌<◌, List, [], ◌∷◌, ◌++◌, length, map, get_or, None, Some, Option, Ok, Err, Result, refl, sym, ap, ◌∙◌, arith, inl, inr, length-append}
-use Rattle.std.specs.Prelude.{All, AllPairs, Contains, slice_get, ◌⊎◌, IfOk, OnErr, option_map}
+use Rattle.std.proofs.Common.{◌≡◌, ◌≢◌, ℕ, ◌<◌, List, [], ◌∷◌, ◌++◌, length, map, get_or, None, Some, Option, Ok, Err, Result, sym, ap, ◌∙◌, arith, inl, inr, length-append}
+use Rattle.std.specs.Prelude.{All, AllPairs, ◌⊎◌, IfOk, OnErr, option_map}
 use Rattle.std.proofs.lemmas.Bool.{cases_lt}
-use Rattle.std.proofs.lemmas.List.{get_or-map, get_or_append_left, get_or_default, length-map, map-append}
+use Rattle.std.proofs.lemmas.List.{get_or-map, get_or_append_left, length-map, map-append}
 use Rattle.std.proofs.lemmas.Option.{slice_get-map}
 use Rattle.vr_base.specs.declared.file.FileName.{FileName}
 use Rattle.vr_base.specs.declared.memory.NoMemory.{NoMemory}

@@ -67,7 +67,6 @@ pub record NodesByNumber : Type 0 where
 abbrev pub node_in : NodesByNumber → Row → Node
 node_in table row = node_of table.names table.commands row
 
-
 abbrev pub words_of : List Command → List (List (List ℕ))
 words_of commands = map (λ command. command.words) commands
 

@@ -96,11 +96,7 @@ impl NodeTable {
     }
 
     /// The number of a command, if it has one.
-    pub fn command_number(
-        &self,
-        alloc: Global,
-        words: &TextList,
-    ) -> Result<Option<usize>, NoMemory>
+    pub fn command_number(&self, alloc: Global, words: &TextList) -> Result<Option<usize>, NoMemory>
         ensures { IfOk result (λ number. IsPlaceOf self.now.commands words.now number) }
     {
         let command = Command {

@@ -1,10 +1,9 @@
 -- A number that is added keeps each number at its place.
-use Rattle.std.proofs.Common.{◌≡◌, ℕ, ◌<◌, Bool, true, false, List, [], ◌∷◌, ◌++◌, length, get_or, set, None, Some, Option, is_some, refl, sym, ap, ◌∙◌, arith, inl, inr, length-append}
-use Rattle.std.specs.Prelude.{◌≢◌, All, AllPairs, Contains}
+use Rattle.std.proofs.Common.{◌≡◌, ℕ, ◌<◌, false, List, [], ◌∷◌, ◌++◌, length, get_or, set, None, Some, Option, is_some, ap, ◌∙◌, arith, inl, inr, length-append}
+use Rattle.std.specs.Prelude.{◌≢◌, AllPairs, Contains}
 use Rattle.std.proofs.lemmas.Bool.{cases_lt}
 use Rattle.std.proofs.lemmas.List.{get_or-set_other, get_or-set_same, get_or_append_left, get_or_at, get_or_default, length-set}
-use Rattle.std.proofs.lemmas.List.Elements.{All-push, Contains-get_or}
-use Rattle.std.proofs.lemmas.Option.{get_or_from_slice_get, slice_get_within}
+use Rattle.std.proofs.lemmas.List.Elements.{All-push}
 use Rattle.numbering.specs.Numbers.{AreFound, IsPlaceOf}
 
 pub absent : (numbers : List ℕ) (number : ℕ) (place : Option ℕ) → IsPlaceOf numbers number place → is_some place ≡ false → ¬ Contains numbers number

@@ -1,5 +1,4 @@
-use Rattle.std.proofs.Common.{rules, arith}
-use Rattle.std.proofs.lemmas.Grind.{common_steps}
+use Rattle.std.proofs.Common.{rules}
 use Rattle.node_codec.specs.Forms.{node_payload_bytes}
 use Rattle.node_codec.proofs.Sized.{node_small}
 use Rattle.node_codec.proofs.writing.node_payload.Goals as goal

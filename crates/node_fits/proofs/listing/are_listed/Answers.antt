@@ -1,11 +1,11 @@
-use Rattle.std.proofs.Common.{◌≡◌, ◌≢◌, ◌+◌, ◌-◌, ◌<◌, ◌≤◌, ℕ, List, true, true≢false, length, get_or, is_some, ap, subst, ◌∙◌, sym, arith}
-use Rattle.std.specs.Prelude.{All, AllPairs}
+use Rattle.std.proofs.Common.{◌≡◌, ◌+◌, ◌-◌, ◌<◌, ℕ, List, true≢false, length, get_or, ap, subst, ◌∙◌, sym, arith}
+use Rattle.std.specs.Prelude.{All}
 use Rattle.node_codec.specs.Fitting.{IsListed}
 use Rattle.numbering.specs.Numbers.{NumbersBelow}
 use Rattle.node_table.specs.Rows.{node_in}
 use Rattle.node_fits.specs.Fits.{deps_at}
 use Rattle.node_fits.proofs.Filling.{no_answer, yes_answer}
-use Rattle.node_fits.proofs.Listed.{all_done, inner_low, is_in, none_done, passed_over, row_deps, tested}
+use Rattle.node_fits.proofs.Listed.{all_done, inner_low, is_in, passed_over, row_deps, tested}
 use Rattle.node_fits.proofs.listing.are_listed.Goals as goal
 
 pub loop-left-preserved-then-is_some : goal.loop-left-preserved-then-is_some
@@ -14,8 +14,7 @@ loop-left-preserved-then-is_some c =
     let deps = c.args.deps.now in
     let left = c.loop-left.left in
     let has = is_in c.loop-left.covered.numbers (get_or deps (left - 1) 0) c.place.result c.place.ensures (sym c.is_some.ensures ∙ c.if-is_some.true) in
-    let next : left - 1 + 1 ≡ left = omega (arith, c.loop-left-test.true) in
-    (
+    let next : left - 1 + 1 ≡ left = omega (arith, c.loop-left-test.true) in (
       omega (arith, c.loop-left.invariant.0),
       c.loop-left.invariant.1,
       c.loop-left.invariant.2,
@@ -62,8 +61,7 @@ loop-left-preserved c =
     let same : deps_at nodes (get_or deps at 0) ≡ c.as_slice.result.now = row_deps nodes (get_or deps at 0) (node_in c.args.table.now c.row.result.now) c.row.ensures.node ∙ sym c.as_slice.ensures in
     let set : c.fill.new.set.numbers ≡ deps = ap (λ (s : NumbersBelow). s.numbers) c.loop-left.invariant.1 in
     let listed : IsListed deps at c.as_slice.result.now = subst (λ (ns : List ℕ). IsListed ns at c.as_slice.result.now) set (c.in_ok-listed.ensures.listed.0 c.if-not-listed.false) in
-    let next : at + 1 ≡ left = omega (arith, c.loop-left-test.true) in
-    (
+    let next : at + 1 ≡ left = omega (arith, c.loop-left-test.true) in (
       omega (arith, c.loop-left.invariant.0),
       c.loop-left.invariant.1,
       c.in_ok-listed.ensures.size ∙ c.loop-left.invariant.2,

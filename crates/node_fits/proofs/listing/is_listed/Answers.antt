@@ -1,7 +1,5 @@
-use Rattle.std.proofs.Common.{◌≡◌, ◌<◌, ◌≤◌, ℕ, length, get_or, refl, sym, ap, subst, ◌∙◌, arith, inl}
-use Rattle.std.specs.Prelude.{Contains}
+use Rattle.std.proofs.Common.{◌≡◌, ℕ, length, get_or, refl, sym, subst, ◌∙◌, arith, inl}
 use Rattle.std.proofs.lemmas.List.Elements.{Contains-get_or}
-use Rattle.vr_base.specs.View.{place_in}
 use Rattle.numbering.specs.Numbers.{NumbersBelow}
 use Rattle.node_fits.specs.Fits.{AreFrom, ArePlaced}
 use Rattle.node_fits.proofs.Filling.{from_added, no_answer, size_added, yes_answer}
@@ -42,8 +40,7 @@ loop-number-preserved c =
     let deps = c.args.deps.now.numbers in
     let inner = c.args.inner.now in
     let i = c.loop-number.number-index in
-    let number : ℕ = get_or inner i 0 in
-    (
+    let number : ℕ = get_or inner i 0 in (
       one_more deps c.args.count inner i c.loop-number.least c.in-Some.place c.loop-number.invariant.0 (found deps number c.in-Some.place c.requires.once c.in-Some.ensures) c.if-place-least.false c.if-place-count.false,
       size_added number c.in_ok-add.field-0 c.loop-number.covered c.add.new.self c.in_ok-add.ensures.ok ∙ c.loop-number.invariant.1,
       from_added c.args.covered.now.numbers inner number c.in_ok-add.field-0 c.loop-number.covered c.add.new.self c.in_ok-add.ensures.ok (Contains-get_or inner i 0 c.loop-number-test.true) c.loop-number.invariant.2,

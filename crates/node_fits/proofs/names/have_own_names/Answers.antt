@@ -34,8 +34,7 @@ returns c =
     let all : take c.loop-dep.dep-index names ≡ names = take_all c.loop-dep.dep-index names (omega (arith, end)) in
     let numbers : c.loop-dep.names.numbers ≡ names = ap (λ (s : NumbersBelow). s.numbers) c.loop-dep.invariant.0 ∙ all in
     let once : AllPairs (λ a b. a ≢ b) names = subst (AllPairs (λ a b. a ≢ b)) all c.loop-dep.invariant.1 in
-    let own = none_named c.loop-dep.names.numbers c.args.name c.place.result c.is_none.result c.place.ensures c.is_none.ensures in
-    (
+    let own = none_named c.loop-dep.names.numbers c.args.name c.place.result c.is_none.result c.place.ensures c.is_none.ensures in (
       λ e. (once, subst (λ (ns : List ℕ). ¬ Contains ns c.args.name) numbers (own.0 e)),
       λ both. own.1 (subst (λ (ns : List ℕ). ¬ Contains ns c.args.name) (sym numbers) both.1),
     )

@@ -1,8 +1,7 @@
-use Rattle.std.proofs.Common.{◌≡◌, ◌+◌, ◌≤◌, ℕ, List, length, get_or, take, ap, ◌∙◌, sym, arith}
+use Rattle.std.proofs.Common.{◌≡◌, ℕ, get_or, take, ap, arith}
 use Rattle.std.specs.Prelude.{sum_by}
 use Rattle.std.proofs.lemmas.List.Sums.{sum_by_more_le, sum_by_push}
 use Rattle.std.proofs.lemmas.Option.{get_or_from_slice_get}
-use Rattle.vr_base.specs.declared.limits.TheConstants.{GRAPH_TEXT_LIMIT}
 use Rattle.node_codec.specs.Nodes.{Node}
 use Rattle.node_table.specs.Rows.{node_in}
 use Rattle.node_fits.specs.Fits.{blank_node, length_at}

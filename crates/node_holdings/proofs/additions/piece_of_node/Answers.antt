@@ -1,4 +1,4 @@
-use Rattle.std.proofs.Common.{◌≡◌, ◌++◌, List, ℕ, None, Some, sym, ap, subst, ◌∙◌, arith}
+use Rattle.std.proofs.Common.{◌≡◌, List, ℕ, Some, sym, ap, subst, ◌∙◌, arith}
 use Rattle.node_codec.specs.Forms.NodePayload.{OfNode}
 use Rattle.node_codec.specs.Forms.{node_payload_bytes, node_payload_in}
 use Rattle.node_codec.specs.Spans.{payload_in_spans, spanned}

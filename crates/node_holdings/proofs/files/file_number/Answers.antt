@@ -1,8 +1,7 @@
-use Rattle.std.proofs.Common.{◌≡◌, ◌<◌, ℕ, List, [], None, Some, Option, length, map, get_or, ap, subst, sym, ◌∙◌}
+use Rattle.std.proofs.Common.{ℕ, List, [], None, map, get_or, ap, subst, ◌∙◌}
 use Rattle.std.proofs.lemmas.Option.{get_or_from_slice_get, slice_get_within}
-use Rattle.vr_base.specs.declared.file.FileName.{FileName}
 use Rattle.numbering.specs.Numbers.{IsPlaceOf}
-use Rattle.node_codec.specs.Known.{IsFileOf, IsKnown}
+use Rattle.node_codec.specs.Known.{IsFileOf}
 use Rattle.node_codec.specs.Nodes.{Node}
 use Rattle.node_table.specs.declared.rows.Row.{Row}
 use Rattle.node_table.specs.Rows.{no_name, node_in}

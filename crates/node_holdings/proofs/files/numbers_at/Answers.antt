@@ -1,4 +1,4 @@
-use Rattle.std.proofs.Common.{◌≡◌, ◌<◌, ℕ, List, None, Some, Option, length, map, get_or, ap, sym, ◌∙◌, arith}
+use Rattle.std.proofs.Common.{ℕ, None, Option, map, get_or, ◌∙◌, arith}
 use Rattle.std.proofs.lemmas.List.{get_or-map, length-map}
 use Rattle.node_holdings.proofs.Sought.{lacks, one_more}
 use Rattle.node_holdings.proofs.files.numbers_at.Goals as goal

@@ -1,9 +1,6 @@
-use Rattle.std.proofs.Common.{◌≡◌, ℕ, List, is_some, not, ap, ◌∙◌, length}
+use Rattle.std.proofs.Common.{ℕ, List, not, ap, ◌∙◌, length}
 use Rattle.std.specs.List.{list_any}
 use Rattle.std.specs.Str.{bytes_eq}
-use Rattle.node_codec.specs.Shelves.{is_source}
-use Rattle.node_codec.specs.Spans.{source_in}
-use Rattle.node_codec.specs.declared.reading.SourceSpan.{SourceSpan}
 use Rattle.node_shelf.specs.Places.{texts_in}
 use Rattle.node_shelf.proofs.SameNodes.{new_is}
 use Rattle.node_shelf.proofs.drafts.number_of_source.Goals as goal

@@ -1,8 +1,8 @@
-use Rattle.std.proofs.Common.{◌≡◌, ◌<◌, ℕ, List, [], refl, length, map, take, ap, subst, sym, ◌∙◌, arith}
+use Rattle.std.proofs.Common.{◌≡◌, ◌<◌, [], refl, length, map, take, ap, subst, sym, ◌∙◌, arith}
 use Rattle.node_codec.specs.Nodes.{AreNodes}
 use Rattle.node_codec.specs.Shelves.{Shelf, after_payload, empty_shelf, shelf_of}
 use Rattle.node_codec.proofs.Taking.{nodes_of}
-use Rattle.node_shelf.specs.Places.{payload_at, shelf_in}
+use Rattle.node_shelf.specs.Places.{payload_at}
 use Rattle.node_shelf.proofs.Shelved.{shelf_more}
 use Rattle.node_shelf.proofs.taking.shelf_of.Goals as goal
 

@@ -1,4 +1,4 @@
-use Rattle.std.proofs.Common.{◌≡◌, ◌≤◌, length, map, take}
+use Rattle.std.proofs.Common.{◌≡◌, length, map, take}
 use Rattle.node_codec.specs.Shelves.{shelf_of}
 use Rattle.node_shelf.specs.Places.{IsShelf, shelf_in, texts_in}
 use Rattle.node_shelf.proofs.taking.shelf_of.Given as goal

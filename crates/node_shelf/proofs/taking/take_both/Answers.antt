@@ -1,6 +1,6 @@
-use Rattle.std.proofs.Common.{◌≡◌, ◌∙◌, List, ℕ, Bool, length, true, false, ap, sym, subst, if◌then◌else◌}
+use Rattle.std.proofs.Common.{◌≡◌, ◌∙◌, List, ℕ, Bool, ap, sym, if◌then◌else◌}
 use Rattle.node_codec.specs.Forms.{Draft}
-use Rattle.node_codec.specs.Shelves.{Shelf, is_artefact, is_draft, with_draft, with_node_record}
+use Rattle.node_codec.specs.Shelves.{Shelf, is_artefact, with_draft, with_node_record}
 use Rattle.node_codec.specs.Spans.{draft_in, spanned}
 use Rattle.node_shelf.specs.Places.{payload_at, shelf_in}
 use Rattle.node_shelf.proofs.Shelved.{draft_record, no_artefact_of, no_draft_of, small}

@@ -1,5 +1,4 @@
-use Rattle.std.proofs.Common.{◌≡◌, ℕ, List, ◌++◌, ◌∷◌, [], true, false, sym, ap, subst, ◌∙◌}
-use Rattle.vr_outside.specs.declared.records.Record.{Record}
+use Rattle.std.proofs.Common.{◌≡◌, ℕ, List, ◌++◌, ◌∷◌, [], false, sym, ap, subst, ◌∙◌}
 use Rattle.node_codec.specs.Forms.{Draft}
 use Rattle.node_codec.specs.Nodes.{AreNodes, Node}
 use Rattle.node_codec.specs.Shelves.{draft_node, is_draft}
@@ -7,7 +6,7 @@ use Rattle.node_codec.specs.Spans.{draft_in}
 use Rattle.node_table.specs.Rows.{node_in}
 use Rattle.node_shelf.specs.Drafts.{IsNewRow, IsRowOfDraft}
 use Rattle.node_shelf.specs.Places.{payload_at, texts_in}
-use Rattle.node_shelf.specs.Taking.{TextsAre, TookDraft}
+use Rattle.node_shelf.specs.Taking.{TookDraft}
 use Rattle.node_shelf.proofs.Taken.{new_node, node_same, payload_is, told}
 use Rattle.node_shelf.proofs.taking.take_draft.Goals as goal
 

@@ -1,7 +1,6 @@
-use Rattle.std.proofs.Common.{◌≡◌, ◌<◌, ◌≤◌, ℕ, List, length, map, get_or, true, false, ap, sym, subst, ◌∙◌, arith}
+use Rattle.std.proofs.Common.{◌≡◌, ℕ, List, ap, sym, subst, ◌∙◌, arith}
 use Rattle.std.specs.Prelude.{OnOk}
-use Rattle.vr_base.specs.declared.limits.TheConstants.{ARTEFACT_LIMIT}
-use Rattle.node_codec.specs.Shelves.{is_artefact, with_node_record}
+use Rattle.node_codec.specs.Shelves.{is_artefact}
 use Rattle.node_codec.specs.Spans.{spanned}
 use Rattle.node_shelf.specs.Places.{payload_at, shelf_in}
 use Rattle.node_shelf.proofs.Shelved.{no_artefact, no_node, node_record, small}

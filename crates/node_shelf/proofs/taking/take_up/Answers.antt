@@ -1,9 +1,8 @@
 use Rattle.std.proofs.Common.{◌≡◌, ◌∙◌, List, ℕ, length, map, None, Some, Option, ap, sym, subst}
 use Rattle.byte_codec.specs.Reading.{ReadsAll}
 use Rattle.node_codec.specs.declared.reading.PayloadSpans.{PayloadSpans}
-use Rattle.node_codec.specs.Forms.{NodePayload, node_payload_in}
-use Rattle.node_codec.specs.Forms.NodePayload.{DraftAlone, OfDraft, OfNode}
-use Rattle.node_codec.specs.Spans.{draft_in, payload_in_spans, spanned}
+use Rattle.node_codec.specs.Forms.{node_payload_in}
+use Rattle.node_codec.specs.Spans.{draft_in, payload_in_spans}
 use Rattle.node_shelf.specs.declared.texts.TextPlaces.{TextPlaces}
 use Rattle.node_shelf.specs.Places.{payload_at, shelf_in, texts_in}
 use Rattle.node_shelf.proofs.Shelved.{alone, took_none, took_up}

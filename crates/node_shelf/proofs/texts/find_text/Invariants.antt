@@ -1,4 +1,4 @@
-use Rattle.std.proofs.Common.{ℕ, suc}
+use Rattle.std.proofs.Common.{suc}
 use Rattle.std.specs.Option.{option_map_or}
 use Rattle.node_shelf.specs.Places.{IsUpTo, texts_in}
 use Rattle.node_shelf.proofs.texts.find_text.Given as goal

@@ -1,4 +1,4 @@
-use Rattle.std.proofs.Common.{◌≡◌, ℕ, List, ◌∷◌, [], ◌++◌, length, nat_eq, Option, Some, sym, ap, subst, ◌∙◌, arith}
+use Rattle.std.proofs.Common.{◌≡◌, ℕ, List, length, nat_eq, sym, subst, arith}
 use Rattle.indexmap.specs.IndexMap.{get}
 use Rattle.mark_index.specs.declared.index.Marked.{Marked}
 use Rattle.mark_index.specs.Indexes.{AreIndexed, IsLastWith, MarkList, marks_in}

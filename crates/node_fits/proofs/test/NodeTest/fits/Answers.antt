@@ -1,7 +1,6 @@
 use Rattle.std.proofs.Common.{◌≡◌, ◌≢◌, ◌+◌, ◌≤◌, ℕ, List, length, map, true≢false, ap, ◌∙◌, sym, subst, arith}
 use Rattle.std.specs.Prelude.{AllPairs, Contains, sum_by}
 use Rattle.vr_base.specs.declared.limits.TheConstants.{GRAPH_TEXT_LIMIT}
-use Rattle.node_table.specs.Rows.{IsRowIn}
 use Rattle.node_fits.specs.Fits.{AreListed, length_at, name_at}
 use Rattle.node_fits.proofs.Filling.{no_answer}
 use Rattle.node_fits.proofs.Fitted.{deps_once, fits_new}
@@ -37,8 +36,7 @@ returns-clause-fits c = λ texts more other are lengths_are own_is.
     let row = c.args.row.now in
     let both = fits_new lengths table row c.args.own c.len.ensures.table (record { name = c.requires.in_table.name; command = c.requires.in_table.command }) c.requires.there texts more other are lengths_are own_is in
     let deps = c.as_slice-deps.ensures in
-    let held : c.deref.result.now ≡ lengths = c.deref.ensures.value ∙ c.self.view_is in
-    (
+    let held : c.deref.result.now ≡ lengths = c.deref.ensures.value ∙ c.self.view_is in (
       λ e. both.0 (record {
         few = omega (arith, c.if-deps-ge-FILE_LIMIT.false, ap length deps);
         sizes = c.has_own_sizes.ensures.0 c.if-not-has_own_sizes.false;

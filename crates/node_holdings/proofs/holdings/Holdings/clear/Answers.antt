@@ -1,4 +1,4 @@
-use Rattle.std.proofs.Common.{◌≡◌, List, ℕ, [], sym, subst}
+use Rattle.std.proofs.Common.{List, ℕ, [], sym, subst}
 use Rattle.node_holdings.specs.Held.{IsHolding}
 use Rattle.node_holdings.proofs.Adding.{none_held}
 use Rattle.node_holdings.proofs.holdings.Holdings.clear.Goals as goal

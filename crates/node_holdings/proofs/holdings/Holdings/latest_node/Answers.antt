@@ -1,4 +1,4 @@
-use Rattle.std.proofs.Common.{◌≡◌, ℕ, List, Some, Option, sym, ap, subst, ◌∙◌}
+use Rattle.std.proofs.Common.{ℕ, List, Some, sym, subst}
 use Rattle.node_codec.specs.Shelves.{Shelf, shelf_of}
 use Rattle.node_shelf.specs.Places.{texts_in}
 use Rattle.node_holdings.specs.Held.{HasNode, HoldingState, IsLatestAt}

@@ -1,5 +1,4 @@
-use Rattle.std.proofs.Common.{◌≡◌, ◌≢◌, ℕ, List, None, Some, Option, sym, ap, subst, ◌∙◌}
-use Rattle.std.specs.Prelude.{AllPairs}
+use Rattle.std.proofs.Common.{ℕ, List, None, sym, subst}
 use Rattle.numbering.specs.Numbers.{IsPlaceOf}
 use Rattle.node_codec.specs.Nodes.{AreNodes}
 use Rattle.node_codec.specs.Shelves.{Shelf, shelf_of}

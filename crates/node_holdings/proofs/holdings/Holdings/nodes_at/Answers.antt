@@ -1,4 +1,3 @@
-use Rattle.std.proofs.Common.{◌≡◌, ◌<◌, ℕ, length, get_or, sym, subst, arith}
 use Rattle.node_codec.specs.Shelves.{shelf_of}
 use Rattle.node_holdings.proofs.NodesAt.{nodes_more}
 use Rattle.node_holdings.proofs.holdings.Holdings.nodes_at.Goals as goal

@@ -1,4 +1,4 @@
-use Rattle.std.proofs.Common.{◌≡◌, [], ◌∷◌, ◌++◌, length, List, ℕ, sym, ap, subst, ◌∙◌}
+use Rattle.std.proofs.Common.{◌≡◌, [], ◌∷◌, ◌++◌, List, ℕ, sym, ap, subst}
 use Rattle.node_codec.specs.Shelves.{with_node_record}
 use Rattle.node_codec.specs.Spans.{spanned}
 use Rattle.node_shelf.specs.Places.{IsShelf, payload_at, shelf_in}

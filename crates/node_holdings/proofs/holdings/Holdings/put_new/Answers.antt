@@ -1,4 +1,4 @@
-use Rattle.std.proofs.Common.{◌≡◌, [], ◌∷◌, ◌++◌, length, List, ℕ, true, sym, ap, subst, ◌∙◌}
+use Rattle.std.proofs.Common.{◌≡◌, [], ◌∷◌, ◌++◌, List, ℕ, true, sym, ap, subst}
 use Rattle.node_codec.specs.Nodes.{AreNodes}
 use Rattle.node_codec.specs.Shelves.{is_draft, with_draft, with_node_record}
 use Rattle.node_codec.specs.Spans.{source_in, spanned}

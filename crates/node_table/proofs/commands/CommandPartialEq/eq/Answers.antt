@@ -1,6 +1,4 @@
-use Rattle.std.proofs.Common.{ap}
 use Rattle.std.specs.Bool.{one_answer}
-use Rattle.node_table.specs.declared.commands.Command.{Command}
 use Rattle.node_table.specs.Commands.{is_same_command, words_decide}
 use Rattle.node_table.proofs.commands.CommandPartialEq.eq.Goals as goal
 

@@ -1,7 +1,7 @@
-use Rattle.std.proofs.Common.{◌≡◌, ◌++◌, ◌∷◌, [], List, ℕ, ap, ◌∙◌, subst}
-use Rattle.std.specs.Prelude.{◌⊎◌, IfOk}
+use Rattle.std.proofs.Common.{ap, ◌∙◌, subst}
+use Rattle.std.specs.Prelude.{IfOk}
 use Rattle.numbering.specs.Numbers.{IsNumbered}
-use Rattle.node_table.specs.Rows.{AreRows, NodesByNumber, words_of}
+use Rattle.node_table.specs.Rows.{NodesByNumber, words_of}
 use Rattle.node_table.proofs.Nodes.{grown_by, more_commands, rows_still, words_grown, words_more, words_once}
 use Rattle.node_table.proofs.table.NodeTable.add_command.Goals as goal
 

@@ -1,4 +1,4 @@
-use Rattle.std.proofs.Common.{◌≡◌, ◌<◌, ℕ, false, List, ◌∷◌, [], ◌++◌, length, set, is_some, sym, ap, subst, ◌∙◌, arith}
+use Rattle.std.proofs.Common.{◌≡◌, ◌<◌, ℕ, false, List, ◌∷◌, [], ◌++◌, length, set, is_some, sym, subst, ◌∙◌, arith}
 use Rattle.numbering.specs.Numbers.{AreFound, IsPlaceOf, NumbersBelow}
 use Rattle.numbering.proofs.Adding.{absent, added}
 use Rattle.numbering.proofs.numbers.NumberSet.add.Goals as goal
