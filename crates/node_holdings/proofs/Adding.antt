@@ -3,7 +3,7 @@ use Rattle.std.proofs.Common.{◌≡◌, ℕ, ◌<◌, true, List, [], ◌∷◌
 use Rattle.node_codec.specs.Forms.{Draft}
 use Rattle.node_codec.specs.Forms.NodePayload.{OfDraft, OfNode}
 use Rattle.node_codec.specs.Nodes.{AreNodes}
-use Rattle.node_codec.specs.Shelves.{Shelf, empty_shelf, is_draft, shelf_of, source_number, with_draft, with_node_record}
+use Rattle.node_codec.specs.Shelves.{Shelf, empty_shelf, is_draft, shelf_of, with_draft, with_node_record}
 use Rattle.node_codec.specs.Spans.{source_in, spanned}
 use Rattle.node_codec.proofs.Taking.{nodes_of}
 use Rattle.node_table.specs.Rows.{node_of}
@@ -45,13 +45,6 @@ draft_here held payloads piece shelf new at holding same adds at_is =
     subst (λ (bytes : List ℕ). is_draft (shelf_in (payloads ++ piece ∷ []) shelf) (draft_by node (source_in bytes new.source)) ≡ true) (sym (payload_last payloads piece at at_is))
     (subst (λ (s : Shelf). is_draft s (draft_by node (source_in piece new.source)) ≡ true) (sym (is_still payloads piece shelf holding))
     (subst (λ (ps : List (List ℕ)). is_draft (shelf_of ps) (draft_by node (source_in piece new.source)) ≡ true) same adds.draft))
-
-pub text_here : (held : HoldingState) (payloads : List (List ℕ)) (piece : List ℕ) (shelf : ShelfPlaces) (new : NewNode) (at : ℕ) → IsHolding payloads shelf → held.payloads ≡ payloads → AddsNode held piece new → at ≡ length payloads → new.row.text ≡ source_number (texts_in (payloads ++ piece ∷ []) shelf.texts) (source_in (payload_at (payloads ++ piece ∷ []) at) new.source)
-text_here held payloads piece shelf new at holding same adds at_is =
-    adds.text
-    ∙ ap (λ (ps : List (List ℕ)). source_number (shelf_of ps).texts (source_in piece new.source)) same
-    ∙ ap (λ (s : Shelf). source_number s.texts (source_in piece new.source)) (sym (is_still payloads piece shelf holding))
-    ∙ ap (λ (bytes : List ℕ). source_number (texts_in (payloads ++ piece ∷ []) shelf.texts) (source_in bytes new.source)) (sym (payload_last payloads piece at at_is))
 
 pub new_added : (held : HoldingState) (payloads : List (List ℕ)) (piece : List ℕ) (shelf mid new_shelf : ShelfPlaces) (new : NewNode) (at number : ℕ) → IsHolding payloads shelf → held.payloads ≡ payloads → AddsNode held piece new → at ≡ length payloads → number ≡ length shelf.table.nodes → IsShelf (payloads ++ piece ∷ []) new_shelf → shelf_in (payloads ++ piece ∷ []) mid ≡ with_draft (shelf_in (payloads ++ piece ∷ []) shelf) (draft_by (node_of held.names held.commands new.row) (source_in (payload_at (payloads ++ piece ∷ []) at) new.source)) → shelf_in (payloads ++ piece ∷ []) new_shelf ≡ with_node_record (shelf_in (payloads ++ piece ∷ []) mid) number (spanned (payload_at (payloads ++ piece ∷ []) at) new.artefact) → IsHolding (payloads ++ piece ∷ []) new_shelf
 new_added held payloads piece shelf mid new_shelf new at number holding same adds at_is number_is are mid_is is =

@@ -17,9 +17,6 @@ use Rattle.node_codec.specs.Shelves.{Shelf}
 use Rattle.node_holdings.specs.Held.{HasNode, IsNumberOfView}
 use Rattle.node_holdings.proofs.Sought.{some_inner}
 
-view_same : (a b : Record) → a ≡ b → a.view ≡ b.view
-view_same a b e = ap (λ (r : Record). r.view) e
-
 -- the latest record of a file has its present view where its node has it
 pub recorded : (shelf : Shelf) (graph : List Entry) (at : ℕ) (entry : Entry) (node : ℕ) → slice_get graph at ≡ Some entry → HasNode shelf entry.name node → unfolded shelf.texts shelf.nodes node ≡ view graph at → IsRecorded (λ name. latest name shelf.records) graph at
 recorded shelf graph at entry node found has same = record {

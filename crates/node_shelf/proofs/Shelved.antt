@@ -1,12 +1,10 @@
 -- A shelf with one more record or draft.
-use Rattle.std.proofs.Common.{◌≡◌, ℕ, ◌+◌, ◌<◌, ◌≤◌, Bool, true, false, ◌&&◌, nat_lt, suc, List, [], ◌∷◌, ◌++◌, length, map, take, get_or, None, Some, Option, Ok, Err, Result, refl, sym, ap, subst, ◌∙◌, arith, inl, inr, length-append, if◌then◌else◌}
+use Rattle.std.proofs.Common.{◌≡◌, ℕ, ◌+◌, ◌<◌, ◌≤◌, Bool, true, false, ◌&&◌, nat_lt, suc, List, [], ◌∷◌, ◌++◌, length, map, take, get_or, None, Some, Option, Ok, Err, Result, refl, sym, ap, subst, ◌∙◌, arith, length-append, if◌then◌else◌}
 use Rattle.std.specs.Prelude.{All, IfOk, slice_get}
 use Rattle.std.specs.List.{fold}
 use Rattle.std.specs.Option.{option_map_or}
-use Rattle.std.proofs.lemmas.Bool.{cases_lt}
 use Rattle.std.proofs.lemmas.Bool.Decides.{nat_tests}
-use Rattle.std.proofs.lemmas.List.{append-nil, get_or_append_left, get_or_at, map-append}
-use Rattle.std.proofs.lemmas.List.Elements.{All-push}
+use Rattle.std.proofs.lemmas.List.{append-nil, get_or_append_left}
 use Rattle.std.proofs.lemmas.List.Sums.{fold_push}
 use Rattle.std.proofs.Math.Seq.{take-suc}
 use Rattle.std.proofs.lemmas.Option.{get_or_from_slice_get, slice_get-get_or, slice_get_within}
@@ -21,8 +19,7 @@ use Rattle.node_codec.specs.Nodes.{AreNodes, Node}
 use Rattle.node_codec.specs.Shelves.{Shelf, after_payload, draft_node, empty_shelf, is_artefact, is_draft, shelf_of, source_number, with_draft, with_node_record, with_payload, with_source}
 use Rattle.node_codec.proofs.Growing.{unfolded_grown}
 use Rattle.node_codec.proofs.Taking.{more_of, source_more}
-use Rattle.node_table.specs.declared.rows.Row.{Row}
-use Rattle.node_table.specs.Rows.{IsRowIn, NodesByNumber, no_name, node_in}
+use Rattle.node_table.specs.Rows.{NodesByNumber, no_name}
 use Rattle.node_fits.specs.Fits.{blank_node}
 use Rattle.node_shelf.specs.declared.records.RecordPlace.{RecordPlace}
 use Rattle.node_shelf.specs.declared.records.RecordPlaces.{RecordPlaces}
@@ -44,40 +41,6 @@ shelf_by texts nodes records = record { texts = texts; nodes = nodes; records = 
 
 pub no_place : RecordPlace
 no_place = record { node = 0; payload = 0; artefact = record { start = 0; count = 0 } }
-
--- the name of a node by its number
-pub name_here : (table : NodesByNumber) (node : ℕ) (row : Row) → slice_get table.nodes node ≡ Some (node_in table row) → IsRowIn table.names table.commands row → slice_get table.names row.name ≡ Some (get_or table.nodes node blank_node).name
-name_here table node row at in_table =
-    let here : get_or table.nodes node blank_node ≡ node_in table row = get_or_from_slice_get table.nodes node (node_in table row) blank_node at in
-    slice_get-get_or table.names row.name no_name in_table.name ∙ ap (λ (n : Node). Some n.name) (sym here)
-
--- one more record
-pub records_more : (payloads : List (List ℕ)) (table : NodesByNumber) (old new : RecordPlaces) (place : RecordPlace) (name : ℕ) → AreRecords payloads table old → IsKeptIn payloads table.nodes place → slice_get table.names name ≡ Some (get_or table.nodes place.node blank_node).name → new.places.items ≡ old.places.items ++ place ∷ [] → new.names.marks ≡ old.names.marks ++ name ∷ [] → AreRecords payloads table new
-records_more payloads table old new place name are kept named places names =
-    let count : length new.places.items ≡ length old.places.items + 1 = ap length places ∙ length-append old.places.items (place ∷ []) in
-    let marks : length new.names.marks ≡ length old.names.marks + 1 = ap length names ∙ length-append old.names.marks (name ∷ []) in
-    record {
-      kept = subst (All (IsKeptIn payloads table.nodes)) (sym places) (All-push (IsKeptIn payloads table.nodes) old.places.items place are.kept kept);
-      as_many = omega (arith, count, marks, are.as_many);
-      named = λ k other l.
-          elim (cases_lt k (length old.places.items)) [
-            | inl a ↦
-                let mark : get_or new.names.marks k 0 ≡ get_or old.names.marks k 0 = ap (λ (ms : List ℕ). get_or ms k 0) names ∙ get_or_append_left old.names.marks (name ∷ []) 0 k (omega (arith, are.as_many)) in
-                let here : get_or new.places.items k other ≡ get_or old.places.items k other = ap (λ (ps : List RecordPlace). get_or ps k other) places ∙ get_or_append_left old.places.items (place ∷ []) other k a in
-                ap (λ (m : ℕ). slice_get table.names m) mark ∙ are.named k other a ∙ ap (λ (p : RecordPlace). Some (get_or table.nodes p.node blank_node).name) (sym here)
-            | inr a ↦
-                let end : length old.places.items ≡ k = omega (arith, count) in
-                let mark : get_or new.names.marks k 0 ≡ name = ap (λ (ms : List ℕ). get_or ms k 0) names ∙ get_or_at old.names.marks name [] 0 k (omega (arith, are.as_many)) in
-                let here : get_or new.places.items k other ≡ place = ap (λ (ps : List RecordPlace). get_or ps k other) places ∙ get_or_at old.places.items place [] other k end in
-                ap (λ (m : ℕ). slice_get table.names m) mark ∙ named ∙ ap (λ (p : RecordPlace). Some (get_or table.nodes p.node blank_node).name) (sym here)
-          ];
-    }
-
-pub record_more : (payloads : List (List ℕ)) (shelf : ShelfPlaces) (new : RecordPlaces) (place : RecordPlace) → new.places.items ≡ shelf.records.places.items ++ place ∷ [] → shelf_in payloads (record { table = shelf.table; texts = shelf.texts; records = new }) ≡ with_node_record (shelf_in payloads shelf) place.node (artefact_in payloads place)
-unfolding shelf_by
-record_more payloads shelf new place places =
-    let f = record_in payloads (texts_in payloads shelf.texts) shelf.table.nodes in
-    ap (shelf_by (texts_in payloads shelf.texts) shelf.table.nodes) (ap (map f) places ∙ map-append f shelf.records.places.items (place ∷ []))
 
 -- what adds nothing
 pub no_node : (shelf : Shelf) (number : ℕ) (artefact : List ℕ) → length shelf.nodes ≤ number → with_payload shelf (OfNode number artefact) ≡ shelf
