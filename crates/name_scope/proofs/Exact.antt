@@ -26,7 +26,7 @@ use Rattle.name_scope.specs.Names.{group_number, implicit, name_of_number, numbe
 use Rattle.name_scope.specs.Wants.{context_want, gate_of, group_of, own_groups, wants_of}
 use Rattle.name_scope.specs.Scopes.{as_scope}
 use Rattle.name_scope.specs.Graph.{IsRowOf}
-use Rattle.name_scope.specs.Joins.{IsLinkFor, IsLinked, IsOneOf, link_of, scope_at}
+use Rattle.name_scope.specs.Joins.{IsLinkFor, IsLinked, IsLinkedFor, IsOneOf, link_of, scope_at}
 use Rattle.name_scope.specs.Exact.{AreGrown}
 use Rattle.name_scope.proofs.BitLemmas.{past}
 use Rattle.name_scope.proofs.KeyLemmas.{numbered}
@@ -81,7 +81,7 @@ own_list unit = implicit ++ unit.names
 abbrev wants_at : List ScopeUnit → ℕ → List Want
 wants_at units at = wants_of (unit_at units at).library (unit_at units at).unit (unit_at units at).contexts
 
-module _ (units : List ScopeUnit) (names : List (List ℕ)) (rows : List (List ℕ)) (is : AreGrown (map as_scope units) names rows) where
+module _ (units : List ScopeUnit) (names : List (List ℕ)) (rows : List (List ℕ)) (is : AreGrown (map as_scope units) units names rows) where
   abbrev links : List (List Link)
   links = is.of_units ++ is.of_groups
 
@@ -89,7 +89,7 @@ module _ (units : List ScopeUnit) (names : List (List ℕ)) (rows : List (List �
   scopes_long = length-map units as_scope
 
   links_long : length is.of_units ≡ length units
-  links_long = as_long _ is.of_units (map (λ (unit : UnitScope). unit.wants) (map as_scope units)) is.links_are ∙ (length-map (map as_scope units) (λ (unit : UnitScope). unit.wants) ∙ scopes_long)
+  links_long = as_long (IsLinkedFor names is.groups (length (map as_scope units))) is.of_units units is.links_are
 
   scope_is : (at : ℕ) → at < length units → scope_at (map as_scope units) at ≡ as_scope (unit_at units at)
   scope_is at within = get_or-map as_scope units at no_unit _ within
@@ -102,12 +102,8 @@ module _ (units : List ScopeUnit) (names : List (List ℕ)) (rows : List (List �
 
   linked_at : (at : ℕ) → at < length units → IsLinked names is.groups (length units) (wants_at units at) (links_at is.of_units at)
   linked_at at within =
-      let below : at < length (map as_scope units) = omega (arith, scopes_long) in
-      let wants : get_or (map (λ (unit : UnitScope). unit.wants) (map as_scope units)) at [] ≡ wants_at units at =
-      get_or-map (λ (unit : UnitScope). unit.wants) (map as_scope units) at (as_scope no_unit) [] below ∙ ap (λ (unit : UnitScope). unit.wants) (get_or-map as_scope units at no_unit (as_scope no_unit) within) in
-      let one = at_place (λ (some : List Link) (wants : List Want). IsLinked names is.groups (length (map as_scope units)) wants some) is.of_units (map (λ (unit : UnitScope). unit.wants) (map as_scope units)) at [] [] is.links_are (omega (arith, length-map (map as_scope units) (λ (unit : UnitScope). unit.wants))) in
       subst (λ (n : ℕ). IsLinked names is.groups n (wants_at units at) (links_at is.of_units at)) scopes_long
-      (subst (λ (w : List Want). IsLinked names is.groups (length (map as_scope units)) w (links_at is.of_units at)) wants one)
+      (at_place (IsLinkedFor names is.groups (length (map as_scope units))) is.of_units units at [] no_unit is.links_are within)
 
   abbrev lists : List (List (List ℕ))
   lists = map own_list (map as_scope units) ++ replicate (length is.groups) (implicit ++ [])

@@ -4,17 +4,17 @@ use Rattle.std.specs.List.{All, AllZip, flat_map}
 use Rattle.std.proofs.Math.Seq.{take-append_seam}
 use Rattle.std.proofs.lemmas.List.{get_or_default, length-map, length-replicate}
 use Rattle.std.proofs.lemmas.List.Elements.{All-append, Contains-append_right, Contains-get_or}
+use Rattle.scan_spec.specs.Visibility.{ScopeUnit}
 use Rattle.name_scope.specs.declared.links.Link.{Link}
 use Rattle.name_scope.specs.declared.scope.UnitScope.{UnitScope}
 use Rattle.name_scope.specs.declared.want.Group.{Group}
-use Rattle.name_scope.specs.declared.want.Want.{Want}
 use Rattle.name_scope.specs.Groups.{is_same_group}
 use Rattle.name_scope.specs.Links.{AreBelow, AreEven, links_at}
 use Rattle.name_scope.specs.Names.{HasAll, group_number, implicit}
-use Rattle.name_scope.specs.Wants.{group_of}
+use Rattle.name_scope.specs.Wants.{group_of, unit_wants}
 use Rattle.name_scope.specs.Graph.{AreNamed, IsRowOf}
-use Rattle.name_scope.specs.Joins.{AreMembers, IsLinkFor, IsLinked}
-use Rattle.name_scope.proofs.Exact.{in_parts}
+use Rattle.name_scope.specs.Joins.{AreMembers, IsLinkFor, IsLinkedFor}
+use Rattle.name_scope.proofs.Exact.{in_parts, no_unit}
 use Rattle.name_scope.proofs.KeyLemmas.{numbered}
 use Rattle.name_scope.proofs.NameLemmas.{same_group, told_group}
 use Rattle.name_scope.proofs.ScopeLemmas.{as_long, at_place}
@@ -24,7 +24,7 @@ pub names_known : (units : List UnitScope) (names : List (List ℕ)) → HasAll 
 names_known units names are k d within name there =
     are.added name (Contains-append_right implicit (flat_map (λ (unit : UnitScope). unit.names) units) name (in_parts (λ (unit : UnitScope). unit.names) units (get_or units k d) name (Contains-get_or units k d within) there))
 
-module _ (units : List UnitScope) (names : List (List ℕ)) (groups : List Group) (words : ℕ) (rows : List (List ℕ)) (of_units of_groups : List (List Link)) (gate : ℕ) (rows_are : AllZip (IsRowOf names words) rows (map (λ unit. implicit ++ unit.names) units ++ replicate (length groups) (implicit ++ []))) (links_are : AllZip (λ some wants. IsLinked names groups (length units) wants some) of_units (map (λ unit. unit.wants) units)) (members_are : AreMembers groups units gate of_groups) where
+module _ (units : List UnitScope) (names : List (List ℕ)) (groups : List Group) (words : ℕ) (rows : List (List ℕ)) (of_units of_groups : List (List Link)) (gate : ℕ) (rows_are : AllZip (IsRowOf names words) rows (map (λ unit. implicit ++ unit.names) units ++ replicate (length groups) (implicit ++ []))) (users : List ScopeUnit) (long : length users ≡ length units) (links_are : AllZip (IsLinkedFor names groups (length units)) of_units users) (members_are : AreMembers groups units gate of_groups) where
   abbrev lists : List (List (List ℕ))
   lists = map (λ (unit : UnitScope). implicit ++ unit.names) units ++ replicate (length groups) (implicit ++ [])
 
@@ -35,7 +35,7 @@ module _ (units : List UnitScope) (names : List (List ℕ)) (groups : List Group
   rows_long = as_long (IsRowOf names words) rows lists rows_are ∙ lists_long
 
   units_long : length of_units ≡ length units
-  units_long = as_long (λ (some : List Link) (wants : List Want). IsLinked names groups (length units) wants some) of_units (map (λ (unit : UnitScope). unit.wants) units) links_are ∙ length-map units (λ (unit : UnitScope). unit.wants)
+  units_long = as_long (IsLinkedFor names groups (length units)) of_units users links_are ∙ long
 
   pub ready_each : length (of_units ++ of_groups) ≡ length rows
   ready_each = omega (arith, length-append of_units of_groups, units_long, members_are.each, rows_long)
@@ -46,8 +46,8 @@ module _ (units : List UnitScope) (names : List (List ℕ)) (groups : List Group
       row.even
 
   unit_below : (at : ℕ) → at < length of_units → (link : Link) → Contains (links_at of_units at) link → link.source < length rows
-  unit_below at within link there = by_link ((at_place (λ (some : List Link) (wants : List Want). IsLinked names groups (length units) wants some) of_units (map (λ (unit : UnitScope). unit.wants) units) at [] [] links_are (omega (arith, units_long, length-map units (λ (unit : UnitScope). unit.wants)))).only link there) where
-    by_link : Contains [] link ⊎ IsLinkFor names groups (length units) (get_or (map (λ (unit : UnitScope). unit.wants) units) at []) link → link.source < length rows
+  unit_below at within link there = by_link ((at_place (IsLinkedFor names groups (length units)) of_units users at [] no_unit links_are (omega (arith, units_long, long))).only link there) where
+    by_link : Contains [] link ⊎ IsLinkFor names groups (length units) (unit_wants (get_or users at no_unit)) link → link.source < length rows
     by_link (inl none) = absurd (omega (arith, none.1))
     by_link (inr for) =
         let source : link.source ≡ length units + group_number groups for.want.group = ap (λ (l : Link). l.source) for.is in

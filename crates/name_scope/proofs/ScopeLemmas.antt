@@ -28,14 +28,17 @@ no_unit : DesignUnit
 no_unit = record { kind = kinds.Entity; name = []; owner = Nothing; lead = 0; first = 0; last = 0 }
 
 -- one unit more of a file
-pub scope_more : (library text : List ℕ) (scan : Scan) (number : ℕ) (scopes : List UnitScope) (scope : UnitScope) (units : List ScopeUnit) → number < length scan.units → IsScopeAt library text scan number scope → AllZip IsScopeOf scopes (units ++ map (scope_unit library text scan) (take number scan.units)) → AllZip IsScopeOf (scopes ++ scope ∷ []) (units ++ map (scope_unit library text scan) (take (number + 1) scan.units))
-scope_more library text scan number scopes scope units within is so_far =
+pub unit_more : {X : Type 0} (R : X → ScopeUnit → Type 0) (library text : List ℕ) (scan : Scan) (number : ℕ) (found : List X) (one : X) (units : List ScopeUnit) → number < length scan.units → ((unit : DesignUnit) → slice_get scan.units number ≡ Some unit → R one (scope_unit library text scan unit)) → AllZip R found (units ++ map (scope_unit library text scan) (take number scan.units)) → AllZip R (found ++ one ∷ []) (units ++ map (scope_unit library text scan) (take (number + 1) scan.units))
+unit_more R library text scan number found one units within is so_far =
     let unit : DesignUnit = get_or scan.units number no_unit in
     let done : List ScopeUnit = map (scope_unit library text scan) (take number scan.units) in
     let all : units ++ map (scope_unit library text scan) (take (number + 1) scan.units) ≡ (units ++ done) ++ scope_unit library text scan unit ∷ [] =
     ap (λ (some : List DesignUnit). units ++ map (scope_unit library text scan) some) (take_more scan.units number no_unit within)
     ∙ (ap (λ (some : List ScopeUnit). units ++ some) (map-append (scope_unit library text scan) (take number scan.units) (unit ∷ [])) ∙ sym (append_assoc units done (scope_unit library text scan unit ∷ []))) in
-    subst (AllZip IsScopeOf (scopes ++ scope ∷ [])) (sym all) (AllZip-push IsScopeOf scopes (units ++ done) scope (scope_unit library text scan unit) so_far (is unit (slice_get-get_or scan.units number no_unit within)))
+    subst (AllZip R (found ++ one ∷ [])) (sym all) (AllZip-push R found (units ++ done) one (scope_unit library text scan unit) so_far (is unit (slice_get-get_or scan.units number no_unit within)))
+
+pub scope_more : (library text : List ℕ) (scan : Scan) (number : ℕ) (scopes : List UnitScope) (scope : UnitScope) (units : List ScopeUnit) → number < length scan.units → IsScopeAt library text scan number scope → AllZip IsScopeOf scopes (units ++ map (scope_unit library text scan) (take number scan.units)) → AllZip IsScopeOf (scopes ++ scope ∷ []) (units ++ map (scope_unit library text scan) (take (number + 1) scan.units))
+scope_more library text scan number scopes scope units within is so_far = unit_more IsScopeOf library text scan number scopes scope units within is so_far
 
 -- the units of one file more
 pub file_more : (files : List ProjectFile) (texts : List (List ℕ)) (scans : List Scan) (at : ℕ) (file : ProjectFile) (text : List ℕ) (scan : Scan) → slice_get files at ≡ Some file → slice_get texts at ≡ Some text → slice_get scans at ≡ Some scan → scope_units (take (at + 1) files) (take (at + 1) texts) (take (at + 1) scans) ≡ scope_units (take at files) (take at texts) (take at scans) ++ map (scope_unit file.name.library text scan) scan.units

@@ -95,7 +95,7 @@ same_scopes (s ∷ scopes) [] all = absurd all
 same_scopes (s ∷ scopes) (u ∷ units) all = ap (λ (first : UnitScope). first ∷ scopes) (all.0) ∙ ap (λ (rest : List UnitScope). as_scope u ∷ rest) (same_scopes scopes units (all.1))
 
 -- the names of a row are those that its unit sees
-module _ (units : List ScopeUnit) (names : List (List ℕ)) (rows : List (List ℕ)) (is : AreGrown (map as_scope units) names rows) (at : ℕ) (within : at < length units) (user : ScopeUnit) (found : get_or units at no_unit ≡ user) where
+module _ (units : List ScopeUnit) (names : List (List ℕ)) (rows : List (List ℕ)) (is : AreGrown (map as_scope units) units names rows) (at : ℕ) (within : at < length units) (user : ScopeUnit) (found : get_or units at no_unit ≡ user) where
   row : List ℕ
   row = place_row rows at
 
@@ -116,14 +116,14 @@ module _ (units : List ScopeUnit) (names : List (List ℕ)) (rows : List (List �
   pub row_is : (name : List ℕ) → list_any (bytes_eq name) (row_names names (place_row rows at)) ≡ sees units user name
   row_is name = both_ways (list_any (bytes_eq name) (row_names names (place_row rows at))) (sees units user name) (there name) (back name)
 
-pub visible : (files : List ProjectFile) (texts : List (List ℕ)) (scans : List Scan) (scopes : Scopes) (names : List (List ℕ)) (rows : List (List ℕ)) → AreScopes files texts scans scopes → AreGrown scopes.units.items names rows → AreVisible files texts scans (table_of scopes.starts.items names rows)
+pub visible : (files : List ProjectFile) (texts : List (List ℕ)) (scans : List Scan) (scopes : Scopes) (names : List (List ℕ)) (rows : List (List ℕ)) → AreScopes files texts scans scopes → AreGrown scopes.units.items (scope_units files texts scans) names rows → AreVisible files texts scans (table_of scopes.starts.items names rows)
 unfolding table_of
 visible files texts scans scopes names rows are is = record { each = are.each; sees = by_unit } where
   units : List ScopeUnit
   units = scope_units files texts scans
 
-  grown : AreGrown (map as_scope (scope_units files texts scans)) names rows
-  grown = subst (λ (some : List UnitScope). AreGrown some names rows) (same_scopes scopes.units.items (scope_units files texts scans) are.units) is
+  grown : AreGrown (map as_scope (scope_units files texts scans)) (scope_units files texts scans) names rows
+  grown = subst (λ (some : List UnitScope). AreGrown some (scope_units files texts scans) names rows) (same_scopes scopes.units.items (scope_units files texts scans) are.units) is
 
   by_unit : (id : UnitId) (user : ScopeUnit) → IsUnitAt files texts scans id user → (name : List ℕ) → list_any (bytes_eq name) (get_or (map (row_names names) rows) (get_or scopes.starts.items id.file 0 + id.unit) []) ≡ sees (scope_units files texts scans) user name
   by_unit id user unit name =

@@ -2,6 +2,7 @@
 use Rattle.std.specs.Prelude.{ℕ, List, [], ◌++◌, length, map, replicate}
 use Rattle.std.specs.List.{AllZip, flat_map}
 use Rattle.scan_spec.specs.References.{work}
+use Rattle.scan_spec.specs.Visibility.{ScopeUnit}
 use Rattle.name_scope.specs.declared.links.Link.{Link}
 use Rattle.name_scope.specs.declared.scope.UnitScope.{UnitScope}
 use Rattle.name_scope.specs.declared.want.Group.{Group}
@@ -9,10 +10,10 @@ use Rattle.name_scope.specs.Bits.{has}
 use Rattle.name_scope.specs.Links.{AreTaken, HasSpread}
 use Rattle.name_scope.specs.Names.{HasAll, implicit, number_of}
 use Rattle.name_scope.specs.Graph.{IsRowOf}
-use Rattle.name_scope.specs.Joins.{AreMembers, IsLinked}
+use Rattle.name_scope.specs.Joins.{AreMembers, IsLinkedFor}
 
--- rows that were grown from what units say
-pub record AreGrown (units : List UnitScope) (names : List (List ℕ)) (rows : List (List ℕ)) : Type 0 where
+-- rows that were grown from what units say, and from what they want
+pub record AreGrown (units : List UnitScope) (users : List ScopeUnit) (names : List (List ℕ)) (rows : List (List ℕ)) : Type 0 where
   pub groups : List Group
   pub words : ℕ
   pub first : List (List ℕ)
@@ -21,7 +22,7 @@ pub record AreGrown (units : List UnitScope) (names : List (List ℕ)) (rows : L
   pub names_are : HasAll (implicit ++ flat_map (λ unit. unit.names) units) [] names
   pub groups_are : HasAll (flat_map (λ unit. unit.groups) units) [] groups
   pub rows_are : AllZip (IsRowOf names words) first (map (λ unit. implicit ++ unit.names) units ++ replicate (length groups) (implicit ++ []))
-  pub links_are : AllZip (λ some wants. IsLinked names groups (length units) wants some) of_units (map (λ unit. unit.wants) units)
+  pub links_are : AllZip (IsLinkedFor names groups (length units)) of_units users
   pub members_are : AreMembers groups units (number_of names work) of_groups
   pub spread : HasSpread (of_units ++ of_groups) first rows
   pub taken : AreTaken (of_units ++ of_groups) (has rows)

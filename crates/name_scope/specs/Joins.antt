@@ -1,12 +1,13 @@
 -- Links between units and groups, by what units want and are.
 use Rattle.std.specs.Prelude.{◌≡◌, ℕ, ◌+◌, ◌<◌, ◌⊎◌, List, [], Contains, length, slice_index_or}
+use Rattle.scan_spec.specs.Visibility.{ScopeUnit}
 use Rattle.name_scope.specs.declared.links.Link.{Link}
 use Rattle.name_scope.specs.declared.scope.UnitScope.{UnitScope}
 use Rattle.name_scope.specs.declared.want.Group.{Group}
 use Rattle.name_scope.specs.declared.want.Want.{Want}
 use Rattle.name_scope.specs.Links.{links_at}
 use Rattle.name_scope.specs.Names.{group_number, number_of}
-use Rattle.name_scope.specs.Wants.{gate_of}
+use Rattle.name_scope.specs.Wants.{gate_of, unit_wants}
 
 -- the link for what is wanted: to the place of the group, after those of the units
 abbrev pub link_of : List (List ℕ) → List Group → ℕ → Want → Link
@@ -34,6 +35,10 @@ pub record HasLinked (names : List (List ℕ)) (groups : List Group) (places : �
 abbrev pub IsLinked : List (List ℕ) → List Group → ℕ → List Want → List Link → Type 0
 IsLinked names groups places wants links = HasLinked names groups places wants [] links
 
+-- links are exactly those for what a unit wants
+abbrev pub IsLinkedFor : List (List ℕ) → List Group → ℕ → List Link → ScopeUnit → Type 0
+IsLinkedFor names groups places links unit = IsLinked names groups places (unit_wants unit) links
+
 -- a place is that of one of some groups
 pub record IsOneOf (groups own : List Group) (at : ℕ) : Type 0 where
   pub group : Group
@@ -50,7 +55,7 @@ pub record HasMember (groups own : List Group) (link : Link) (old new : List (Li
 
 -- the unit of a place
 abbrev pub scope_at : List UnitScope → ℕ → UnitScope
-scope_at units at = slice_index_or units at (record { groups = []; names = []; wants = [] })
+scope_at units at = slice_index_or units at (record { groups = []; names = [] })
 
 -- the links of groups lead to exactly the units in them, up to a place
 pub record AreMembersTo (end : ℕ) (groups : List Group) (units : List UnitScope) (gate : ℕ) (members : List (List Link)) : Type 0 where

@@ -7,7 +7,10 @@ use Rattle.vr_base.specs.declared.project.ProjectFile.{ProjectFile}
 use Rattle.vr_base.specs.declared.limits.TheConstants.{TEXT_LIMIT}
 use Rattle.scan_spec.specs.Visibility.{ScopeUnit, scope_unit, scope_units}
 use Rattle.name_scope.specs.declared.scope.UnitScope.{UnitScope}
-use Rattle.name_scope.specs.Wants.{own_groups, wants_of}
+use Rattle.name_scope.specs.declared.links.Link.{Link}
+use Rattle.name_scope.specs.declared.want.Group.{Group}
+use Rattle.name_scope.specs.Wants.{own_groups}
+use Rattle.name_scope.specs.Joins.{IsLinkedFor}
 use Rattle.name_scope.specs.declared.scope.Scopes.{Scopes}
 
 abbrev pub IsTextSmall : List ℕ → Type 0
@@ -15,7 +18,7 @@ IsTextSmall text = length text ≤ TEXT_LIMIT
 
 -- the program's record of a unit
 abbrev pub as_scope : ScopeUnit → UnitScope
-as_scope unit = record { groups = own_groups unit.library unit.unit; names = unit.names; wants = wants_of unit.library unit.unit unit.contexts }
+as_scope unit = record { groups = own_groups unit.library unit.unit; names = unit.names }
 
 abbrev pub IsScopeOf : UnitScope → ScopeUnit → Type 0
 IsScopeOf scope unit = scope ≡ as_scope unit
@@ -37,3 +40,7 @@ pub record AreScopes (files : List ProjectFile) (texts : List (List ℕ)) (scans
   pub units : AllZip IsScopeOf scopes.units.items (scope_units files texts scans)
   pub each : length scopes.starts.items ≡ length files
   pub starts : (file : ℕ) → file < length files → slice_index scopes.starts.items file ≡ units_before files texts scans file
+
+-- the links of the units of a file were added
+abbrev pub AddsLinks : List (List ℕ) → List Group → ℕ → List ℕ → List ℕ → Scan → List (List Link) → List (List Link) → Type 0
+AddsLinks names groups places library text scan old new = (units : List ScopeUnit) → AllZip (IsLinkedFor names groups places) old units → AllZip (IsLinkedFor names groups places) new (units ++ map (scope_unit library text scan) scan.units)

@@ -6,7 +6,7 @@ use Rattle.vr_base.specs.declared.child.MaybeText.TheVariants.{Nothing, Given}
 use Rattle.vr_base.specs.declared.design.Unit.{Unit as DesignUnit}
 use Rattle.vr_base.specs.declared.refs.Ref.{Ref}
 use Rattle.scan_spec.specs.References.{work, is_context_kind}
-use Rattle.scan_spec.specs.Visibility.{is_secondary, primary_name}
+use Rattle.scan_spec.specs.Visibility.{ScopeUnit, is_secondary, primary_name}
 use Rattle.name_scope.specs.declared.want.Group.{Group}
 use Rattle.name_scope.specs.declared.want.Want.{Want}
 
@@ -32,3 +32,6 @@ gate_of want = if want.own then work else want.group.library
 
 abbrev pub wants_of : List ℕ → DesignUnit → List Ref → List Want
 wants_of library unit contexts = primary_wants library (primary_name unit.kind unit) ++ map (context_want library) contexts
+
+abbrev pub unit_wants : ScopeUnit → List Want
+unit_wants unit = wants_of unit.library unit.unit unit.contexts

@@ -1,7 +1,6 @@
 //! The links of units to groups, and of groups to the units in them.
 
-ghost use Rattle.std.specs.Prelude.{◌≡◌, ◌+◌, ◌<◌, ◌≤◌, ◌∷◌, [], IfOk, OnOk, length, map, replicate};
-ghost use Rattle.std.specs.List.{AllZip};
+ghost use Rattle.std.specs.Prelude.{◌≡◌, ◌+◌, ◌<◌, ◌≤◌, ◌∷◌, [], IfOk, OnOk, length, replicate};
 ghost use Rattle.name_scope.specs.Names.{keys_of};
 ghost use Rattle.name_scope.specs.Joins.{AreMembers, HasLinked, HasMember, IsLinked};
 
@@ -39,7 +38,7 @@ fn add_link(
 }
 
 /// The links for what one unit wants.
-fn links_of(
+pub fn links_of(
     alloc: Global,
     names: &Names,
     groups: &Groups,
@@ -52,25 +51,6 @@ fn links_of(
     let mut links = Items::new(alloc);
     for want in wants {
         add_link(names, groups, places, want, &mut links)?;
-    }
-    Ok(links)
-}
-
-/// The links of all units.
-pub fn unit_links(
-    alloc: Global,
-    names: &Names,
-    groups: &Groups,
-    units: &[UnitScope],
-) -> Result<Vec<Items<Link>>, NoMemory>
-    requires { length units.now + length groups.now.keys ≤ usize.MAX }
-    ensures { IfOk result (λ links.
-        AllZip (λ some wants. IsLinked (keys_of names.now) groups.now.keys (length units.now) wants some)
-        links.items (map (λ unit. unit.wants) units.now)) }
-{
-    let mut links = Vec::new(alloc);
-    for unit in units {
-        links.push(links_of(alloc, names, groups, units.len(), unit.wants.as_slice())?)?;
     }
     Ok(links)
 }

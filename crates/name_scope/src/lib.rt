@@ -4,6 +4,7 @@
 mod bits;
 mod groups;
 mod joins;
+mod linking;
 mod links;
 mod listing;
 mod look;

@@ -6,19 +6,18 @@ ghost use Rattle.scan_spec.specs.Units.{roles_of};
 ghost use Rattle.scan_spec.specs.Scans.{AreScansOf, IsScanOf};
 ghost use Rattle.name_scope.specs.Scopes.{AddsScopes, AreScopes, IsScopeAt, IsTextSmall};
 
-use crate::want::{Group, Want};
-use crate::wants::{own_groups, wants_of};
+use crate::want::Group;
+use crate::wants::own_groups;
 use std::alloc::Global;
-use vhdl_refs::{context_refs, library_names};
+use vhdl_refs::library_names;
 use vhdl_units::roles_of;
 use vr_base::{Items, NoMemory, Project, RoleList, Scan, Scans, TEXT_LIMIT, Text, TextList};
 
-/// What a design unit is to others: the groups that it is in, the names of its library clauses, and what it wants.
+/// What a design unit is to others: the groups that it is in, and the names of its library clauses.
 #[derive(Drop)]
 pub struct UnitScope {
     pub groups: Items<Group>,
     pub names: TextList,
-    pub wants: Items<Want>,
 }
 
 /// The units of a project, file by file, and for each file the number of its first unit.
@@ -44,11 +43,9 @@ fn scope_of(
     ensures { IfOk result (IsScopeAt library.now text.now scan.now number) }
 {
     let unit = scan.units.get(number as u64);
-    let contexts = context_refs(alloc, text, scan, roles, number)?;
     Ok(UnitScope {
         groups: own_groups(alloc, library, unit)?,
         names: library_names(alloc, text, scan, roles, number)?,
-        wants: wants_of(alloc, library, unit, contexts)?,
     })
 }
 

@@ -11,7 +11,8 @@ ghost use Rattle.name_scope.specs.Scopes.{IsTextSmall};
 ghost use Rattle.name_scope.specs.Tables.{AreExactly, AreVisible, ListsNames, IsUnitAt, set_at, table_sees};
 
 use crate::groups::groups_of;
-use crate::joins::{group_links, unit_links};
+use crate::joins::group_links;
+use crate::linking::links_of_units;
 use crate::listing::{rising_names, sees_name};
 use crate::names::{self, Names, names_of};
 use crate::own::rows_of;
@@ -24,9 +25,22 @@ use std::marker::Model;
 use vr_base::{Items, NoMemory, Project, Scans, TextList, UnitId};
 
 /// The rows of units, grown until each takes all that it wants.
-fn grown_rows(alloc: Global, names: &Names, units: &[UnitScope]) -> Result<Vec<Row>, NoMemory>
-    requires { HasAll (implicit ++ flat_map (λ unit. unit.names) units.now) [] (keys_of names.now) }
-    ensures { IfOk result (λ rows. AreGrown units.now (keys_of names.now) rows.items) }
+fn grown_rows(
+    alloc: Global,
+    names: &Names,
+    units: &[UnitScope],
+    project: &Project,
+    texts: &TextList,
+    scans: &Scans,
+) -> Result<Vec<Row>, NoMemory>
+    requires named { HasAll (implicit ++ flat_map (λ unit. unit.names) units.now) [] (keys_of names.now) }
+    requires units { length units.now
+        ≡ length (scope_units project.now.files texts.now scans.now) }
+    requires each { length texts.now ≡ length project.now.files }
+    requires scans { AreScansOf texts.now scans.now }
+    requires small { All IsTextSmall texts.now }
+    ensures { IfOk result (λ rows. AreGrown units.now
+        (scope_units project.now.files texts.now scans.now) (keys_of names.now) rows.items) }
 {
     let groups = groups_of(alloc, units)?;
     if units.len().checked_add(groups.len()).is_none() {
@@ -38,7 +52,7 @@ fn grown_rows(alloc: Global, names: &Names, units: &[UnitScope]) -> Result<Vec<R
         Some(gate) => gate,
         None => unreachable!(),
     };
-    let mut links = unit_links(alloc, names, &groups, units)?;
+    let mut links = links_of_units(alloc, names, &groups, units.len(), project, texts, scans)?;
     let mut members = group_links(alloc, &groups, units, gate)?;
     links.append(&mut members)?;
     spread(alloc, links.as_slice(), rows.as_mut_slice(), words)?;
@@ -77,7 +91,7 @@ pub fn visible_sets(
 {
     let Scopes { starts, units } = scopes_of(alloc, project, texts, scans)?;
     let names = names_of(alloc, units.as_slice())?;
-    let rows = grown_rows(alloc, &names, units.as_slice())?;
+    let rows = grown_rows(alloc, &names, units.as_slice(), project, texts, scans)?;
     Ok(VisibleLibraries {
         starts,
         names,

@@ -9,7 +9,7 @@ use Rattle.name_scope.proofs.joins.group_links.Goals as goal
 pub loop-at-preserved : goal.loop-at-preserved
 loop-at-preserved c =
     members_more c.args.groups.now.keys c.args.units.now c.args.gate c.loop-at.at c.as_slice.result.now c.loop-at.members.items c.join_all.new.members.items
-    (c.as_slice.ensures ∙ ap (λ (unit : UnitScope). unit.groups) (get_or_default c.args.units.now c.loop-at.at c.index-units-at.result (record { groups = []; names = []; wants = [] }) c.loop-at-test.true))
+    (c.as_slice.ensures ∙ ap (λ (unit : UnitScope). unit.groups) (get_or_default c.args.units.now c.loop-at.at c.index-units-at.result (record { groups = []; names = [] }) c.loop-at-test.true))
     c.loop-at.invariant c.in_ok-join_all.ensures
 
 pub returns : goal.returns

@@ -1,6 +1,7 @@
 -- All fits together, and is grown.
 use Rattle.std.proofs.Common.{◌≡◌, ◌+◌, ◌/◌, ◌++◌, ◌∙◌, List, ℕ, [], length, map, replicate, ap, arith, subst, sym}
 use Rattle.std.specs.List.{AllZip}
+use Rattle.scan_spec.specs.Visibility.{scope_units}
 use Rattle.name_scope.specs.declared.links.Link.{Link}
 use Rattle.name_scope.specs.declared.scope.UnitScope.{UnitScope}
 use Rattle.name_scope.specs.Bits.{has}
@@ -13,7 +14,7 @@ use Rattle.name_scope.proofs.ReadyLemmas.{names_known, ready_below, ready_each, 
 use Rattle.name_scope.proofs.table.grown_rows.Goals as goal
 
 pub rows_of-requires-clause-known : goal.rows_of-requires-clause-known
-rows_of-requires-clause-known c = names_known c.args.units.now (keys_of c.args.names.now) c.requires
+rows_of-requires-clause-known c = names_known c.args.units.now (keys_of c.args.names.now) c.requires.named
 
 rows_are : (c : goal.After-as_mut_slice) → AllZip (IsRowOf (keys_of c.args.names.now) (c.len-2.result / 64 + 1)) c.in_ok-rows.rows.items (map (λ (unit : UnitScope). implicit ++ unit.names) c.args.units.now ++ replicate (length c.in_ok-groups.groups.keys) (implicit ++ []))
 rows_are c = subst (λ (n : ℕ). AllZip (IsRowOf (keys_of c.args.names.now) (c.len-2.result / 64 + 1)) c.in_ok-rows.rows.items (map (λ (unit : UnitScope). implicit ++ unit.names) c.args.units.now ++ replicate n (implicit ++ []))) c.len-3.ensures.len c.in_ok-rows.ensures
@@ -23,31 +24,31 @@ links_are c = c.as_slice-2.ensures.value ∙ c.in_ok-append.ensures.items
 
 pub spread-requires-clause-each : goal.spread-requires-clause-each
 spread-requires-clause-each c =
-    ap length (links_are c) ∙ (ready_each c.args.units.now (keys_of c.args.names.now) c.in_ok-groups.groups.keys (c.len-2.result / 64 + 1) c.in_ok-rows.rows.items c.in_ok-links.links.items c.in_ok-members.members.items c.in-Some.gate (rows_are c) c.in_ok-links.ensures c.in_ok-members.ensures ∙ ap length (sym c.as_mut_slice.ensures.value))
+    ap length (links_are c) ∙ (ready_each c.args.units.now (keys_of c.args.names.now) c.in_ok-groups.groups.keys (c.len-2.result / 64 + 1) c.in_ok-rows.rows.items c.in_ok-links.links.items c.in_ok-members.members.items c.in-Some.gate (rows_are c) _ (sym c.requires.units) c.in_ok-links.ensures c.in_ok-members.ensures ∙ ap length (sym c.as_mut_slice.ensures.value))
 
 pub spread-requires-clause-even : goal.spread-requires-clause-even
 spread-requires-clause-even c =
-    subst (AreEven (c.len-2.result / 64 + 1)) (sym c.as_mut_slice.ensures.value) (ready_even c.args.units.now (keys_of c.args.names.now) c.in_ok-groups.groups.keys (c.len-2.result / 64 + 1) c.in_ok-rows.rows.items c.in_ok-links.links.items c.in_ok-members.members.items c.in-Some.gate (rows_are c) c.in_ok-links.ensures c.in_ok-members.ensures)
+    subst (AreEven (c.len-2.result / 64 + 1)) (sym c.as_mut_slice.ensures.value) (ready_even c.args.units.now (keys_of c.args.names.now) c.in_ok-groups.groups.keys (c.len-2.result / 64 + 1) c.in_ok-rows.rows.items c.in_ok-links.links.items c.in_ok-members.members.items c.in-Some.gate (rows_are c) _ (sym c.requires.units) c.in_ok-links.ensures c.in_ok-members.ensures)
 
 pub spread-requires-clause-below : goal.spread-requires-clause-below
 spread-requires-clause-below c =
     subst (λ (rows : List (List ℕ)). AreBelow (length rows) c.as_slice-2.result.now) (sym c.as_mut_slice.ensures.value)
     (subst (λ (links : List (List Link)). AreBelow (length c.in_ok-rows.rows.items) links) (sym (links_are c))
-    (ready_below c.args.units.now (keys_of c.args.names.now) c.in_ok-groups.groups.keys (c.len-2.result / 64 + 1) c.in_ok-rows.rows.items c.in_ok-links.links.items c.in_ok-members.members.items c.in-Some.gate (rows_are c) c.in_ok-links.ensures c.in_ok-members.ensures))
+    (ready_below c.args.units.now (keys_of c.args.names.now) c.in_ok-groups.groups.keys (c.len-2.result / 64 + 1) c.in_ok-rows.rows.items c.in_ok-links.links.items c.in_ok-members.members.items c.in-Some.gate (rows_are c) _ (sym c.requires.units) c.in_ok-links.ensures c.in_ok-members.ensures))
 
 pub returns : goal.returns
 returns c =
     let links : c.as_slice-2.result.now ≡ c.in_ok-links.links.items ++ c.in_ok-members.members.items = c.as_slice-2.ensures.value ∙ c.in_ok-append.ensures.items in
     let spread = subst (λ (rows : List (List ℕ)). HasSpread c.as_slice-2.result.now rows c.spread.new.rows) c.as_mut_slice.ensures.value c.in_ok-spread.ensures.spread in
     let same : c.in_ok-rows.rows.len ≡ length c.spread.new.rows = omega (arith, spread.each) in
-    subst (AreGrown c.args.units.now (keys_of c.args.names.now)) (sym (written c.in_ok-rows.rows.len c.spread.new.rows _ same))
+    subst (AreGrown c.args.units.now (scope_units c.args.project.now.files c.args.texts.now c.args.scans.now) (keys_of c.args.names.now)) (sym (written c.in_ok-rows.rows.len c.spread.new.rows _ same))
     (record {
       groups = c.in_ok-groups.groups.keys;
       words = c.len-2.result / 64 + 1;
       first = c.in_ok-rows.rows.items;
       of_units = c.in_ok-links.links.items;
       of_groups = c.in_ok-members.members.items;
-      names_are = c.requires;
+      names_are = c.requires.named;
       groups_are = c.in_ok-groups.ensures;
       rows_are = subst (λ (n : ℕ). AllZip (IsRowOf (keys_of c.args.names.now) (c.len-2.result / 64 + 1)) c.in_ok-rows.rows.items (map (λ (unit : UnitScope). implicit ++ unit.names) c.args.units.now ++ replicate n (implicit ++ []))) c.len-3.ensures.len c.in_ok-rows.ensures;
       links_are = c.in_ok-links.ensures;

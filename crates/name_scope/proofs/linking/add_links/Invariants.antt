@@ -1,0 +1,10 @@
+-- So far the units up to the number.
+use Rattle.std.proofs.Common.{◌++◌, List, map, take}
+use Rattle.std.specs.List.{AllZip}
+use Rattle.scan_spec.specs.Visibility.{ScopeUnit, scope_unit}
+use Rattle.name_scope.specs.Names.{keys_of}
+use Rattle.name_scope.specs.Joins.{IsLinkedFor}
+use Rattle.name_scope.proofs.linking.add_links.Given as goal
+
+abbrev pub invariant-loop-number : goal.invariant-loop-number
+invariant-loop-number l = (units : List ScopeUnit) → AllZip (IsLinkedFor (keys_of l.names) l.groups.keys l.places) l.initial.links.items units → AllZip (IsLinkedFor (keys_of l.names) l.groups.keys l.places) l.links.items (units ++ map (scope_unit l.library l.text l.scan) (take l.number l.scan.units))

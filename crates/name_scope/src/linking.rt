@@ -1,0 +1,116 @@
+//! The links of the units of a project: what each wants is found, linked and let go, unit by unit.
+
+ghost use Rattle.std.specs.Prelude.{◌≡◌, ◌+◌, ◌<◌, ◌≤◌, IfOk, OnOk, Some, length, slice_get};
+ghost use Rattle.std.specs.List.{All, AllZip};
+ghost use Rattle.vr_base.specs.declared.design.Unit.{Unit};
+ghost use Rattle.scan_spec.specs.Units.{roles_of};
+ghost use Rattle.scan_spec.specs.Scans.{AreScansOf, IsScanOf};
+ghost use Rattle.scan_spec.specs.Visibility.{scope_unit, scope_units};
+ghost use Rattle.name_scope.specs.Names.{keys_of};
+ghost use Rattle.name_scope.specs.Joins.{IsLinkedFor};
+ghost use Rattle.name_scope.specs.Scopes.{AddsLinks, IsTextSmall};
+
+use crate::groups::Groups;
+use crate::joins::links_of;
+use crate::links::Link;
+use crate::names::Names;
+use crate::wants::wants_of;
+use std::alloc::Global;
+use vhdl_refs::context_refs;
+use vhdl_units::roles_of;
+use vr_base::{Items, NoMemory, Project, RoleList, Scan, Scans, TEXT_LIMIT, Text, TextList};
+
+/// The links of the unit of a number in a scan.
+fn unit_links(
+    alloc: Global,
+    names: &Names,
+    groups: &Groups,
+    places: usize,
+    library: &Text,
+    text: &[u8],
+    scan: &Scan,
+    roles: &RoleList,
+    number: u32,
+) -> Result<Items<Link>, NoMemory>
+    requires room { places + length groups.now.keys ≤ usize.MAX }
+    requires scan { IsScanOf text.now scan.now }
+    requires small { length text.now ≤ TEXT_LIMIT }
+    requires roles { roles.now ≡ roles_of text.now scan.now.tokens.list }
+    requires number { number < length scan.now.units }
+    ensures { IfOk result (λ links. (unit : Unit) → slice_get scan.now.units number ≡ Some unit →
+        IsLinkedFor (keys_of names.now) groups.now.keys places links
+        (scope_unit library.now text.now scan.now unit)) }
+{
+    let unit = scan.units.get(number as u64);
+    let contexts = context_refs(alloc, text, scan, roles, number)?;
+    let wants = wants_of(alloc, library, unit, contexts)?;
+    links_of(alloc, names, groups, places, wants.as_slice())
+}
+
+/// Adds the links of the units of one file.
+fn add_links(
+    alloc: Global,
+    names: &Names,
+    groups: &Groups,
+    places: usize,
+    library: &Text,
+    text: &[u8],
+    scan: &Scan,
+    links: &mut Vec<Items<Link>>,
+) -> Result<(), NoMemory>
+    requires room { places + length groups.now.keys ≤ usize.MAX }
+    requires scan { IsScanOf text.now scan.now }
+    requires small { length text.now ≤ TEXT_LIMIT }
+    ensures { OnOk result (AddsLinks (keys_of names.now) groups.now.keys places
+        library.now text.now scan.now links.old.items links.new.items) }
+{
+    let roles = roles_of(alloc, text, &scan.tokens)?;
+    for number in 0..scan.units.len() {
+        links.push(unit_links(
+            alloc,
+            names,
+            groups,
+            places,
+            library,
+            text,
+            scan,
+            &roles,
+            number as u32,
+        )?)?;
+    }
+    Ok(())
+}
+
+/// The links of all units, which are so many, to groups.
+pub fn links_of_units(
+    alloc: Global,
+    names: &Names,
+    groups: &Groups,
+    places: usize,
+    project: &Project,
+    texts: &TextList,
+    scans: &Scans,
+) -> Result<Vec<Items<Link>>, NoMemory>
+    requires room { places + length groups.now.keys ≤ usize.MAX }
+    requires each { length texts.now ≡ length project.now.files }
+    requires scans { AreScansOf texts.now scans.now }
+    requires small { All IsTextSmall texts.now }
+    ensures { IfOk result (λ links. AllZip (IsLinkedFor (keys_of names.now) groups.now.keys places)
+        links.items (scope_units project.now.files texts.now scans.now)) }
+{
+    let mut links = Vec::new(alloc);
+    for file in 0..project.files.len() {
+        let library = &project.files.get(file).name.library;
+        add_links(
+            alloc,
+            names,
+            groups,
+            places,
+            library,
+            texts.get(file).bytes(),
+            scans.get(file),
+            &mut links,
+        )?;
+    }
+    Ok(links)
+}
