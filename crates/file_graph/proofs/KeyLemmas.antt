@@ -1,0 +1,161 @@
+-- Units by name: the tests of kinds and names are those of keys.
+use Rattle.std.proofs.Common.{◌≡◌, ℕ, Bool, true, false, ◌&&◌, ◌||◌, not, List, refl, sym, ◌∙◌, ap, subst}
+use Rattle.std.specs.Str.{bytes_eq}
+use Rattle.std.proofs.lemmas.Slice.Eq.{bytes_eq-Decides}
+use Rattle.vr_base.specs.declared.design.UnitKind.{UnitKind}
+use Rattle.vr_base.specs.declared.design.UnitKind.TheVariants as kinds
+use Rattle.scan_spec.specs.References.{owner_name}
+use Rattle.scan_spec.specs.Dependencies.{LinkUnit, in_library, is_alike, is_architecture, is_architecture_kind, is_body, is_body_kind, is_primary}
+use Rattle.scan_spec.specs.Visibility.{is_secondary}
+use Rattle.scan_spec.proofs.SomeTests.{and_both, and_cases}
+use Rattle.file_graph.specs.declared.key.UnitKey.{UnitKey}
+use Rattle.file_graph.specs.Keys.{architecture_key, body_key, is_same_flag, is_same_key, key_of, primary_key, unit_key}
+
+same_bytes : (a b : List ℕ) → bytes_eq a b ≡ true → a ≡ b
+same_bytes a b told = (bytes_eq-Decides a b).0 told
+
+told_same : (a b : List ℕ) → a ≡ b → bytes_eq a b ≡ true
+told_same a b same = (bytes_eq-Decides a b).1 same
+
+same_flag : (a b : Bool) → is_same_flag a b ≡ true → a ≡ b
+same_flag true b told = sym told
+same_flag false true told = let never : ⊥ = cc in absurd never
+same_flag false false told = refl
+
+itself : (a : Bool) → is_same_flag a a ≡ true
+itself true = refl
+itself false = refl
+
+abbrev key : Bool → Bool → List ℕ → List ℕ → List ℕ → UnitKey
+key primary body library entity name = record { primary = primary; body = body; library = library; entity = entity; name = name }
+
+pub same_key : (a b : UnitKey) → is_same_key a b ≡ true → a ≡ b
+same_key a b told =
+    let one = and_cases (is_same_flag a.primary b.primary) _ told in
+    let two = and_cases (is_same_flag a.body b.body) _ (one.1) in
+    let three = and_cases (bytes_eq b.library a.library) _ (two.1) in
+    let four = and_cases (bytes_eq b.entity a.entity) (bytes_eq b.name a.name) (three.1) in
+    let primary : a.primary ≡ b.primary = same_flag a.primary b.primary (one.0) in
+    let body : a.body ≡ b.body = same_flag a.body b.body (two.0) in
+    let library : a.library ≡ b.library = sym (same_bytes b.library a.library (three.0)) in
+    let entity : a.entity ≡ b.entity = sym (same_bytes b.entity a.entity (four.0)) in
+    let name : a.name ≡ b.name = sym (same_bytes b.name a.name (four.1)) in
+    ap (λ (x : Bool). key x a.body a.library a.entity a.name) primary
+    ∙ (ap (λ (x : Bool). key b.primary x a.library a.entity a.name) body
+    ∙ (ap (λ (x : List ℕ). key b.primary b.body x a.entity a.name) library
+    ∙ (ap (λ (x : List ℕ). key b.primary b.body b.library x a.name) entity
+    ∙ ap (λ (x : List ℕ). key b.primary b.body b.library b.entity x) name)))
+
+pub key_itself : (a : UnitKey) → is_same_key a a ≡ true
+key_itself a =
+    and_both (is_same_flag a.primary a.primary) _ (itself a.primary)
+    (and_both (is_same_flag a.body a.body) _ (itself a.body)
+    (and_both (bytes_eq a.library a.library) _ (told_same a.library a.library refl)
+    (and_both (bytes_eq a.entity a.entity) (bytes_eq a.name a.name) (told_same a.entity a.entity refl) (told_same a.name a.name refl))))
+
+pub told_key : (a b : UnitKey) → a ≡ b → is_same_key a b ≡ true
+told_key a b same = subst (λ (k : UnitKey). is_same_key a k ≡ true) same (key_itself a)
+
+-- ## The tests of units, by kind
+
+grouped : (a b c : Bool) → (a && b && c) ≡ (a && (b && c))
+grouped true b c = refl
+grouped false b c = refl
+
+module _ (library name : List ℕ) (unit : LinkUnit) where
+  primary_by : (kind : UnitKind) → (not (is_secondary kind) && in_library library unit && bytes_eq unit.scope.unit.name name) ≡ is_same_key (primary_key library name) (unit_key unit.scope.library unit.scope.unit kind)
+  primary_by kinds.Entity = refl
+  primary_by kinds.Architecture = refl
+  primary_by kinds.Configuration = refl
+  primary_by kinds.Package = refl
+  primary_by kinds.PackageBody = refl
+  primary_by kinds.PackageInstance = refl
+  primary_by kinds.Context = refl
+
+  pub primary_is : is_primary library name unit ≡ is_same_key (primary_key library name) (key_of unit)
+  primary_is = primary_by unit.scope.unit.kind
+
+  body_by : (kind : UnitKind) → (is_body_kind kind && in_library library unit && bytes_eq unit.scope.unit.name name) ≡ is_same_key (body_key library name) (unit_key unit.scope.library unit.scope.unit kind)
+  body_by kinds.Entity = refl
+  body_by kinds.Architecture = refl
+  body_by kinds.Configuration = refl
+  body_by kinds.Package = refl
+  body_by kinds.PackageBody = refl
+  body_by kinds.PackageInstance = refl
+  body_by kinds.Context = refl
+
+  pub body_is : is_body library name unit ≡ is_same_key (body_key library name) (key_of unit)
+  body_is = body_by unit.scope.unit.kind
+
+  module _ (entity : List ℕ) where
+    architecture_by : (kind : UnitKind) → (is_architecture_kind kind && in_library library unit && bytes_eq (owner_name unit.scope.unit.owner) entity && bytes_eq unit.scope.unit.name name) ≡ is_same_key (architecture_key library entity name) (unit_key unit.scope.library unit.scope.unit kind)
+    architecture_by kinds.Entity = refl
+    architecture_by kinds.Architecture = grouped (in_library library unit) (bytes_eq (owner_name unit.scope.unit.owner) entity) (bytes_eq unit.scope.unit.name name)
+    architecture_by kinds.Configuration = refl
+    architecture_by kinds.Package = refl
+    architecture_by kinds.PackageBody = refl
+    architecture_by kinds.PackageInstance = refl
+    architecture_by kinds.Context = refl
+
+    pub architecture_is : is_architecture library entity name unit ≡ is_same_key (architecture_key library entity name) (key_of unit)
+    architecture_is = architecture_by unit.scope.unit.kind
+
+-- ## Units of one name
+
+first_of : (x y z : Bool) → ((x && true) || (y && false) || (z && false)) ≡ x
+first_of true true true = refl
+first_of true true false = refl
+first_of true false true = refl
+first_of true false false = refl
+first_of false true true = refl
+first_of false true false = refl
+first_of false false true = refl
+first_of false false false = refl
+
+second_of : (x y z : Bool) → ((x && false) || (y && true) || (z && false)) ≡ y
+second_of true true true = refl
+second_of true true false = refl
+second_of true false true = refl
+second_of true false false = refl
+second_of false true true = refl
+second_of false true false = refl
+second_of false false true = refl
+second_of false false false = refl
+
+third_of : (x y z : Bool) → ((x && false) || (y && false) || (z && true)) ≡ z
+third_of true true true = refl
+third_of true true false = refl
+third_of true false true = refl
+third_of true false false = refl
+third_of false true true = refl
+third_of false true false = refl
+third_of false false true = refl
+third_of false false false = refl
+
+module _ (unit other : LinkUnit) where
+  by_kind : (kind : UnitKind) →
+      ((is_primary unit.scope.library unit.scope.unit.name other && not (is_secondary kind))
+      || (is_architecture unit.scope.library (owner_name unit.scope.unit.owner) unit.scope.unit.name other && is_architecture_kind kind)
+      || (is_body unit.scope.library unit.scope.unit.name other && is_body_kind kind))
+      ≡ is_same_key (unit_key unit.scope.library unit.scope.unit kind) (key_of other)
+  by_kind kind = of kind where
+    p : Bool
+    p = is_primary unit.scope.library unit.scope.unit.name other
+
+    a : Bool
+    a = is_architecture unit.scope.library (owner_name unit.scope.unit.owner) unit.scope.unit.name other
+
+    b : Bool
+    b = is_body unit.scope.library unit.scope.unit.name other
+
+    of : (kind : UnitKind) → ((p && not (is_secondary kind)) || (a && is_architecture_kind kind) || (b && is_body_kind kind)) ≡ is_same_key (unit_key unit.scope.library unit.scope.unit kind) (key_of other)
+    of kinds.Entity = first_of p a b ∙ primary_is unit.scope.library unit.scope.unit.name other
+    of kinds.Architecture = second_of p a b ∙ architecture_is unit.scope.library unit.scope.unit.name other (owner_name unit.scope.unit.owner)
+    of kinds.Configuration = first_of p a b ∙ primary_is unit.scope.library unit.scope.unit.name other
+    of kinds.Package = first_of p a b ∙ primary_is unit.scope.library unit.scope.unit.name other
+    of kinds.PackageBody = third_of p a b ∙ body_is unit.scope.library unit.scope.unit.name other
+    of kinds.PackageInstance = first_of p a b ∙ primary_is unit.scope.library unit.scope.unit.name other
+    of kinds.Context = first_of p a b ∙ primary_is unit.scope.library unit.scope.unit.name other
+
+  pub alike_is : is_alike unit other ≡ is_same_key (key_of unit) (key_of other)
+  alike_is = by_kind unit.scope.unit.kind

@@ -1,0 +1,9 @@
+-- The lemmas of this crate.
+pub mod KeyLemmas
+pub mod IndexLemmas
+pub mod RowLemmas
+pub mod MeaningLemmas
+pub mod LinkLemmas
+pub mod UnitLemmas
+pub mod FileLemmas
+pub mod EdgeLemmas

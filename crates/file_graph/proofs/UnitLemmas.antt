@@ -1,0 +1,89 @@
+-- What a unit uses and refers to, as it is read of its file.
+use Rattle.std.proofs.Common.{◌≡◌, ℕ, ◌-◌, ◌<◌, ◌≤◌, Bool, true, false, ◌&&◌, Option, Some, None, List, [], ◌∷◌, ◌++◌, length, map, refl, sym, ◌∙◌, ap, subst, arith}
+use Rattle.std.specs.Prelude.{All, slice_get, if◌then◌else◌}
+use Rattle.std.specs.List.{filter_map, flat_map, range_with_len}
+use Rattle.std.specs.Option.{option_map}
+use Rattle.std.proofs.lemmas.List.Elements.{All-filter, filter_map-append}
+use Rattle.std.proofs.lemmas.List.FromFn.{get_or-range_with_len, length-range_with_len}
+use Rattle.vr_base.specs.declared.child.MaybeText.TheVariants.{Nothing}
+use Rattle.vr_base.specs.declared.design.Scan.{Scan}
+use Rattle.vr_base.specs.declared.design.Unit.{Unit as DesignUnit}
+use Rattle.vr_base.specs.declared.design.UnitKind.TheVariants as kinds
+use Rattle.vr_base.specs.declared.file.FileName.{FileName}
+use Rattle.vr_base.specs.declared.linking.Warning.{Warning}
+use Rattle.vr_base.specs.declared.project.Project.{Project}
+use Rattle.vr_base.specs.declared.refs.UnitId.{UnitId}
+use Rattle.scan_spec.specs.Units.{roles_of}
+use Rattle.scan_spec.specs.References.{is_use_of_all, places, uses_of_all}
+use Rattle.scan_spec.specs.Scans.{IsScanOf}
+use Rattle.scan_spec.specs.Visibility.{resolved, sees}
+use Rattle.scan_spec.specs.Dependencies.{LinkUnit, has_files, warnings_of}
+use Rattle.scan_spec.specs.UnitPlaces.{IsPlaced}
+use Rattle.scan_spec.proofs.Placed.{all_placed}
+use Rattle.std.proofs.lemmas.Option.{get_or_from_slice_get, slice_get_within}
+use Rattle.name_scope.specs.Tables.{table_sees}
+use Rattle.file_graph.specs.declared.seen.Tables.{Tables}
+use Rattle.file_graph.specs.Libraries.{knows}
+use Rattle.file_graph.specs.Linking.{Knows, Stands, named_library, noted}
+
+pub no_design : DesignUnit
+no_design = record { kind = kinds.Entity; name = []; owner = Nothing; lead = 0; first = 0; last = 0 }
+
+pub some_same : {X : Type 0} (x y : X) → ◌≡◌ {A = Option X} (Some x) (Some y) → x ≡ y
+some_same x y e = cc
+
+-- what is made of the element at a place
+pub made_of : {X Y : Type 0} (f : X → Y) (xs : List X) (n : ℕ) (x : X) (y : Y) → slice_get xs n ≡ Some x → option_map f (slice_get xs n) ≡ Some y → y ≡ f x
+made_of f xs n x y got told = some_same y (f x) (sym told ∙ ap (option_map f) got)
+
+-- ## Places of uses
+
+pub places_within : (test : ℕ → Bool) (start end : ℕ) → start ≤ end → All (λ at. at < end) (places test start end)
+places_within test start end ordered = All-filter test (λ at. at < end) (range_with_len start (end - start)) in_range where
+  in_range : All (λ at. at < end) (range_with_len start (end - start))
+  in_range i d lt =
+      let within : i < end - start = omega (arith, lt, length-range_with_len start (end - start)) in
+      omega (arith, within, ordered, get_or-range_with_len start (end - start) i d within)
+
+pub uses_within : (text : List ℕ) (scan : Scan) (number : ℕ) (design : DesignUnit) → IsScanOf text scan → slice_get scan.units number ≡ Some design → All (λ at. at < length scan.tokens.list) (uses_of_all (roles_of text scan.tokens.list) design)
+uses_within text scan number design is got i d lt =
+    let all = subst (All (IsPlaced text scan.tokens.list)) (sym is.units) (all_placed text scan.tokens.list is.elements is.outline) in
+    let there = subst (IsPlaced text scan.tokens.list) (get_or_from_slice_get scan.units number design design got) (all number design (slice_get_within scan.units number design got)) in
+    let low = places_within (is_use_of_all (roles_of text scan.tokens.list)) design.lead design.last (omega (arith, there.led, there.ordered)) i d lt in
+    omega (arith, low, there.within)
+
+pub parts_map : {X Y Z : Type 0} (f : Y → List Z) (g : X → Y) (xs : List X) → flat_map (λ x. f (g x)) xs ≡ flat_map f (map g xs)
+parts_map f g [] = refl
+parts_map {X} {Y} {Z} f g (x ∷ xs) = ap (λ (rest : List Z). f (g x) ++ rest) (parts_map f g xs)
+
+-- ## Warnings
+
+one_noted : (s k : Bool) (warning : Warning) (h : List ℕ → Option Warning) (named : List ℕ) → h named ≡ (if s && k then Some warning else None) → (if s then (if k then warning ∷ [] else []) else []) ≡ filter_map h (named ∷ [])
+one_noted true true warning h named is = rw is refl
+one_noted true false warning h named is = rw is refl
+one_noted false k warning h named is = rw is refl
+
+abbrev warning_at : ℕ → List ℕ → Warning
+warning_at file library = record { file = file; library = library }
+
+module _ (project : Project) (units : List LinkUnit) (unit : LinkUnit) (tables : Tables) (id : UnitId) (file : FileName) (known : Knows project units tables) (stands : Stands units tables id file unit) where
+  abbrev warning : List ℕ → Option Warning
+  warning library = if sees (map (λ other. other.scope) units) unit.scope library && has_files project (resolved unit.scope library) then Some (warning_at unit.position (resolved unit.scope library)) else None
+
+  warning_is : (named : List ℕ) → warning named ≡ (if table_sees tables.sets id named && knows tables.libraries.own (named_library file.library named) then Some (warning_at id.file (named_library file.library named)) else None)
+  warning_is named =
+      let means : resolved unit.scope named ≡ named_library file.library named = ap (λ (own : List ℕ). named_library own named) stands.library in
+      ap (λ (b : Bool). if b && has_files project (resolved unit.scope named) then Some (warning_at unit.position (resolved unit.scope named)) else None) (sym (stands.sees named))
+      ∙ (ap (λ (library : List ℕ). if table_sees tables.sets id named && has_files project library then Some (warning_at unit.position library) else None) means
+      ∙ (ap (λ (b : Bool). if table_sees tables.sets id named && b then Some (warning_at unit.position (named_library file.library named)) else None) (sym (known.libraries.own (named_library file.library named)))
+      ∙ ap (λ (at : ℕ). if table_sees tables.sets id named && knows tables.libraries.own (named_library file.library named) then Some (warning_at at (named_library file.library named)) else None) stands.position))
+
+  noted_all : (names : List (List ℕ)) → flat_map (noted tables id file.library) names ≡ filter_map warning names
+  noted_all [] = refl
+  noted_all (named ∷ names) =
+      ap (λ (rest : List Warning). noted tables id file.library named ++ rest) (noted_all names)
+      ∙ (ap (λ (first : List Warning). first ++ filter_map warning names) (one_noted (table_sees tables.sets id named) (knows tables.libraries.own (named_library file.library named)) (warning_at id.file (named_library file.library named)) warning named (warning_is named))
+      ∙ sym (filter_map-append warning (named ∷ []) names))
+
+  pub noted_is : flat_map (noted tables id file.library) unit.whole ≡ warnings_of project units unit
+  noted_is = noted_all unit.whole

@@ -1,0 +1,17 @@
+-- Duplicates first, and then what the files answer.
+use Rattle.std.proofs.lemmas.Result.{err_from_is_err_and}
+use Rattle.scan_spec.specs.Dependencies.{link_units}
+use Rattle.file_graph.proofs.EdgeLemmas.{gives_edges}
+use Rattle.file_graph.proofs.FileLemmas.{all_links}
+use Rattle.file_graph.proofs.linking.link.Goals as goal
+
+pub returns-in_err-rows-clause-exact : goal.returns-in_err-rows-clause-exact
+returns-in_err-rows-clause-exact c =
+    let p = err_from_is_err_and c.from_residual-in_err-rows.result c.from_residual-in_err-rows.ensures.1 in
+    rw (p.1, p.2) tt
+
+pub returns-clause-exact : goal.returns-clause-exact
+returns-clause-exact c = all_links c.args.project.now (link_units 0 c.args.project.now.files c.args.texts.now c.args.scans.now) c.link_files.result (c.in_ok-index.ensures.index.0) c.link_files.ensures
+
+pub returns-clause-edges : goal.returns-clause-edges
+returns-clause-edges c = gives_edges c.args.project.now (link_units 0 c.args.project.now.files c.args.texts.now c.args.scans.now) c.requires.few c.link_files.result c.link_files.ensures

@@ -1,0 +1,21 @@
+-- The libraries of a project: those that have files, and those that stand outside of it.
+use Rattle.std.specs.Prelude.{◌≡◌, ℕ, Bool, ◌||◌, List, [], ◌∷◌, Vec, codes}
+use Rattle.std.specs.Global.{Global}
+use Rattle.std.specs.List.{list_any}
+use Rattle.std.specs.Str.{bytes_eq}
+use Rattle.indexmap.specs.IndexSet.{IndexSet}
+use Rattle.vr_base.specs.declared.project.Project.{Project}
+use Rattle.scan_spec.specs.Dependencies.{has_files, is_one_of}
+use Rattle.file_graph.specs.declared.libraries.Libraries.{Libraries}
+
+-- a name is among names
+abbrev pub knows : {S : Type 0} → IndexSet (Vec ℕ Global) S → List ℕ → Bool
+knows names name = list_any (λ key. bytes_eq name key.items) names.keys
+
+abbrev pub always_external : List (List ℕ)
+always_external = codes "std" ∷ codes "ieee" ∷ codes "vunit_lib" ∷ []
+
+-- the libraries of a project
+pub record AreLibraries (project : Project) (libraries : Libraries) : Type 0 where
+  pub own : (name : List ℕ) → knows libraries.own name ≡ has_files project name
+  pub external : (name : List ℕ) → knows libraries.external name ≡ (is_one_of project.external name || is_one_of always_external name)

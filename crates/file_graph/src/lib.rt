@@ -1,0 +1,22 @@
+//! Which files of a project depend on which, and what is wrong with the names of its design units.
+#![tactic(auto)]
+
+mod check;
+mod index;
+mod key;
+mod laws;
+mod libraries;
+mod linking;
+mod pairs;
+mod refs;
+mod rows;
+mod seen;
+mod spelling;
+mod units;
+mod warnings;
+
+pub use laws::laws_of_links;
+pub use linking::link;
+
+#[cfg(test)]
+mod tests;

@@ -1,0 +1,121 @@
+//! What references name.
+
+ghost use Rattle.std.specs.Prelude.{◌≡◌, ◌&&◌, ◌≤◌, Bool, true, List, OnOk};
+ghost use Rattle.std.specs.List.{list_any};
+ghost use Rattle.vr_base.specs.declared.project.ProjectFile.{ProjectFile};
+ghost use Rattle.scan_spec.specs.Dependencies.{LinkUnit, is_body, is_given_architecture, is_package_kind, is_primary};
+ghost use Rattle.file_graph.specs.Indexes.{ArePlacesOfFiles, IsIndex, HoldsUnits};
+ghost use Rattle.file_graph.specs.Meanings.{names_in};
+ghost use Rattle.file_graph.specs.Rows.{HasAdded, has_package, stands_at};
+
+use crate::index::{Index, place_of};
+use crate::key::{UnitKey, architecture_key, body_key, primary_key};
+use crate::rows::put_named;
+use position_set::PositionSet;
+use std::alloc::Global;
+use vr_base::{FILE_LIMIT, MaybeText, NoMemory, Ref, Text};
+
+/// Whether a primary unit of a name is a package.
+fn is_package(index: &Index, key: &UnitKey) -> bool
+    ensures { (files : List ProjectFile) (units : List LinkUnit) → IsIndex files units index.now →
+        result ≡ has_package units key.now }
+{
+    match place_of(index, key) {
+        Some(place) => place.is_package,
+        None => false,
+    }
+}
+
+/// Puts the file of the architecture in that is named with an entity.
+fn put_architecture(
+    alloc: Global,
+    row: &mut PositionSet,
+    index: &Index,
+    library: &Text,
+    entity: &Text,
+    architecture: &MaybeText,
+) -> Result<(), NoMemory>
+    requires { ArePlacesOfFiles FILE_LIMIT index.now }
+    ensures { OnOk result ((files : List ProjectFile) (units : List LinkUnit) →
+        IsIndex files units index.now → HasAdded (stands_at
+        (is_given_architecture library.now entity.now architecture.now) units) row.old row.new) }
+{
+    match architecture {
+        MaybeText::Nothing => Ok(()),
+        MaybeText::Given(name) => {
+            let key = architecture_key(alloc, library, entity, name)?;
+            put_named(row, index, &key);
+            Ok(())
+        }
+    }
+}
+
+/// Puts the file of the body of a package in.
+fn put_body(
+    alloc: Global,
+    row: &mut PositionSet,
+    index: &Index,
+    library: &Text,
+    name: &Text,
+) -> Result<(), NoMemory>
+    requires { ArePlacesOfFiles FILE_LIMIT index.now }
+    ensures { OnOk result ((files : List ProjectFile) (units : List LinkUnit) →
+        IsIndex files units index.now →
+        HasAdded (stands_at (is_body library.now name.now) units) row.old row.new) }
+{
+    let key = body_key(alloc, library, name)?;
+    put_named(row, index, &key);
+    Ok(())
+}
+
+/// Puts the file of the body of a primary unit in, where that is a package.
+fn put_package_body(
+    alloc: Global,
+    row: &mut PositionSet,
+    index: &Index,
+    key: &UnitKey,
+    library: &Text,
+    name: &Text,
+) -> Result<(), NoMemory>
+    requires { ArePlacesOfFiles FILE_LIMIT index.now }
+    ensures { OnOk result ((files : List ProjectFile) (units : List LinkUnit) →
+        IsIndex files units index.now →
+        HasAdded (λ at. stands_at (is_body library.now name.now) units at
+        && has_package units key.now) row.old row.new) }
+{
+    if is_package(index, key) {
+        put_body(alloc, row, index, library, name)
+    } else {
+        Ok(())
+    }
+}
+
+/// Puts the files in that have what a reference names in a library.
+pub fn put_ref(
+    alloc: Global,
+    row: &mut PositionSet,
+    index: &Index,
+    bodies: bool,
+    library: &Text,
+    reference: &Ref,
+) -> Result<(), NoMemory>
+    requires { ArePlacesOfFiles FILE_LIMIT index.now }
+    ensures { OnOk result ((files : List ProjectFile) (units : List LinkUnit) →
+        IsIndex files units index.now → HasAdded (stands_at
+        (names_in bodies units library.now reference.now) units) row.old row.new) }
+{
+    let key = primary_key(alloc, library, &reference.name)?;
+    put_named(row, index, &key);
+    put_architecture(
+        alloc,
+        row,
+        index,
+        library,
+        &reference.name,
+        &reference.architecture,
+    )?;
+    if !bodies {
+        return Ok(());
+    }
+    put_package_body(alloc, row, index, &key, library, &reference.name)
+}

@@ -1,0 +1,33 @@
+//! Rows of bits: the files that a file depends on.
+
+ghost use Rattle.std.specs.Prelude.{◌≡◌, ◌<◌, ◌≤◌, ◌==◌, false, List, IfSome};
+ghost use Rattle.std.specs.Option.{option_map_or};
+ghost use Rattle.vr_base.specs.declared.project.ProjectFile.{ProjectFile};
+ghost use Rattle.scan_spec.specs.Dependencies.{LinkUnit};
+ghost use Rattle.file_graph.specs.Indexes.{ArePlacesOfFiles, IsIndex};
+ghost use Rattle.file_graph.specs.Rows.{HasAdded, is_named_at};
+
+use crate::index::{Index, Place, place_of};
+use crate::key::UnitKey;
+use position_set::PositionSet;
+use vr_base::FILE_LIMIT;
+
+/// Puts the file at a place in, if there is one.
+fn put_place(row: &mut PositionSet, place: Option<Place>)
+    requires { IfSome place (λ place. place.file < FILE_LIMIT) }
+    ensures { HasAdded
+        (λ at. option_map_or (λ place. place.file == at) place false) row.old row.new }
+{
+    if let Some(place) = place {
+        row.insert(place.file);
+    }
+}
+
+/// Puts the file of the unit of a name in, if there is one.
+pub fn put_named(row: &mut PositionSet, index: &Index, key: &UnitKey)
+    requires { ArePlacesOfFiles FILE_LIMIT index.now }
+    ensures { (files : List ProjectFile) (units : List LinkUnit) → IsIndex files units index.now →
+        HasAdded (is_named_at units key.now) row.old row.new }
+{
+    put_place(row, place_of(index, key));
+}
