@@ -26,7 +26,7 @@ use Rattle.name_scope.specs.Names.{group_number, implicit, name_of_number, numbe
 use Rattle.name_scope.specs.Wants.{context_want, gate_of, group_of, own_groups, wants_of}
 use Rattle.name_scope.specs.Scopes.{as_scope}
 use Rattle.name_scope.specs.Graph.{IsRowOf}
-use Rattle.name_scope.specs.Joins.{IsLinkFor, IsLinked, IsLinkedFor, IsOneOf, link_of, scope_at}
+use Rattle.name_scope.specs.Joins.{IsLinkFor, IsLinked, IsLinkedFor, IsOneOf, link_for, scope_at}
 use Rattle.name_scope.specs.Exact.{AreGrown}
 use Rattle.name_scope.proofs.BitLemmas.{past}
 use Rattle.name_scope.proofs.KeyLemmas.{numbered}
@@ -313,9 +313,9 @@ module _ (units : List ScopeUnit) (names : List (List ℕ)) (rows : List (List �
       let group_gate : has rows (length units + group) (number_of names work) ≡ true = is.spread.larger (length units + group) (number_of names work) ((row_group group group_within).put work (Contains-first work (codes "std" ∷ []))) in
       let in_group_row : has rows (length units + group) number ≡ true = is.taken (length units + group) (record { gate = number_of names work; source = from }) in_links group_gate number told in
       let linked = linked_at at within in
-      let wanted_link : Contains (links_at is.of_units at) (link_of names is.groups (length units) want) = linked.linked want wanted (record { gate = gate.0; group = group_known }) in
-      let in_unit : Contains (links_at links at) (link_of names is.groups (length units) want) = subst (λ (some : List Link). Contains some (link_of names is.groups (length units) want)) (sym (unit_links_at at within)) wanted_link in
-      is.taken at (link_of names is.groups (length units) want) in_unit (gate.1) number in_group_row
+      let wanted_link : Contains (links_at is.of_units at) (link_for names is.groups (length units) want) = linked.linked want wanted (record { gate = gate.0; group = group_known }) in
+      let in_unit : Contains (links_at links at) (link_for names is.groups (length units) want) = subst (λ (some : List Link). Contains some (link_for names is.groups (length units) want)) (sym (unit_links_at at within)) wanted_link in
+      is.taken at (link_for names is.groups (length units) want) in_unit (gate.1) number in_group_row
 
   -- where a unit of the list is
   place_of : (v : ScopeUnit) → Contains units v → (at : ℕ) × (at < length units) × (get_or units at no_unit ≡ v)

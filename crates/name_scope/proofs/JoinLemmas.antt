@@ -15,7 +15,7 @@ use Rattle.name_scope.specs.Groups.{is_same_group}
 use Rattle.name_scope.specs.Links.{links_at}
 use Rattle.name_scope.specs.Names.{group_number, number_of}
 use Rattle.name_scope.specs.Wants.{gate_of}
-use Rattle.name_scope.specs.Joins.{AreMembersTo, HasLinked, HasMember, IsLinkFor, IsOneOf, IsThere, link_of, scope_at}
+use Rattle.name_scope.specs.Joins.{AreMembersTo, HasLinked, HasMember, IsLinkFor, IsOneOf, IsThere, link_for, scope_at}
 use Rattle.name_scope.proofs.KeyLemmas.{there_by}
 use Rattle.name_scope.proofs.LookLemmas.{one_of}
 use Rattle.name_scope.proofs.NameLemmas.{same_bytes, same_group, told_group, told_same}
@@ -24,14 +24,14 @@ pub linked_one : (names : List (List ℕ)) (groups : List Group) (places : ℕ) 
 linked_one names groups places want old gate group is_gate gate_within is_group group_within = record {
   unchanged = λ (link : Link) there. Contains-append_left old (new ∷ []) link there;
   linked = λ (other : Want) (there : Contains (want ∷ []) other) (known : IsThere names groups other).
-      subst (λ (w : Want). Contains (old ++ new ∷ []) (link_of names groups places w)) (one_of want other there)
+      subst (λ (w : Want). Contains (old ++ new ∷ []) (link_for names groups places w)) (one_of want other there)
       (subst (Contains (old ++ new ∷ [])) same (Contains-append_right old (new ∷ []) new (Contains-first new [])));
   only = λ (link : Link) (there : Contains (old ++ new ∷ []) link). by_part link (Contains-append_cases old (new ∷ []) link there);
 } where
   new : Link
   new = record { gate = gate; source = places + group }
 
-  same : record { gate = gate; source = places + group } ≡ link_of names groups places want
+  same : record { gate = gate; source = places + group } ≡ link_for names groups places want
   same = cc
 
   known : IsThere names groups want
@@ -60,8 +60,8 @@ linked_both names groups places first next old mid new one two = record {
   linked = λ (want : Want) (there : Contains (first ++ next) want) (known : IsThere names groups want). by_part want known (Contains-append_cases first next want there);
   only = λ (link : Link) (there : Contains new link). by_next link (two.only link there);
 } where
-  by_part : (want : Want) → IsThere names groups want → Contains first want ⊎ Contains next want → Contains new (link_of names groups places want)
-  by_part want known (inl there) = two.unchanged (link_of names groups places want) (one.linked want there known)
+  by_part : (want : Want) → IsThere names groups want → Contains first want ⊎ Contains next want → Contains new (link_for names groups places want)
+  by_part want known (inl there) = two.unchanged (link_for names groups places want) (one.linked want there known)
   by_part want known (inr there) = two.linked want there known
 
   by_first : (link : Link) → Contains old link ⊎ IsLinkFor names groups places first link → Contains old link ⊎ IsLinkFor names groups places (first ++ next) link

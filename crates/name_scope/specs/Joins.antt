@@ -10,8 +10,8 @@ use Rattle.name_scope.specs.Names.{group_number, number_of}
 use Rattle.name_scope.specs.Wants.{gate_of, unit_wants}
 
 -- the link for what is wanted: to the place of the group, after those of the units
-abbrev pub link_of : List (List ℕ) → List Group → ℕ → Want → Link
-link_of names groups places want = record { gate = number_of names (gate_of want); source = places + group_number groups want.group }
+abbrev pub link_for : List (List ℕ) → List Group → ℕ → Want → Link
+link_for names groups places want = record { gate = number_of names (gate_of want); source = places + group_number groups want.group }
 
 -- the library and the group that are wanted have numbers
 pub record IsThere (names : List (List ℕ)) (groups : List Group) (want : Want) : Type 0 where
@@ -23,12 +23,12 @@ pub record IsLinkFor (names : List (List ℕ)) (groups : List Group) (places : �
   pub want : Want
   pub wanted : Contains wants want
   pub there : IsThere names groups want
-  pub is : link ≡ link_of names groups places want
+  pub is : link ≡ link_for names groups places want
 
 -- the links for what is wanted were added
 pub record HasLinked (names : List (List ℕ)) (groups : List Group) (places : ℕ) (wants : List Want) (old new : List Link) : Type 0 where
   pub unchanged : (link : Link) → Contains old link → Contains new link
-  pub linked : (want : Want) → Contains wants want → IsThere names groups want → Contains new (link_of names groups places want)
+  pub linked : (want : Want) → Contains wants want → IsThere names groups want → Contains new (link_for names groups places want)
   pub only : (link : Link) → Contains new link → Contains old link ⊎ IsLinkFor names groups places wants link
 
 -- links are exactly those for what is wanted
