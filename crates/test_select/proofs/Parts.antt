@@ -4,7 +4,7 @@ use Rattle.std.proofs.lemmas.List.{length-take}
 use Rattle.std.proofs.lemmas.Bool.{eq-eqb, eqb-true}
 use Rattle.test_select.specs.declared.pattern.Piece.{Piece}
 use Rattle.test_select.specs.declared.pattern.Piece.TheVariants.{AnyBytes, AnyByte, Byte, OneOf}
-use Rattle.test_select.specs.Matching.{IsPart, is_in_set}
+use Rattle.test_select.specs.Matching.{StandsFor, is_in_set}
 use Rattle.test_select.specs.Segments.{is_any_bytes, is_right}
 
 -- a name that begins with this byte, and the part is the byte
@@ -29,7 +29,7 @@ head_is : (a b : ℕ) → a ∷ [] ≡ b ∷ [] → a ≡ b
 head_is a b same = cc
 
 -- a piece for one byte stands for the first byte of a name
-pub part_is : (piece : Piece) (name : List ℕ) (count : ℕ) → is_any_bytes piece ≡ false → count ≤ length name → IsPart piece (take count name) → IsOne piece name count
+pub part_is : (piece : Piece) (name : List ℕ) (count : ℕ) → is_any_bytes piece ≡ false → count ≤ length name → StandsFor piece (take count name) → IsOne piece name count
 part_is AnyBytes name count single within part = absurd cc
 part_is AnyByte name count single within part =
     let (byte, rest, one, begins, taken) = one_byte name count within part in record { byte = byte; rest = rest; one = one; begins = begins; right = refl }
@@ -41,7 +41,7 @@ part_is (OneOf negated ranges) name count single within part =
     record { byte = byte; rest = rest; one = one; begins = begins; right = subst (λ b. is_in_set negated ranges b ≡ true) (head_is part.0 byte (sym part.1 ∙ taken)) part.2 }
 
 -- and for no other
-pub is_part : (piece : Piece) (byte : ℕ) → is_any_bytes piece ≡ false → is_right piece byte ≡ true → IsPart piece (byte ∷ [])
+pub is_part : (piece : Piece) (byte : ℕ) → is_any_bytes piece ≡ false → is_right piece byte ≡ true → StandsFor piece (byte ∷ [])
 is_part AnyBytes byte single right = absurd cc
 is_part AnyByte byte single right = refl
 is_part (Byte other) byte single right = ap (λ b. b ∷ []) (sym (eqb-true other byte right))

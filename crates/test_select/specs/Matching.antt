@@ -13,13 +13,13 @@ abbrev pub is_in_set : Bool → List ByteRange → ℕ → Bool
 is_in_set negated ranges byte = if negated then not (list_any (is_in_range byte) ranges) else list_any (is_in_range byte) ranges
 
 -- the part of a name that a piece stands for
-abbrev pub IsPart : Piece → List ℕ → Type 0
-IsPart AnyBytes part = Unit {0}
-IsPart AnyByte part = length part ≡ 1
-IsPart (Byte byte) part = part ≡ byte ∷ []
-IsPart (OneOf negated ranges) part = (byte : ℕ) × (part ≡ byte ∷ []) × IsTrue (is_in_set negated ranges byte)
+abbrev pub StandsFor : Piece → List ℕ → Type 0
+StandsFor AnyBytes part = Unit {0}
+StandsFor AnyByte part = length part ≡ 1
+StandsFor (Byte byte) part = part ≡ byte ∷ []
+StandsFor (OneOf negated ranges) part = (byte : ℕ) × (part ≡ byte ∷ []) × IsTrue (is_in_set negated ranges byte)
 
 -- the name is a part for each piece, one after the other
 abbrev pub Matches : List Piece → List ℕ → Type 0
 Matches [] name = name ≡ []
-Matches (piece ∷ pieces) name = (count : ℕ) × (count ≤ length name) × IsPart piece (take count name) × Matches pieces (drop count name)
+Matches (piece ∷ pieces) name = (count : ℕ) × (count ≤ length name) × StandsFor piece (take count name) × Matches pieces (drop count name)

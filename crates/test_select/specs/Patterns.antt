@@ -6,8 +6,8 @@ use Rattle.test_select.specs.declared.pattern.Piece.{Piece}
 use Rattle.test_select.specs.declared.pattern.Piece.TheVariants.{AnyBytes, AnyByte, Byte, OneOf}
 
 -- the bytes with a meaning of their own: `*`, `?`, `[`, `!`, `-` and `]`
-abbrev pub star : ℕ
-star = 42
+abbrev pub star_byte : ℕ
+star_byte = 42
 
 abbrev pub question : ℕ
 question = 63
@@ -18,8 +18,8 @@ opening = 91
 abbrev pub negation : ℕ
 negation = 33
 
-abbrev pub dash : ℕ
-dash = 45
+abbrev pub dash_byte : ℕ
+dash_byte = 45
 
 abbrev pub closing : ℕ
 closing = 93
@@ -37,7 +37,7 @@ ranges_of [] = []
 ranges_of (first ∷ []) = one_byte first ∷ []
 ranges_of (first ∷ second ∷ []) = one_byte first ∷ one_byte second ∷ []
 ranges_of (first ∷ second ∷ last ∷ bytes) =
-    if second == dash then record { first = first; last = last } ∷ ranges_of bytes else one_byte first ∷ ranges_of (second ∷ last ∷ bytes)
+    if second == dash_byte then record { first = first; last = last } ∷ ranges_of bytes else one_byte first ∷ ranges_of (second ∷ last ∷ bytes)
 
 -- how many bytes come before the first `]`
 unfoldable pub before_closing : List ℕ → Option ℕ
@@ -63,7 +63,7 @@ opened_set (byte ∷ bytes) = if byte == negation then set_after true 1 bytes el
 -- the piece that a byte begins, and how many of the bytes after it belong to it; a `[` that opens no set is itself
 unfoldable pub first_piece : ℕ → List ℕ → Piece × ℕ
 first_piece byte bytes =
-    if byte == star then (AnyBytes, 0) else (if byte == question then (AnyByte, 0) else (if byte == opening then unwrap_or (opened_set bytes) (Byte opening, 0) else (Byte byte, 0)))
+    if byte == star_byte then (AnyBytes, 0) else (if byte == question then (AnyByte, 0) else (if byte == opening then unwrap_or (opened_set bytes) (Byte opening, 0) else (Byte byte, 0)))
 
 -- the pieces of bytes after the first so many, which belong to a piece already
 unfoldable pub pieces_after : ℕ → List ℕ → List Piece

@@ -49,7 +49,7 @@ HasNoPlace pieces name = (at : ℕ) → at ≤ length name → has_prefix pieces
 
 -- What is left of pieces and a name after a piece for any bytes: fewer pieces, and they match the rest exactly where all
 -- match the name.
-pub record IsLeft (others : List Piece) (name : List ℕ) (left : Bor (List Piece) × Bor (List ℕ)) : Type 0 where
+pub record IsWhatRemains (others : List Piece) (name : List ℕ) (left : Bor (List Piece) × Bor (List ℕ)) : Type 0 where
   pub begins : BeginsAnyBytes left.0.now
   pub fewer : length left.0.now ≤ length others
   pub same : Matches left.0.now left.1.now ↔ Matches (AnyBytes ∷ others) name

@@ -4,7 +4,7 @@ ghost use Rattle.std.specs.Prelude.{◌≡◌, ◌↔◌, ◌++◌, ◌-◌, ◌
 ghost use Rattle.std.specs.List.{list_any};
 ghost use Rattle.test_select.specs.declared.pattern.Piece.TheVariants.{AnyBytes};
 ghost use Rattle.test_select.specs.Matching.{is_in_range, Matches};
-ghost use Rattle.test_select.specs.Segments.{is_any_bytes, is_right, has_prefix, AreSingle, BeginsAnyBytes, IsFirstPlace, HasNoPlace, IsLeft};
+ghost use Rattle.test_select.specs.Segments.{is_any_bytes, is_right, has_prefix, AreSingle, BeginsAnyBytes, IsFirstPlace, HasNoPlace, IsWhatRemains};
 
 use crate::pattern::{ByteRange, Pattern, Piece};
 
@@ -91,7 +91,7 @@ fn find(pieces: &[Piece], name: &[u8]) -> Option<usize>
 fn after_any<'a>(others: &'a [Piece], name: &'a [u8]) -> Option<(&'a [Piece], &'a [u8])>
     ensures { MatchOption result
         (Matches (AnyBytes ∷ others.now) name.now → ⊥)
-        (IsLeft others.now name.now) }
+        (IsWhatRemains others.now name.now) }
 {
     let (segment, after) = cut(others);
     if after.is_empty() {
