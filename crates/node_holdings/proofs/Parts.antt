@@ -11,7 +11,7 @@ use Rattle.node_codec.specs.Forms.NodePayload.{DraftAlone, OfDraft, OfNode}
 use Rattle.node_codec.specs.Forms.TextSource.{Known}
 use Rattle.node_codec.specs.Spans.{artefact_span, payload_in_spans, source_in, source_span_of, spanned}
 use Rattle.node_codec.specs.Writing.{IsSmallFile, draft_of, source_of}
-use Rattle.byte_codec.proofs.Fields.{some_is}
+use Rattle.std.proofs.lemmas.Option.{same_Some}
 use Rattle.node_codec.proofs.Spelling.{payload_again}
 
 abbrev pub artefact_part : NodePayload → List ℕ
@@ -59,5 +59,5 @@ not_none x e = cc
 
 pub node_piece : (bytes : List ℕ) (given : PayloadSpans) (payload : NodePayload) → node_payload_in bytes ≡ Some (payload_in_spans bytes given) → node_payload_in bytes ≡ Some payload → (spanned bytes (artefact_span given) ≡ artefact_part payload) × (source_in bytes (source_span_of given) ≡ source_part payload)
 node_piece bytes given payload read is =
-    let same : payload_in_spans bytes given ≡ payload = some_is (payload_in_spans bytes given) payload (sym read ∙ is) in
+    let same : payload_in_spans bytes given ≡ payload = same_Some (payload_in_spans bytes given) payload (sym read ∙ is) in
     (artefact_of_spans bytes given ∙ ap artefact_part same, source_of_spans bytes given ∙ ap source_part same)

@@ -1,6 +1,7 @@
 -- The bytes of a set, and the ranges that they stand for.
 use Rattle.std.proofs.Common.{ℕ, ◌≡◌, ◌≢◌, ◌+◌, ◌-◌, ◌<◌, ◌≤◌, ◌==◌, zero, suc, false, true, cond, List, [], ◌∷◌, length, drop, get_or, Option, Some, None, arith, refl, sym, ap, ◌∙◌, ◌⊎◌, inl, inr}
 use Rattle.std.specs.Prelude.{option_map}
+use Rattle.std.proofs.lemmas.Option.{none-some}
 use Rattle.std.proofs.lemmas.List.{drop_more, drop_all, drop-drop}
 use Rattle.std.proofs.lemmas.Bool.{cases_Bool, cases_lt, eq-eqb, ne_eqb}
 use Rattle.test_select.specs.Patterns.{closing, negation, ranges_of, before_closing, set_length, set_after, opened_set}
@@ -30,12 +31,9 @@ found bytes i count within here =
     ∙ ap (λ b. shifted count (cond b (Some 0) (option_map suc (before_closing (drop (i + 1) bytes))))) (eq-eqb (get_or bytes i 0) closing here)
     ∙ ap Some (omega arith)
 
-some_is_none : (n : ℕ) → ◌≡◌ {A = Option ℕ} (Some n) None → ⊥
-some_is_none n same = cc
-
 unshifted : (found : Option ℕ) → option_map suc found ≡ None → found ≡ None
 unshifted None none = refl
-unshifted (Some n) none = absurd (some_is_none (suc n) none)
+unshifted (Some n) none = absurd (none-some (suc n) (sym none))
 
 pub none_at_end : (bytes : List ℕ) → before_closing (drop (length bytes) bytes) ≡ None
 unfolding before_closing
@@ -43,7 +41,7 @@ none_at_end bytes = ap before_closing (drop_all (length bytes) bytes (omega arit
 
 none_in_rest : (byte : ℕ) (bytes : List ℕ) → ((byte == closing) ≡ true) ⊎ ((byte == closing) ≡ false) → before_closing (byte ∷ bytes) ≡ None → before_closing bytes ≡ None
 unfolding before_closing
-none_in_rest byte bytes (inl here) none = absurd (some_is_none 0 (sym (ap (λ b. cond b (Some 0) (option_map suc (before_closing bytes))) here) ∙ none))
+none_in_rest byte bytes (inl here) none = absurd (none-some 0 (sym (sym (ap (λ b. cond b (Some 0) (option_map suc (before_closing bytes))) here) ∙ none)))
 none_in_rest byte bytes (inr other) none = unshifted (before_closing bytes) (sym (ap (λ b. cond b (Some 0) (option_map suc (before_closing bytes))) other) ∙ none)
 
 -- nor from a byte on that isn't `]`
