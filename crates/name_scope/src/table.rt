@@ -33,7 +33,8 @@ fn grown_rows(
     texts: &TextList,
     scans: &Scans,
 ) -> Result<Vec<Row>, NoMemory>
-    requires named { HasAll (implicit ++ flat_map (λ unit. unit.names) units.now) [] (keys_of names.now) }
+    requires named { HasAll (implicit ++ flat_map (λ unit. unit.names) units.now)
+        [] (keys_of names.now) }
     requires units { length units.now
         ≡ length (scope_units project.now.files texts.now scans.now) }
     requires each { length texts.now ≡ length project.now.files }
