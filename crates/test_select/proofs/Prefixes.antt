@@ -1,19 +1,16 @@
 -- Names that begin with a byte for each of some pieces.
-use Rattle.std.proofs.Common.{ℕ, ◌≡◌, ◌+◌, ◌<◌, ◌≤◌, ◌&&◌, Bool, false, true, List, [], ◌∷◌, length, drop, get_or, arith, ap, sym, refl, ◌∙◌}
+use Rattle.std.proofs.Common.{ℕ, ◌≡◌, ◌+◌, ◌<◌, ◌≤◌, ◌&&◌, false, true, List, [], ◌∷◌, length, drop, get_or, arith, ap, sym, refl, ◌∙◌}
 use Rattle.std.proofs.lemmas.List.{drop_more, drop_all}
+use Rattle.std.proofs.lemmas.Bool.{and_right}
 use Rattle.test_select.specs.declared.pattern.Piece.{Piece}
 use Rattle.test_select.specs.Segments.{is_right, has_prefix}
-
-and_no : (b : Bool) → (b && false) ≡ false
-and_no true = refl
-and_no false = refl
 
 -- a name that is too short doesn't
 pub too_short : (pieces : List Piece) (name : List ℕ) → length name < length pieces → has_prefix pieces name ≡ false
 unfolding has_prefix
 too_short [] name short = absurd (omega (arith, short))
 too_short (piece ∷ pieces) [] short = refl
-too_short (piece ∷ pieces) (byte ∷ bytes) short = ap (λ b. is_right piece byte && b) (too_short pieces bytes (omega (arith, short))) ∙ and_no (is_right piece byte)
+too_short (piece ∷ pieces) (byte ∷ bytes) short = and_right (is_right piece byte) (has_prefix pieces bytes) (too_short pieces bytes (omega (arith, short)))
 
 -- one piece and one byte more
 one_more : (pieces : List Piece) (name : List ℕ) (i : ℕ) (piece : Piece) → i < length pieces → i < length name → piece ≡ get_or pieces i piece
