@@ -25,7 +25,7 @@ use crate::starts::start_one;
 use build_plan::plan;
 use slot_machine::{Slots, Step};
 use std::alloc::Global;
-use vr_base::{Built, FILE_LIMIT, Graph, Items, Mark, MarkList, NoMemory};
+use vr_base::{Built, FILE_LIMIT, Graph, Items, Mark, MarkList, NoMemory, SLOT_LIMIT};
 use vr_outside::{Disk, Procs, Records};
 
 /// How a build ended that no fault ended.
@@ -52,7 +52,7 @@ fn begin<K: Records>(
     limit: u32,
     keep_going: bool,
 ) -> Result<Begun, NoMemory>
-    requires { (1 ≤ limit) × (limit ≤ 64) }
+    requires { (1 ≤ limit) × (limit ≤ SLOT_LIMIT) }
     ensures graph { IfOk result (λ begun. IsGraph graph.now) }
     ensures files { IfOk result (λ begun. files_of begun.slots ≡ length graph.now) }
     ensures tickets { IfOk result (λ begun. tickets_of begun.slots ≡ []) }
@@ -83,7 +83,7 @@ pub fn build_marks<K: Records, D: Disk, P: Procs>(
     limit: u32,
     keep_going: bool,
 ) -> Result<MarkList, BuildFault>
-    requires limit { (1 ≤ limit) × (limit ≤ 64) }
+    requires limit { (1 ≤ limit) × (limit ≤ SLOT_LIMIT) }
     requires idle { P.running procs.old ≡ [] }
     requires usable { K.broken store.old ≡ false }
     requires in_step { D.tells → K.in_step store.old (D.moments disk.old).now }
@@ -192,7 +192,7 @@ pub fn build<K: Records, D: Disk, P: Procs>(
     limit: u32,
     keep_going: bool,
 ) -> Result<BuildEnd, BuildFault>
-    requires limit { (1 ≤ limit) × (limit ≤ 64) }
+    requires limit { (1 ≤ limit) × (limit ≤ SLOT_LIMIT) }
     requires idle { P.running procs.old ≡ [] }
     requires usable { K.broken store.old ≡ false }
     requires in_step { D.tells → K.in_step store.old (D.moments disk.old).now }

@@ -2,7 +2,7 @@
 
 ghost use Rattle.std.specs.Prelude.{◌≡◌, ◌<◌, ◌≤◌, length, All};
 ghost use Rattle.std.specs.Vec.{vec_capacity};
-ghost use Rattle.vr_base.specs.declared.limits.TheConstants.{FILE_LIMIT};
+ghost use Rattle.vr_base.specs.declared.limits.TheConstants.{FILE_LIMIT, SLOT_LIMIT};
 ghost use Rattle.slot_machine.specs.Bits.{has_bit};
 ghost use Rattle.slot_machine.specs.Counts.{AreReady};
 
@@ -14,7 +14,7 @@ use crate::ready::ReadySet;
 use crate::step::Step;
 use build_plan::BuildPlan;
 use std::alloc::Global;
-use vr_base::{FILE_LIMIT, Graph, NoMemory, Positions};
+use vr_base::{FILE_LIMIT, Graph, NoMemory, Positions, SLOT_LIMIT};
 
 /// What a build with many children has to do next. It takes no memory but in `new`, and all calls together take time in
 /// proportion to the files and what they depend on.
@@ -62,7 +62,7 @@ impl Slots {
         keep_going: bool,
     ) -> Result<Slots, NoMemory>
         requires needs { length plan.now.needs ≡ length graph.now }
-        requires limit { (1 ≤ limit) × (limit ≤ 64) }
+        requires limit { (1 ≤ limit) × (limit ≤ SLOT_LIMIT) }
         ensures files { IfOk result (λ machine. files_of machine ≡ length graph.now) }
         ensures tickets { IfOk result (λ machine. tickets_of machine ≡ []) }
         ensures in_step { IfOk result (λ machine. (job : Job) →

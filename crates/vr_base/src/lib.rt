@@ -1,6 +1,7 @@
 //! The types that all other crates share: lists, texts, files, requests, exits and outcomes.
 #![tactic(auto)]
 
+mod bench;
 mod child;
 mod design;
 mod file;
@@ -16,6 +17,7 @@ mod refs;
 mod rooms;
 mod text;
 
+pub use bench::{Bench, CaseList, TestCase, TestFault, Tests};
 pub use child::{Event, EventList, Exit, MaybeText, Request};
 pub use design::{Beginning, Role, RoleList, Scan, Scans, Unit, UnitFault, UnitKind, UnitList};
 pub use file::{FileList, FileName, NamedText, NamedTextList};
@@ -23,8 +25,8 @@ pub use graph::{Built, BuiltFile, Entry, Graph};
 pub use items::{Items, Numbers, Positions};
 pub use lexical::{LexFault, Span, SpanList, Token, TokenKind, TokenList, Tokens};
 pub use limits::{
-    ARTEFACT_LIMIT, COMMAND_LIMIT, FILE_LIMIT, GRAPH_TEXT_LIMIT, LIBRARY_LIMIT, PATH_LIMIT,
-    PROJECT_FILE_LIMIT, PROJECT_TEXT_LIMIT, RESULTS_LIMIT, SIMULATOR_LIMIT, TEXT_LIMIT, WORD_LIMIT,
+    ARTEFACT_LIMIT, CASE_LIMIT, COMMAND_LIMIT, FILE_LIMIT, GRAPH_TEXT_LIMIT, LIBRARY_LIMIT,
+    NAME_LIMIT, PATH_LIMIT, RESULTS_LIMIT, SIMULATOR_LIMIT, SLOT_LIMIT, TEXT_LIMIT, WORD_LIMIT,
 };
 pub use linking::{Edges, LinkFault, Linked, Order, OrderFault, Warning, WarningList};
 pub use memory::{DiskFailed, NoMemory};

@@ -30,8 +30,11 @@ pub const SIMULATOR_LIMIT: usize = 32;
 /// The most bytes of a word of a command.
 pub const WORD_LIMIT: usize = 1_024;
 
-/// For now: the most files of a project.
-pub const PROJECT_FILE_LIMIT: usize = 128;
+/// The most children at once.
+pub const SLOT_LIMIT: usize = 64;
 
-/// For now: the most bytes of all texts of a project.
-pub const PROJECT_TEXT_LIMIT: usize = 2_097_152;
+/// The most names that a folder lists.
+pub const NAME_LIMIT: usize = 65_536;
+
+/// The most test cases of a project.
+pub const CASE_LIMIT: usize = 65_536;

@@ -17,7 +17,8 @@ use Rattle.project_file.specs.Csv.{csv_project}
 use Rattle.vr_base.specs.PresentGraph.{listed}
 use Rattle.scan_spec.specs.Scans.{Finding}
 use Rattle.vunit_top.specs.Findings.{first_fault}
-use Rattle.vr_base.specs.declared.limits.TheConstants.{PROJECT_TEXT_LIMIT, TEXT_LIMIT}
+use Rattle.vr_base.specs.declared.limits.TheConstants.{TEXT_LIMIT}
+use Rattle.vunit_top.specs.declared.limits.TheConstants.{PROJECT_FILE_LIMIT, PROJECT_TEXT_LIMIT}
 
 -- The words are no command line; the program is a child; the sources are refused; a quantity is over its limit,
 -- which is this number; or this graph is to be compiled.
@@ -35,7 +36,7 @@ pub record Bounds : Type 0 where
   pub total : ℕ
 
 abbrev pub bounds : Bounds
-bounds = record { files = 128; text = TEXT_LIMIT; total = PROJECT_TEXT_LIMIT }
+bounds = record { files = PROJECT_FILE_LIMIT; text = TEXT_LIMIT; total = PROJECT_TEXT_LIMIT }
 
 -- a text, where it and those before it have no more bytes together than they may
 abbrev pub text_after : ℕ → List ℕ → Result (List ℕ) Reading

@@ -3,6 +3,7 @@
 
 mod building;
 mod ends;
+mod limits;
 mod scanning;
 mod sources;
 mod top;

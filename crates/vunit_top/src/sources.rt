@@ -14,13 +14,14 @@ ghost use Rattle.vunit_top.specs.Sources.{Gives, LeadsTo, ReadCounts, IsPlain};
 ghost use Rattle.vunit_top.specs.Asked.{file_paths, source_paths, listing_paths, csv_paths, project_paths, AsksInOrder};
 ghost use Rattle.vunit_top.specs.declared.sources.ReadStop.TheVariants.{NoMemory as out_of_memory};
 
+use crate::limits::{PROJECT_FILE_LIMIT, PROJECT_TEXT_LIMIT};
 use crate::scanning::scans_of;
 use project_file::read_csv_project;
 use source_view::listed_graph;
 use std::alloc::Global;
 use vr_base::{
-    FILE_LIMIT, FileName, Graph, Limit, NoMemory, PROJECT_TEXT_LIMIT, Project, ProjectFault,
-    ProjectFile, Refusal, Scans, TEXT_LIMIT, Text, TextList,
+    FILE_LIMIT, FileName, Graph, Limit, NoMemory, Project, ProjectFault, ProjectFile, Refusal,
+    Scans, TEXT_LIMIT, Text, TextList,
 };
 use vr_outside::{ReadEnd, Tree, TreeFault};
 
@@ -79,7 +80,7 @@ const MOST_TEXT: u64 = TEXT_LIMIT as u64;
 const MOST_TOTAL: u64 = PROJECT_TEXT_LIMIT as u64;
 
 /// The most files of a project.
-const MOST_FILES: u64 = 128;
+const MOST_FILES: u64 = PROJECT_FILE_LIMIT as u64;
 
 /// A text after texts of so many bytes, where they have no more together than they may.
 fn text_after(before: u64, text: Text) -> Result<Text, ReadStop>

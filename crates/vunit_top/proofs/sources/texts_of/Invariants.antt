@@ -4,7 +4,7 @@ use Rattle.vunit_top.specs.Reading.{texts_of}
 use Rattle.vunit_top.specs.Asked.{file_paths}
 use Rattle.vunit_top.proofs.Texts.{after}
 use Rattle.vunit_top.proofs.sources.texts_of.Given as goal
-use Rattle.vr_base.specs.declared.limits.TheConstants.{PROJECT_TEXT_LIMIT}
+use Rattle.vunit_top.specs.declared.limits.TheConstants.{PROJECT_TEXT_LIMIT}
 
 abbrev pub invariant-loop-file : goal.invariant-loop-file
 invariant-loop-file g l = record {

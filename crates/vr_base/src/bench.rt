@@ -1,0 +1,73 @@
+//! Test benches, their cases, and what is wrong with them.
+
+ghost use Rattle.std.specs.Prelude.{◌≡◌};
+ghost use Rattle.vr_base.specs.declared.bench.TestFault.TheVariants.{NoMemory as TestOutOfMemory};
+
+use crate::{Items, NoMemory, Text};
+use std::alloc::{AllocError, AllocFailed};
+
+/// A test case of a bench: its name, and the file in which it is, with the first byte and the number of bytes of the
+/// token that names it.
+#[derive(Debug, Drop)]
+pub struct TestCase {
+    pub name: Text,
+    pub file: u32,
+    pub at: u32,
+    pub length: u32,
+}
+
+pub type CaseList = Items<TestCase>;
+
+/// A test bench: an entity with its one architecture, in the file of the entity.
+#[derive(Drop)]
+pub struct Bench {
+    pub library: Text,
+    pub name: Text,
+    pub architecture: Text,
+    pub file: u32,
+    pub cases: CaseList,
+    /// Whether the bench names no case itself; it then has the one case `all`.
+    pub whole: bool,
+    /// Whether all cases run in one simulation.
+    pub same_sim: bool,
+}
+
+pub type Tests = Items<Bench>;
+
+/// What is wrong with the benches of a project.
+#[derive(Debug, Drop)]
+pub enum TestFault {
+    NoMemory,
+    /// The bench has more than one architecture.
+    TwoArchitectures { bench: Text },
+    /// The bench has no architecture.
+    NoArchitecture { bench: Text },
+    /// Two cases have this full name.
+    DuplicateTest { name: Text },
+    /// The bench has a case whose name is none.
+    BadName { bench: Text },
+}
+
+impl From<NoMemory> for TestFault {
+    ghost from_gives = { λ _ e. e ≡ TestOutOfMemory };
+
+    fn from(_: NoMemory) -> TestFault {
+        TestFault::NoMemory
+    }
+}
+
+impl From<AllocError> for TestFault {
+    ghost from_gives = { λ _ e. e ≡ TestOutOfMemory };
+
+    fn from(_: AllocError) -> TestFault {
+        TestFault::NoMemory
+    }
+}
+
+impl<T: Drop> From<AllocFailed<T>> for TestFault {
+    ghost from_gives = { λ _ e. e ≡ TestOutOfMemory };
+
+    fn from(_: AllocFailed<T>) -> TestFault {
+        TestFault::NoMemory
+    }
+}
