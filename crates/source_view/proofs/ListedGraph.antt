@@ -3,7 +3,8 @@ use Rattle.std.proofs.Common.{◌≡◌, ◌≢◌, ℕ, zero, suc, ◌+◌, ◌
 use Rattle.std.specs.Prelude.{All, Contains, sum_by}
 use Rattle.std.proofs.lemmas.List.{drop_more, append_assoc, length-append}
 use Rattle.std.proofs.lemmas.Option.{slice_get_within, slice_get-get_or, same_Some}
-use Rattle.std.proofs.lemmas.List.Sums.{sum_by-cons, get_or-le-sum_by}
+use Rattle.std.proofs.lemmas.List.Elements.{All-get_or}
+use Rattle.std.proofs.lemmas.List.Sums.{sum_by-cons}
 use Rattle.vr_base.specs.declared.graph.Entry.{Entry}
 use Rattle.vr_base.specs.declared.project.ProjectFile.{ProjectFile}
 use Rattle.vr_base.specs.declared.project.Project.{Project}
@@ -12,8 +13,8 @@ use Rattle.vr_base.specs.Projects.{IsProject}
 use Rattle.vr_base.proofs.GraphPrefixes.{IsGraph-prefix}
 use Rattle.vr_base.specs.PresentGraph.{below, listed_entry, listed_from, listed, IsListed}
 use Rattle.vr_base.proofs.Below.{length-below, get_or-below}
-use Rattle.source_view.specs.Listed.{AreTexts}
-use Rattle.vr_base.specs.declared.limits.TheConstants.{FILE_LIMIT}
+use Rattle.order_spec.specs.LinkedGraph.{FitTexts}
+use Rattle.vr_base.specs.declared.limits.TheConstants.{FILE_LIMIT, TEXT_LIMIT}
 
 pub listed_no_text : (place : ℕ) (files : List ProjectFile) → listed_from place files [] ≡ []
 unfolding listed_from
@@ -67,7 +68,7 @@ text_sum place (file ∷ files) (text ∷ texts) =
     rw (sum_by-cons (λ (e : Entry). length e.text) (listed_entry place file text) (listed_from (suc place) files texts), sum_by-cons (λ (t : List ℕ). length t) text texts)
     (omega (arith, text_sum (suc place) files texts))
 
-module _ (project : Project) (texts : List (List ℕ)) (is : IsProject project) (few : length project.files ≤ FILE_LIMIT) (are : AreTexts project.files texts) where
+module _ (project : Project) (texts : List (List ℕ)) (is : IsProject project) (few : length project.files ≤ FILE_LIMIT) (are : FitTexts project.files texts) where
   count : length (listed project.files texts) ≡ length project.files
   count = length-listed_from 0 project.files texts (omega (arith, are.each)) ∙ are.each
 
@@ -95,7 +96,7 @@ module _ (project : Project) (texts : List (List ℕ)) (is : IsProject project) 
             (λ j c m. let b : j < k = omega (arith, length-below k) in rw (get_or-below k j c b) (in_below i j (omega arith))));
         name = file.name;
         command = file.command;
-        text = omega (arith, get_or-le-sum_by (λ (t : List ℕ). length t) texts i d.text (omega (arith, are.each)), are.small);
+        text = All-get_or (λ (t : List ℕ). length t ≤ TEXT_LIMIT) texts i d.text (omega (arith, are.each)) are.small.short;
       }
 
   pub listed_is_graph : IsGraph (listed project.files texts)
@@ -108,7 +109,7 @@ module _ (project : Project) (texts : List (List ℕ)) (is : IsProject project) 
         (subst (λ (e : Entry). (get_or project.files i (record { name = d.name; command = d.command })).name ≢ e.name) (sym (get j d high))
         (is.distinct i j (record { name = d.name; command = d.command }) a high));
     each = λ i d lt. let low : i < length project.files = omega (arith, count) in subst (IsEntryAt (listed project.files texts) i) (sym (get i d low)) (entry_is i d low);
-    small = omega (arith, text_sum 0 project.files texts, are.small);
+    small = omega (arith, text_sum 0 project.files texts, are.small.few_bytes);
   }
 
   -- the graph so far, with one more file

@@ -3,7 +3,7 @@
 ghost use Rattle.std.specs.Prelude.{◌≡◌, ◌≤◌, length, All, sum, map, IfOk};
 ghost use Rattle.vr_base.specs.Projects.{IsProject};
 ghost use Rattle.vr_base.specs.PresentGraph.{below, listed_entry, listed};
-ghost use Rattle.source_view.specs.Listed.{AreTexts};
+ghost use Rattle.order_spec.specs.LinkedGraph.{FitTexts};
 
 use std::alloc::Global;
 use vr_base::{
@@ -43,7 +43,7 @@ fn listed_entry(
 pub fn listed_graph(alloc: Global, project: &Project, texts: TextList) -> Result<Graph, NoMemory>
     requires project { IsProject project.now }
     requires few { length project.now.files ≤ FILE_LIMIT }
-    requires texts { AreTexts project.now.files texts }
+    requires texts { FitTexts project.now.files texts }
     ensures { IfOk result (λ graph. graph ≡ listed project.now.files texts) }
 {
     let mut graph = Graph::new(alloc);

@@ -3,7 +3,7 @@
 ghost use Rattle.std.specs.Prelude.{◌≡◌, ◌≤◌, ℕ, List, length, IfOk};
 ghost use Rattle.scan_spec.specs.Units.{AreTokensOf};
 ghost use Rattle.scan_spec.specs.Scans.{Finding, IsScanner, AreScansOf};
-ghost use Rattle.source_view.specs.Listed.{AreTexts};
+ghost use Rattle.order_spec.specs.LinkedGraph.{FitTexts};
 ghost use Rattle.vunit_top.specs.Findings.{first_fault};
 ghost use Rattle.vunit_top.specs.Scanning.{ScansFile, ScansUpTo};
 ghost use Rattle.vunit_top.specs.Sources.{ReadCounts};
@@ -102,7 +102,7 @@ fn scan_file(alloc: Global, file: &FileName, text: &[u8]) -> Result<Scan, ReadSt
 
 /// The scans of the files, one a file, in project order; or the refusal of the first file that has a fault.
 pub fn scans_of(alloc: Global, files: &[ProjectFile], texts: &[Text]) -> Result<Scans, ReadStop>
-    requires { AreTexts files.now texts.now }
+    requires { FitTexts files.now texts.now }
     ensures scans { IfOk result (AreScansOf texts.now) }
     ensures fault { (scan : List ℕ → Finding) → IsScanner scan →
         ScansUpTo (first_fault scan files.now texts.now) result }

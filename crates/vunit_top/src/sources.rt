@@ -9,7 +9,7 @@ ghost use Rattle.scan_spec.specs.Scans.{Finding, IsScanner};
 ghost use Rattle.vunit_top.specs.Findings.{first_fault};
 ghost use Rattle.vunit_top.specs.Scanning.{IsScannedGraph};
 ghost use Rattle.vunit_top.specs.Reading.{Stops, Over, bounds, text_after, text_of, texts_of, go_unless, sources_reading, listing_reading, csv_reading, toml_reading, project_reading};
-ghost use Rattle.source_view.specs.Listed.{AreTexts};
+ghost use Rattle.order_spec.specs.LinkedGraph.{FitTexts};
 ghost use Rattle.vunit_top.specs.Sources.{Gives, LeadsTo, ReadCounts, IsPlain};
 ghost use Rattle.vunit_top.specs.Asked.{file_paths, source_paths, listing_paths, csv_paths, project_paths, AsksInOrder};
 ghost use Rattle.vunit_top.specs.declared.sources.ReadStop.TheVariants.{NoMemory as out_of_memory};
@@ -84,9 +84,11 @@ const MOST_FILES: u64 = PROJECT_FILE_LIMIT as u64;
 
 /// A text after texts of so many bytes, where they have no more together than they may.
 fn text_after(before: u64, text: Text) -> Result<Text, ReadStop>
-    requires { before ≤ PROJECT_TEXT_LIMIT }
+    requires before { before ≤ PROJECT_TEXT_LIMIT }
+    requires short { length text ≤ TEXT_LIMIT }
     ensures text { Gives (text_after before text) result }
     ensures size { IfOk result (λ text. before + length text ≤ PROJECT_TEXT_LIMIT) }
+    ensures short { IfOk result (λ text. length text ≤ TEXT_LIMIT) }
     ensures cause { (count : ℕ) → ReadCounts result count count }
 {
     if text.bytes().len() as u64 > MOST_TOTAL - before {
@@ -116,6 +118,7 @@ fn text_of<T: Tree>(
         let read = read_end (T.file tree.old name.now.path) bounds.text in
         Gives (text_of name.now before read) result }
     ensures size { IfOk result (λ text. before + length text ≤ PROJECT_TEXT_LIMIT) }
+    ensures short { IfOk result (λ text. length text ≤ TEXT_LIMIT) }
     ensures same { T.file tree.new ≡ T.file tree.old }
     ensures same_list { T.listed tree.new ≡ T.listed tree.old }
     ensures asked { AsksInOrder result (name.now.path ∷ []) (T.asked tree.old) (T.asked tree.new) }
@@ -135,7 +138,7 @@ fn texts_of<T: Tree>(
     files: &[ProjectFile],
 ) -> Result<TextList, ReadStop>
     ensures texts { T.tells → Gives (texts_of (T.file tree.old) 0 files.now) result }
-    ensures size { IfOk result (AreTexts files.now) }
+    ensures size { IfOk result (FitTexts files.now) }
     ensures same { T.file tree.new ≡ T.file tree.old }
     ensures same_list { T.listed tree.new ≡ T.listed tree.old }
     ensures asked { AsksInOrder result (file_paths files.now)
@@ -161,7 +164,7 @@ fn scanned_graph(
 ) -> Result<ScannedGraph, ReadStop>
     requires project { IsProject project.now }
     requires few { length project.now.files ≤ FILE_LIMIT }
-    requires texts { AreTexts project.now.files texts }
+    requires texts { FitTexts project.now.files texts }
     ensures graph { (scan : List ℕ → Finding) → IsScanner scan →
         let fault = first_fault scan project.now.files texts in
         LeadsTo (go_unless fault (listed project.now.files texts)) result }

@@ -1,5 +1,7 @@
-use Rattle.std.proofs.Common.{◌≡◌, ◌+◌, ◌∙◌, Option, List, [], ◌∷◌, ℕ, Err, length, ap, subst, arith}
-use Rattle.std.specs.Prelude.{sum_by}
+use Rattle.std.proofs.Common.{◌≡◌, ◌+◌, ◌∙◌, Option, List, [], ◌∷◌, ℕ, Err, length, ◌≤◌, ap, subst, sym, arith}
+use Rattle.std.specs.Prelude.{All, sum_by}
+use Rattle.std.proofs.lemmas.List.Elements.{All-push}
+use Rattle.vr_base.specs.declared.limits.TheConstants.{TEXT_LIMIT}
 use Rattle.std.proofs.lemmas.List.{length_push}
 use Rattle.std.proofs.lemmas.List.Sums.{sum_by_push}
 use Rattle.std.proofs.lemmas.Result.{err_from_is_err_and}
@@ -25,6 +27,7 @@ loop-file-preserved g c =
       count = ap length pushed ∙ length_push c.loop-file.texts c.in_ok-text.text ∙ ap (λ (n : ℕ). n + 1) i.count;
       sum = let sum = ap (λ (texts : List (List ℕ)). sum_by (λ (text : List ℕ). length text) texts) pushed ∙ sum_by_push (λ (text : List ℕ). length text) c.loop-file.texts c.in_ok-text.text in omega (arith, sum, bytes, i.sum);
       small = omega (arith, bytes, c.in_ok-text.ensures.size);
+      short = subst (All (λ (text : List ℕ). length text ≤ TEXT_LIMIT)) (sym pushed) (All-push (λ (text : List ℕ). length text ≤ TEXT_LIMIT) c.loop-file.texts c.in_ok-text.text i.short c.in_ok-text.ensures.short);
       same = c.in_ok-text.ensures.same ∙ i.same;
       same_list = c.in_ok-text.ensures.same_list ∙ i.same_list;
       asked = one_more_asked c.args.files.now c.loop-file.file-index c.file-item.result _ _ c.loop-file-test.true c.file-item.is i.asked _ c.in_ok-text.ensures.asked;

@@ -1,5 +1,6 @@
 use Rattle.std.proofs.Common.{◌≡◌, ◌≤◌, ◌++◌, length, take, drop}
-use Rattle.std.specs.Prelude.{sum_by}
+use Rattle.std.specs.Prelude.{All, sum_by}
+use Rattle.vr_base.specs.declared.limits.TheConstants.{TEXT_LIMIT}
 use Rattle.vunit_top.specs.Reading.{texts_of}
 use Rattle.vunit_top.specs.Asked.{file_paths}
 use Rattle.vunit_top.proofs.Texts.{after}
@@ -11,6 +12,7 @@ invariant-loop-file g l = record {
   count : length l.texts ≡ l.file-index;
   sum : sum_by (λ text. length text) l.texts ≡ l.total;
   small : l.total ≤ PROJECT_TEXT_LIMIT;
+  short : All (λ text. length text ≤ TEXT_LIMIT) l.texts;
   same : g.T.Tree.file l.tree ≡ g.T.Tree.file l.fn.tree;
   same_list : g.T.Tree.listed l.tree ≡ g.T.Tree.listed l.fn.tree;
   asked : g.T.Tree.asked l.tree ≡ g.T.Tree.asked l.fn.tree ++ file_paths (take l.file-index l.files);
