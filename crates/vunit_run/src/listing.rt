@@ -16,8 +16,8 @@ use std::{fs, io};
 use vr_base::{Items, PATH_LIMIT, Text};
 use vr_outside::NamesEnd;
 
-// The folder of the program's own output, which isn't listed.
-const OUTPUT_FOLDER: &str = "vunit_out";
+/// The folder of the program's own output, which isn't listed.
+pub const OUTPUT_FOLDER: &str = "vunit_out";
 
 // The folders that are still to be read, by their paths, and the files that were found.
 #[derive(Drop)]

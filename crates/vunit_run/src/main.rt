@@ -13,14 +13,15 @@ mod streams;
 mod tests;
 
 use child_procs::ChildProcs;
+use file_disk::FileDisk;
 use file_tree::FileTree;
+use listing::OUTPUT_FOLDER;
 use status::status_of;
 use std::env;
 use std::io::ErrorKind;
 use std::process::ExitCode;
 use streams::{StdSink, StdSource};
-use vr_base::{NoMemory, Numbers, Outcome, Text, TextList, Which};
-use vr_memory::MemDisk;
+use vr_base::{NoMemory, Outcome, Text, TextList, Which};
 use vunit_top::run_vunit;
 
 fn main(rt: HostRuntime) -> ExitCode {
@@ -68,8 +69,9 @@ fn run_words(rt: HostRuntime, words: &TextList) -> Outcome {
     let Ok(mut procs) = ChildProcs::new(rt.alloc(), rt) else {
         return Outcome::NoMemory;
     };
-    // There is no store on a real disk yet: each run begins with an empty one in memory.
-    let mut disk = MemDisk::new(rt.alloc(), Numbers::new(rt.alloc()));
+    let Ok(mut disk) = FileDisk::new(rt.alloc(), rt, OUTPUT_FOLDER) else {
+        return Outcome::NoMemory;
+    };
     let mut out = StdSink::new(rt);
     run_vunit(
         rt.alloc(),
