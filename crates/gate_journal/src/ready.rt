@@ -1,8 +1,9 @@
 //! A payload and a side that are ready to be written, so that writing them takes no memory.
 
-ghost use Rattle.std.specs.Prelude.{◌≡◌, ◌^◌, ◌<◌, ◌++◌, ◌∷◌, [], length, All, IfOk};
+ghost use Rattle.std.specs.Prelude.{◌≡◌, ◌^◌, ◌<◌, ◌≤◌, ◌++◌, ◌∷◌, [], length, All, IfOk};
 ghost use Rattle.vr_base.specs.Bytes.{text_bytes};
 ghost use Rattle.gate_journal.specs.Payloads.{side_bytes};
+ghost use Rattle.gate_journal.specs.Journals.{payload_within};
 
 use crate::Payloads;
 use crate::layout::full_side;
@@ -42,6 +43,13 @@ impl Ready {
         })
     }
 
+    /// The payload, lent from what is written.
+    pub fn payload(&self) -> &[u8]
+        ensures { result.now ≡ self.now }
+    {
+        inner(self.bytes())
+    }
+
     /// What is written after the closed gate.
     pub(crate) fn bytes(&self) -> &[u8]
         ensures bytes { result.now ≡ text_bytes self.now ++ 0 ∷ [] }
@@ -49,6 +57,15 @@ impl Ready {
     {
         self.bytes.bytes()
     }
+}
+
+/// What is between a length of four bytes and the gate at the end.
+fn inner(bytes: &[u8]) -> &[u8]
+    requires { 5 ≤ length bytes.now }
+    ensures { result.now ≡ payload_within bytes.now }
+{
+    let end = bytes.len() - 1;
+    &bytes[4..end]
 }
 
 /// A side that is ready to take the place of the one that counts. Contracts see its content.

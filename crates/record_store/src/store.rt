@@ -111,7 +111,7 @@ impl Records for RecordStore {
         prepared: PreparedRecord,
     ) -> Result<(), DiskFailed> {
         let PreparedRecord { name, kept, ready } = prepared;
-        self.journal.commit(disk, ready)?;
+        self.journal.commit(disk, &ready)?;
         put(&mut self.index, name, kept);
         Ok(())
     }
