@@ -1,5 +1,10 @@
 //! The store of nodes over a journal.
 
+ghost use Rattle.std.specs.Prelude.{◌≡◌, false, IfOk, OnOk};
+ghost use Rattle.vr_outside.specs.Counts.{StoreCounts};
+ghost use Rattle.vr_outside.specs.Disks.{AtAnyMoment, OpensWith, reads_of};
+ghost use Rattle.vr_outside.specs.Records.{HasRecordsOf, IsAllOrLatest};
+ghost use Rattle.gate_journal.specs.Journals.{IsHealthy, Rests};
 ghost use Rattle.node_store.specs.Stored.{IsNodeReady, IsNodeStoreInStep, added_record, latest_among, node_records_in};
 ghost use Rattle.node_store.specs.StoreLaws.{node_store_durable, node_store_held};
 
@@ -26,6 +31,39 @@ pub struct PreparedNode {
     addition: Addition,
 }
 
+impl NodeStore {
+    /// Opens the records of a disk, whatever the disk holds.
+    pub fn open<D: Disk>(alloc: Global, disk: &mut D) -> Result<NodeStore, StoreFault>
+        // At any moment, after a fault too, a stop can leave the records of an image at entry.
+        ensures any_moment { D.tells →
+            AtAnyMoment (D.moments disk.old) (D.moments disk.new)
+            (HasRecordsOf node_records_in (D.moments disk.old).now) }
+        // Once both sides are synced, it leaves those of what reads gave at entry.
+        ensures opens { D.tells →
+            let before = node_records_in (reads_of (D.moments disk.old).now) in
+            OpensWith (D.moments disk.old) (D.moments disk.new)
+            (λ image. IsAllOrLatest before (node_records_in image)) }
+        // Where a side counts and its last gate is closed, nothing is written.
+        ensures rests { D.tells →
+            IsHealthy 2 (reads_of (D.moments disk.old).now) →
+            Rests result (D.moments disk.old) (D.moments disk.new) }
+        ensures records { D.tells →
+            let before = node_records_in (reads_of (D.moments disk.old).now) in
+            OnOk result
+            (IsAllOrLatest before (node_records_in (reads_of (D.moments disk.new).now))) }
+        ensures in_step { D.tells →
+            IfOk result
+            (λ store. IsNodeStoreInStep store.journal store.held (D.moments disk.new).now) }
+        ensures usable { IfOk result (λ store. store.journal.broken ≡ false) }
+        ensures cause { StoreCounts result (D.failed_disk_calls disk.old)
+            (D.failed_disk_calls disk.new) }
+    {
+        let Opened { journal, payloads } = Journal::from_disk(alloc, disk, FORM)?;
+        let held = Holdings::of(alloc, payloads)?;
+        Ok(NodeStore { journal, held })
+    }
+}
+
 impl Records for NodeStore {
     type Prepared = PreparedNode;
 
@@ -43,9 +81,7 @@ impl Records for NodeStore {
         IsNodeReady store.held prepared.ready prepared.addition };
 
     fn from_disk<D: Disk>(alloc: Global, disk: &mut D) -> Result<NodeStore, StoreFault> {
-        let Opened { journal, payloads } = Journal::from_disk(alloc, disk, FORM)?;
-        let held = Holdings::of(alloc, payloads)?;
-        Ok(NodeStore { journal, held })
+        NodeStore::open(alloc, disk)
     }
 
     fn needs(&self, alloc: Global, graph: &Graph) -> Result<Needs, NoMemory> {

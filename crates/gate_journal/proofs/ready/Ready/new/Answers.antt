@@ -12,10 +12,10 @@ ready payload small = record {
 
 pub invariant_of-result : goal.invariant_of-result
 invariant_of-result c =
-    let is : c.into_text.result ≡ text_bytes c.args.payload.now ++ 0 ∷ [] = c.into_text.ensures ∙ c.in_ok-plain.ensures ∙ ap (λ (bs : List ℕ). bs ++ 0 ∷ []) (c.in_ok-text.ensures ∙ ap (λ (bs : List ℕ). bs ++ text_bytes c.args.payload.now) c.new-out.ensures) in
+    let is : c.from_vec.result ≡ text_bytes c.args.payload.now ++ 0 ∷ [] = c.from_vec.ensures ∙ c.in_ok-bytes.ensures in
     subst IsReady (sym is) (ready c.args.payload.now c.requires)
 
 pub returns : goal.returns
 returns c =
-    let is : c.into_text.result ≡ text_bytes c.args.payload.now ++ 0 ∷ [] = c.into_text.ensures ∙ c.in_ok-plain.ensures ∙ ap (λ (bs : List ℕ). bs ++ 0 ∷ []) (c.in_ok-text.ensures ∙ ap (λ (bs : List ℕ). bs ++ text_bytes c.args.payload.now) c.new-out.ensures) in
+    let is : c.from_vec.result ≡ text_bytes c.args.payload.now ++ 0 ∷ [] = c.from_vec.ensures ∙ c.in_ok-bytes.ensures in
     ap payload_within is ∙ within c.args.payload.now
