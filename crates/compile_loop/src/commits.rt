@@ -25,11 +25,12 @@ fn commit_ready<K: Records, D: Disk>(
     requires ready { K.is_ready store.old prepared }
     requires in_step { D.tells → K.in_step store.old (D.moments disk.old).now }
     ensures latest { (name : FileName) → K.latest_of store.new name ≡
-        latest_after (take (one_if (is_ok result)) (K.record_of prepared ∷ []))
+        latest_after (take (one_if (is_ok result)) (K.record_of store.old prepared ∷ []))
         (K.latest_of store.old) name }
     ensures images { D.tells →
-        HoldsFirst (one_if (is_ok result)) (K.broken store.new) (K.record_of prepared ∷ [])
-        K.records_of (D.moments disk.old) (D.moments disk.new) }
+        HoldsFirst (one_if (is_ok result)) (K.broken store.new)
+        (K.record_of store.old prepared ∷ []) K.records_of (D.moments disk.old)
+        (D.moments disk.new) }
     ensures in_step { D.tells →
         OnFalse (K.broken store.new) (K.in_step store.new (D.moments disk.new).now) }
     ensures broken { K.broken store.new ≡ is_disk_failed result }

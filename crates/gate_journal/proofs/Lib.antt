@@ -22,3 +22,4 @@ pub mod Lives
 pub mod Openings
 pub mod Readings
 pub mod Resting
+pub mod Framed

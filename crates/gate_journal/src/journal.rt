@@ -91,15 +91,16 @@ impl Journal {
         Ready::new(alloc, payload)
     }
 
-    /// Adds a payload at the end. It takes no memory.
-    pub fn commit<D: Disk>(&mut self, disk: &mut D, ready: Ready) -> Result<(), DiskFailed>
+    /// Adds a payload at the end. It takes no memory, and the payload can be kept.
+    pub fn commit<D: Disk>(&mut self, disk: &mut D, ready: &Ready) -> Result<(), DiskFailed>
         requires usable { self.old.broken ≡ false }
         requires in_step { D.tells → IsInStep self.old (D.moments disk.old).now }
         ensures in_step { D.tells → OnOk result (IsInStep self.new (D.moments disk.new).now) }
         ensures added { D.tells →
             OnOk result
             (payloads self.old.form (reads_of (D.moments disk.new).now)
-            ≡ payloads self.old.form (reads_of (D.moments disk.old).now) ++ ready ∷ []) }
+            ≡ payloads self.old.form (reads_of (D.moments disk.old).now)
+            ++ ready.now ∷ []) }
         // At any moment, after a fault too, a stop can leave the payloads from before, with the new one or without.
         ensures any_moment { D.tells →
             AtAnyMoment (D.moments disk.old) (D.moments disk.new)
@@ -107,14 +108,14 @@ impl Journal {
             IsEither (payloads self.old.form image)
             (payloads self.old.form (reads_of (D.moments disk.old).now))
             (payloads self.old.form (reads_of (D.moments disk.old).now)
-            ++ ready ∷ [])) }
+            ++ ready.now ∷ [])) }
         // Once each image has the new one, each image has it.
         ensures loses { D.tells →
             NeverLoses (D.moments disk.old) (D.moments disk.new)
             (λ image.
             payloads self.old.form image
             ≡ payloads self.old.form (reads_of (D.moments disk.old).now)
-            ++ ready ∷ []) }
+            ++ ready.now ∷ []) }
         ensures counts { CountsAs self.old.live self.old.generation self.new }
         ensures form { self.new.form ≡ self.old.form }
         ensures broken { self.new.broken ≡ is_err result }
@@ -312,6 +313,6 @@ pub fn commit_both<D: Disk>(
     ensures cause { DiskCounts result (D.failed_disk_calls disk.old)
         (D.failed_disk_calls disk.new) }
 {
-    journal.commit(disk, first)?;
-    journal.commit(disk, second)
+    journal.commit(disk, &first)?;
+    journal.commit(disk, &second)
 }

@@ -1,12 +1,12 @@
 //! A payload and a side that are ready to be written, so that writing them takes no memory.
 
-ghost use Rattle.std.specs.Prelude.{◌≡◌, ◌^◌, ◌<◌, ◌++◌, ◌∷◌, [], length, All, IfOk};
+ghost use Rattle.std.specs.Prelude.{◌≡◌, ◌^◌, ◌<◌, ◌≤◌, ◌++◌, ◌∷◌, [], length, All, IfOk};
 ghost use Rattle.vr_base.specs.Bytes.{text_bytes};
 ghost use Rattle.gate_journal.specs.Payloads.{side_bytes};
+ghost use Rattle.gate_journal.specs.Journals.{payload_within};
 
 use crate::Payloads;
 use crate::layout::full_side;
-use byte_codec::ByteWriter;
 use std::alloc::Global;
 use std::marker::Model;
 use vr_base::{NoMemory, Text};
@@ -29,17 +29,22 @@ impl Model for Ready {
 }
 
 impl Ready {
-    /// A copy of the payload, with its length first and a closed gate after.
+    /// A copy of the payload, with its length first and a closed gate after, in no more memory than that.
     pub(crate) fn new(alloc: Global, payload: &[u8]) -> Result<Ready, NoMemory>
         requires { length payload.now < 2 ^ 32 }
         ensures { IfOk result (λ ready. ready ≡ payload.now) }
     {
-        let mut out = ByteWriter::new(alloc);
-        out.text(payload)?;
-        out.plain(&[0])?;
+        let bytes = framed(alloc, payload)?;
         Ok(Ready {
-            bytes: out.into_text(),
+            bytes: Text::from_vec(bytes),
         })
+    }
+
+    /// The payload, lent from what is written.
+    pub fn payload(&self) -> &[u8]
+        ensures { result.now ≡ self.now }
+    {
+        inner(self.bytes())
     }
 
     /// What is written after the closed gate.
@@ -49,6 +54,29 @@ impl Ready {
     {
         self.bytes.bytes()
     }
+}
+
+/// A payload after its length and before a closed gate, in a buffer of just these bytes.
+#[tactic(auto, unfolding(vr_base::specs::Bytes::text_bytes))]
+fn framed(alloc: Global, payload: &[u8]) -> Result<Vec<u8>, NoMemory>
+    requires { length payload.now < 2 ^ 32 }
+    ensures { IfOk result (λ bytes. bytes.items ≡ text_bytes payload.now ++ 0 ∷ []) }
+{
+    let length = payload.len() as u32;
+    let mut bytes = Vec::with_capacity(alloc, payload.len() + 5)?;
+    bytes.extend_from_slice(&length.to_le_bytes())?;
+    bytes.extend_from_slice(payload)?;
+    bytes.push(0)?;
+    Ok(bytes)
+}
+
+/// What is between a length of four bytes and the gate at the end.
+fn inner(bytes: &[u8]) -> &[u8]
+    requires { 5 ≤ length bytes.now }
+    ensures { result.now ≡ payload_within bytes.now }
+{
+    let end = bytes.len() - 1;
+    &bytes[4..end]
 }
 
 /// A side that is ready to take the place of the one that counts. Contracts see its content.

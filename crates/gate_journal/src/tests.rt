@@ -141,7 +141,7 @@ fn with_ab(alloc: Global, disk: &mut MemDisk) -> Result<Journal, StoreFault>
 {
     let Opened { mut journal, .. } = Journal::from_disk(alloc, disk, 1)?;
     let ready = journal.prepare(alloc, b"ab")?;
-    journal.commit(disk, ready)?;
+    journal.commit(disk, &ready)?;
     Ok(journal)
 }
 

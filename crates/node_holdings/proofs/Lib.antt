@@ -5,3 +5,4 @@ pub mod Fresh
 pub mod Adding
 pub mod Parts
 pub mod NodesAt
+pub mod Preparing

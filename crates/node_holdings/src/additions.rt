@@ -4,6 +4,7 @@ ghost use Rattle.std.specs.Prelude.{◌≡◌, ◌<◌, ◌≤◌, ◌^◌, leng
 ghost use Rattle.vr_base.specs.declared.limits.TheConstants.{ARTEFACT_LIMIT};
 ghost use Rattle.node_codec.specs.Writing.{IsSmallFile};
 ghost use Rattle.node_holdings.specs.Additions.{IsPieceOfDraft, IsPieceOfNode};
+ghost use Rattle.node_holdings.specs.declared.additions.Addition.TheVariants.{Known, New};
 
 use node_codec::{SourceSpan, Span, draft_payload, node_payload, read_payload};
 use node_table::Row;
@@ -30,6 +31,13 @@ pub struct NewNode {
 pub enum Addition {
     Known(KnownNode),
     New(NewNode),
+}
+
+/// A payload that is ready to be added, and what it adds.
+#[derive(Drop)]
+pub struct NextPiece {
+    pub bytes: Text,
+    pub addition: Addition,
 }
 
 /// A payload, and where its artefact and the text of its node are in it.
@@ -80,4 +88,44 @@ pub fn piece_of_draft(
         source: spans.source(),
         artefact: spans.artefact(),
     })
+}
+
+/// One more record of a node, with its payload.
+pub fn next_of_node(node: usize, piece: Piece) -> NextPiece
+    ensures { result ≡ record {
+      bytes = piece.bytes;
+      addition = Known (record { node = node; artefact = piece.artefact });
+    } }
+{
+    let Piece {
+        bytes,
+        source: _source,
+        artefact,
+    } = piece;
+    NextPiece {
+        bytes,
+        addition: Addition::Known(KnownNode { node, artefact }),
+    }
+}
+
+/// A new node and its record, with its payload.
+pub fn next_of_row(row: Row, piece: Piece) -> NextPiece
+    ensures { result ≡ record {
+      bytes = piece.bytes;
+      addition = New (record { row = row; source = piece.source; artefact = piece.artefact });
+    } }
+{
+    let Piece {
+        bytes,
+        source,
+        artefact,
+    } = piece;
+    NextPiece {
+        bytes,
+        addition: Addition::New(NewNode {
+            row,
+            source,
+            artefact,
+        }),
+    }
 }

@@ -1,19 +1,21 @@
 //! Which node a file of a graph is.
 
-ghost use Rattle.std.specs.Prelude.{◌<◌, length, All, IfOk, IfSome};
+ghost use Rattle.std.specs.Prelude.{◌≡◌, ◌<◌, length, All, IfOk, IfSome};
 ghost use Rattle.numbering.specs.Numbers.{IsPlaceOf};
 ghost use Rattle.node_codec.specs.Known.{IsKnown};
 ghost use Rattle.node_codec.specs.Nodes.{AreNodes};
+ghost use Rattle.node_shelf.specs.Drafts.{HasMoreNames, IsDraftRow};
 ghost use Rattle.node_shelf.specs.Places.{AreTexts, texts_in};
+ghost use Rattle.node_holdings.specs.Additions.{file_node};
 ghost use Rattle.node_holdings.specs.Held.{ArePlacedBy};
 
 use node_shelf::{Pieces, ShelfPlaces, TextPlaces, find_text, text_at};
-use node_table::Row;
+use node_table::{NodeTable, Row};
 use std::alloc::Global;
 use vr_base::{Entry, Items, NoMemory};
 
 /// The number of a text, which is first compared with that of a number.
-fn text_number(
+pub fn text_number(
     pieces: &Pieces,
     texts: &TextPlaces,
     likely: Option<usize>,
@@ -89,4 +91,27 @@ pub fn file_number(
         deps,
     };
     Ok(shelf.table.node_number(&row))
+}
+
+/// A file as a row, by the number of its text and the nodes of the files that it depends on. Its name and its command are
+/// added where they are new.
+pub fn row_of_file(
+    alloc: Global,
+    table: &mut NodeTable,
+    entry: &Entry,
+    text: usize,
+    deps: Items<usize>,
+) -> Result<Row, NoMemory>
+    ensures row { IfOk result (IsDraftRow table.new (file_node entry.now text deps)) }
+    ensures nodes { table.new.nodes ≡ table.old.nodes }
+    ensures names { HasMoreNames table.old.names table.new.names }
+{
+    let name = table.add_name(entry.name.copy(alloc)?)?;
+    let command = table.add_command(entry.command.copy(alloc)?)?;
+    Ok(Row {
+        name,
+        command,
+        text,
+        deps,
+    })
 }

@@ -1,19 +1,25 @@
 //! Payloads, and the texts, nodes and records that they stand for.
 
-ghost use Rattle.std.specs.Prelude.{◌≡◌, ◌↔◌, ◌<◌, ◌≤◌, ◌++◌, ◌∷◌, [], length, All, IsTrue, IfOk, IfSome, OnOk, option_map};
+ghost use Rattle.std.specs.Prelude.{◌≡◌, ◌↔◌, ◌<◌, ◌≤◌, ◌^◌, ◌++◌, ◌∷◌, [], length, All, IsTrue, IfOk, IfSome, OnOk, option_map};
 ghost use Rattle.vr_base.specs.declared.limits.TheConstants.{ARTEFACT_LIMIT};
-ghost use Rattle.vr_outside.specs.Records.{AreNeeds, IsRecorded, latest};
+ghost use Rattle.vr_base.specs.View.{view};
+ghost use Rattle.vr_outside.specs.Records.{AreNeeds, IsRecorded, deps_at, latest};
+ghost use Rattle.numbering.specs.Numbers.{IsPlaceOf};
 ghost use Rattle.vr_outside.specs.declared.records.Need.TheVariants.{Fresh};
 ghost use Rattle.node_codec.specs.Known.{AreKnown, IsKnown};
-ghost use Rattle.node_codec.specs.Shelves.{shelf_of};
-ghost use Rattle.node_holdings.specs.Additions.{AddsNode, AddsRecord, IsAddition};
+ghost use Rattle.node_codec.specs.Shelves.{draft_node, shelf_of};
+ghost use Rattle.node_codec.specs.Writing.{draft_of};
+ghost use Rattle.node_table.specs.Rows.{IsRowIn, node_of};
+ghost use Rattle.node_holdings.specs.Additions.{AddsNode, AddsOne, AddsRecord, IsAddition, IsRowOfFile};
 ghost use Rattle.node_holdings.specs.Held.{AreNodesAt, IsLatestAt, IsLatestNode, IsNodeAt, IsNumberOfView};
 
-use crate::files::file_number;
-use crate::{Addition, KnownNode, NewNode};
-use gate_journal::Payloads;
+use crate::additions::{next_of_node, next_of_row, piece_of_draft, piece_of_node};
+use crate::files::{file_number, row_of_file, text_number};
+use crate::{Addition, KnownNode, NewNode, NextPiece};
+use gate_journal::{Payloads, Ready};
 use node_codec::bytes_of;
 use node_shelf::{Pieces, ShelfPlaces, put_node, put_record, shelf_of};
+use node_table::Row;
 use std::alloc::Global;
 use std::marker::Model;
 use vr_base::{Entry, FileName, Graph, Items, NoMemory, Text};
@@ -202,6 +208,88 @@ impl Holdings {
         Ok(nodes)
     }
 
+    /// The number of the text of a file, if it is there. It is first compared with that of the latest record of its name.
+    fn file_text(&self, entry: &Entry) -> Option<usize>
+        ensures { IsPlaceOf (shelf_of self.now.payloads).texts entry.now.text result }
+    {
+        let likely = self.likely_text(&entry.name);
+        text_number(&self.pieces, &self.shelf.texts, likely, entry.text.bytes())
+    }
+
+    /// A file as a row, by the number that its text has or will have.
+    fn row_of_file(
+        &mut self,
+        alloc: Global,
+        entry: &Entry,
+        known: Option<usize>,
+        deps: Items<usize>,
+    ) -> Result<Row, NoMemory>
+        ensures payloads { self.new.payloads ≡ self.old.payloads }
+        ensures row { IfOk result
+            (IsRowIn self.new.names self.new.commands) }
+        ensures node { IfOk result
+            (λ row. node_of self.new.names self.new.commands row
+            ≡ draft_node (shelf_of self.new.payloads).texts (draft_of entry.now known deps)) }
+    {
+        let text = known.unwrap_or(self.shelf.texts.places.len());
+        row_of_file(alloc, &mut self.shelf.table, entry, text, deps)
+    }
+
+    /// The payload of one more record of the present view of a file, whose row this is.
+    fn next_piece(
+        &self,
+        alloc: Global,
+        graph: &Graph,
+        at: u32,
+        known: Option<usize>,
+        row: Row,
+        artefact: &Text,
+    ) -> Result<NextPiece, NoMemory>
+        requires at { at < length graph.now }
+        requires row { IsRowOfFile self.now graph.now at known row }
+        requires artefact { length artefact.now ≤ ARTEFACT_LIMIT }
+        ensures adds { IfOk result (AddsOne self.now (view graph.now at) artefact.now) }
+        ensures small { IfOk result (λ next. length next.bytes < 2 ^ 32) }
+    {
+        let entry = graph.get(at as u64);
+        match self.shelf.table.node_number(&row) {
+            Some(node) => {
+                let piece = piece_of_node(alloc, node, artefact)?;
+                Ok(next_of_node(node, piece))
+            }
+            None => {
+                let piece = piece_of_draft(alloc, entry, known, row.deps.as_slice(), artefact)?;
+                Ok(next_of_row(row, piece))
+            }
+        }
+    }
+
+    /// Makes a record of the present view of a file ready to be added, with room for it. What is held is unchanged.
+    pub fn prepare(
+        &mut self,
+        alloc: Global,
+        graph: &Graph,
+        at: u32,
+        artefact: &Text,
+    ) -> Result<NextPiece, NoMemory>
+        requires at { at < length graph.now }
+        requires artefact { length artefact.now ≤ ARTEFACT_LIMIT }
+        requires recorded { All
+            (IsRecorded (λ name. latest name (shelf_of self.old.payloads).records) graph.now)
+            (deps_at graph.now at) }
+        ensures payloads { self.new.payloads ≡ self.old.payloads }
+        ensures adds { IfOk result (AddsOne self.new (view graph.now at) artefact.now) }
+        ensures small { IfOk result (λ next. length next.bytes < 2 ^ 32) }
+        ensures room { OnOk result (0 < self.new.room) }
+    {
+        let entry = graph.get(at as u64);
+        let deps = self.nodes_at(alloc, graph, entry.deps.as_slice())?;
+        let known = self.file_text(entry);
+        let row = self.row_of_file(alloc, entry, known, deps)?;
+        self.reserve()?;
+        self.next_piece(alloc, graph, at, known, row, artefact)
+    }
+
     /// Makes room for one more payload. What is held is unchanged.
     pub fn reserve(&mut self) -> Result<(), NoMemory>
         ensures payloads { self.new.payloads ≡ self.old.payloads }
@@ -214,7 +302,7 @@ impl Holdings {
     }
 
     /// Adds a payload that was prepared, at the end. It takes no memory.
-    pub fn put(&mut self, addition: Addition, piece: Text)
+    pub fn put(&mut self, addition: Addition, piece: Ready)
         requires ready { IsAddition self.old piece addition }
         requires room { 0 < self.old.room }
         ensures { self.new.payloads ≡ self.old.payloads ++ piece ∷ [] }
@@ -226,7 +314,7 @@ impl Holdings {
     }
 
     /// Adds the payload of one more record of a node.
-    fn put_known(&mut self, known: KnownNode, piece: Text)
+    fn put_known(&mut self, known: KnownNode, piece: Ready)
         requires ready { AddsRecord self.old piece known }
         requires room { 0 < self.old.room }
         ensures { self.new.payloads ≡ self.old.payloads ++ piece ∷ [] }
@@ -243,7 +331,7 @@ impl Holdings {
     }
 
     /// Adds the payload of a new node and its record.
-    fn put_new(&mut self, new: NewNode, piece: Text)
+    fn put_new(&mut self, new: NewNode, piece: Ready)
         requires ready { AddsNode self.old piece new }
         requires room { 0 < self.old.room }
         ensures { self.new.payloads ≡ self.old.payloads ++ piece ∷ [] }

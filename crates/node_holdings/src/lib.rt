@@ -6,7 +6,7 @@ mod additions;
 mod files;
 mod holdings;
 
-pub use additions::{Addition, KnownNode, NewNode};
+pub use additions::{Addition, KnownNode, NewNode, NextPiece};
 pub use holdings::Holdings;
 
 #[cfg(test)]

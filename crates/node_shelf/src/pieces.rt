@@ -1,18 +1,18 @@
-//! The payloads of a store: those that it was opened with, in one buffer, and each later one as a piece of its own.
+//! The payloads of a store: those that it was opened with, in one buffer, and each later one as it was written.
 
 ghost use Rattle.std.specs.Prelude.{◌≡◌, ◌<◌, ◌++◌, ◌∷◌, [], length, slice_get, Some, OnOk};
 
-use gate_journal::Payloads;
+use gate_journal::{Payloads, Ready};
 use std::alloc::Global;
 use std::marker::Model;
-use vr_base::{NoMemory, Text};
+use vr_base::NoMemory;
 
 /// Payloads in order. Contracts see them, and for how many more there is room.
 #[derive(Drop)]
 pub struct Pieces {
     alloc: Global,
     opened: Payloads,
-    more: Vec<Text>,
+    more: Vec<Ready>,
 }
 
 impl Model for Pieces {
@@ -53,7 +53,7 @@ impl Pieces {
         if number < first {
             return self.opened.get(number as u64);
         }
-        self.more[number - first].bytes()
+        self.more[number - first].payload()
     }
 
     /// Makes room for one more payload. The payloads are unchanged.
@@ -65,8 +65,8 @@ impl Pieces {
         Ok(())
     }
 
-    /// Adds a payload at the end, whose bytes are moved in. It takes no memory.
-    pub fn put(&mut self, payload: Text)
+    /// Adds a payload at the end, which is moved in. It takes no memory.
+    pub fn put(&mut self, payload: Ready)
         requires { 0 < self.old.room }
         ensures { self.new.payloads ≡ self.old.payloads ++ payload ∷ [] }
     {

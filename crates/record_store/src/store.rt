@@ -59,7 +59,7 @@ impl Records for RecordStore {
 
     ghost broken = { λ store. store.journal.broken };
 
-    ghost record_of = { λ prepared. prepared.kept };
+    ghost record_of = { λ _ prepared. prepared.kept };
 
     ghost is_ready = { λ store prepared. IsPrepared prepared.name prepared.kept prepared.ready
         × IsSome (get is_same_name store.index prepared.name) };
@@ -111,7 +111,7 @@ impl Records for RecordStore {
         prepared: PreparedRecord,
     ) -> Result<(), DiskFailed> {
         let PreparedRecord { name, kept, ready } = prepared;
-        self.journal.commit(disk, ready)?;
+        self.journal.commit(disk, &ready)?;
         put(&mut self.index, name, kept);
         Ok(())
     }

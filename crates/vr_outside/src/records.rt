@@ -86,8 +86,8 @@ pub trait Records: Sized {
 
     ghost broken: { Self → Bool };
 
-    /// What a prepared record will be.
-    ghost record_of: { Self.Prepared → Record };
+    /// What a record that was prepared for a store will be.
+    ghost record_of: { Self → Self.Prepared → Record };
 
     /// The store has room for the record, and prepared nothing and changed nothing since.
     ghost is_ready: { Self → Self.Prepared → Type 0 };
@@ -135,7 +135,8 @@ pub trait Records: Sized {
         requires artefact { length artefact.now ≤ ARTEFACT_LIMIT }
         requires recorded { All (IsRecorded (latest_of self.old) graph.now) (deps_at graph.now at) }
         ensures record { IfOk result (λ prepared.
-            record_of prepared ≡ record { view = view graph.now at; artefact = artefact.now }) }
+            record_of self.new prepared
+            ≡ record { view = view graph.now at; artefact = artefact.now }) }
         ensures ready { IfOk result (λ prepared. is_ready self.new prepared) }
         ensures latest { (name : FileName) → latest_of self.new name ≡ latest_of self.old name }
         ensures broken { broken self.new ≡ broken self.old }
@@ -148,22 +149,23 @@ pub trait Records: Sized {
         requires in_step { D.tells → in_step self.old (D.moments disk.old).now }
         ensures latest { (name : FileName) →
             latest_of self.new name
-            ≡ after_commit result (record_of prepared) (latest_of self.old) name }
+            ≡ after_commit result (record_of self.old prepared) (latest_of self.old) name }
         ensures in_step { D.tells → OnOk result (in_step self.new (D.moments disk.new).now) }
         ensures added { D.tells →
             let before = records_of (reads_of (D.moments disk.old).now) in
             let now = records_of (reads_of (D.moments disk.new).now) in
-            OnOk result (now ≡ before ++ record_of prepared ∷ []) }
+            OnOk result (now ≡ before ++ record_of self.old prepared ∷ []) }
         // At any moment, after a fault too, a stop can leave the records from before, with the new one or without.
         ensures any_moment { D.tells →
             let before = records_of (reads_of (D.moments disk.old).now) in
             AtAnyMoment (D.moments disk.old) (D.moments disk.new)
-            (λ image. IsEither (records_of image) before (before ++ record_of prepared ∷ [])) }
+            (λ image. IsEither (records_of image) before
+            (before ++ record_of self.old prepared ∷ [])) }
         // Once each image has the new one, each image has it.
         ensures loses { D.tells →
             let before = records_of (reads_of (D.moments disk.old).now) in
             NeverLoses (D.moments disk.old) (D.moments disk.new)
-            (λ image. records_of image ≡ before ++ record_of prepared ∷ []) }
+            (λ image. records_of image ≡ before ++ record_of self.old prepared ∷ []) }
         ensures broken { broken self.new ≡ is_err result }
         ensures cause { DiskCounts result (D.failed_disk_calls disk.old)
             (D.failed_disk_calls disk.new) };

@@ -1,0 +1,3 @@
+-- The lemmas.
+pub mod NodeRecords
+pub mod NodeMoments

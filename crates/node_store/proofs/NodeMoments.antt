@@ -1,0 +1,86 @@
+-- What stops can leave of a store, from what they leave of its journal.
+use Rattle.std.proofs.Common.{◌≡◌, ℕ, List, [], ◌∷◌, ◌++◌, sym, ap, ◌∙◌, inl, inr}
+use Rattle.std.specs.List.{AllByRecursion}
+use Rattle.vr_outside.specs.declared.records.Record.{Record}
+use Rattle.vr_outside.specs.Disks.{DiskState, Image, IsEither, Moments, EachImage, AtAnyMoment, StaysTrue, NeverLoses, OpensWith, added_since}
+use Rattle.vr_outside.specs.Records.{IsAllOrLatest, HasRecordsOf}
+use Rattle.vr_outside.proofs.MomentLaws.{weaker_moments}
+use Rattle.gate_journal.specs.Payloads.{payloads}
+use Rattle.gate_journal.specs.Journals.{HasPayloadsOf}
+use Rattle.node_store.specs.Stored.{node_records_among, node_records_in}
+use Rattle.node_store.proofs.NodeRecords.{no_longer, none_among}
+
+keeps_as : (Q P R : Image → Type 0) → ((image : Image) → Q image → R image → P image) → ((image : Image) → Q image → P image → R image) → (disk : DiskState) (states : List DiskState) → AllByRecursion (EachImage Q) (disk ∷ states) → StaysTrue P disk states → StaysTrue R disk states
+keeps_as Q P R to from disk [] all keeps = tt
+keeps_as Q P R to from disk (next ∷ later) all keeps =
+    ((λ each image is. from image (all.1.0 image is) (keeps.0 (λ other there. to other (all.0 other there) (each other there)) image is)), keeps_as Q P R to from next later all.1 keeps.1)
+
+-- where two things are the same of all images of a run, what is said of one is said of the other
+pub losses_as : (old new : Moments) (Q P R : Image → Type 0) → ((image : Image) → Q image → R image → P image) → ((image : Image) → Q image → P image → R image) → AtAnyMoment old new Q → NeverLoses old new P → NeverLoses old new R
+losses_as old new Q P R to from moments never = record { follows = never.follows; keeps = keeps_as Q P R to from old.now (added_since old new) moments.each never.keeps }
+
+always_keeps : (P : Image → Type 0) (disk : DiskState) (states : List DiskState) → AllByRecursion (EachImage P) states → StaysTrue P disk states
+always_keeps P disk [] all = tt
+always_keeps P disk (next ∷ later) all = ((λ each. all.0), always_keeps P next later all.1)
+
+-- what each image of each moment has is never lost
+pub always_had : (old new : Moments) (P : Image → Type 0) → AtAnyMoment old new P → NeverLoses old new P
+always_had old new P moments = record { follows = moments.follows; keeps = always_keeps P old.now (added_since old new) moments.each.1 }
+
+module _ (old new : Moments) (reads : Image) where
+  -- what a stop can leave of the journal, from these payloads to those
+  abbrev pub Left : ℕ → List (List ℕ) → Image → Type 0
+  Left form after image = IsEither (payloads form image) (payloads form reads) after
+
+  -- the records from before, with the new one or without
+  pub commit_leaves : (payload : List ℕ) (kept : Record) → node_records_among (payloads 2 reads ++ payload ∷ []) ≡ node_records_in reads ++ kept ∷ [] → AtAnyMoment old new (Left 2 (payloads 2 reads ++ payload ∷ []))
+      → AtAnyMoment old new (λ image. IsEither (node_records_in image) (node_records_in reads) (node_records_in reads ++ kept ∷ []))
+  commit_leaves payload kept is moments = weaker_moments old new (Left 2 (payloads 2 reads ++ payload ∷ [])) (λ image. IsEither (node_records_in image) (node_records_in reads) (node_records_in reads ++ kept ∷ [])) to moments where
+    to : (image : Image) → Left 2 (payloads 2 reads ++ payload ∷ []) image → IsEither (node_records_in image) (node_records_in reads) (node_records_in reads ++ kept ∷ [])
+    to image (inl same) = inl (ap node_records_among same)
+    to image (inr more) = inr (ap node_records_among more ∙ is)
+
+  -- once each image has the new one, each has it
+  pub commit_keeps : (payload : List ℕ) (kept : Record) → node_records_among (payloads 2 reads ++ payload ∷ []) ≡ node_records_in reads ++ kept ∷ [] → AtAnyMoment old new (Left 2 (payloads 2 reads ++ payload ∷ []))
+      → NeverLoses old new (λ image. payloads 2 image ≡ payloads 2 reads ++ payload ∷ []) → NeverLoses old new (λ image. node_records_in image ≡ node_records_in reads ++ kept ∷ [])
+  commit_keeps payload kept is moments never = losses_as old new (Left 2 (payloads 2 reads ++ payload ∷ [])) (λ image. payloads 2 image ≡ payloads 2 reads ++ payload ∷ []) (λ image. node_records_in image ≡ node_records_in reads ++ kept ∷ []) to from moments never where
+    to : (image : Image) → Left 2 (payloads 2 reads ++ payload ∷ []) image → node_records_in image ≡ node_records_in reads ++ kept ∷ [] → payloads 2 image ≡ payloads 2 reads ++ payload ∷ []
+    to image (inl same) has = absurd (no_longer (node_records_in reads) kept (sym (ap node_records_among same) ∙ has))
+    to image (inr more) has = more
+
+    from : (image : Image) → Left 2 (payloads 2 reads ++ payload ∷ []) image → payloads 2 image ≡ payloads 2 reads ++ payload ∷ [] → node_records_in image ≡ node_records_in reads ++ kept ∷ []
+    from image left more = ap node_records_among more ∙ is
+
+  -- the records from before, or none
+  pub reset_leaves : AtAnyMoment old new (Left 2 []) → AtAnyMoment old new (λ image. IsEither (node_records_in image) (node_records_in reads) [])
+  reset_leaves moments = weaker_moments old new (Left 2 []) (λ image. IsEither (node_records_in image) (node_records_in reads) []) to moments where
+    to : (image : Image) → Left 2 [] image → IsEither (node_records_in image) (node_records_in reads) []
+    to image (inl same) = inl (ap node_records_among same)
+    to image (inr none) = inr (ap node_records_among none ∙ none_among)
+
+  -- once no image has a record, none has one
+  pub reset_keeps : (before : List Record) → node_records_in reads ≡ before → AtAnyMoment old new (Left 2 []) → NeverLoses old new (λ image. payloads 2 image ≡ []) → NeverLoses old new (λ image. node_records_in image ≡ [])
+  reset_keeps [] is moments never = always_had old new (λ image. node_records_in image ≡ []) (weaker_moments old new (Left 2 []) (λ image. node_records_in image ≡ []) to moments) where
+    to : (image : Image) → Left 2 [] image → node_records_in image ≡ []
+    to image (inl same) = ap node_records_among same ∙ is
+    to image (inr none) = ap node_records_among none ∙ none_among
+  reset_keeps (first ∷ rest) is moments never = losses_as old new (Left 2 []) (λ image. payloads 2 image ≡ []) (λ image. node_records_in image ≡ []) to from moments never where
+    some : (records : List Record) → records ≡ first ∷ rest → records ≡ [] → ⊥
+    some records one none = let nothing : ◌≡◌ {A = List Record} (first ∷ rest) [] = sym one ∙ none in absurd cc
+
+    to : (image : Image) → Left 2 [] image → node_records_in image ≡ [] → payloads 2 image ≡ []
+    to image (inl same) has = absurd (some (node_records_in reads) is (sym (ap node_records_among same) ∙ has))
+    to image (inr none) has = none
+
+    from : (image : Image) → Left 2 [] image → payloads 2 image ≡ [] → node_records_in image ≡ []
+    from image left none = ap node_records_among none ∙ none_among
+
+-- the records of an image at entry
+pub open_leaves : (old new : Moments) → AtAnyMoment old new (HasPayloadsOf 2 old.now) → AtAnyMoment old new (HasRecordsOf node_records_in old.now)
+open_leaves old new moments = weaker_moments old new (HasPayloadsOf 2 old.now) (HasRecordsOf node_records_in old.now) (λ image has. record { before = has.before; was = has.was; kept = inl (ap node_records_among has.same) }) moments
+
+-- and once both sides are synced those of what reads gave
+pub open_opens : (old new : Moments) (reads : Image) → OpensWith old new (λ image. payloads 2 image ≡ payloads 2 reads) → OpensWith old new (λ image. IsAllOrLatest (node_records_in reads) (node_records_in image))
+open_opens old new reads (inl goes) = inl goes
+open_opens old new reads (inr later) =
+    inr (later.0, later.1, weaker_moments later.0 new (λ image. payloads 2 image ≡ payloads 2 reads) (λ image. IsAllOrLatest (node_records_in reads) (node_records_in image)) (λ image same. inl (ap node_records_among same)) later.2)
