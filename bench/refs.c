@@ -1,5 +1,5 @@
 /* Compares scanning, outline and references together with the plain tokenizer, over the parts of a file as files of a
- * project, and over it as one: so many rounds of each in turn, and the medians.
+ * project, and over it as one: so many rounds of each in turn, and the least.
  *
  *   refs FILE ROUNDS
  */
@@ -22,17 +22,13 @@ static double now(void) {
     return time.tv_sec + time.tv_nsec / 1e9;
 }
 
-static int later(const void *a, const void *b) {
-    double x = *(const double *)a, y = *(const double *)b;
-    return (x > y) - (x < y);
+static double least(const double *times, long count) {
+    double found = times[0];
+    for (long i = 1; i < count; i++) found = times[i] < found ? times[i] : found;
+    return found;
 }
 
-static double median(double *times, long count) {
-    qsort(times, count, sizeof *times, later);
-    return times[count / 2];
-}
-
-/* Runs both over the parts in turn, and prints the medians. */
+/* Runs both over the parts in turn, and prints the least. */
 static int measure(const char *name, const uint8_t *text, const size_t *starts, size_t parts, long rounds) {
     double *plain = malloc(rounds * sizeof *plain), *proved = malloc(rounds * sizeof *proved);
     if (!plain || !proved) return 0;
@@ -60,7 +56,7 @@ static int measure(const char *name, const uint8_t *text, const size_t *starts, 
         }
         proved[i] = now() - from;
     }
-    double a = median(plain, rounds), b = median(proved, rounds), length = starts[parts] - starts[0];
+    double a = least(plain, rounds), b = least(proved, rounds), length = starts[parts] - starts[0];
     printf("%s: plain C %.0f bytes per second, with outline and %llu references %.0f, ratio of bytes per second %.2f\n",
            name, length / a, (unsigned long long)refs, length / b, a / b);
     free(plain);

@@ -5,4 +5,5 @@ pub mod WordTable
 pub mod Rows
 pub mod Longest
 pub mod Steps
+pub mod Lanes
 pub mod Exact

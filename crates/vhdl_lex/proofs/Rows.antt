@@ -2,7 +2,9 @@
 use Rattle.std.proofs.Common.{◌≡◌, ◌≢◌, ℕ, ◌<◌, ◌≤◌, ◌⊎◌, Bool, true, false, ⊎_elim, arith}
 use Rattle.std.proofs.lemmas.Bool.Decides.{nat_tests}
 use Rattle.vr_base.specs.declared.lexical.TokenKind.TheVariants.{Word, Extended, Number, Str, Char, Tick, Symbol, High}
-use Rattle.scan_spec.specs.Tokens.{byte_order_mark, blank, line_comment, block_comment, tool_directive, token, first_row}
+use Rattle.std.specs.Char.{is_ascii_alphabetic}
+use Rattle.vhdl_lex.specs.Pieces.{is_plain}
+use Rattle.scan_spec.specs.Tokens.{is_blank, byte_order_mark, blank, line_comment, block_comment, tool_directive, token, first_row}
 
 module _ (start tick : Bool) (a b c : ℕ) where
   upper_row : 65 ≤ a → a ≤ 90 → first_row start tick a b c ≡ token Word
@@ -108,3 +110,15 @@ module _ (start tick : Bool) (a b c : ℕ) where
   pub high_symbol_row : 123 ≤ a → a < 128 → first_row start tick a b c ≡ token Symbol
   unfolding first_row
   high_symbol_row low high = grind (arith, nat_tests)
+
+  pub any_blank_row : is_blank a ≡ true → first_row start tick a b c ≡ blank
+  unfolding first_row
+  any_blank_row is = grind (arith, nat_tests)
+
+  pub letter_row : is_ascii_alphabetic a ≡ true → first_row start tick a b c ≡ token Word
+  unfolding first_row
+  letter_row is = grind (arith, nat_tests)
+
+  pub plain_row : is_plain a ≡ true → first_row start tick a b c ≡ token Symbol
+  unfolding first_row
+  plain_row is = grind (arith, nat_tests)

@@ -1,6 +1,8 @@
 -- A piece more.
-use Rattle.std.proofs.Common.{◌≡◌, ℕ, ◌<◌, ◌≤◌, List, [], ◌∷◌, ◌++◌, length, Option, Some, None, refl, sym, ◌∙◌, ap, subst, arith}
-use Rattle.std.proofs.lemmas.List.{append-nil}
+use Rattle.std.proofs.Common.{◌≡◌, ℕ, zero, suc, ◌+◌, ◌-◌, ◌<◌, ◌≤◌, ◌==◌, true, List, [], ◌∷◌, ◌++◌, length, slice_index, slice_get, Option, Some, refl, sym, ◌∙◌, ap, subst, arith}
+use Rattle.std.proofs.Math.Seq.{get_or-append_seam}
+use Rattle.std.proofs.lemmas.List.{append-nil, length-append}
+use Rattle.std.proofs.lemmas.Option.{slice_get-get_or}
 use Rattle.std.proofs.lemmas.Grind.{flat_map-append}
 use Rattle.vr_base.specs.declared.lexical.Token.{Token}
 use Rattle.vr_base.specs.declared.lexical.TokenKind.{TokenKind}
@@ -9,29 +11,34 @@ use Rattle.vr_base.specs.declared.lexical.Tokens.{Tokens}
 use Rattle.vr_base.specs.declared.lexical.LexFault.{LexFault}
 use Rattle.vr_base.specs.declared.lexical.LexFault.TheVariants.{NoMemory, UnclosedString, UnclosedExtended, UnclosedComment}
 use Rattle.std.specs.Prelude.{Ok, Err}
-use Rattle.scan_spec.specs.Tokens.{Row, line_comment, block_comment, token, Piece, Place, text_start, place_after, IsRight, Leads, Opens, tokens_of, comments_of, Scans}
+use Rattle.scan_spec.specs.Tokens.{Row, line_comment, block_comment, token, Piece, Place, text_start, place_after, EachByte, IsRight, Leads, Opens, is_blank, is_tick_at, tokens_of, comments_of, Scans}
 use Rattle.vr_base.specs.declared.lexical.TokenKind.TheVariants.{Str, Extended}
 use Rattle.vhdl_lex.specs.declared.piece.Found.TheVariants as found
-use Rattle.vhdl_lex.specs.Pieces.{LastIsIn, Skips, IsPieceEnd, HasNoEnd, IsFound}
+use Rattle.vhdl_lex.specs.Ends.{IsRunEnd}
+use Rattle.vhdl_lex.specs.Pieces.{LastIsIn, Skips, IsPieceEnd, HasNoEnd, IsFound, last_of}
+use Rattle.vhdl_lex.specs.Reading.{Read}
+use Rattle.vhdl_lex.proofs.Longest.{blank_gap, blank_longest}
+use Rattle.vhdl_lex.proofs.Rows.{any_blank_row}
 
--- what was read so far: pieces from the start up to an offset, their tokens and their comments
-pub record Read (text : List ℕ) (list : List Token) (comments : List Span) (last : Option Token) (at : ℕ) : Type 0 where
-  pub pieces : List Piece
-  pub leads : Leads text text_start pieces (record { last = last; at = at })
-  pub tokens_are : list ≡ tokens_of pieces
-  pub comments_are : comments ≡ comments_of pieces
-  pub within : at ≤ length text
-  pub lies : LastIsIn text last
-
-pub read_nothing : (text : List ℕ) → Read text [] [] None 0
+pub read_nothing : (text : List ℕ) → Read text [] [] 0
 read_nothing text = record { pieces = []; leads = refl; tokens_are = refl; comments_are = refl; within = omega arith; lies = tt }
 
 leads_on : (text : List ℕ) (place : Place) (ps qs : List Piece) (middle end : Place) → Leads text place ps middle → Leads text middle qs end → Leads text place (ps ++ qs) end
 leads_on text place [] qs middle end before after = subst (λ (p : Place). Leads text p qs end) (sym before) after
 leads_on text place (p ∷ ps) qs middle end before after = (before.0, leads_on text (place_after place p) ps qs middle end before.1 after)
 
-module _ (text : List ℕ) (list : List Token) (comments : List Span) (last : Option Token) (at : ℕ) (read : Read text list comments last at) where
-  pub read_gap : (end : ℕ) → Skips text last at end → Read text list comments last end
+last_pushed : (list : List Token) (here : Token) → Some here ≡ last_of (list ++ here ∷ [])
+last_pushed list here =
+    let all = list ++ here ∷ [] in
+    let long = length-append list (here ∷ []) in
+    let place : length all - 1 ≡ length list = omega (arith, long) in
+    sym (ap (slice_get all) place ∙ slice_get-get_or all (length list) here (omega (arith, long)) ∙ ap Some (get_or-append_seam list here [] here))
+
+module _ (text : List ℕ) (list : List Token) (comments : List Span) (at : ℕ) (read : Read text list comments at) where
+  abbrev last : Option Token
+  last = last_of list
+
+  pub read_gap : (end : ℕ) → Skips text last at end → Read text list comments end
   read_gap end skips = record {
     pieces = read.pieces ++ skips.pieces;
     leads = leads_on text text_start read.pieces skips.pieces (record { last = last; at = at }) (record { last = last; at = end }) read.leads skips.leads;
@@ -41,7 +48,7 @@ module _ (text : List ℕ) (list : List Token) (comments : List Span) (last : Op
     lies = read.lies;
   }
 
-  pub read_comment : (end : ℕ) → IsPieceEnd line_comment text last at end → Read text list (comments ++ record { start = at; end = end } ∷ []) last end
+  pub read_comment : (end : ℕ) → IsPieceEnd line_comment text last at end → Read text list (comments ++ record { start = at; end = end } ∷ []) end
   read_comment end ends =
       let piece : Piece = record { row = line_comment; start = at; end = end } in
       let right : IsRight text last at piece = record { starts = refl; first = sym ends.first; longest = ends.longest } in
@@ -54,17 +61,18 @@ module _ (text : List ℕ) (list : List Token) (comments : List Span) (last : Op
         lies = read.lies;
       }
 
-  pub read_token : (kind : TokenKind) (end : ℕ) → IsPieceEnd (token kind) text last at end → Read text (list ++ record { kind = kind; start = at; end = end } ∷ []) comments (Some (record { kind = kind; start = at; end = end })) end
+  pub read_token : (kind : TokenKind) (end : ℕ) → IsPieceEnd (token kind) text last at end → Read text (list ++ record { kind = kind; start = at; end = end } ∷ []) comments end
   read_token kind end ends =
       let piece : Piece = record { row = token kind; start = at; end = end } in
+      let here : Token = record { kind = kind; start = at; end = end } in
       let right : IsRight text last at piece = record { starts = refl; first = sym ends.first; longest = ends.longest } in
       record {
         pieces = read.pieces ++ piece ∷ [];
-        leads = leads_on text text_start read.pieces (piece ∷ []) (record { last = last; at = at }) (place_after (record { last = last; at = at }) piece) read.leads (right, refl);
-        tokens_are = ap (λ (prefix : List Token). prefix ++ record { kind = kind; start = at; end = end } ∷ []) read.tokens_are ∙ sym (flat_map-append _ read.pieces (piece ∷ []));
+        leads = subst (λ (it : Option Token). Leads text text_start (read.pieces ++ piece ∷ []) (record { last = it; at = end })) (last_pushed list here) (leads_on text text_start read.pieces (piece ∷ []) (record { last = last; at = at }) (place_after (record { last = last; at = at }) piece) read.leads (right, refl));
+        tokens_are = ap (λ (prefix : List Token). prefix ++ here ∷ []) read.tokens_are ∙ sym (flat_map-append _ read.pieces (piece ∷ []));
         comments_are = read.comments_are ∙ sym (flat_map-append _ read.pieces (piece ∷ []) ∙ append-nil (comments_of read.pieces));
         within = ends.longest.within;
-        lies = (ends.longest.some, ends.longest.within);
+        lies = subst (LastIsIn text) (last_pushed list here) (ends.longest.some, ends.longest.within);
       }
 
   opens : (row : Row) (place : ℕ) → at < length text → (place ≡ at) × HasNoEnd row text last at → Opens row text place
@@ -78,3 +86,21 @@ module _ (text : List ℕ) (list : List Token) (comments : List Span) (last : Op
 
   pub read_all : length text ≤ at → (tokens : Tokens) → tokens.list ≡ list → tokens.comments ≡ comments → Scans text (Ok tokens)
   read_all whole tokens list_is comments_is = (read.pieces, record { end = record { last = last; at = at }; leads = read.leads; whole = omega (arith, read.within) }, record { list = list_is ∙ read.tokens_are; comments = comments_is ∙ read.comments_are })
+
+module _ (text : List ℕ) (list : List Token) (comments : List Span) where
+  read_blank : (at : ℕ) → Read text list comments at → is_blank (slice_index text at) ≡ true → at < length text → Read text list comments (at + 1)
+  read_blank at read is within =
+      let last = last_of list in
+      let first = any_blank_row (at == 0) (is_tick_at text last) (slice_index text at) (slice_index text (at + 1)) (slice_index text (at + 2)) is in
+      read_gap text list comments at read (at + 1) (blank_gap text last at (at + 1) first (blank_longest text at within))
+
+  blanks_from : (n at : ℕ) → Read text list comments at → EachByte is_blank text at (at + n) → at + n ≤ length text → Read text list comments (at + n)
+  blanks_from zero at read each within = let is : at ≡ at + 0 = omega arith in subst (λ (k : ℕ). Read text list comments k) is read
+  blanks_from (suc n) at read each within =
+      let is : at + 1 + n ≡ at + suc n = omega arith in
+      subst (λ (k : ℕ). Read text list comments k) is (blanks_from n (at + 1) (read_blank at read (each at (omega arith) (omega arith)) (omega arith)) (λ place from below. each place (omega arith) (omega arith)) (omega arith))
+
+  pub read_blanks : (at end : ℕ) → Read text list comments at → IsRunEnd is_blank text at end → Read text list comments end
+  read_blanks at end read is =
+      let back : at + (end - at) ≡ end = omega (arith, is.reaches) in
+      subst (λ (k : ℕ). Read text list comments k) back (blanks_from (end - at) at read (λ place from below. is.each place from (omega (arith, is.reaches))) (omega (arith, is.reaches, is.within)))

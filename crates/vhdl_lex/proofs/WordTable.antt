@@ -64,7 +64,7 @@ module _ (number : ℕ) (small : number < 115) where
   place_is : slice_index NUMBERS (place_of (word_number number)) ≡ number + 1
   place_is = eqb-true _ _ (and_parts _ _ (each_below place_right 115 places_tried number small)).0
 
-  lower_is : lower_case (word_number number) ≡ word_number number
+  pub lower_is : lower_case (word_number number) ≡ word_number number
   lower_is = (bytes_eq-Decides _ _).0 (and_parts _ _ (and_parts _ _ (each_below place_right 115 places_tried number small)).1).0
 
   is_some : 0 < length (word_number number)

@@ -1,5 +1,6 @@
 -- Where pieces of a text end.
-use Rattle.std.specs.Prelude.{◌≡◌, ℕ, ◌<◌, ◌≤◌, Bool, false, List, length, slice_index, Option, Some, None}
+use Rattle.std.specs.Prelude.{◌≡◌, ℕ, ◌+◌, ◌-◌, ◌/◌, ◌^◌, ◌<◌, ◌≤◌, Bool, false, List, length, slice_index, Option, Some, None}
+use Rattle.std.specs.Int.{w64, trailing_zeros}
 use Rattle.scan_spec.specs.Tokens.{EachByte, IsBlockComment, IsMarked}
 
 -- from an offset up to the end each byte passes the test, and no further
@@ -18,3 +19,13 @@ IsCommentEnd text at (Some end) = (end ≤ length text) × IsBlockComment text a
 abbrev pub IsMarkedEnd : ℕ → List ℕ → ℕ → Option ℕ → Type 0
 IsMarkedEnd mark text at None = (end : ℕ) → IsMarked mark text at end → ⊥
 IsMarkedEnd mark text at (Some end) = (end ≤ length text) × IsMarked mark text at end × ((other : ℕ) → IsMarked mark text at other → other ≤ end)
+
+-- the first place from one on whose bit is set, where the lowest of 64 bits is that of the place `base`
+pub record IsStopFrom (from base stops end : ℕ) : Type 0 where
+  pub near : from < base + 64
+  pub some : 0 < stops / 2 ^ (from - base)
+  pub there : end ≡ from + trailing_zeros w64 (stops / 2 ^ (from - base))
+
+-- where a bit is set for 64 bytes, runs of bytes that pass the test stop
+abbrev pub AreStops : (ℕ → Bool) → List ℕ → ℕ → ℕ → Type 0
+AreStops test text base stops = (from end : ℕ) → base ≤ from → IsStopFrom from base stops end → IsRunEnd test text from end

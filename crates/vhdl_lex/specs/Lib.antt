@@ -2,4 +2,5 @@
 pub mod Ends
 pub mod Places
 pub mod Pieces
+pub mod Reading
 pub mod Scanning

@@ -1,11 +1,18 @@
 -- What is at an offset of a text.
-use Rattle.std.specs.Prelude.{◌≡◌, ℕ, ◌<◌, ◌≤◌, List, [], length, Option, Some, None}
+use Rattle.std.specs.Prelude.{◌≡◌, ℕ, ◌-◌, ◌<◌, ◌≤◌, Bool, ◌&&◌, ◌||◌, ◌==◌, nat_le, List, [], length, slice_get, Option, Some, None}
 use Rattle.vr_base.specs.declared.lexical.Token.{Token}
 use Rattle.vr_base.specs.declared.lexical.TokenKind.TheVariants.{Str, Extended}
 use Rattle.vr_base.specs.declared.lexical.LexFault.TheVariants.{NoMemory, UnclosedString, UnclosedExtended, UnclosedComment}
 use Rattle.scan_spec.specs.Tokens.{Row, line_comment, block_comment, token, Piece, row_at, HasForm, IsLongest, Leads, tokens_of, comments_of}
 use Rattle.vhdl_lex.specs.declared.piece.Found.{Found}
 use Rattle.vhdl_lex.specs.declared.piece.Found.TheVariants.{Gap, Comment, Lexeme, Unclosed}
+
+-- the parentheses, `*`, `+`, `,`, `.`, and those from `:` to `>`
+abbrev pub is_plain : ℕ → Bool
+is_plain byte = nat_le 40 byte && nat_le byte 44 || byte == 46 || nat_le 58 byte && nat_le byte 62
+
+abbrev pub last_of : List Token → Option Token
+last_of tokens = slice_get tokens (length tokens - 1)
 
 -- the token before an offset lies in the text
 abbrev pub LastIsIn : List ℕ → Option Token → Type 0

@@ -1,7 +1,8 @@
 //! Classes of bytes (IEEE Std 1076-2008, clauses 15.2, 15.4 and 15.5).
 
 ghost use Rattle.std.specs.Prelude.{◌≡◌};
-ghost use Rattle.scan_spec.specs.Tokens.{is_line_end, is_word_byte, is_number_byte};
+ghost use Rattle.scan_spec.specs.Tokens.{is_blank, is_line_end, is_word_byte, is_number_byte};
+ghost use Rattle.vhdl_lex.specs.Pieces.{is_plain};
 
 const LINE_END: u8 = 1;
 
@@ -41,4 +42,26 @@ pub fn is_number_byte(byte: u8) -> bool
     ensures { result ≡ is_number_byte byte }
 {
     CLASS[byte as usize] >= IN_NUMBER
+}
+
+/// Whether a byte is a tab, a line end or a space.
+#[inline(always)]
+pub fn is_blank(byte: u8) -> bool
+    ensures { result ≡ is_blank byte }
+{
+    match byte {
+        9..=13 | b' ' => true,
+        _ => false,
+    }
+}
+
+/// Whether a byte is one of the delimiters that nothing else begins with, and that most texts are full of.
+#[inline(always)]
+pub fn is_plain(byte: u8) -> bool
+    ensures { result ≡ is_plain byte }
+{
+    match byte {
+        b'('..=b',' | b'.' | b':'..=b'>' => true,
+        _ => false,
+    }
 }

@@ -1,13 +1,58 @@
 //! Where pieces of a text end: one function a form, each with one loop.
 
 ghost use Rattle.std.specs.Prelude.{◌≡◌, ◌+◌, ◌<◌, ◌≤◌, false, not, length};
-ghost use Rattle.scan_spec.specs.Tokens.{is_line_end, is_word_byte, is_number_byte};
-ghost use Rattle.vhdl_lex.specs.Ends.{IsRunEnd, IsCommentEnd, IsMarkedEnd};
+ghost use Rattle.scan_spec.specs.Tokens.{is_blank, is_line_end, is_word_byte, is_number_byte};
+ghost use Rattle.vhdl_lex.specs.Ends.{AreStops, IsRunEnd, IsCommentEnd, IsMarkedEnd};
 
-use crate::class::{is_line_end, is_number_byte, is_word_byte};
+use crate::class::{is_blank, is_line_end, is_number_byte, is_word_byte};
+use crate::stops::stop_from;
+use vr_base::TEXT_LIMIT;
+
+/// The end of the bytes of a word, where `stops` tells of 64 bytes from `base` on which are of none.
+#[inline(always)]
+pub fn word_end_by(text: &[u8], from: usize, base: usize, stops: u64) -> usize
+    requires within { from ≤ length text.now }
+    requires small { length text.now ≤ TEXT_LIMIT }
+    requires ordered { base ≤ from }
+    requires stops { AreStops is_word_byte text.now base stops }
+    ensures { IsRunEnd is_word_byte text.now from result }
+{
+    match stop_from(from, base, stops) {
+        Some(end) => end,
+        None => word_end(text, from),
+    }
+}
+
+/// The end of a gap of blanks, where `stops` tells of 64 bytes from `base` on which are none.
+#[inline(always)]
+pub fn gap_end_by(text: &[u8], from: usize, base: usize, stops: u64) -> usize
+    requires within { from ≤ length text.now }
+    requires small { length text.now ≤ TEXT_LIMIT }
+    requires ordered { base ≤ from }
+    requires stops { AreStops is_blank text.now base stops }
+    ensures { IsRunEnd is_blank text.now from result }
+{
+    match stop_from(from, base, stops) {
+        Some(end) => end,
+        None => gap_end(text, from),
+    }
+}
+
+/// The end of a gap of blanks.
+#[inline(never)]
+fn gap_end(text: &[u8], from: usize) -> usize
+    requires { from ≤ length text.now }
+    ensures { IsRunEnd is_blank text.now from result }
+{
+    let mut end = from;
+    while end < text.len() && is_blank(text[end]) {
+        end += 1;
+    }
+    end
+}
 
 /// The end of the bytes of a word.
-#[inline(always)]
+#[inline(never)]
 pub fn word_end(text: &[u8], from: usize) -> usize
     requires { from ≤ length text.now }
     ensures { IsRunEnd is_word_byte text.now from result }

@@ -6,6 +6,7 @@ mod ends;
 mod piece;
 mod reserved;
 mod scan;
+mod stops;
 
 pub use reserved::{is_reserved, reserved_number};
 pub use scan::scan_tokens;

@@ -2,12 +2,14 @@
 
 ghost use Rattle.std.specs.Prelude.{◌≡◌, ◌≢◌, ◌<◌, ◌≤◌, ◌^◌, length, slice_index, Option};
 ghost use Rattle.vr_base.specs.declared.lexical.Token.{Token};
-ghost use Rattle.scan_spec.specs.Tokens.{is_tick_at};
-ghost use Rattle.vhdl_lex.specs.Pieces.{IsFound, LastIsIn};
+ghost use Rattle.scan_spec.specs.Tokens.{is_tick_at, is_word_byte};
+ghost use Rattle.vhdl_lex.specs.Ends.{AreStops};
+ghost use Rattle.vhdl_lex.specs.Pieces.{IsFound, LastIsIn, last_of};
 
-use crate::ends::{comment_end, line_end, marked_end, number_end, word_end};
+use crate::class::is_plain;
+use crate::ends::{comment_end, line_end, marked_end, number_end, word_end, word_end_by};
 use crate::reserved::is_reserved;
-use vr_base::{LexFault, Token, TokenKind};
+use vr_base::{LexFault, TEXT_LIMIT, Token, TokenKind};
 
 /// What is at an offset. Each but the last ends before a byte.
 pub enum Found {
@@ -129,7 +131,7 @@ fn high_at(text: &[u8], at: usize) -> Found
 
 /// The piece at `at`, after the token `last`.
 #[inline(always)]
-pub fn piece_at(text: &[u8], last: Option<Token>, at: usize) -> Found
+fn piece_at(text: &[u8], last: Option<Token>, at: usize) -> Found
     requires within { at < length text.now }
     requires small { length text.now < 2 ^ 32 }
     requires last { LastIsIn text.now last }
@@ -147,5 +149,34 @@ pub fn piece_at(text: &[u8], last: Option<Token>, at: usize) -> Found
         b'`' => Found::Gap(line_end(text, at + 1)),
         128..=255 => high_at(text, at),
         _ => Found::Lexeme(TokenKind::Symbol, at + 1),
+    }
+}
+
+/// The last of some tokens.
+#[inline(always)]
+fn last_of(tokens: &[Token]) -> Option<Token>
+    ensures { result ≡ last_of tokens.now }
+{
+    tokens.last().copied()
+}
+
+/// The piece at `at`, after the tokens of all pieces before it. Words and plain delimiters are most of a text, so they
+/// are tried first. `stops` tells of 64 bytes from `base` on which aren't of a word.
+#[inline(always)]
+pub fn next_piece(text: &[u8], tokens: &[Token], at: usize, base: usize, stops: u64) -> Found
+    requires within { at < length text.now }
+    requires small { length text.now ≤ TEXT_LIMIT }
+    requires last { LastIsIn text.now (last_of tokens.now) }
+    requires ordered { base ≤ at }
+    requires stops { AreStops is_word_byte text.now base stops }
+    ensures { IsFound text.now (last_of tokens.now) at result }
+{
+    let byte = text[at];
+    if byte.is_ascii_alphabetic() {
+        Found::Lexeme(TokenKind::Word, word_end_by(text, at + 1, base, stops))
+    } else if is_plain(byte) {
+        Found::Lexeme(TokenKind::Symbol, at + 1)
+    } else {
+        piece_at(text, last_of(tokens), at)
     }
 }

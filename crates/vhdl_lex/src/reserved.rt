@@ -2,8 +2,8 @@
 //!
 //! The three tables and the four factors in `place_of` were found by `bench/reserved.py`, which prints them again.
 
-ghost use Rattle.std.specs.Prelude.{◌≡◌, ◌<◌, length, slice_index, slice_index_or, []};
-ghost use Rattle.scan_spec.specs.Words.{is_reserved, reserved_words};
+ghost use Rattle.std.specs.Prelude.{◌≡◌, ◌<◌, ◌↔◌, IsTrue, length, slice_index, slice_index_or, []};
+ghost use Rattle.scan_spec.specs.Words.{is_reserved, lower_case, reserved_words};
 ghost use Rattle.vhdl_lex.specs.Places.{IsNumberOf, place_of};
 
 /// The letters of all reserved words, in order.
@@ -100,6 +100,22 @@ fn number_at(place: usize) -> usize
     NUMBERS[place] as usize
 }
 
+/// Whether the bytes, in lower case, are these.
+#[inline(always)]
+fn is_lowered(bytes: &[u8], letters: &[u8]) -> bool
+    ensures { IsTrue result ↔ (lower_case bytes.now ≡ letters.now) }
+{
+    if bytes.len() != letters.len() {
+        return false;
+    }
+    for i in 0..bytes.len() {
+        if bytes[i].to_ascii_lowercase() != letters[i] {
+            return false;
+        }
+    }
+    true
+}
+
 /// The number of a reserved word among all in the order of the alphabet, counted from 1, or 0 for another word.
 pub fn reserved_number(word: &[u8]) -> usize
     ensures { IsNumberOf word.now result }
@@ -108,7 +124,7 @@ pub fn reserved_number(word: &[u8]) -> usize
         return 0;
     }
     let number = number_at(place_of(word));
-    if number != 0 && word.eq_ignore_ascii_case(reserved_word(number - 1)) {
+    if number != 0 && is_lowered(word, reserved_word(number - 1)) {
         number
     } else {
         0

@@ -1,11 +1,14 @@
 //! The cut of a whole text, in one pass.
 
-ghost use Rattle.std.specs.Prelude.{◌≡◌, ◌≤◌, ℕ, List, length, IfOk, OnErr};
+ghost use Rattle.std.specs.Prelude.{◌≡◌, ◌<◌, ◌≤◌, ℕ, List, length, IfOk, OnErr};
 ghost use Rattle.vr_base.specs.declared.lexical.LexFault.{LexFault};
 ghost use Rattle.scan_spec.specs.Tokens.{Piece, IsCut, HasFault, AreOf, Scans};
+ghost use Rattle.vhdl_lex.specs.Reading.{Read, ReadsOn};
 ghost use Rattle.vhdl_lex.specs.Scanning.{GivesTokens, GivesFault};
 
-use crate::piece::{Found, piece_at};
+use crate::ends::gap_end_by;
+use crate::piece::{Found, next_piece};
+use crate::stops::{gap_stops, word_stops};
 use std::alloc::Global;
 use vr_base::{Items, LexFault, Span, TEXT_LIMIT, Token, Tokens};
 
@@ -23,16 +26,30 @@ pub fn scan_tokens(alloc: Global, text: &[u8]) -> Result<Tokens, LexFault>
     scan(alloc, text)
 }
 
-fn scan(alloc: Global, text: &[u8]) -> Result<Tokens, LexFault>
-    requires { length text.now ≤ TEXT_LIMIT }
-    ensures { Scans text.now result }
+/// How many bytes are gone over with one look at 64 of them: a word that begins before there mostly ends within the 64.
+const STRIDE: usize = 48;
+
+/// Goes on with a cut for some bytes or, where a piece begins within them, to its end, and adds tokens and comments.
+fn scan_on(
+    text: &[u8],
+    list: &mut Vec<Token>,
+    comments: &mut Vec<Span>,
+    from: usize,
+) -> Result<usize, LexFault>
+    requires within { from < length text.now }
+    requires small { length text.now ≤ TEXT_LIMIT }
+    requires read { Read text.now list.old.items comments.old.items from }
+    ensures { ReadsOn text.now from list.new.items comments.new.items result }
 {
-    let mut list = Vec::with_capacity(alloc, text.len() / 4 + 1)?;
-    let mut comments = Vec::new(alloc);
-    let mut last: Option<Token> = None;
-    let mut at = 0;
-    while at < text.len() {
-        let end = match piece_at(text, last, at) {
+    let words = word_stops(text, from);
+    let gaps = gap_stops(text, from);
+    let mut at = from;
+    while at < text.len() && at - from < STRIDE {
+        at = gap_end_by(text, at, from, gaps);
+        if at == text.len() {
+            return Ok(at);
+        }
+        at = match next_piece(text, list.as_slice(), at, from, words) {
             Found::Gap(end) => end,
             Found::Comment(end) => {
                 comments.push(Span {
@@ -42,18 +59,28 @@ fn scan(alloc: Global, text: &[u8]) -> Result<Tokens, LexFault>
                 end
             }
             Found::Lexeme(kind, end) => {
-                let token = Token {
+                list.push(Token {
                     kind,
                     start: at as u32,
                     end: end as u32,
-                };
-                list.push(token)?;
-                last = Some(token);
+                })?;
                 end
             }
             Found::Unclosed(fault) => return Err(fault),
         };
-        at = end;
+    }
+    Ok(at)
+}
+
+fn scan(alloc: Global, text: &[u8]) -> Result<Tokens, LexFault>
+    requires { length text.now ≤ TEXT_LIMIT }
+    ensures { Scans text.now result }
+{
+    let mut list = Vec::with_capacity(alloc, text.len() / 4 + 1)?;
+    let mut comments = Vec::new(alloc);
+    let mut at = 0;
+    while at < text.len() {
+        at = scan_on(text, &mut list, &mut comments, at)?;
     }
     // Scans are kept while a project is read, so the room that was reserved and not used goes back.
     list.shrink_to_fit();

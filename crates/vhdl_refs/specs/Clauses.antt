@@ -4,6 +4,7 @@ use Rattle.std.specs.List.{list_any}
 use Rattle.vr_base.specs.declared.design.Role.{Role}
 use Rattle.scan_spec.specs.References.{back_to, clause_start, ends_item, is_context_word, is_in_name_list, is_library_word, is_semicolon}
 use Rattle.vhdl_refs.specs.declared.clause.Clause.{Clause}
+use Rattle.vhdl_refs.specs.declared.clause.Reached.{Reached}
 
 pub record IsClauseAt (roles : List Role) (at : ℕ) (clause : Clause) : Type 0 where
   pub lists_names : clause.lists_names ≡ is_in_name_list roles at
@@ -11,3 +12,8 @@ pub record IsClauseAt (roles : List Role) (at : ℕ) (clause : Clause) : Type 0 
   pub has_library : clause.has_library ≡ list_any is_library_word (back_to is_semicolon roles at)
   pub start : clause.start ≡ clause_start roles at
   pub within : clause.start ≤ at
+
+-- clauses were followed up to a token, or to one before it
+pub record HasReached (roles : List Role) (at : ℕ) (reached : Reached) : Type 0 where
+  pub clause : IsClauseAt roles reached.at reached.clause
+  pub before : reached.at ≤ at

@@ -1,6 +1,6 @@
 //! The clause of a token, as a walk over the tokens knows it.
 
-ghost use Rattle.std.specs.Prelude.{◌≡◌, ◌+◌, ◌<◌, false, length};
+ghost use Rattle.std.specs.Prelude.{◌≡◌, ◌+◌, ◌<◌, ◌≤◌, false, length};
 ghost use Rattle.vhdl_refs.specs.Clauses.{IsClauseAt};
 
 use vhdl_units::role_at;
@@ -52,4 +52,25 @@ pub fn clause_after(clause: Clause, roles: &[Role], at: usize) -> Clause
         _ => {}
     }
     next
+}
+
+/// The clause of a token, from that of an earlier one.
+pub fn clause_at(clause: Clause, roles: &[Role], from: usize, to: usize) -> Clause
+    requires clause { IsClauseAt roles.now from clause }
+    requires ordered { from ≤ to }
+    requires within { to ≤ length roles.now }
+    ensures { IsClauseAt roles.now to result }
+{
+    let mut clause = clause;
+    for at in from..to {
+        clause = clause_after(clause, roles, at);
+    }
+    clause
+}
+
+/// The clause of a token, and the token: how far a walk has followed clauses.
+#[derive(Clone, Copy)]
+pub struct Reached {
+    pub clause: Clause,
+    pub at: usize,
 }

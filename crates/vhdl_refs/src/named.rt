@@ -3,9 +3,9 @@
 ghost use Rattle.std.specs.Prelude.{◌≡◌, ◌+◌, ◌<◌, ◌≤◌, [], ◌∷◌, ◌++◌, if◌then◌else◌, length, IfOk, OnOk};
 ghost use Rattle.scan_spec.specs.Units.{AreTokensOf, roles_of};
 ghost use Rattle.scan_spec.specs.References.{architecture_at, is_in_name_list, is_reference, named_refs, ref_at};
-ghost use Rattle.vhdl_refs.specs.Clauses.{IsClauseAt};
+ghost use Rattle.vhdl_refs.specs.Clauses.{HasReached, IsClauseAt};
 
-use crate::clause::{Clause, clause_after};
+use crate::clause::{Clause, Reached, clause_at};
 use crate::places::{has_architecture, is_reference, is_strict};
 use std::alloc::Global;
 use vhdl_units::name_of;
@@ -56,26 +56,30 @@ pub fn ref_at(
     })
 }
 
-/// Adds the reference at a token, where one is.
+/// Adds the reference at a token, where one is. Clauses are followed up to there, and to no other token.
+#[inline(always)]
 fn push_at(
     alloc: Global,
     text: &[u8],
     tokens: &Tokens,
     roles: &[Role],
     at: usize,
-    in_name_list: bool,
+    reached: &mut Reached,
     refs: &mut Vec<Ref>,
 ) -> Result<(), NoMemory>
     requires tokens { AreTokensOf text.now tokens.now }
     requires roles { roles.now ≡ roles_of text.now tokens.now.list }
     requires within { at < length roles.now }
     requires small { length roles.now ≤ TEXT_LIMIT }
-    requires listed { in_name_list ≡ is_in_name_list roles.now at }
-    ensures { OnOk result (refs.new.items ≡ refs.old.items ++
+    requires reached { HasReached roles.now at reached.old }
+    ensures reached { HasReached roles.now at reached.new }
+    ensures found { OnOk result (refs.new.items ≡ refs.old.items ++
         (if is_reference roles.now at then ref_at text.now tokens.now.list at ∷ [] else [])) }
 {
     if is_reference(roles, at) {
-        refs.push(ref_at(alloc, text, tokens, roles, at, in_name_list)?)?;
+        let clause = clause_at(reached.clause, roles, reached.at, at);
+        *reached = Reached { clause, at };
+        refs.push(ref_at(alloc, text, tokens, roles, at, clause.lists_names)?)?;
     }
     Ok(())
 }
@@ -99,10 +103,12 @@ pub fn push_named(
     ensures { OnOk result (refs.new.items ≡
         refs.old.items ++ named_refs text.now tokens.now.list clause.start end) }
 {
-    let mut clause = clause;
+    let mut reached = Reached {
+        clause,
+        at: clause.start,
+    };
     for at in clause.start..end {
-        push_at(alloc, text, tokens, roles, at, clause.lists_names, refs)?;
-        clause = clause_after(clause, roles, at);
+        push_at(alloc, text, tokens, roles, at, &mut reached, refs)?;
     }
     Ok(())
 }

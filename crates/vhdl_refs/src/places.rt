@@ -10,6 +10,7 @@ use vhdl_units::role_at;
 use vr_base::Role;
 
 /// Whether a reference is at a token.
+#[inline(always)]
 pub fn is_reference(roles: &[Role], at: usize) -> bool
     requires { at < length roles.now }
     ensures value { result ≡ is_reference roles.now at }

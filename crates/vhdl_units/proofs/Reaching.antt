@@ -2,11 +2,11 @@
 use Rattle.std.proofs.Common.{◌≡◌, ℕ, ◌+◌, ◌<◌, ◌≤◌, Bool, true, false, List, [], ◌∷◌, ◌++◌, length, refl, sym, subst, arith}
 use Rattle.vr_base.specs.declared.design.Role.{Role}
 use Rattle.vr_base.specs.declared.design.Role.TheVariants.{End}
-use Rattle.scan_spec.specs.Units.{role_at, begins_generate, OpensItems, IsGenerateOpener, Closes, IsSingle, Items, nothing, single, items, region}
-use Rattle.vhdl_units.specs.declared.level.Counts.{Counts}
+use Rattle.scan_spec.specs.Units.{role_at, OpensItems, IsGenerateOpener, Closes, IsSingle, Items, nothing, single, items, region}
+use Rattle.vhdl_units.specs.declared.class.Known.{Known}
 use Rattle.vhdl_units.specs.declared.class.Class.{Class}
 use Rattle.vhdl_units.specs.declared.class.Class.TheVariants as class
-use Rattle.vhdl_units.specs.Walk.{AreCounts, IsStep}
+use Rattle.vhdl_units.specs.Walk.{IsKnown, IsStep}
 use Rattle.vhdl_units.specs.Parts.{IsClass, IsUnitClose}
 use Rattle.scan_spec.proofs.Grammar.{close_word, items_ordered, items_of_single, items_of_opener, items_of_generate, items_of_close}
 use Rattle.scan_spec.proofs.Files.{in_file}
@@ -93,7 +93,6 @@ module _ (roles : List Role) (start : ℕ) where
     leads_end class.Close next_frames next_inside is step = leads_to_close step is
 
 -- what the walk keeps at a token
-pub record Walked (roles : List Role) (start : ℕ) (frames : List Bool) (inside : Bool) (counts : Counts) (begins : Bool) (at : ℕ) : Type 0 where
-  pub counts_are : AreCounts roles start at counts
-  pub begins_is : begins ≡ begins_generate roles at
+pub record Walked (roles : List Role) (start : ℕ) (frames : List Bool) (inside : Bool) (known : Known) (at : ℕ) : Type 0 where
+  pub known_is : IsKnown roles start at known
   pub leads : LeadsToClose roles start frames inside at

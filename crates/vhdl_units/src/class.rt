@@ -1,13 +1,13 @@
 //! What a token within a unit does.
 
-ghost use Rattle.std.specs.Prelude.{◌≡◌, ◌≤◌, ◌<◌, ◌+◌, ◌↔◌, IsTrue, length, true};
+ghost use Rattle.std.specs.Prelude.{◌≡◌, ◌≤◌, ◌<◌, ◌+◌, ◌↔◌, Bool, IsTrue, length};
 ghost use Rattle.scan_spec.specs.Units.{IsNotAfter, MayOpen, BeginsPackage, HasBody, IsPackageOpener, IsSubprogramOpener, IsGenerateOpener, Closes, IsLevel, begins_generate, ends_inner, role_at};
-ghost use Rattle.vhdl_units.specs.Walk.{AreCounts};
+ghost use Rattle.vhdl_units.specs.Walk.{AreCounts, IsKnown};
 ghost use Rattle.vhdl_units.specs.Marks.{AreMarks, IsSubprogramWord};
 ghost use Rattle.vhdl_units.specs.Parts.{IsClass, IsNextMark};
 
-use crate::ends::role_at;
-use crate::level::Counts;
+use crate::ends::{begins_at, role_at};
+use crate::level::{Counts, counts_at};
 use vr_base::Role;
 
 /// The class of a token within a unit.
@@ -127,6 +127,77 @@ fn closes(roles: &[Role], inside: bool, at: usize) -> bool
     }
 }
 
+/// What a walk through a unit knows by the tokens up to one: the parentheses before the token `counted`, and whether a
+/// `generate` at the token `decided` opens a region. Only words that ask for it bring it on.
+#[derive(Clone, Copy)]
+pub struct Known {
+    pub counts: Counts,
+    pub counted: usize,
+    pub begins: bool,
+    pub decided: usize,
+}
+
+/// The class of the word `package`.
+fn class_of_package(roles: &[Role], start: usize, at: usize, known: &mut Known) -> Class
+    requires within { at < length roles.now }
+    requires known { IsKnown roles.now start at known.old }
+    requires word { role_at roles.now at ≡ Role.Package }
+    ensures known { IsKnown roles.now start at known.new }
+    ensures class { (inside : Bool) → IsClass roles.now start inside at result }
+{
+    let counts = counts_at(known.counts, roles, start, known.counted, at);
+    known.counts = counts;
+    known.counted = at;
+    if opens_package(roles, start, at, counts) {
+        Class::Items
+    } else {
+        Class::Single
+    }
+}
+
+/// The class of the word of a subprogram.
+fn class_of_subprogram(
+    roles: &[Role],
+    marks: &[u32],
+    start: usize,
+    at: usize,
+    known: &mut Known,
+) -> Class
+    requires within { at < length roles.now }
+    requires known { IsKnown roles.now start at known.old }
+    requires marks { AreMarks roles.now 0 marks.now }
+    requires word { IsSubprogramWord (role_at roles.now at) }
+    ensures known { IsKnown roles.now start at known.new }
+    ensures class { (inside : Bool) → IsClass roles.now start inside at result }
+{
+    let counts = counts_at(known.counts, roles, start, known.counted, at);
+    known.counts = counts;
+    known.counted = at;
+    if opens_subprogram(roles, marks, start, at, counts) {
+        Class::Items
+    } else {
+        Class::Single
+    }
+}
+
+/// The class of the word `generate`.
+fn class_of_generate(roles: &[Role], start: usize, at: usize, known: &mut Known) -> Class
+    requires within { at < length roles.now }
+    requires known { IsKnown roles.now start at known.old }
+    requires word { role_at roles.now at ≡ Role.Generate }
+    ensures known { IsKnown roles.now start at known.new }
+    ensures class { (inside : Bool) → IsClass roles.now start inside at result }
+{
+    let begins = begins_at(roles, known.decided, at, known.begins);
+    known.begins = begins;
+    known.decided = at;
+    if opens_region(roles, at, begins) {
+        Class::Region
+    } else {
+        Class::Single
+    }
+}
+
 /// The class of a token whose word may open or end something.
 #[inline(never)]
 fn class_of_word(
@@ -135,20 +206,18 @@ fn class_of_word(
     start: usize,
     at: usize,
     inside: bool,
-    counts: Counts,
-    begins: bool,
+    known: &mut Known,
 ) -> Class
     requires within { at < length roles.now }
-    requires counts { AreCounts roles.now start at counts }
-    requires begins { begins ≡ begins_generate roles.now at }
+    requires known { IsKnown roles.now start at known.old }
     requires marks { AreMarks roles.now 0 marks.now }
-    ensures { IsClass roles.now start inside at result }
+    ensures known { IsKnown roles.now start at known.new }
+    ensures class { IsClass roles.now start inside at result }
 {
     match roles[at] {
-        Role::Package if opens_package(roles, start, at, counts) => Class::Items,
-        Role::Function | Role::Procedure if opens_subprogram(roles, marks, start, at, counts) =>
-            Class::Items,
-        Role::Generate if opens_region(roles, at, begins) => Class::Region,
+        Role::Package => class_of_package(roles, start, at, known),
+        Role::Function | Role::Procedure => class_of_subprogram(roles, marks, start, at, known),
+        Role::Generate => class_of_generate(roles, start, at, known),
         Role::End if closes(roles, inside, at) => Class::Close,
         _ => Class::Single,
     }
@@ -163,18 +232,17 @@ pub fn class_at(
     start: usize,
     at: usize,
     inside: bool,
-    counts: Counts,
-    begins: bool,
+    known: &mut Known,
 ) -> Class
     requires within { at < length roles.now }
-    requires counts { AreCounts roles.now start at counts }
-    requires begins { begins ≡ begins_generate roles.now at }
+    requires known { IsKnown roles.now start at known.old }
     requires marks { AreMarks roles.now 0 marks.now }
-    ensures { IsClass roles.now start inside at result }
+    ensures known { IsKnown roles.now start at known.new }
+    ensures class { IsClass roles.now start inside at result }
 {
     match roles[at] {
         Role::Package | Role::Function | Role::Procedure | Role::Generate | Role::End =>
-            class_of_word(roles, marks, start, at, inside, counts, begins),
+            class_of_word(roles, marks, start, at, inside, known),
         _ => Class::Single,
     }
 }

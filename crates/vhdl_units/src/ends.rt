@@ -80,18 +80,6 @@ pub fn owner_from(roles: &[Role], from: usize) -> Option<usize>
     None
 }
 
-/// Whether a `generate` after one more token opens a region.
-#[inline(always)]
-pub fn begins_after(begins: bool, role: Role) -> bool
-    ensures { result ≡ next_begins begins role }
-{
-    match role {
-        Role::If | Role::For | Role::Case => true,
-        Role::Elsif | Role::Else => false,
-        _ => begins,
-    }
-}
-
 /// Whether a `generate` after this token opens a region, where the token alone decides.
 #[inline(always)]
 fn begins_by(role: Role) -> Option<bool>

@@ -1,6 +1,6 @@
 //! Parentheses within a unit.
 
-ghost use Rattle.std.specs.Prelude.{◌<◌, ◌+◌, length};
+ghost use Rattle.std.specs.Prelude.{◌<◌, ◌≤◌, ◌+◌, length};
 ghost use Rattle.vhdl_units.specs.Walk.{AreCounts};
 
 use crate::ends::role_at;
@@ -27,4 +27,18 @@ pub fn counts_after(counts: Counts, roles: &[Role], start: usize, at: usize) -> 
         _ => {}
     }
     next
+}
+
+/// The counts before a token, from those before an earlier one.
+pub fn counts_at(counts: Counts, roles: &[Role], start: usize, from: usize, to: usize) -> Counts
+    requires counts { AreCounts roles.now start from counts }
+    requires ordered { from ≤ to }
+    requires within { to ≤ length roles.now }
+    ensures { AreCounts roles.now start to result }
+{
+    let mut counts = counts;
+    for at in from..to {
+        counts = counts_after(counts, roles, start, at);
+    }
+    counts
 }

@@ -43,13 +43,25 @@ fn fill(roles: &[Role], nearest: &mut [u32], marks: &mut [u32])
     }
 }
 
-/// Whether a subprogram's word occurs.
+#[inline(always)]
+fn is_subprogram_word(role: Role) -> bool
+    ensures { result ≡ is_subprogram_word role }
+{
+    match role {
+        Role::Function | Role::Procedure => true,
+        _ => false,
+    }
+}
+
+/// Whether a subprogram's word occurs. There is no early exit, so that the loop tests many roles at a time.
 fn has_subprogram(roles: &[Role]) -> bool
     ensures { result ≡ list_any is_subprogram_word roles.now }
 {
-    roles
-        .iter()
-        .any(|role| *role == Role::Function || *role == Role::Procedure)
+    let mut found = false;
+    for role in roles {
+        found |= is_subprogram_word(*role);
+    }
+    found
 }
 
 /// By token the next `is` or `;` of a subprogram's word, or the number of tokens where there is none; other tokens have

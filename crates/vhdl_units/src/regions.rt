@@ -6,9 +6,9 @@ ghost use Rattle.vhdl_units.specs.Parts.{IsCloseFrom, IsEndFrom};
 ghost use Rattle.vhdl_units.specs.Marks.{AreMarks};
 ghost use Rattle.vhdl_units.specs.Walk.{IsStep};
 
-use crate::class::{Class, class_at};
-use crate::ends::{begins_after, first_semicolon, role_at};
-use crate::level::{Counts, counts_after};
+use crate::class::{Class, Known, class_at};
+use crate::ends::first_semicolon;
+use crate::level::Counts;
 use std::alloc::Global;
 use vr_base::{NoMemory, Role};
 
@@ -66,20 +66,23 @@ fn unit_close(
         frames: Vec::new(alloc),
         inside: false,
     };
-    let mut counts = Counts {
+    let counts = Counts {
         opened: 0,
         closed: 0,
     };
-    let mut begins = begins;
+    let mut known = Known {
+        counts,
+        counted: start,
+        begins,
+        decided: start,
+    };
     let mut at = start;
     while at < roles.len() {
         let inside = regions.inside;
-        let class = class_at(roles, marks, start, at, inside, counts, begins);
+        let class = class_at(roles, marks, start, at, inside, &mut known);
         if regions.step(class)? {
             return Ok(Some(at));
         }
-        counts = counts_after(counts, roles, start, at);
-        begins = begins_after(begins, role_at(roles, at));
         at += 1;
     }
     Ok(None)

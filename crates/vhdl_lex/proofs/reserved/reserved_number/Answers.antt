@@ -1,13 +1,13 @@
 -- The word at a place of the table is the only one that can be there.
-use Rattle.std.proofs.Common.{◌≡◌, ◌↔◌, IsTrue, List, ℕ, ◌+◌, ◌-◌, ◌<◌, length, slice_index, sym, ◌∙◌, ap, subst, arith}
+use Rattle.std.proofs.Common.{◌≡◌, ◌↔◌, IsTrue, List, ℕ, ◌+◌, ◌-◌, ◌<◌, ◌≤◌, length, slice_index, sym, ◌∙◌, ap, subst, arith}
 use Rattle.std.proofs.lemmas.Bool.{eqb-true}
 use Rattle.std.proofs.lemmas.List.{nil_from_length}
 use Rattle.scan_spec.specs.Words.{is_reserved, lower_case}
 use Rattle.vhdl_lex.specs.Places.{place_of}
 use Rattle.vhdl_lex.specs.declared.reserved.TheConstants.{NUMBERS}
-use Rattle.vhdl_lex.proofs.WordTable.{number_within, number_is, decides, none_there, empty_is_not, place_small}
+use Rattle.vhdl_lex.proofs.WordTable.{lower_is, number_within, number_is, decides, none_there, empty_is_not, place_small}
 use Rattle.vhdl_lex.proofs.reserved.reserved_number.Goals as goal
-use Rattle.vhdl_lex.proofs.reserved.reserved_number.Goals.{else-number-ne0-via-then-number-ne0+else-eq_ignore_ascii_case, else-number-ne0-via-else-number-ne0}
+use Rattle.vhdl_lex.proofs.reserved.reserved_number.Goals.{else-number-ne0-via-then-number-ne0+else-is_lowered, else-number-ne0-via-else-number-ne0}
 
 pub returns-then-is_empty : goal.returns-then-is_empty
 returns-then-is_empty c =
@@ -22,21 +22,23 @@ reserved_word-requires c =
     let place : c.place_of.result < 1024 = omega (arith, place_small c.args.word.now, c.place_of.ensures) in
     omega (arith, number_within c.place_of.result place, c.number_at-number.ensures, c.if-number-ne0.true)
 
-pub returns-then-eq_ignore_ascii_case : goal.returns-then-eq_ignore_ascii_case
-returns-then-eq_ignore_ascii_case c =
+pub returns-then-is_lowered : goal.returns-then-is_lowered
+returns-then-is_lowered c =
     let place : c.place_of.result < 1024 = omega (arith, place_small c.args.word.now, c.place_of.ensures) in
-    let same : lower_case c.args.word.now ≡ lower_case c.reserved_word.result.now = c.eq_ignore_ascii_case.ensures.test.0 c.if-eq_ignore_ascii_case.true in
-    number_is c.args.word.now c.number_at-number.result c.if-number-ne0.true (omega (arith, number_within c.place_of.result place, c.number_at-number.ensures)) (same ∙ ap lower_case c.reserved_word.ensures)
+    let within : c.number_at-number.result ≤ 115 = omega (arith, number_within c.place_of.result place, c.number_at-number.ensures) in
+    let same : lower_case c.args.word.now ≡ c.reserved_word.result.now = c.is_lowered.ensures.0 c.if-is_lowered.true in
+    number_is c.args.word.now c.number_at-number.result c.if-number-ne0.true within (same ∙ (c.reserved_word.ensures ∙ sym (lower_is (c.number_at-number.result - 1) (omega (arith, within, c.if-number-ne0.true)))))
 
 pub returns-else-number-ne0 : goal.returns-else-number-ne0
 returns-else-number-ne0 c =
     let at_place : slice_index NUMBERS (place_of c.args.word.now) ≡ c.number_at-number.result = ap (slice_index NUMBERS) (sym c.place_of.ensures) ∙ sym c.number_at-number.ensures in
     elim c.else-number-ne0.branch [
-      | else-number-ne0-via-then-number-ne0+else-eq_ignore_ascii_case w ↦
+      | else-number-ne0-via-then-number-ne0+else-is_lowered w ↦
           let some : c.number_at-number.result ≡ (c.number_at-number.result - 1) + 1 = omega (arith, w.if-number-ne0.true) in
           let place : c.place_of.result < 1024 = omega (arith, place_small c.args.word.now, c.place_of.ensures) in
-          let test = subst (λ (word : List ℕ). (IsTrue w.eq_ignore_ascii_case.result ↔ (lower_case c.args.word.now ≡ lower_case word))) w.reserved_word.ensures w.eq_ignore_ascii_case.ensures.test in
-          sym (decides c.args.word.now (c.number_at-number.result - 1) w.eq_ignore_ascii_case.result (λ i. omega (arith, c.type_inv.word i)) (omega (arith, number_within c.place_of.result place, c.number_at-number.ensures, w.if-number-ne0.true)) (at_place ∙ some) test) ∙ w.if-eq_ignore_ascii_case.false
+          let within : c.number_at-number.result - 1 < 115 = omega (arith, number_within c.place_of.result place, c.number_at-number.ensures, w.if-number-ne0.true) in
+          let test = subst (λ (word : List ℕ). (IsTrue w.is_lowered.result ↔ (lower_case c.args.word.now ≡ word))) (w.reserved_word.ensures ∙ sym (lower_is (c.number_at-number.result - 1) within)) w.is_lowered.ensures in
+          sym (decides c.args.word.now (c.number_at-number.result - 1) w.is_lowered.result (λ i. omega (arith, c.type_inv.word i)) within (at_place ∙ some) test) ∙ w.if-is_lowered.false
       | else-number-ne0-via-else-number-ne0 w ↦
           sym (none_there c.args.word.now (λ i. omega (arith, c.type_inv.word i)) (at_place ∙ w.if-number-ne0.false))
     ]

@@ -1,10 +1,10 @@
 -- The pieces that were read so far.
 use Rattle.std.proofs.Common.{length, ◌-◌}
-use Rattle.vhdl_lex.proofs.Steps.{Read}
+use Rattle.vhdl_lex.specs.Reading.{Read}
 use Rattle.vhdl_lex.proofs.scan.scan.Given as goal
 
 abbrev pub invariant-loop-at : goal.invariant-loop-at
-invariant-loop-at l = Read l.text l.list.items l.comments.items l.last l.at
+invariant-loop-at l = Read l.text l.list.items l.comments.items l.at
 
 abbrev pub decreases-loop-at : goal.decreases-loop-at
 decreases-loop-at l = length l.text - l.at

@@ -1,0 +1,10 @@
+-- Blanks so far.
+use Rattle.std.proofs.Common.{length, ◌-◌, ◌≤◌}
+use Rattle.scan_spec.specs.Tokens.{EachByte, is_blank}
+use Rattle.vhdl_lex.proofs.ends.gap_end.Given as goal
+
+abbrev pub invariant-loop-end : goal.invariant-loop-end
+invariant-loop-end l = record { reaches : l.from ≤ l.end; within : l.end ≤ length l.text; each : EachByte is_blank l.text l.from l.end }
+
+abbrev pub decreases-loop-end : goal.decreases-loop-end
+decreases-loop-end l = length l.text - l.end

@@ -1,0 +1,15 @@
+-- A lane stops where its byte is no blank.
+use Rattle.std.proofs.Common.{ℕ, leb, cond, bit_and, refl}
+use Rattle.std.proofs.lemmas.Simd.{zip2_splat, length-chunk}
+use lib.Lanes.{chunk}
+use Rattle.scan_spec.specs.Tokens.{is_blank}
+use Rattle.vhdl_lex.proofs.Lanes.{joined, splat_is, by_lanes}
+use Rattle.vhdl_lex.proofs.stops.gap_mask.Goals as goal
+
+pub returns : goal.returns
+returns c =
+    let text = c.args.text.now in
+    let v = chunk c.args.base 64 text in
+    let long = length-chunk c.args.base 64 text c.requires in
+    by_lanes is_blank text c.args.base _ _ _ c.requires c.type_inv.text refl
+    (joined bit_and _ _ v (joined (λ a b. cond (leb a b) 255 0) _ _ v (splat_is v 64 5 long) (zip2_splat {Y = ℕ} _ v 64 9 long)) (zip2_splat {Y = ℕ} _ v 64 32 long)) refl

@@ -1,0 +1,21 @@
+-- What was read of a text so far.
+use Rattle.std.specs.Prelude.{◌≡◌, ℕ, ◌<◌, ◌≤◌, List, length, Result, Ok, Err}
+use Rattle.vr_base.specs.declared.lexical.Token.{Token}
+use Rattle.vr_base.specs.declared.lexical.Span.{Span}
+use Rattle.vr_base.specs.declared.lexical.LexFault.{LexFault}
+use Rattle.scan_spec.specs.Tokens.{Piece, Leads, Scans, comments_of, text_start, tokens_of}
+use Rattle.vhdl_lex.specs.Pieces.{LastIsIn, last_of}
+
+-- pieces from the start up to an offset, with their tokens and their comments
+pub record Read (text : List ℕ) (list : List Token) (comments : List Span) (at : ℕ) : Type 0 where
+  pub pieces : List Piece
+  pub leads : Leads text text_start pieces (record { last = last_of list; at = at })
+  pub tokens_are : list ≡ tokens_of pieces
+  pub comments_are : comments ≡ comments_of pieces
+  pub within : at ≤ length text
+  pub lies : LastIsIn text (last_of list)
+
+-- at least one piece more was read, or there is a fault
+abbrev pub ReadsOn : List ℕ → ℕ → List Token → List Span → Result ℕ LexFault → Type 0
+ReadsOn text from list comments (Ok at) = (from < at) × Read text list comments at
+ReadsOn text from list comments (Err fault) = Scans text (Err fault)
