@@ -40,8 +40,9 @@ module _ (files more : List Entry) (unfolds : Unfolds files (length files)) wher
     closed = λ at l. rw (viewed_still at l) (closed_still (viewed files at) (unfolds.closed at l));
   }
 
-pub new_view : (texts more_texts : List (List ℕ)) (nodes : List Node) (graph : List Entry) (at : ℕ) (node : Node) → AreNodes texts nodes → IsGraph graph → at < length graph → IsNodeOf texts nodes graph (get_or graph at no_entry) node (numbered_text (texts ++ more_texts) node.text) → unfolded (texts ++ more_texts) (nodes ++ node ∷ []) (length nodes) ≡ view graph at
-new_view texts more_texts nodes graph at node are valid lt is =
+-- a new node that is a file, over nodes of the views of those that it depends on, unfolds to the view of the file
+pub new_view_over : (texts more_texts : List (List ℕ)) (nodes : List Node) (graph : List Entry) (bound at : ℕ) (node : Node) → AreNodes texts nodes → Unfolds graph bound → TellsApart graph bound → at < bound → IsNodeOf texts nodes graph (get_or graph at no_entry) node (numbered_text (texts ++ more_texts) node.text) → unfolded (texts ++ more_texts) (nodes ++ node ∷ []) (length nodes) ≡ view graph at
+new_view_over texts more_texts nodes graph bound at node are unfolds_graph apart_graph lt is =
     let all_texts : List (List ℕ) = texts ++ more_texts in
     let files : List Entry = node_files texts nodes in
     let more : List Entry = node_files all_texts (node ∷ []) in
@@ -67,14 +68,18 @@ new_view texts more_texts nodes graph at node are valid lt is =
     } in
     let apart : TellsApart (files ++ more) n = λ a b l m e. one_number texts nodes a b are l m (sym (view_still a l) ∙ e ∙ view_still b m) in
     ap (λ (l : List Entry). view l n) all
-    ∙ whole_same (files ++ more) graph (length graph) n at grown (graph_unfolds graph valid) low lt below same apart (graph_apart graph valid)
+    ∙ whole_same (files ++ more) graph bound n at grown unfolds_graph low lt below same apart apart_graph
     (ap (λ (e : Entry). e.name) mine ∙ is.name)
     (ap (λ (e : Entry). e.command) mine ∙ is.command)
     (ap (λ (e : Entry). e.text) mine ∙ is.text_is)
 
--- a node that is a file of a graph unfolds to its present view
-pub old_view : (texts : List (List ℕ)) (nodes : List Node) (graph : List Entry) (at n : ℕ) → AreNodes texts nodes → IsGraph graph → at < length graph → n < length nodes → IsNodeOf texts nodes graph (get_or graph at no_entry) (get_or nodes n no_node) (numbered_text texts (get_or nodes n no_node).text) → unfolded texts nodes n ≡ view graph at
-old_view texts nodes graph at n are valid lt low is =
+-- the same of a file of a graph, whose present view it is
+pub new_view : (texts more_texts : List (List ℕ)) (nodes : List Node) (graph : List Entry) (at : ℕ) (node : Node) → AreNodes texts nodes → IsGraph graph → at < length graph → IsNodeOf texts nodes graph (get_or graph at no_entry) node (numbered_text (texts ++ more_texts) node.text) → unfolded (texts ++ more_texts) (nodes ++ node ∷ []) (length nodes) ≡ view graph at
+new_view texts more_texts nodes graph at node are valid lt is = new_view_over texts more_texts nodes graph (length graph) at node are (graph_unfolds graph valid) (graph_apart graph valid) lt is
+
+-- a node that is a file unfolds to the view of the file
+pub old_view_over : (texts : List (List ℕ)) (nodes : List Node) (graph : List Entry) (bound at n : ℕ) → AreNodes texts nodes → Unfolds graph bound → TellsApart graph bound → at < bound → n < length nodes → IsNodeOf texts nodes graph (get_or graph at no_entry) (get_or nodes n no_node) (numbered_text texts (get_or nodes n no_node).text) → unfolded texts nodes n ≡ view graph at
+old_view_over texts nodes graph bound at n are unfolds_graph apart_graph lt low is =
     let files : List Entry = node_files texts nodes in
     let node : Node = get_or nodes n no_node in
     let size : length files ≡ length nodes = files_length texts nodes in
@@ -90,7 +95,30 @@ old_view texts nodes graph at n are valid lt low is =
           ap (λ (ds : List ℕ). view files (get_or ds i 0)) deps_is ∙ (is.each i l_node).1;
     } in
     let apart : TellsApart files n = λ a b l m e. one_number texts nodes a b are (omega (arith, l, low)) (omega (arith, m, low)) e in
-    whole_same files graph (length graph) n at u (graph_unfolds graph valid) (omega (arith, size, low)) lt below same apart (graph_apart graph valid)
+    whole_same files graph bound n at u unfolds_graph (omega (arith, size, low)) lt below same apart apart_graph
     (ap (λ (e : Entry). e.name) mine ∙ is.name)
     (ap (λ (e : Entry). e.command) mine ∙ is.command)
     (ap (λ (e : Entry). e.text) mine ∙ is.text_is)
+
+-- the same of a file of a graph
+pub old_view : (texts : List (List ℕ)) (nodes : List Node) (graph : List Entry) (at n : ℕ) → AreNodes texts nodes → IsGraph graph → at < length graph → n < length nodes → IsNodeOf texts nodes graph (get_or graph at no_entry) (get_or nodes n no_node) (numbered_text texts (get_or nodes n no_node).text) → unfolded texts nodes n ≡ view graph at
+old_view texts nodes graph at n are valid lt low is = old_view_over texts nodes graph (length graph) at n are (graph_unfolds graph valid) (graph_apart graph valid) lt low is
+
+-- and of a node of another store
+files_apart : (texts : List (List ℕ)) (nodes : List Node) → AreNodes texts nodes → TellsApart (node_files texts nodes) (length nodes)
+files_apart texts nodes are a b l m e = one_number texts nodes a b are l m e
+
+pub carried_new : (texts more others : List (List ℕ)) (nodes other_nodes : List Node) (node : Node) (k : ℕ) (other : Node) → AreNodes texts nodes → AreNodes others other_nodes → k < length other_nodes → IsNodeOf texts nodes (node_files others other_nodes) (node_file others (get_or other_nodes k other)) node (numbered_text (texts ++ more) node.text) → unfolded (texts ++ more) (nodes ++ node ∷ []) (length nodes) ≡ unfolded others other_nodes k
+carried_new texts more others nodes other_nodes node k other are others_are lt is =
+    let files : List Entry = node_files others other_nodes in
+    let here : node_file others (get_or other_nodes k other) ≡ get_or files k no_entry = ap (node_file others) (get_or_default other_nodes k other no_node lt) ∙ sym (file_at others other_nodes k lt) in
+    new_view_over texts more nodes files (length other_nodes) k node are (nodes_unfold others other_nodes others_are) (files_apart others other_nodes others_are) lt
+    (subst (λ (e : Entry). IsNodeOf texts nodes files e node (numbered_text (texts ++ more) node.text)) here is)
+
+pub carried_old : (texts others : List (List ℕ)) (nodes other_nodes : List Node) (n k : ℕ) (node other : Node) → AreNodes texts nodes → AreNodes others other_nodes → k < length other_nodes → n < length nodes → IsNodeOf texts nodes (node_files others other_nodes) (node_file others (get_or other_nodes k other)) (get_or nodes n node) (numbered_text texts (get_or nodes n node).text) → unfolded texts nodes n ≡ unfolded others other_nodes k
+carried_old texts others nodes other_nodes n k node other are others_are lt low is =
+    let files : List Entry = node_files others other_nodes in
+    let here : node_file others (get_or other_nodes k other) ≡ get_or files k no_entry = ap (node_file others) (get_or_default other_nodes k other no_node lt) ∙ sym (file_at others other_nodes k lt) in
+    old_view_over texts nodes files (length other_nodes) k n are (nodes_unfold others other_nodes others_are) (files_apart others other_nodes others_are) lt low
+    (subst (λ (m : Node). IsNodeOf texts nodes files (get_or files k no_entry) m (numbered_text texts m.text)) (get_or_default nodes n node no_node low)
+    (subst (λ (e : Entry). IsNodeOf texts nodes files e (get_or nodes n node) (numbered_text texts (get_or nodes n node).text)) here is))

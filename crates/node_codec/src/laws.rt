@@ -89,3 +89,24 @@ pub fn laws_of_new_nodes()
         after_payload shelf (node_payload_bytes (OfDraft draft artefact))
         ≡ with_one (with_draft shelf draft) (view graph at) artefact }
 {}
+
+/// What holds of a node of another store whose dependencies have nodes of their views here.
+pub fn laws_of_carried_nodes()
+    // It stands for its view there as a new node,
+    ensures new { (texts more others : List (List ℕ)) (nodes other_nodes : List Node) →
+        (node : Node) (k : ℕ) (other : Node) → AreNodes texts nodes →
+        AreNodes others other_nodes → k < length other_nodes →
+        IsNodeOf texts nodes (node_files others other_nodes)
+        (node_file others (slice_index_or other_nodes k other)) node
+        (numbered_text (texts ++ more) node.text) →
+        unfolded (texts ++ more) (nodes ++ node ∷ []) (length nodes)
+        ≡ unfolded others other_nodes k }
+    // and as a node that is there already.
+    ensures old { (texts others : List (List ℕ)) (nodes other_nodes : List Node) →
+        (n k : ℕ) (node other : Node) → AreNodes texts nodes → AreNodes others other_nodes →
+        k < length other_nodes → n < length nodes →
+        IsNodeOf texts nodes (node_files others other_nodes)
+        (node_file others (slice_index_or other_nodes k other)) (slice_index_or nodes n node)
+        (numbered_text texts (slice_index_or nodes n node).text) →
+        unfolded texts nodes n ≡ unfolded others other_nodes k }
+{}
