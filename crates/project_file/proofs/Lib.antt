@@ -2,3 +2,4 @@
 pub mod Utf8Test
 pub mod Splits
 pub mod CsvProject
+pub mod ReadItems

@@ -4,3 +4,4 @@ pub mod Steps
 pub mod NewNames
 pub mod Paths
 pub mod Toml
+pub mod Forms

@@ -2,7 +2,9 @@
 #![tactic(auto)]
 
 mod csv;
+mod keys;
 mod parts;
+mod values;
 
 pub use csv::read_csv_project;
 
