@@ -3,3 +3,4 @@ pub mod Utf8Test
 pub mod Splits
 pub mod CsvProject
 pub mod ReadItems
+pub mod PathSteps

@@ -5,3 +5,4 @@ pub mod NewNames
 pub mod Paths
 pub mod Toml
 pub mod Forms
+pub mod PathRows

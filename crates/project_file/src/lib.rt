@@ -4,6 +4,7 @@
 mod csv;
 mod keys;
 mod parts;
+mod paths;
 mod values;
 
 pub use csv::read_csv_project;
