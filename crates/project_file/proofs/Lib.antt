@@ -4,3 +4,6 @@ pub mod Splits
 pub mod CsvProject
 pub mod ReadItems
 pub mod PathSteps
+pub mod LibrarySteps
+pub mod MatchSteps
+pub mod LibrarySum

@@ -6,3 +6,4 @@ pub mod Paths
 pub mod Toml
 pub mod Forms
 pub mod PathRows
+pub mod Libraries

@@ -76,11 +76,13 @@ optional read default place key table = value_or (Ok default) read place key tab
 abbrev pub is_among : List (List ℕ) → List ℕ → Bool
 is_among texts text = list_any (bytes_eq text) texts
 
+-- a library isn't `work`, and didn't come before
+unfoldable pub new_library : List (List ℕ) → List ℕ → Result (List ℕ) ProjectFault
+new_library before library = if bytes_eq library (codes "work") then Err WorkLibrary else if is_among before library then Err (DuplicateLibrary library) else Ok library
+
 -- the name of a library after those before it
 unfoldable pub library_after : List (List ℕ) → Members → Result (List ℕ) ProjectFault
-library_after before table =
-    then_read (required (text_of library_in) (codes "library.") (codes "name") table) (λ library.
-    if bytes_eq library (codes "work") then Err WorkLibrary else if is_among before library then Err (DuplicateLibrary library) else Ok library)
+library_after before table = then_read (required (text_of library_in) (codes "library.") (codes "name") table) (new_library before)
 
 -- pattern by pattern, the names that it matches and that aren't there yet
 unfoldable pub matching_names : List (List ℕ) → List (List ℕ) → List (List ℕ) → Result (List (List ℕ)) ProjectFault

@@ -3,6 +3,7 @@
 
 mod csv;
 mod keys;
+mod libraries;
 mod parts;
 mod paths;
 mod values;

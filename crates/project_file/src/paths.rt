@@ -66,7 +66,7 @@ fn first_row(alloc: Global, components: &[&[u8]]) -> Result<Vec<bool>, NoMemory>
     Ok(row)
 }
 
-fn either(first: bool, second: bool) -> bool
+pub fn either(first: bool, second: bool) -> bool
     ensures { result ≡ (first || second) }
 {
     first || second
@@ -125,8 +125,11 @@ fn fits_parts(parts: &[Part], components: &[&[u8]], row: &mut [bool]) -> bool
 
 /// Whether the parts of a pattern match a path. The time is at most in proportion to the product of parts and components,
 /// and each part is compared with at most each component once.
+#[tactic(auto, using(crate::proofs::MatchSteps::pattern_is))]
 pub fn matches_path(alloc: Global, parts: &[Part], path: &[u8]) -> Result<bool, NoMemory>
-    ensures { IfOk result (λ is. is ≡ fits_parts parts.now (components path.now)) }
+    ensures parts { IfOk result (λ is. is ≡ fits_parts parts.now (components path.now)) }
+    ensures pattern { (pattern : List ℕ) → parts.now ≡ map part_of (components pattern) →
+        IfOk result (λ is. is ≡ matches_path pattern path.now) }
 {
     let components = components(alloc, path)?;
     let mut row = first_row(alloc, &components)?;
