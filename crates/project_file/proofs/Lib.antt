@@ -7,3 +7,4 @@ pub mod PathSteps
 pub mod LibrarySteps
 pub mod MatchSteps
 pub mod LibrarySum
+pub mod PairSteps

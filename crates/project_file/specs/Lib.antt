@@ -7,3 +7,4 @@ pub mod Toml
 pub mod Forms
 pub mod PathRows
 pub mod Libraries
+pub mod Pairs

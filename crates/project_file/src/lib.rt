@@ -4,6 +4,7 @@
 mod csv;
 mod keys;
 mod libraries;
+mod pairs;
 mod parts;
 mod paths;
 mod values;
