@@ -8,3 +8,5 @@ pub mod LibrarySteps
 pub mod MatchSteps
 pub mod LibrarySum
 pub mod PairSteps
+pub mod TomlNames
+pub mod TomlTables

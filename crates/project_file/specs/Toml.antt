@@ -137,18 +137,26 @@ pairs_of files (table ∷ tables) = then_read (pair_of files table) (λ pair. th
 
 -- ## The project
 
--- the project of a table, over the names of all files
+-- the project of these files and settings, with the dependencies of a table
+unfoldable pub linked_project : List ProjectFile → List (List ℕ) → List (List ℕ) → Bool → Members → Result Project ProjectFault
+linked_project files simulator external bodies table =
+    then_read (optional (array_of as_table) [] [] (codes "depends") table) (λ tables.
+    then_read (pairs_of files tables) (λ depends.
+    Ok (record { files = files; simulator = simulator; external = external; bodies = bodies; depends = depends; listed = false })))
+
+-- the project of these settings, with the libraries and the dependencies of a table
+unfoldable pub files_project : List (List ℕ) → List (List ℕ) → List (List ℕ) → List (List ℕ) → Bool → Members → Result Project ProjectFault
+files_project names compiler simulator external bodies table =
+    then_read (required (array_of as_table) [] (codes "library") table) (λ libraries.
+    then_read (files_of names compiler [] libraries) (λ files. linked_project files simulator external bodies table))
+
+-- the project of a table, over the names of all files: its settings first
 unfoldable pub table_project : List (List ℕ) → Members → Result Project ProjectFault
 table_project names table =
     then_read (optional (words_of 1) listed_command [] (codes "compiler") table) (λ compiler.
     then_read (optional (words_of 1) listed_simulator [] (codes "simulator") table) (λ simulator.
     then_read (optional (texts_of library_in) [] [] (codes "external") table) (λ external.
-    then_read (optional as_bool false [] (codes "users_depend_on_bodies") table) (λ bodies.
-    then_read (required (array_of as_table) [] (codes "library") table) (λ libraries.
-    then_read (files_of names compiler [] libraries) (λ files.
-    then_read (optional (array_of as_table) [] [] (codes "depends") table) (λ tables.
-    then_read (pairs_of files tables) (λ depends.
-    Ok (record { files = files; simulator = simulator; external = external; bodies = bodies; depends = depends; listed = false })))))))))
+    then_read (optional as_bool false [] (codes "users_depend_on_bodies") table) (λ bodies. files_project names compiler simulator external bodies table))))
 
 -- the project of the bytes, over the names of all files, or its first fault
 unfoldable pub toml_project : List ℕ → List (List ℕ) → Result Project ProjectFault

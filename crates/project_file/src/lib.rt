@@ -7,9 +7,11 @@ mod libraries;
 mod pairs;
 mod parts;
 mod paths;
+mod tables;
 mod values;
 
 pub use csv::read_csv_project;
+pub use tables::read_toml_project;
 
 #[cfg(test)]
 mod tests;
