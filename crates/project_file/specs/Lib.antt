@@ -2,3 +2,9 @@
 pub mod Csv
 pub mod Steps
 pub mod NewNames
+pub mod Paths
+pub mod Toml
+pub mod Forms
+pub mod PathRows
+pub mod Libraries
+pub mod Pairs
