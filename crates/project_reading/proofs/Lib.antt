@@ -1,0 +1,4 @@
+-- The lemmas.
+pub mod Texts
+pub mod Asks
+pub mod Faults

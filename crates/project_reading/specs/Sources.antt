@@ -1,0 +1,39 @@
+-- What is read of a tree.
+use Rattle.std.specs.Prelude.{◌≡◌, ℕ, Result, Ok, Err}
+use Rattle.vr_outside.specs.Counts.{Counted}
+use Rattle.project_reading.specs.Reading.{SourceReading, Stops, Over, Found}
+use Rattle.project_reading.specs.declared.sources.ReadStop.{ReadStop}
+use Rattle.project_reading.specs.declared.sources.ScannedGraph.{ScannedGraph}
+use Rattle.project_reading.specs.declared.sources.ReadStop.TheVariants as stop
+
+-- what was read is what there is to read; after a fault and out of memory nothing is owed
+abbrev pub Gives : {T : Type 0} → Result T SourceReading → Result T ReadStop → Type 0
+Gives whole (Ok value) = whole ≡ Ok value
+Gives whole (Err (stop.Refused reason)) = whole ≡ Err (Stops reason)
+Gives whole (Err (stop.Over limit number)) = whole ≡ Err (Over limit number)
+Gives whole (Err stop.Failed) = Unit {0}
+Gives whole (Err stop.NoMemory) = Unit {0}
+
+-- the reading is what was read: a graph, a refusal, or a limit that is passed; after a fault and out of memory nothing is owed
+abbrev pub LeadsTo : SourceReading → Result ScannedGraph ReadStop → Type 0
+LeadsTo whole (Ok read) = whole ≡ Found read.graph
+LeadsTo whole (Err (stop.Refused reason)) = whole ≡ Stops reason
+LeadsTo whole (Err (stop.Over limit number)) = whole ≡ Over limit number
+LeadsTo whole (Err stop.Failed) = Unit {0}
+LeadsTo whole (Err stop.NoMemory) = Unit {0}
+
+-- After each answer: the tree's fault was counted, and else its count is unchanged.
+abbrev pub ReadCounts : {T : Type 0} → Result T ReadStop → ℕ → ℕ → Type 0
+ReadCounts (Ok value) before now = now ≡ before
+ReadCounts (Err (stop.Refused reason)) before now = now ≡ before
+ReadCounts (Err (stop.Over limit number)) before now = now ≡ before
+ReadCounts (Err stop.Failed) before now = Counted before now
+ReadCounts (Err stop.NoMemory) before now = now ≡ before
+
+-- no refusal, and no limit that is passed
+abbrev pub IsPlain : {T : Type 0} → Result T ReadStop → Type 0
+IsPlain (Ok value) = Unit {0}
+IsPlain (Err (stop.Refused reason)) = ⊥
+IsPlain (Err (stop.Over limit number)) = ⊥
+IsPlain (Err stop.Failed) = Unit {0}
+IsPlain (Err stop.NoMemory) = Unit {0}
