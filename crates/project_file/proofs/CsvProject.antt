@@ -1,11 +1,11 @@
 -- The project of a file of lines is one: its names are distinct and fit, and so do its commands.
 use Rattle.std.proofs.Common.{◌≡◌, ◌≢◌, ℕ, zero, suc, eqb, ◌+◌, ◌<◌, ◌≤◌, true, false, cond, List, [], ◌∷◌, ◌++◌, length, get_or, map, Option, Some, None, Result, Ok, Err, refl, sym, ap, subst, ◌∙◌, arith, inl, inr}
-use Rattle.std.specs.Prelude.{All, AllPairs}
+use Rattle.std.specs.Prelude.{All, AllPairs, codes, Bool}
 use Rattle.std.specs.Char.{to_ascii_lowercase}
 use Rattle.std.specs.Str.{bytes_eq}
 use Rattle.std.specs.List.{before_first, after_first}
-use Rattle.std.specs.Option.{option_and_then, option_map_or}
-use Rattle.std.proofs.lemmas.Bool.{cases_Bool, and_parts, cond-true, cond-false, leb-true, or_parts, both_ways}
+use Rattle.std.specs.Option.{ok_or}
+use Rattle.std.proofs.lemmas.Bool.{cases_Bool, and_parts, cond-true, cond-false, leb-true, both_ways}
 use Rattle.std.proofs.lemmas.List.{length-map, get_or-map}
 use Rattle.std.proofs.lemmas.List.Elements.{All-push}
 use Rattle.std.proofs.lemmas.List.Quantifiers.{all_pairs_push}
@@ -14,11 +14,11 @@ use Rattle.std.proofs.lemmas.Option.{none-some, same_Some}
 use Rattle.vr_base.specs.declared.file.FileName.{FileName}
 use Rattle.vr_base.specs.declared.project.ProjectFile.{ProjectFile}
 use Rattle.vr_base.specs.declared.project.ProjectFault.{ProjectFault}
-use Rattle.vr_base.specs.declared.project.ProjectFault.TheVariants.{BadLine}
+use Rattle.vr_base.specs.declared.project.ProjectFault.TheVariants.{WorkLibrary, DuplicateFile, BadLine}
 use Rattle.vr_base.specs.Names.{IsBetween, FitsName, is_same_name, has_name}
 use Rattle.vr_base.specs.Projects.{IsProject, IsProjectFile}
 use Rattle.name_set.proofs.SameNames.{same_names}
-use Rattle.project_file.specs.Csv.{csv_file_of, names_file, trim, begins_with_letter, is_refused_name, added_by, files_after, listed_file, listed_project, listed_command}
+use Rattle.project_file.specs.Csv.{csv_file_of, names_file, trim, begins_with_letter, name_fault, admitted, then_read, added_by, files_after, listed_file, listed_project, listed_command}
 use Rattle.vr_base.specs.declared.limits.TheConstants.{WORD_LIMIT}
 
 ok_is : {X : Type 0} (x y : X) → ◌≡◌ {A = Result X ProjectFault} (Ok x) (Ok y) → x ≡ y
@@ -54,31 +54,39 @@ file_fits : (line : List ℕ) (name : FileName) → csv_file_of line ≡ Some na
 unfolding csv_file_of
 file_fits line name h = fits_of line (trim (before_first (λ (byte : ℕ). eqb byte 44) line)) (trim (after_first (λ (byte : ℕ). eqb byte 44) line)) name h
 
-and_then_some : {X Y : Type 0} (f : X → Option Y) (o : Option X) (y : Y) → option_and_then f o ≡ Some y → (x : X) × (o ≡ Some x) × (f x ≡ Some y)
-and_then_some f None y h = absurd cc
-and_then_some f (Some x) y h = (x, refl, h)
+-- a name that is admitted has no fault
+admitted_is : (fault : Option ProjectFault) (name other : FileName) → admitted fault name ≡ Ok other → (fault ≡ None) × (name ≡ other)
+admitted_is None name other h = (refl, ok_is name other h)
+admitted_is (Some fault) name other h = absurd (err_is_ok fault other h)
 
--- what a line adds fits, and isn't refused
-added_fits : (before : List FileName) (line : List ℕ) (name : FileName) → added_by before line ≡ Some name → FitsName name × (is_refused_name before name ≡ false)
+named_then : (found : Option FileName) (before : List FileName) (number : ℕ) (name : FileName)
+    → then_read (ok_or found (BadLine number)) (λ other. admitted (name_fault before other) other) ≡ Ok name → (found ≡ Some name) × (name_fault before name ≡ None)
+named_then None before number name h = absurd (err_is_ok (BadLine number) name h)
+named_then (Some other) before number name h =
+    let good = admitted_is (name_fault before other) other name h in
+    (ap Some good.1, subst (λ n. name_fault before n ≡ None) good.1 good.0)
+
+-- what a line adds fits, and has no fault
+added_fits : (before : List FileName) (number : ℕ) (line : List ℕ) (name : FileName) → added_by before number line ≡ Ok name → FitsName name × (name_fault before name ≡ None)
 unfolding added_by
-added_fits before line name h =
-    let a = and_then_some (λ (n : FileName). cond (is_refused_name before n) None (Some n)) (csv_file_of line) name h in
-    elim (cases_Bool (is_refused_name before a.0)) [
-      | inl t ↦ absurd (none-some name (sym (cond-true (is_refused_name before a.0) None (Some a.0) t) ∙ a.2))
-      | inr f ↦
-          let is : a.0 ≡ name = same_Some a.0 name (sym (cond-false (is_refused_name before a.0) None (Some a.0) f) ∙ a.2) in
-          subst (λ (n : FileName). FitsName n × (is_refused_name before n ≡ false)) is (file_fits line a.0 a.1, f)
-    ]
+added_fits before number line name h =
+    let good = named_then (csv_file_of line) before number name h in
+    (file_fits line name good.0, good.1)
 
 -- names of files that fit, each once
 pub record AreNames (names : List FileName) : Type 0 where
   pub distinct : AllPairs (λ a b. a ≢ b) names
   pub fit : All FitsName names
 
-one_more : (before : List FileName) (name : FileName) → AreNames before → FitsName name → is_refused_name before name ≡ false → AreNames (before ++ name ∷ [])
-unfolding is_refused_name
-one_more before name are fits new_one =
-    let no_other : has_name before name ≡ false = (or_parts _ _ new_one).1 in
+no_fault_new : (work came : Bool) (name : FileName) → cond work (Some WorkLibrary) (cond came (Some (DuplicateFile name)) None) ≡ None → came ≡ false
+no_fault_new true came name h = absurd (none-some WorkLibrary (sym h))
+no_fault_new false true name h = absurd (none-some (DuplicateFile name) (sym h))
+no_fault_new false false name h = refl
+
+one_more : (before : List FileName) (name : FileName) → AreNames before → FitsName name → name_fault before name ≡ None → AreNames (before ++ name ∷ [])
+unfolding name_fault
+one_more before name are fits none =
+    let no_other : has_name before name ≡ false = no_fault_new (bytes_eq name.library (codes "work")) (has_name before name) name none in
     record {
       distinct = all_pairs_push (λ a b. a ≢ b) before name are.distinct (λ k d lt same.
           both_ways (has_name before name) no_other (list_any_at (λ other. is_same_name other name) before k d lt (same_names (get_or before k d) name same)));
@@ -86,11 +94,11 @@ one_more before name are fits new_one =
     }
 
 -- the files after a line that isn't empty
-line_then : (before : List FileName) (line : List ℕ) (names : List FileName) (bad : Result (List FileName) ProjectFault) (more : FileName → Result (List FileName) ProjectFault) → AreNames before → (bad ≡ Ok names → ⊥)
-    → ((name : FileName) → AreNames (before ++ name ∷ []) → more name ≡ Ok names → AreNames names) → (added : Option FileName) → added_by before line ≡ added → option_map_or more added bad ≡ Ok names → AreNames names
-line_then before line names bad more are refused goes_on None e h = absurd (refused h)
-line_then before line names bad more are refused goes_on (Some name) e h =
-    let good = added_fits before line name e in
+line_then : (before : List FileName) (number : ℕ) (line : List ℕ) (names : List FileName) (more : FileName → Result (List FileName) ProjectFault) → AreNames before
+    → ((name : FileName) → AreNames (before ++ name ∷ []) → more name ≡ Ok names → AreNames names) → (added : Result FileName ProjectFault) → added_by before number line ≡ added → then_read added more ≡ Ok names → AreNames names
+line_then before number line names more are goes_on (Err fault) e h = absurd (err_is_ok fault names h)
+line_then before number line names more are goes_on (Ok name) e h =
+    let good = added_fits before number line name e in
     goes_on name (one_more before name are good.0 good.1) h
 
 -- all files that are listed
@@ -98,11 +106,13 @@ pub files_are_names : (before : List FileName) (number : ℕ) (lines : List (Lis
 unfolding files_after
 files_are_names before number [] names are h = subst AreNames (ok_is before names h) are
 files_are_names before number (line ∷ rest) names are h =
+    let more : FileName → Result (List FileName) ProjectFault = λ name. files_after (before ++ name ∷ []) (number + 1) rest in
+    let others : Result (List FileName) ProjectFault = then_read (added_by before number line) more in
     elim (cases_Bool (bytes_eq line [])) [
-      | inl t ↦ files_are_names before (number + 1) rest names are (sym (cond-true (bytes_eq line []) (files_after before (number + 1) rest) (option_map_or (λ name. files_after (before ++ name ∷ []) (number + 1) rest) (added_by before line) (Err (BadLine number))) t) ∙ h)
+      | inl t ↦ files_are_names before (number + 1) rest names are (sym (cond-true (bytes_eq line []) (files_after before (number + 1) rest) others t) ∙ h)
       | inr f ↦
-          line_then before line names (Err (BadLine number)) (λ name. files_after (before ++ name ∷ []) (number + 1) rest) are (err_is_ok (BadLine number) names) (λ name is next. files_are_names (before ++ name ∷ []) (number + 1) rest names is next) (added_by before line) refl
-          (sym (cond-false (bytes_eq line []) (files_after before (number + 1) rest) (option_map_or (λ name. files_after (before ++ name ∷ []) (number + 1) rest) (added_by before line) (Err (BadLine number))) f) ∙ h)
+          line_then before number line names more are (λ name is next. files_are_names (before ++ name ∷ []) (number + 1) rest names is next) (added_by before number line) refl
+          (sym (cond-false (bytes_eq line []) (files_after before (number + 1) rest) others f) ∙ h)
     ]
 
 -- the project of such names

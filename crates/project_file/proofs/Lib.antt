@@ -1,5 +1,4 @@
 -- The lemmas of this crate.
 pub mod Utf8Test
 pub mod Splits
-pub mod NewNames
 pub mod CsvProject

@@ -1,7 +1,7 @@
 -- A project file of lines, each a library, a comma and a path.
 use Rattle.std.specs.Prelude.{ℕ, ◌+◌, nat_le, Bool, true, false, not, ◌&&◌, ◌||◌, ◌==◌, if◌then◌else◌, List, [], ◌∷◌, ◌++◌, length, map, reverse, count_by, codes, Option, Some, None, Result, Ok, Err}
 use Rattle.std.specs.List.{list_any, list_all, slice_split, before_first, after_first}
-use Rattle.std.specs.Option.{option_and_then, option_map_or}
+use Rattle.std.specs.Option.{ok_or}
 use Rattle.std.specs.Char.{is_ascii_alphabetic, is_ascii_digit, to_ascii_lowercase}
 use Rattle.std.specs.Str.{is_utf8, bytes_eq}
 use Rattle.std.specs.Str.Lines.{lines}
@@ -9,7 +9,7 @@ use Rattle.vr_base.specs.declared.file.FileName.{FileName}
 use Rattle.vr_base.specs.declared.project.Project.{Project}
 use Rattle.vr_base.specs.declared.project.ProjectFile.{ProjectFile}
 use Rattle.vr_base.specs.declared.project.ProjectFault.{ProjectFault}
-use Rattle.vr_base.specs.declared.project.ProjectFault.TheVariants.{BadLine}
+use Rattle.vr_base.specs.declared.project.ProjectFault.TheVariants.{WorkLibrary, DuplicateFile, BadLine}
 use Rattle.vr_base.specs.declared.limits.TheConstants.{LIBRARY_LIMIT, PATH_LIMIT}
 use Rattle.vr_base.specs.Names.{has_name}
 
@@ -69,22 +69,32 @@ csv_file_of line =
     let path = trim (after_first (λ byte. byte == 44) line) in
     if names_file line library path then Some (record { library = map to_ascii_lowercase library; path = path }) else None
 
--- a name that can't be added: its library is `work`, or it came before
-unfoldable pub is_refused_name : List FileName → FileName → Bool
-is_refused_name before name = bytes_eq name.library (codes "work") || has_name before name
+-- the fault of a name after others: its library is `work`, or it came before
+unfoldable pub name_fault : List FileName → FileName → Option ProjectFault
+name_fault before name = if bytes_eq name.library (codes "work") then Some WorkLibrary else if has_name before name then Some (DuplicateFile name) else None
 
--- the file that a line adds
-unfoldable pub added_by : List FileName → List ℕ → Option FileName
-added_by before line = option_and_then (λ name. if is_refused_name before name then None else Some name) (csv_file_of line)
+-- what the first reading says, or its fault
+abbrev pub then_read : {S T : Type 0} → Result S ProjectFault → (S → Result T ProjectFault) → Result T ProjectFault
+then_read (Ok read) next = next read
+then_read (Err fault) next = Err fault
+
+-- a name without a fault
+abbrev pub admitted : Option ProjectFault → FileName → Result FileName ProjectFault
+admitted None name = Ok name
+admitted (Some fault) name = Err fault
+
+-- the file that a line of this number adds
+unfoldable pub added_by : List FileName → ℕ → List ℕ → Result FileName ProjectFault
+added_by before number line = then_read (ok_or (csv_file_of line) (BadLine number)) (λ name. admitted (name_fault before name) name)
 
 -- the files of the lines that remain, after those before them; line numbers count from 1
 unfoldable pub files_after : List FileName → ℕ → List (List ℕ) → Result (List FileName) ProjectFault
 files_after before number [] = Ok before
 files_after before number (line ∷ rest) =
     if bytes_eq line [] then files_after before (number + 1) rest
-    else option_map_or (λ name. files_after (before ++ name ∷ []) (number + 1) rest) (added_by before line) (Err (BadLine number))
+    else then_read (added_by before number line) (λ name. files_after (before ++ name ∷ []) (number + 1) rest)
 
--- the files that the bytes list, or the first bad line
+-- the files that the bytes list, or its first fault
 abbrev pub csv_files : List ℕ → Result (List FileName) ProjectFault
 csv_files bytes = files_after [] 1 (lines bytes)
 
@@ -102,10 +112,6 @@ listed_file name = record { name = name; command = listed_command }
 abbrev pub listed_project : List FileName → Project
 listed_project names = record { files = map listed_file names; simulator = listed_simulator; external = []; bodies = false; depends = []; listed = true }
 
-abbrev pub project_of : Result (List FileName) ProjectFault → Result Project ProjectFault
-project_of (Ok names) = Ok (listed_project names)
-project_of (Err fault) = Err fault
-
--- the project of the bytes, or the first bad line
+-- the project of the bytes, or its first fault
 abbrev pub csv_project : List ℕ → Result Project ProjectFault
-csv_project bytes = project_of (csv_files bytes)
+csv_project bytes = then_read (csv_files bytes) (λ names. Ok (listed_project names))

@@ -2,3 +2,5 @@
 pub mod Csv
 pub mod Steps
 pub mod NewNames
+pub mod Paths
+pub mod Toml

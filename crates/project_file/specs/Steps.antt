@@ -1,4 +1,4 @@
--- What the lines of a project file add.
+-- What the parts of a project file give, one after the other, and what is read of them.
 use Rattle.std.specs.Prelude.{◌≡◌, ℕ, ◌+◌, List, ◌∷◌, Result, Ok, Err}
 use Rattle.vr_base.specs.declared.file.FileName.{FileName}
 use Rattle.vr_base.specs.declared.project.ProjectFault.{ProjectFault}
@@ -9,10 +9,10 @@ use Rattle.project_file.specs.Csv.{files_after}
 abbrev pub TakesLine : List FileName → ℕ → List ℕ → Result (Unit {0}) ProjectFault → List FileName → Type 0
 TakesLine old number line (Ok done) new = (rest : List (List ℕ)) → files_after old number (line ∷ rest) ≡ files_after new (number + 1) rest
 TakesLine old number line (Err problem.NoMemory) new = Unit {0}
-TakesLine old number line (Err (problem.BadLine at)) new = (rest : List (List ℕ)) → files_after old number (line ∷ rest) ≡ Err (problem.BadLine at)
+TakesLine old number line (Err fault) new = (rest : List (List ℕ)) → files_after old number (line ∷ rest) ≡ Err fault
 
 -- what is read is what the bytes say, unless memory ran out
 abbrev pub ReadsStep : {T : Type 0} → Result T ProjectFault → Result T ProjectFault → Type 0
 ReadsStep said (Ok read) = said ≡ Ok read
 ReadsStep said (Err problem.NoMemory) = Unit {0}
-ReadsStep said (Err (problem.BadLine at)) = said ≡ Err (problem.BadLine at)
+ReadsStep said (Err fault) = said ≡ Err fault

@@ -5,7 +5,7 @@ ghost use Rattle.std.specs.List.{list_all, list_any, slice_split, before_first, 
 ghost use Rattle.std.specs.Char.{to_ascii_lowercase};
 ghost use Rattle.std.specs.Str.{is_utf8, bytes_eq};
 ghost use Rattle.std.specs.Str.Lines.{lines};
-ghost use Rattle.project_file.specs.Csv.{is_library, is_library_byte, is_path, is_path_byte, is_component, has_components, has_path_bytes, begins_with_letter, is_line_blank, without_blanks, trim, names_file, csv_file_of, added_by, csv_files, csv_project, listed_file, listed_project};
+ghost use Rattle.project_file.specs.Csv.{is_library, is_library_byte, is_path, is_path_byte, is_component, has_components, has_path_bytes, begins_with_letter, is_line_blank, without_blanks, trim, names_file, csv_file_of, name_fault, added_by, csv_files, csv_project, listed_file, listed_project};
 ghost use Rattle.vr_base.specs.declared.file.FileName.{FileName};
 ghost use Rattle.vr_base.specs.Projects.{IsProject};
 ghost use Rattle.name_set.specs.Names.{Holds};
@@ -188,32 +188,38 @@ fn csv_file_of(alloc: Global, line: &[u8]) -> Result<Option<FileName>, NoMemory>
     }))
 }
 
-/// Whether a name may be added to those before it, which the set holds. It then holds this name too.
-#[tactic(auto, unfolding(crate::specs::Csv::is_refused_name))]
-fn admit(seen: &mut NameSet, name: &FileName) -> Result<bool, NoMemory>
-    ensures { IfOk result (λ admitted. (before : List FileName) → Holds seen.old before →
-        Admits seen.new before name.now admitted) }
+/// Admits a name after those before it, which the set holds. It then holds this name too.
+#[tactic(auto, unfolding(crate::specs::Csv::name_fault))]
+fn admit(alloc: Global, seen: &mut NameSet, name: &FileName) -> Result<(), ProjectFault>
+    ensures { (before : List FileName) → Holds seen.old before →
+        Admits seen.new before name.now (name_fault before name.now) result }
 {
     if is_same(name.library.bytes(), b"work") {
-        return Ok(false);
+        return Err(ProjectFault::WorkLibrary);
     }
-    Ok(seen.add(name)?)
+    if seen.add(name)? {
+        return Ok(());
+    }
+    let name = name.copy(alloc)?;
+    Err(ProjectFault::DuplicateFile { name })
 }
 
-/// The file that a line adds to those before it, which the set holds.
+/// The file that a line of this number adds to those before it, which the set holds.
 #[tactic(auto, unfolding(crate::specs::Csv::added_by))]
-fn added_by(alloc: Global, seen: &mut NameSet, line: &[u8]) -> Result<Option<FileName>, NoMemory>
-    ensures { IfOk result (λ name. (before : List FileName) → Holds seen.old before →
-        AddsName seen.new before (added_by before line.now) name) }
+fn added_by(
+    alloc: Global,
+    seen: &mut NameSet,
+    number: u32,
+    line: &[u8],
+) -> Result<FileName, ProjectFault>
+    ensures { (before : List FileName) → Holds seen.old before →
+        AddsName seen.new before (added_by before number line.now) result }
 {
     match csv_file_of(alloc, line)? {
-        None => Ok(None),
+        None => Err(ProjectFault::BadLine { line: number }),
         Some(name) => {
-            if admit(seen, &name)? {
-                Ok(Some(name))
-            } else {
-                Ok(None)
-            }
+            admit(alloc, seen, &name)?;
+            Ok(name)
         }
     }
 }
@@ -234,13 +240,11 @@ fn take_line(
     if line.is_empty() {
         return Ok(());
     }
-    match added_by(alloc, seen, line)? {
-        Some(name) => Ok(files.push(name)?),
-        None => Err(ProjectFault::BadLine { line: number }),
-    }
+    let name = added_by(alloc, seen, number, line)?;
+    Ok(files.push(name)?)
 }
 
-/// The files that the bytes list, or the first bad line.
+/// The files that the bytes list, or the first fault.
 fn read_files(alloc: Global, bytes: &[u8]) -> Result<FileList, ProjectFault>
     requires { length bytes.now < 2 ^ 31 }
     ensures { ReadsStep (csv_files bytes.now) result }
@@ -296,7 +300,7 @@ fn listed_project(alloc: Global, names: FileList) -> Result<Project, NoMemory>
     })
 }
 
-/// The project that the bytes of a project file of lines say, or the first bad line. Lines end at a line feed, and
+/// The project that the bytes of a project file of lines say, or its first fault. Lines end at a line feed, and
 /// a carriage return before it is dropped.
 pub fn read_csv_project(alloc: Global, bytes: &[u8]) -> Result<Project, ProjectFault>
     requires { length bytes.now < 2 ^ 31 }

@@ -9,18 +9,18 @@ use vr_base::{NoMemory, ProjectFault, ProjectFile};
 /// A file's library and path.
 type Name = (&'static [u8], &'static [u8]);
 
-/// The bytes of a project file, the files that they say, and the number of the first bad line (0: none is bad).
+/// The bytes of a project file, the files that they say, and the first fault (empty: there is none).
 struct Row {
     bytes: &'static [u8],
     files: &'static [Name],
-    bad: u32,
+    fault: &'static str,
 }
 
 static ROWS: [Row; 7] = [
     Row {
         bytes: b"",
         files: &[],
-        bad: 0,
+        fault: "",
     },
     Row {
         bytes: b"\r\n Lib_1 ,\ta/b.vhd \n\nlib_1,c.vhd\r\nother,c.vhd",
@@ -29,32 +29,32 @@ static ROWS: [Row; 7] = [
             (b"lib_1", b"c.vhd"),
             (b"other", b"c.vhd"),
         ],
-        bad: 0,
+        fault: "",
     },
     Row {
         bytes: b"lib,a.vhd\nLIB,a.vhd\nwork,b.vhd",
         files: &[],
-        bad: 2,
+        fault: "file lib, a.vhd",
     },
     Row {
         bytes: b"\n\nWork,a.vhd",
         files: &[],
-        bad: 3,
+        fault: "work",
     },
     Row {
         bytes: b"lib,a.vhd,b.vhd",
         files: &[],
-        bad: 1,
+        fault: "line 1",
     },
     Row {
         bytes: b"lib,a/./b.vhd",
         files: &[],
-        bad: 1,
+        fault: "line 1",
     },
     Row {
         bytes: b"1lib,a.vhd",
         files: &[],
-        bad: 1,
+        fault: "line 1",
     },
 ];
 
@@ -71,12 +71,26 @@ fn are(files: &[ProjectFile], names: &[Name]) -> bool {
     true
 }
 
+/// A fault in words.
+fn words_of(alloc: Global, fault: &ProjectFault) -> Result<String, NoMemory> {
+    match fault {
+        ProjectFault::BadLine { line } => Ok(format!(in alloc; "line {line}")?),
+        ProjectFault::WorkLibrary => Ok(String::from_str(alloc, "work")?),
+        ProjectFault::DuplicateFile { name } => {
+            let library = str::from_utf8(name.library.bytes()).unwrap_or("");
+            let path = str::from_utf8(name.path.bytes()).unwrap_or("");
+            Ok(format!(in alloc; "file {library}, {path}")?)
+        }
+        _ => Ok(String::new(alloc)),
+    }
+}
+
 fn says(rt: &impl Abort, alloc: Global, row: &Row) -> Result<bool, NoMemory> {
     assert!(rt; row.bytes.len() < 1000);
     match read_csv_project(alloc, row.bytes) {
-        Ok(project) => Ok(row.bad == 0 && are(project.files.as_slice(), row.files)),
-        Err(ProjectFault::BadLine { line }) => Ok(line == row.bad),
+        Ok(project) => Ok(row.fault.is_empty() && are(project.files.as_slice(), row.files)),
         Err(ProjectFault::NoMemory) => Err(NoMemory),
+        Err(fault) => Ok(words_of(alloc, &fault)?.as_str() == row.fault),
     }
 }
 

@@ -90,13 +90,47 @@ no_project = codes "no vunit.toml and no vunit.csv"
 unfoldable pub not_built : List ℕ
 not_built = codes "not built yet"
 
-abbrev pub fault_words : ProjectFault → List ℕ
-fault_words fault.NoMemory = []
-fault_words (fault.BadLine line) = bad_line ++ decimal line
-
 -- a file, as it is named after the program's name
 unfoldable pub file_words : FileName → List ℕ
 file_words file = file.library ++ (codes ", " ++ file.path)
+
+unfoldable pub not_toml : List ℕ
+not_toml = codes "vunit.toml isn't TOML"
+
+-- what is wrong with a key of a project file, or a part of it
+unfoldable pub no_key : List ℕ → List ℕ
+no_key key = codes "vunit.toml: no key " ++ key
+
+unfoldable pub wrong_value : List ℕ → List ℕ
+wrong_value key = codes "vunit.toml: wrong value of " ++ key
+
+unfoldable pub work_library : List ℕ
+work_library = codes "a library may not be named work"
+
+unfoldable pub stands_twice : List ℕ
+stands_twice = codes " stands twice"
+
+unfoldable pub library_twice : List ℕ → List ℕ
+library_twice name = codes "library " ++ (name ++ stands_twice)
+
+unfoldable pub nothing_matches : List ℕ → List ℕ
+nothing_matches pattern = codes "nothing matches " ++ pattern
+
+unfoldable pub not_in_project : List ℕ
+not_in_project = codes " isn't in the project"
+
+-- what is wrong with a project file
+abbrev pub fault_words : ProjectFault → List ℕ
+fault_words fault.NoMemory = []
+fault_words fault.NotToml = not_toml
+fault_words (fault.MissingKey key) = no_key key
+fault_words (fault.WrongType key) = wrong_value key
+fault_words fault.WorkLibrary = work_library
+fault_words (fault.DuplicateLibrary name) = library_twice name
+fault_words (fault.DuplicateFile name) = file_words name ++ stands_twice
+fault_words (fault.NothingMatches pattern) = nothing_matches pattern
+fault_words (fault.BadLine line) = bad_line ++ decimal line
+fault_words (fault.UnknownDependency name) = file_words name ++ not_in_project
 
 unfoldable pub unclosed_string : List ℕ
 unclosed_string = codes ": unclosed string at "
@@ -212,3 +246,15 @@ warning_of files warning = option_map_or (λ file. warning_line file.name warnin
 -- what is put of all warnings, in order
 abbrev pub warning_text : List ProjectFile → List Warning → List ℕ
 warning_text files warnings = flat_map (warning_of files) warnings
+
+-- a file that is listed, on a line of its own
+abbrev pub listed_line : Entry → List ℕ
+listed_line entry = file_words entry.name ++ 10 ∷ []
+
+-- how many files are listed
+unfoldable pub listed_count : ℕ → List ℕ
+listed_count count = codes "Listed " ++ (decimal count ++ (codes " files" ++ 10 ∷ []))
+
+-- what is put of the files of a graph, in compile order
+abbrev pub files_list : List Entry → List ℕ
+files_list graph = flat_map listed_line graph ++ listed_count (length graph)

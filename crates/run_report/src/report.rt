@@ -4,19 +4,20 @@ ghost use Rattle.std.specs.Prelude.{◌≡◌, ◌≤◌, ◌++◌, length, IfOk
 ghost use Rattle.std.specs.List.{list_any, flat_map};
 ghost use Rattle.std.specs.Fmt.{decimal};
 ghost use Rattle.run_spec.specs.Marks.{is_refused, is_compiled, refused_files};
-ghost use Rattle.run_report.specs.Texts.{line_end, shown, shown_bytes, compiling, passed, failed, skipped, file_text, files_text, build_line, build_text, refusal_words, fault_words, refusal_text, bad_line, program, no_project, not_built, file_words, is_absent, limit_words, over_limit, limit_text, lex_words, unit_words, unclosed_string, unclosed_extended, unclosed_comment, no_unit, not_ended, both_files, unit_name, missing_unit, no_architecture, missing_architecture, cycle_line, cycle_word, use_of_all, warning_word, warning_line, warning_of, warning_text, compile_failed, compile_passed, not_needed};
+ghost use Rattle.run_report.specs.Texts.{line_end, shown, shown_bytes, compiling, passed, failed, skipped, file_text, files_text, build_line, build_text, refusal_words, refusal_text, program, no_project, not_built, file_words, is_absent, limit_words, over_limit, limit_text, lex_words, unit_words, unclosed_string, unclosed_extended, unclosed_comment, no_unit, not_ended, both_files, unit_name, missing_unit, no_architecture, missing_architecture, cycle_line, cycle_word, use_of_all, warning_word, warning_line, warning_of, warning_text, compile_failed, compile_passed, not_needed};
 ghost use Rattle.run_report.specs.Outcomes.{build_outcome};
 
+use crate::faults::put_fault;
 use std::alloc::Global;
 use vr_base::{
     Entry, FileList, FileName, Graph, LexFault, Limit, Mark, MarkList, NoMemory, Outcome, Project,
-    ProjectFault, ProjectFileList, Refusal, Text, UnitFault, Warning, WarningList,
+    ProjectFileList, Refusal, Text, UnitFault, Warning, WarningList,
 };
 
 /// How much of what a child printed is shown.
 const SHOWN_BYTES: usize = 4096;
 
-fn put(out: &mut Vec<u8>, bytes: &[u8]) -> Result<(), NoMemory>
+pub(crate) fn put(out: &mut Vec<u8>, bytes: &[u8]) -> Result<(), NoMemory>
     ensures { OnOk result (out.new.items ≡ out.old.items ++ bytes.now) }
 {
     out.extend_from_slice(bytes)?;
@@ -188,24 +189,8 @@ pub fn build_outcome(alloc: Global, graph: &Graph, marks: &MarkList) -> Result<O
     Ok(Outcome::Refused(Refusal::Compiler { files }))
 }
 
-#[tactic(auto, unfolding(crate::specs::Texts::bad_line))]
-fn put_bad_line(alloc: Global, out: &mut Vec<u8>, line: u32) -> Result<(), NoMemory>
-    ensures { OnOk result (out.new.items ≡ out.old.items ++ (bad_line ++ decimal line)) }
-{
-    put_at(alloc, out, b"vunit.csv: bad line ", line)
-}
-
-fn put_fault(alloc: Global, out: &mut Vec<u8>, fault: &ProjectFault) -> Result<(), NoMemory>
-    ensures { OnOk result (out.new.items ≡ out.old.items ++ fault_words fault.now) }
-{
-    match fault {
-        ProjectFault::NoMemory => Ok(()),
-        ProjectFault::BadLine { line } => put_bad_line(alloc, out, *line),
-    }
-}
-
 #[tactic(auto, unfolding(crate::specs::Texts::file_words))]
-fn put_file_words(out: &mut Vec<u8>, file: &FileName) -> Result<(), NoMemory>
+pub(crate) fn put_file_words(out: &mut Vec<u8>, file: &FileName) -> Result<(), NoMemory>
     ensures { OnOk result (out.new.items ≡ out.old.items ++ file_words file.now) }
 {
     put(out, file.library.bytes())?;
@@ -215,7 +200,12 @@ fn put_file_words(out: &mut Vec<u8>, file: &FileName) -> Result<(), NoMemory>
 }
 
 /// Puts words, and a number after them.
-fn put_at(alloc: Global, out: &mut Vec<u8>, words: &[u8], at: u32) -> Result<(), NoMemory>
+pub(crate) fn put_at(
+    alloc: Global,
+    out: &mut Vec<u8>,
+    words: &[u8],
+    at: u32,
+) -> Result<(), NoMemory>
     ensures { OnOk result (out.new.items ≡ out.old.items ++ (words.now ++ decimal at)) }
 {
     put(out, words)?;
@@ -415,7 +405,7 @@ fn put_limit_words(out: &mut Vec<u8>, limit: Limit) -> Result<(), NoMemory>
     }
 }
 
-fn put_number(alloc: Global, out: &mut Vec<u8>, number: u64) -> Result<(), NoMemory>
+pub(crate) fn put_number(alloc: Global, out: &mut Vec<u8>, number: u64) -> Result<(), NoMemory>
     ensures { OnOk result (out.new.items ≡ out.old.items ++ decimal number) }
 {
     put(out, number.to_string(alloc)?.as_bytes())

@@ -1,12 +1,12 @@
 //! What is put of an empty build, of refusals, of a limit and of a warning.
 
-use crate::{build_outcome, build_text, limit_text, refusal_text, warning_text};
+use crate::{build_outcome, build_text, limit_text, list_files, refusal_text, warning_text};
 use std::alloc::Global;
 use std::process::Abort;
 use std::test::Fail;
 use vr_base::{
     FileList, FileName, Graph, LexFault, Limit, MarkList, NoMemory, Outcome, PairList, Project,
-    ProjectFile, ProjectFileList, Refusal, Text, TextList, Warning, WarningList,
+    ProjectFault, ProjectFile, ProjectFileList, Refusal, Text, TextList, Warning, WarningList,
 };
 
 fn name(alloc: Global, path: &[u8]) -> Result<FileName, NoMemory> {
@@ -48,6 +48,67 @@ fn unclosed(alloc: Global) -> Result<Text, NoMemory> {
         fault: LexFault::UnclosedString { at: 17 },
     };
     refusal_text(alloc, &refusal)
+}
+
+// A number for each fault of a project file, a word in it, and what is said.
+static FAULTS: [(u32, &str, &str); 9] = [
+    (1, "", "vunit_run: vunit.toml isn't TOML\n"),
+    (
+        2,
+        "library.name",
+        "vunit_run: vunit.toml: no key library.name\n",
+    ),
+    (
+        3,
+        "compiler",
+        "vunit_run: vunit.toml: wrong value of compiler\n",
+    ),
+    (4, "", "vunit_run: a library may not be named work\n"),
+    (5, "lib", "vunit_run: library lib stands twice\n"),
+    (6, "a.vhd", "vunit_run: lib, a.vhd stands twice\n"),
+    (7, "z*.vhd", "vunit_run: nothing matches z*.vhd\n"),
+    (8, "", "vunit_run: vunit.csv: bad line 2\n"),
+    (9, "b.vhd", "vunit_run: lib, b.vhd isn't in the project\n"),
+];
+
+fn fault(alloc: Global, number: u32, word: &[u8]) -> Result<ProjectFault, NoMemory> {
+    let text = Text::from_slice(alloc, word)?;
+    match number {
+        1 => Ok(ProjectFault::NotToml),
+        2 => Ok(ProjectFault::MissingKey { key: text }),
+        3 => Ok(ProjectFault::WrongType { key: text }),
+        4 => Ok(ProjectFault::WorkLibrary),
+        5 => Ok(ProjectFault::DuplicateLibrary { name: text }),
+        6 => Ok(ProjectFault::DuplicateFile {
+            name: name(alloc, word)?,
+        }),
+        7 => Ok(ProjectFault::NothingMatches { pattern: text }),
+        8 => Ok(ProjectFault::BadLine { line: 2 }),
+        _ => Ok(ProjectFault::UnknownDependency {
+            name: name(alloc, word)?,
+        }),
+    }
+}
+
+fn faulty(alloc: Global, number: u32, word: &[u8]) -> Result<Text, NoMemory> {
+    let fault = fault(alloc, number, word)?;
+    refusal_text(alloc, &Refusal::Project { fault })
+}
+
+#[test]
+fn faults_of_project_files_are_said(rt: HostRuntime) -> Result<(), Fail> {
+    for (number, word, wanted) in &FAULTS {
+        let said = faulty(rt.alloc(), *number, word.as_bytes())?;
+        assert!(rt; is(said.bytes(), wanted.as_bytes()), "{wanted}");
+    }
+    Ok(())
+}
+
+#[test]
+fn no_file_is_listed(rt: HostRuntime) -> Result<(), Fail> {
+    let graph = Graph::new(rt.alloc());
+    assert!(rt; is(list_files(rt.alloc(), &graph)?.bytes(), b"Listed 0 files\n"));
+    Ok(())
 }
 
 #[test]

@@ -5,3 +5,4 @@ mod Matched
 mod Left
 mod Sets
 mod Pieces
+pub mod Decided

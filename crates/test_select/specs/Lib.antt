@@ -2,3 +2,4 @@
 pub mod Patterns
 pub mod Matching
 pub mod Segments
+pub mod Fits

@@ -5,6 +5,7 @@ use Rattle.test_select.specs.declared.pattern.Piece.{Piece}
 use Rattle.test_select.specs.declared.pattern.Piece.TheVariants.{AnyBytes, AnyByte, Byte, OneOf}
 use Rattle.test_select.specs.Matching.{is_in_set, Matches}
 use Rattle.test_select.specs.declared.reading.Found.{Found}
+use Rattle.test_select.specs.Fits.{fits_pieces}
 
 -- a piece that was found, and how many bytes after its first one belong to it
 abbrev pub found_piece : Found → Piece × ℕ
@@ -22,6 +23,10 @@ is_right AnyBytes byte = true
 is_right AnyByte byte = true
 is_right (Byte other) byte = other == byte
 is_right (OneOf negated ranges) byte = is_in_set negated ranges byte
+
+-- the relation `Matches`, as a test
+abbrev pub is_match : List Piece → List ℕ → Bool
+is_match pieces name = fits_pieces is_any_bytes is_right pieces name
 
 -- whether a name begins with a byte for each of these pieces, in order
 unfoldable pub has_prefix : List Piece → List ℕ → Bool

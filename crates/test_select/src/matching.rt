@@ -4,7 +4,7 @@ ghost use Rattle.std.specs.Prelude.{◌≡◌, ◌↔◌, ◌++◌, ◌-◌, ◌
 ghost use Rattle.std.specs.List.{list_any};
 ghost use Rattle.test_select.specs.declared.pattern.Piece.TheVariants.{AnyBytes};
 ghost use Rattle.test_select.specs.Matching.{is_in_range, Matches};
-ghost use Rattle.test_select.specs.Segments.{is_any_bytes, is_right, has_prefix, AreSingle, BeginsAnyBytes, IsFirstPlace, HasNoPlace, IsWhatRemains};
+ghost use Rattle.test_select.specs.Segments.{is_any_bytes, is_right, is_match, has_prefix, AreSingle, BeginsAnyBytes, IsFirstPlace, HasNoPlace, IsWhatRemains};
 
 use crate::pattern::{ByteRange, Pattern, Piece};
 
@@ -128,7 +128,8 @@ fn matches_any(pieces: &[Piece], name: &[u8]) -> bool
 /// Whether the pattern matches all of the name. It takes no memory, and time in proportion to pattern and name where at
 /// most one piece stands for any bytes; else at most as many comparisons as the product of both.
 pub fn matches(pattern: &Pattern, name: &[u8]) -> bool
-    ensures { IsTrue result ↔ Matches pattern.now name.now }
+    ensures relation { IsTrue result ↔ Matches pattern.now name.now }
+    ensures test { result ≡ is_match pattern.now name.now }
 {
     let (first, others) = cut(pattern.pieces());
     if !begins(first, name) {

@@ -26,7 +26,8 @@ pub use items::{Items, Numbers, Positions};
 pub use lexical::{LexFault, Span, SpanList, Token, TokenKind, TokenList, Tokens};
 pub use limits::{
     ARTEFACT_LIMIT, CASE_LIMIT, COMMAND_LIMIT, FILE_LIMIT, GRAPH_TEXT_LIMIT, LIBRARY_LIMIT,
-    NAME_LIMIT, PATH_LIMIT, RESULTS_LIMIT, SIMULATOR_LIMIT, SLOT_LIMIT, TEXT_LIMIT, WORD_LIMIT,
+    LISTED_WORD_LIMIT, NAME_LIMIT, PATH_LIMIT, RESULTS_LIMIT, SIMULATOR_LIMIT, SLOT_LIMIT,
+    TEXT_LIMIT, WORD_LIMIT,
 };
 pub use linking::{Edges, LinkFault, Linked, Order, OrderFault, Warning, WarningList};
 pub use memory::{DiskFailed, NoMemory};

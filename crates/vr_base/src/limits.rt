@@ -27,6 +27,9 @@ pub const COMMAND_LIMIT: usize = 64;
 /// The most words of the command of a simulator.
 pub const SIMULATOR_LIMIT: usize = 32;
 
+/// The most words of a command in a project file.
+pub const LISTED_WORD_LIMIT: usize = 32;
+
 /// The most bytes of a word of a command.
 pub const WORD_LIMIT: usize = 1_024;
 

@@ -3,7 +3,7 @@
 ghost use Rattle.std.specs.Prelude.{◌≡◌};
 ghost use Rattle.vr_base.specs.declared.project.ProjectFault.TheVariants.{NoMemory as out_of_memory};
 
-use crate::{FileName, Items, NoMemory, TextList};
+use crate::{FileName, Items, NoMemory, Text, TextList};
 
 /// A file of a project, and the words of its compiler.
 #[derive(Drop)]
@@ -39,12 +39,28 @@ pub struct Project {
     pub listed: bool,
 }
 
-/// The first fault of a project file.
+/// The first fault of a project file. A key is named as in `library.files`.
 #[derive(Debug, Drop)]
 pub enum ProjectFault {
     NoMemory,
+    /// The bytes aren't a TOML text.
+    NotToml,
+    /// There is no such key.
+    MissingKey { key: Text },
+    /// The value of a key is of another form.
+    WrongType { key: Text },
+    /// A library is named `work`.
+    WorkLibrary,
+    /// A library came before.
+    DuplicateLibrary { name: Text },
+    /// A file came before.
+    DuplicateFile { name: FileName },
+    /// A pattern of files matches no name.
+    NothingMatches { pattern: Text },
     /// A line that names no library and path, counted from 1.
     BadLine { line: u32 },
+    /// A dependency names a file that isn't in the project.
+    UnknownDependency { name: FileName },
 }
 
 impl From<NoMemory> for ProjectFault {

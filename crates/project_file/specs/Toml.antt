@@ -1,0 +1,153 @@
+-- A project file in TOML: a table of keys, and tables of libraries and of dependencies in it.
+use Rattle.std.specs.Prelude.{ℕ, nat_le, Bool, false, not, ◌&&◌, if◌then◌else◌, List, [], ◌∷◌, ◌++◌, length, map, filter, position, codes, Option, Some, None, option_map, option_and_then, Result, Ok, Err}
+use Rattle.std.specs.List.{list_any}
+use Rattle.std.specs.Option.{ok_or, option_map_or}
+use Rattle.std.specs.Char.{to_ascii_lowercase}
+use Rattle.std.specs.Str.{is_utf8, bytes_eq}
+use Rattle.toml.specs.Data.{Data, Items, no_items, item, Members, get_member, as_str, as_bool, as_array, as_table}
+use Rattle.toml.specs.Parse.{parse_document}
+use Rattle.vr_base.specs.declared.file.FileName.{FileName}
+use Rattle.vr_base.specs.declared.project.Pair.{Pair}
+use Rattle.vr_base.specs.declared.project.Project.{Project}
+use Rattle.vr_base.specs.declared.project.ProjectFile.{ProjectFile}
+use Rattle.vr_base.specs.declared.project.ProjectFault.{ProjectFault}
+use Rattle.vr_base.specs.declared.project.ProjectFault.TheVariants.{NotToml, MissingKey, WrongType, WorkLibrary, DuplicateLibrary, NothingMatches, UnknownDependency}
+use Rattle.vr_base.specs.declared.limits.TheConstants.{WORD_LIMIT, LISTED_WORD_LIMIT}
+use Rattle.vr_base.specs.Names.{is_same_name}
+use Rattle.project_file.specs.Csv.{is_library, is_path, listed_command, listed_simulator, then_read}
+use Rattle.project_file.specs.Paths.{matches_path}
+
+-- ## Values
+
+abbrev pub list_of : Items → List Data
+list_of no_items = []
+list_of (item value more) = value ∷ list_of more
+
+-- what is read of each, where something is read of each
+abbrev pub all_read : {S T : Type 0} → (S → Option T) → List S → Option (List T)
+all_read read [] = Some []
+all_read read (x ∷ xs) = option_and_then (λ first. option_map (λ others. first ∷ others) (all_read read xs)) (read x)
+
+-- a word of a command: 1 to 1,024 bytes
+abbrev pub word_in : List ℕ → Option (List ℕ)
+word_in text = if nat_le 1 (length text) && nat_le (length text) WORD_LIMIT then Some text else None
+
+-- a name of a library, in lower case
+abbrev pub library_in : List ℕ → Option (List ℕ)
+library_in text = if is_library text then Some (map to_ascii_lowercase text) else None
+
+abbrev pub path_in : List ℕ → Option (List ℕ)
+path_in text = if is_path text then Some text else None
+
+-- a text of such a form
+abbrev pub text_of : (List ℕ → Option (List ℕ)) → Data → Option (List ℕ)
+text_of form value = option_and_then form (as_str value)
+
+-- a list, of each of whose items something is read
+abbrev pub array_of : {T : Type 0} → (Data → Option T) → Data → Option (List T)
+array_of read value = option_and_then (λ items. all_read read (list_of items)) (as_array value)
+
+-- a list of texts of such a form
+abbrev pub texts_of : (List ℕ → Option (List ℕ)) → Data → Option (List (List ℕ))
+texts_of form value = array_of (text_of form) value
+
+-- so many words at least, and 32 at most
+abbrev pub few : ℕ → List (List ℕ) → Option (List (List ℕ))
+few least words = if nat_le least (length words) && nat_le (length words) LISTED_WORD_LIMIT then Some words else None
+
+abbrev pub words_of : ℕ → Data → Option (List (List ℕ))
+words_of least value = option_and_then (few least) (texts_of word_in value)
+
+-- ## Keys
+
+-- The value of a key of a table, or that it is of another form, or else what is said where the key is missing. Faults
+-- name the key after the words for its table.
+abbrev pub value_or : {T : Type 0} → Result T ProjectFault → (Data → Option T) → List ℕ → List ℕ → Members → Result T ProjectFault
+value_or missing read place key table = option_map_or (λ value. ok_or (read value) (WrongType (place ++ key))) (get_member key table) missing
+
+abbrev pub required : {T : Type 0} → (Data → Option T) → List ℕ → List ℕ → Members → Result T ProjectFault
+required read place key table = value_or (Err (MissingKey (place ++ key))) read place key table
+
+abbrev pub optional : {T : Type 0} → (Data → Option T) → T → List ℕ → List ℕ → Members → Result T ProjectFault
+optional read default place key table = value_or (Ok default) read place key table
+
+-- ## Libraries
+
+abbrev pub is_among : List (List ℕ) → List ℕ → Bool
+is_among texts text = list_any (bytes_eq text) texts
+
+-- the name of a library after those before it
+unfoldable pub library_after : List (List ℕ) → Members → Result (List ℕ) ProjectFault
+library_after before table =
+    then_read (required (text_of library_in) (codes "library.") (codes "name") table) (λ library.
+    if bytes_eq library (codes "work") then Err WorkLibrary else if is_among before library then Err (DuplicateLibrary library) else Ok library)
+
+-- pattern by pattern, the names that it matches and that aren't there yet
+unfoldable pub matching_names : List (List ℕ) → List (List ℕ) → List (List ℕ) → Result (List (List ℕ)) ProjectFault
+matching_names names found [] = Ok found
+matching_names names found (pattern ∷ patterns) =
+    if list_any (matches_path pattern) names then matching_names names (found ++ filter (λ name. matches_path pattern name && not (is_among found name)) names) patterns
+    else Err (NothingMatches pattern)
+
+abbrev pub file_in : List ℕ → List (List ℕ) → List ℕ → ProjectFile
+file_in library command path = record { name = record { library = library; path = path }; command = command }
+
+-- the files of a library: its command is the compiler's words, and then its options
+unfoldable pub library_files : List (List ℕ) → List (List ℕ) → List ℕ → Members → Result (List ProjectFile) ProjectFault
+library_files names compiler library table =
+    then_read (required (texts_of Some) (codes "library.") (codes "files") table) (λ patterns.
+    then_read (matching_names names [] patterns) (λ paths.
+    then_read (optional (words_of 0) [] (codes "library.") (codes "options") table) (λ options.
+    Ok (map (file_in library (compiler ++ options)) paths))))
+
+-- the files of libraries, after libraries of these names
+unfoldable pub files_of : List (List ℕ) → List (List ℕ) → List (List ℕ) → List Members → Result (List ProjectFile) ProjectFault
+files_of names compiler before [] = Ok []
+files_of names compiler before (table ∷ tables) =
+    then_read (library_after before table) (λ library.
+    then_read (library_files names compiler library table) (λ files.
+    then_read (files_of names compiler (before ++ library ∷ []) tables) (λ others. Ok (files ++ others))))
+
+-- ## Dependencies
+
+-- the place of a file in the project
+unfoldable pub place_of : List ProjectFile → FileName → Result ℕ ProjectFault
+place_of files name = ok_or (position (λ file. is_same_name file.name name) files) (UnknownDependency name)
+
+-- the file that two keys of a dependency name
+abbrev pub named_file : List ℕ → List ℕ → Members → Result FileName ProjectFault
+named_file library path table =
+    then_read (required (text_of library_in) (codes "depends.") library table) (λ library.
+    then_read (required (text_of path_in) (codes "depends.") path table) (λ path.
+    Ok (record { library = library; path = path })))
+
+-- a dependency: its four keys, and then its files
+unfoldable pub pair_of : List ProjectFile → Members → Result Pair ProjectFault
+pair_of files table =
+    then_read (named_file (codes "library") (codes "path") table) (λ user.
+    then_read (named_file (codes "on_library") (codes "on_path") table) (λ used.
+    then_read (place_of files user) (λ user.
+    then_read (place_of files used) (λ used. Ok (record { user = user; used = used })))))
+
+unfoldable pub pairs_of : List ProjectFile → List Members → Result (List Pair) ProjectFault
+pairs_of files [] = Ok []
+pairs_of files (table ∷ tables) = then_read (pair_of files table) (λ pair. then_read (pairs_of files tables) (λ pairs. Ok (pair ∷ pairs)))
+
+-- ## The project
+
+-- the project of a table, over the names of all files
+unfoldable pub table_project : List (List ℕ) → Members → Result Project ProjectFault
+table_project names table =
+    then_read (optional (words_of 1) listed_command [] (codes "compiler") table) (λ compiler.
+    then_read (optional (words_of 1) listed_simulator [] (codes "simulator") table) (λ simulator.
+    then_read (optional (texts_of library_in) [] [] (codes "external") table) (λ external.
+    then_read (optional as_bool false [] (codes "users_depend_on_bodies") table) (λ bodies.
+    then_read (required (array_of as_table) [] (codes "library") table) (λ libraries.
+    then_read (files_of names compiler [] libraries) (λ files.
+    then_read (optional (array_of as_table) [] [] (codes "depends") table) (λ tables.
+    then_read (pairs_of files tables) (λ depends.
+    Ok (record { files = files; simulator = simulator; external = external; bodies = bodies; depends = depends; listed = false })))))))))
+
+-- the project of the bytes, over the names of all files, or its first fault
+unfoldable pub toml_project : List ℕ → List (List ℕ) → Result Project ProjectFault
+toml_project bytes names = if is_utf8 bytes then option_map_or (table_project names) (parse_document bytes) (Err NotToml) else Err NotToml
