@@ -6,7 +6,7 @@ use Rattle.vr_base.specs.declared.project.ProjectFile.{ProjectFile}
 use Rattle.vr_outside.specs.declared.tree.ReadEnd.TheVariants.{Got, Absent, TooLong}
 use Rattle.vr_outside.specs.Trees.{read_end}
 use Rattle.project_reading.specs.Asked.{AsksFirst, AsksInOrder, file_paths}
-use Rattle.project_reading.specs.declared.sources.ReadStop.{ReadStop}
+use Rattle.project_reading.specs.declared.stops.ReadStop.{ReadStop}
 
 -- all was asked for
 pub all_first : (paths old new : List (List ℕ)) → new ≡ old ++ paths → AsksFirst paths old new
@@ -20,10 +20,10 @@ first_of_more paths more old new h = record { first = h.first; rest = h.rest ++ 
 pub asked_then : (paths more old mid new : List (List ℕ)) → mid ≡ old ++ paths → AsksFirst more mid new → AsksFirst (paths ++ more) old new
 asked_then paths more old mid new before h = record { first = paths ++ h.first; rest = h.rest; split = ap (λ (ps : List (List ℕ)). paths ++ ps) h.split ∙ sym (append_assoc paths h.first h.rest); asked = h.asked ∙ ap (λ (ps : List (List ℕ)). ps ++ h.first) before ∙ append_assoc old paths h.first }
 
--- a path that was asked for, and then more paths in order
-pub then_in_order : {T : Type 0} (answer : Result T ReadStop) (path : List ℕ) (more old mid new : List (List ℕ)) → mid ≡ old ++ path ∷ [] → AsksInOrder answer more mid new → AsksInOrder answer (path ∷ more) old new
-then_in_order (Ok value) path more old mid new before after = after ∙ ap (λ (ps : List (List ℕ)). ps ++ more) before ∙ append_assoc old (path ∷ []) more
-then_in_order (Err stop) path more old mid new before after = asked_then (path ∷ []) more old mid new before after
+-- paths that were asked for, and then more paths in order
+pub then_in_order : {T : Type 0} (answer : Result T ReadStop) (paths more old mid new : List (List ℕ)) → mid ≡ old ++ paths → AsksInOrder answer more mid new → AsksInOrder answer (paths ++ more) old new
+then_in_order (Ok value) paths more old mid new before after = after ∙ ap (λ (ps : List (List ℕ)). ps ++ more) before ∙ append_assoc old paths more
+then_in_order (Err stop) paths more old mid new before after = asked_then paths more old mid new before after
 
 module _ (files : List ProjectFile) (i : ℕ) (file : ProjectFile) (old mid : List (List ℕ)) (lt : i < length files) (is : file ≡ get_or files i file) (before : mid ≡ old ++ file_paths (take i files)) where
   -- the file at hand was asked for
@@ -58,3 +58,8 @@ absent_is_none (Some bytes) limit is = absurd (unread (nat_le (length bytes) lim
 -- nothing was asked for
 pub asks_none : (paths before : List (List ℕ)) → AsksFirst paths before before
 asks_none paths before = record { first = []; rest = paths; split = refl; asked = sym (append-nil before) }
+
+-- no more was asked for
+pub asks_no_more : {T : Type 0} (answer : Result T ReadStop) (old new : List (List ℕ)) → new ≡ old → AsksInOrder answer [] old new
+asks_no_more (Ok value) old new same = same ∙ sym (append-nil old)
+asks_no_more (Err stop) old new same = all_first [] old new (same ∙ sym (append-nil old))

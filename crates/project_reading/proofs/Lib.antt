@@ -1,4 +1,8 @@
 -- The lemmas.
-pub mod Texts
 pub mod Asks
-pub mod Faults
+mod Afters
+mod TextLemmas
+mod ScanLemmas
+mod Listings
+mod LinkLemmas
+mod Steps

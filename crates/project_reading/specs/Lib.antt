@@ -1,6 +1,5 @@
 -- The definitions.
 pub mod Reading
-pub mod Findings
-pub mod Scanning
 pub mod Sources
+pub mod Scanning
 pub mod Asked

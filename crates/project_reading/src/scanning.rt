@@ -4,11 +4,11 @@ ghost use Rattle.std.specs.Prelude.{◌≡◌, ◌≤◌, ℕ, List, length, IfO
 ghost use Rattle.scan_spec.specs.Units.{AreTokensOf};
 ghost use Rattle.scan_spec.specs.Scans.{Finding, IsScanner, AreScansOf};
 ghost use Rattle.order_spec.specs.LinkedGraph.{FitTexts};
-ghost use Rattle.project_reading.specs.Findings.{first_fault};
-ghost use Rattle.project_reading.specs.Scanning.{ScansFile, ScansUpTo};
-ghost use Rattle.project_reading.specs.Sources.{ReadCounts};
+ghost use Rattle.project_reading.specs.Reading.{scan_of, scans_of};
+ghost use Rattle.project_reading.specs.Sources.{Gives, ReadCounts};
+ghost use Rattle.project_reading.specs.Scanning.{GivesScan};
 
-use crate::sources::ReadStop;
+use crate::stops::ReadStop;
 use std::alloc::Global;
 use vhdl_lex::scan_tokens;
 use vhdl_units::outline;
@@ -54,7 +54,7 @@ fn without_spare_room(tokens: Tokens) -> Tokens
 fn scan_units(alloc: Global, file: &FileName, text: &[u8], tokens: Tokens) -> Result<Scan, ReadStop>
     requires tokens { AreTokensOf text.now tokens }
     requires small { length text.now ≤ TEXT_LIMIT }
-    ensures scan { ScansFile file.now text.now result }
+    ensures scan { GivesScan file.now text.now result }
     ensures cause { (count : ℕ) → ReadCounts result count count }
 {
     match outline(alloc, text, &tokens) {
@@ -76,7 +76,7 @@ fn scan_units(alloc: Global, file: &FileName, text: &[u8], tokens: Tokens) -> Re
 /// The scan of a file, or its refusal for its lexical fault or its fault of the unit grammar.
 fn scan_file(alloc: Global, file: &FileName, text: &[u8]) -> Result<Scan, ReadStop>
     requires { length text.now ≤ TEXT_LIMIT }
-    ensures scan { ScansFile file.now text.now result }
+    ensures scan { GivesScan file.now text.now result }
     ensures cause { (count : ℕ) → ReadCounts result count count }
 {
     match scan_tokens(alloc, text) {
@@ -101,11 +101,15 @@ fn scan_file(alloc: Global, file: &FileName, text: &[u8]) -> Result<Scan, ReadSt
 }
 
 /// The scans of the files, one a file, in project order; or the refusal of the first file that has a fault.
-pub fn scans_of(alloc: Global, files: &[ProjectFile], texts: &[Text]) -> Result<Scans, ReadStop>
+pub(crate) fn scans_of(
+    alloc: Global,
+    files: &[ProjectFile],
+    texts: &[Text],
+) -> Result<Scans, ReadStop>
     requires { FitTexts files.now texts.now }
-    ensures scans { IfOk result (AreScansOf texts.now) }
-    ensures fault { (scan : List ℕ → Finding) → IsScanner scan →
-        ScansUpTo (first_fault scan files.now texts.now) result }
+    ensures are { IfOk result (AreScansOf texts.now) }
+    ensures scans { (scan : List ℕ → Finding) → IsScanner scan →
+        Gives (scans_of scan files.now texts.now) result }
     ensures cause { (count : ℕ) → ReadCounts result count count }
 {
     let mut scans = Scans::new(alloc);

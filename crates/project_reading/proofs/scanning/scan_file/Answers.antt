@@ -1,4 +1,4 @@
-use Rattle.project_reading.proofs.Faults.{lexical_found}
+use Rattle.project_reading.proofs.ScanLemmas.{lexical_found}
 use Rattle.project_reading.proofs.scanning.scan_file.Goals as goal
 
 pub returns-in_ok-lexical-in-Err-UnclosedString-clause-scan : goal.returns-in_ok-lexical-in-Err-UnclosedString-clause-scan

@@ -1,4 +1,4 @@
-use Rattle.project_reading.proofs.Faults.{units_found}
+use Rattle.project_reading.proofs.ScanLemmas.{units_found}
 use Rattle.project_reading.proofs.scanning.scan_units.Goals as goal
 
 pub returns-in-Err-NotUnit-clause-scan : goal.returns-in-Err-NotUnit-clause-scan

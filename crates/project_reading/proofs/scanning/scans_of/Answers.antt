@@ -1,19 +1,22 @@
-use Rattle.std.proofs.Common.{◌≡◌, ℕ, ◌+◌, ◌≤◌, ◌∙◌, List, Err, length, get_or, sym, ap, subst, arith}
+use Rattle.std.proofs.Common.{◌≡◌, ℕ, ◌+◌, ◌≤◌, ◌∙◌, List, Err, length, get_or, drop, sym, ap, subst, arith}
 use Rattle.std.specs.Prelude.{slice_get, Some}
 use Rattle.std.proofs.lemmas.List.{length_push}
 use Rattle.std.proofs.lemmas.Option.{slice_get-get_or}
 use Rattle.std.proofs.lemmas.Result.{err_from_is_err_and}
 use Rattle.vr_base.specs.declared.project.ProjectFile.{ProjectFile}
+use Rattle.vr_base.specs.declared.design.Scan.{Scan}
 use Rattle.scan_spec.specs.Scans.{IsScanOf}
-use Rattle.project_reading.specs.Scanning.{ScansFile}
-use Rattle.project_reading.proofs.Faults.{AreFirst, passed_on, stopped_at, none_left, one_more}
+use Rattle.project_reading.specs.Reading.{scans_of}
+use Rattle.project_reading.specs.Scanning.{GivesScan}
+use Rattle.project_reading.proofs.Afters.{after}
+use Rattle.project_reading.proofs.ScanLemmas.{AreFirst, scan_then, no_scan_then, all_scans, one_more}
 use Rattle.project_reading.proofs.scanning.scans_of.Goals as goal
 
-pub returns-in_err-scan-clause-fault : goal.returns-in_err-scan-clause-fault
-returns-in_err-scan-clause-fault c =
+pub returns-in_err-scan-clause-scans : goal.returns-in_err-scan-clause-scans
+returns-in_err-scan-clause-scans c =
     let p = err_from_is_err_and c.from_residual.result c.from_residual.ensures.1 in
-    let stops = subst (λ (file : ProjectFile). ScansFile file.name c.index-texts-i.result (Err c.in_err-scan.field-0.0)) (sym c.index-files-i.is) (subst (λ (text : List ℕ). ScansFile (get_or c.args.files.now c.loop-i.i c.index-files-i.result).name text (Err c.in_err-scan.field-0.0)) c.bytes.ensures c.in_err-scan.ensures.scan) in
-    rw (p.1, p.2) (λ scan is. stopped_at scan is c.args.files.now c.args.texts.now c.loop-i.i c.index-files-i.result c.index-texts-i.result c.requires.each c.loop-i-test.true c.index-files-i.is c.index-texts-i.is _ (c.loop-i.invariant.fault scan is) c.in_err-scan.field-0.0 stops)
+    let stops = subst (λ (file : ProjectFile). GivesScan file.name c.index-texts-i.result (Err c.in_err-scan.field-0.0)) (sym c.index-files-i.is) (subst (λ (text : List ℕ). GivesScan (get_or c.args.files.now c.loop-i.i c.index-files-i.result).name text (Err c.in_err-scan.field-0.0)) c.bytes.ensures c.in_err-scan.ensures.scan) in
+    rw (p.1, p.2) (λ scan is. no_scan_then scan is c.args.files.now c.args.texts.now c.loop-i.i c.index-files-i.result c.index-texts-i.result c.loop-i.scans _ c.requires.each c.loop-i-test.true c.index-files-i.is c.index-texts-i.is (c.loop-i.invariant.scans scan is) c.in_err-scan.field-0.0 stops)
 
 pub loop-i-preserved : goal.loop-i-preserved
 loop-i-preserved c =
@@ -25,8 +28,9 @@ loop-i-preserved c =
     record {
       count = ap length pushed ∙ length_push c.loop-i.scans c.in_ok-scan.scan ∙ ap (λ (n : ℕ). n + 1) c.loop-i.invariant.count;
       are = subst (AreFirst c.args.texts.now) (sym pushed) (one_more c.args.texts.now c.loop-i.scans c.index-texts-i.result c.in_ok-scan.scan c.loop-i.invariant.are at is_scan);
-      fault = λ scan is. passed_on scan is c.args.files.now c.args.texts.now c.loop-i.i c.index-files-i.result c.index-texts-i.result c.requires.each c.loop-i-test.true c.index-files-i.is c.index-texts-i.is _ (c.loop-i.invariant.fault scan is) c.in_ok-scan.scan is_scan;
+      scans = λ scan is. subst (λ (scans : List Scan). after scans (scans_of scan (drop (c.loop-i.i + 1) c.args.files.now) (drop (c.loop-i.i + 1) c.args.texts.now)) ≡ scans_of scan c.args.files.now c.args.texts.now) (sym pushed)
+          (scan_then scan is c.args.files.now c.args.texts.now c.loop-i.i c.index-files-i.result c.index-texts-i.result c.loop-i.scans _ c.requires.each c.loop-i-test.true c.index-files-i.is c.index-texts-i.is (c.loop-i.invariant.scans scan is) c.in_ok-scan.scan is_scan);
     }
 
-pub returns-clause-fault : goal.returns-clause-fault
-returns-clause-fault c = λ scan is. none_left scan c.args.files.now c.args.texts.now c.loop-i.i _ c.loop-i-test.false (c.loop-i.invariant.fault scan is)
+pub returns-clause-scans : goal.returns-clause-scans
+returns-clause-scans c = λ scan is. all_scans scan c.args.files.now c.args.texts.now c.loop-i.i c.loop-i.scans _ c.loop-i-test.false (c.loop-i.invariant.scans scan is)

@@ -6,17 +6,17 @@ use Rattle.std.proofs.lemmas.List.{length_push}
 use Rattle.std.proofs.lemmas.List.Sums.{sum_by_push}
 use Rattle.std.proofs.lemmas.Result.{err_from_is_err_and}
 use Rattle.vr_outside.specs.Trees.{read_end}
-use Rattle.project_reading.specs.Reading.{bounds, text_of}
+use Rattle.project_reading.specs.Reading.{text_of}
 use Rattle.project_reading.specs.Sources.{Gives}
-use Rattle.project_reading.proofs.Texts.{text_then, no_text_then, all_texts}
+use Rattle.project_reading.proofs.TextLemmas.{text_then, no_text_then, all_texts}
 use Rattle.project_reading.proofs.Asks.{all_first, one_more_asked, stops_asking, all_asked}
-use Rattle.project_reading.proofs.sources.texts_of.Goals as goal
+use Rattle.project_reading.proofs.texts.texts_of.Goals as goal
 
 pub returns-in_err-text-clause-texts : goal.returns-in_err-text-clause-texts
 returns-in_err-text-clause-texts g c =
     let i = c.loop-file.invariant in
     let p = err_from_is_err_and c.from_residual.result c.from_residual.ensures.1 in
-    rw (p.1, p.2) (λ tells. no_text_then (g.T.Tree.file c.args.tree.now) c.loop-file.total c.args.files.now c.loop-file.file-index c.file-item.result c.loop-file.texts _ c.loop-file-test.true c.file-item.is (i.told tells) _ (subst (λ (tree : List ℕ → Option (List ℕ)). Gives (text_of c.file-item.result.name c.loop-file.total (read_end (tree c.file-item.result.name.path) bounds.text)) (Err c.in_err-text.field-0.0)) i.same (c.in_err-text.ensures.text tells)))
+    rw (p.1, p.2) (λ tells. no_text_then (g.T.Tree.file c.args.tree.now) c.loop-file.total c.args.files.now c.loop-file.file-index c.file-item.result c.loop-file.texts _ c.loop-file-test.true c.file-item.is (i.told tells) _ (subst (λ (tree : List ℕ → Option (List ℕ)). Gives (text_of c.file-item.result.name c.loop-file.total (read_end (tree c.file-item.result.name.path) TEXT_LIMIT)) (Err c.in_err-text.field-0.0)) i.same (c.in_err-text.ensures.text tells)))
 
 pub loop-file-preserved : goal.loop-file-preserved
 loop-file-preserved g c =

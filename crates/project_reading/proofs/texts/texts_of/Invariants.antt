@@ -3,8 +3,8 @@ use Rattle.std.specs.Prelude.{All, sum_by}
 use Rattle.vr_base.specs.declared.limits.TheConstants.{TEXT_LIMIT}
 use Rattle.project_reading.specs.Reading.{texts_of}
 use Rattle.project_reading.specs.Asked.{file_paths}
-use Rattle.project_reading.proofs.Texts.{after}
-use Rattle.project_reading.proofs.sources.texts_of.Given as goal
+use Rattle.project_reading.proofs.Afters.{after}
+use Rattle.project_reading.proofs.texts.texts_of.Given as goal
 use Rattle.project_reading.specs.declared.limits.TheConstants.{PROJECT_TEXT_LIMIT}
 
 abbrev pub invariant-loop-file : goal.invariant-loop-file
