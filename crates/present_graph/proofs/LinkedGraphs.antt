@@ -187,19 +187,24 @@ module _ (project : Project) (texts : List (List ℕ)) (edges : List (List ℕ))
       ∙ ap (λ (x : List ℕ). record { name = name; command = command; text = text; deps = x }) d
 
   -- the file that is made for a place
-  pub entry_made : (ordered : List ℕ) (files : List ProjectFile) (sources : List (List ℕ)) (place : ℕ) (file : ProjectFile) (text : List ℕ) (row : PositionSet) (rows : List PositionSet) (entry : Entry) → ordered ≡ order → files ≡ project.files → sources ≡ texts
-      → place < length ordered → file ≡ get_or files (get_or ordered place 0) file → text ≡ get_or sources (get_or ordered place 0) text → row ≡ get_or rows place row → length rows ≡ length ordered
+  pub entry_made : (ordered : List ℕ) (files : List ProjectFile) (place : ℕ) (file : ProjectFile) (row : PositionSet) (rows : List PositionSet) (entry : Entry) → ordered ≡ order → files ≡ project.files
+      → place < length ordered → file ≡ get_or files (get_or ordered place 0) file → row ≡ get_or rows place row → length rows ≡ length ordered
       → ((at k : ℕ) → at < length ordered → k < length ordered → row_has rows at k ≡ reaches edges (get_or ordered at 0) (get_or ordered k 0))
-      → entry.name ≡ file.name → entry.command ≡ file.command → entry.text ≡ text → entry.deps ≡ filter (has row) (below (length ordered)) → entry ≡ entry_at place
-  entry_made ordered files sources place file text row rows entry o f s lt file_is text_is row_is many reached name command texts_same deps =
+      → entry.name ≡ file.name → entry.command ≡ file.command → entry.text ≡ get_or texts (get_or order place 0) [] → entry.deps ≡ filter (has row) (below (length ordered)) → entry ≡ entry_at place
+  entry_made ordered files place file row rows entry o f lt file_is row_is many reached name command text deps =
       let low : place < length order = omega (arith, ap (λ (xs : List ℕ). length xs) o) in
       let position : get_or ordered place 0 ≡ get_or order place 0 = ap (λ (xs : List ℕ). get_or xs place 0) o in
       let the_file : file ≡ file_at place =
       file_is ∙ ap (λ (fs : List ProjectFile). get_or fs (get_or ordered place 0) file) f ∙ ap (λ (k : ℕ). get_or project.files k file) position ∙ get_or_default project.files (get_or order place 0) file no_file (file_within place low) in
-      let the_text : text ≡ get_or texts (get_or order place 0) [] =
-      text_is ∙ ap (λ (ts : List (List ℕ)). get_or ts (get_or ordered place 0) text) s ∙ ap (λ (k : ℕ). get_or texts k text) position ∙ get_or_default texts (get_or order place 0) text [] (omega (arith, file_within place low, fit.each)) in
       let rows_say : (k : ℕ) → k < length order → has row k ≡ reaches edges (get_or order place 0) (get_or order k 0) = λ k within.
       sym (row_at rows place k row (omega arith) row_is) ∙ reached place k lt (omega (arith, ap (λ (xs : List ℕ). length xs) o)) ∙ ap (λ (xs : List ℕ). reaches edges (get_or xs place 0) (get_or xs k 0)) o in
       let the_deps : entry.deps ≡ closure_of edges order (get_or order place 0) =
       deps ∙ ap (λ (xs : List ℕ). filter (has row) (below (length xs))) o ∙ filter_below (has row) (λ k. reaches edges (get_or order place 0) (get_or order k 0)) (length order) rows_say in
-      same_entry entry (file_at place).name (file_at place).command (get_or texts (get_or order place 0) []) (closure_of edges order (get_or order place 0)) (name ∙ ap (λ (x : ProjectFile). x.name) the_file) (command ∙ ap (λ (x : ProjectFile). x.command) the_file) (texts_same ∙ the_text) the_deps
+      same_entry entry (file_at place).name (file_at place).command (get_or texts (get_or order place 0) []) (closure_of edges order (get_or order place 0)) (name ∙ ap (λ (x : ProjectFile). x.name) the_file) (command ∙ ap (λ (x : ProjectFile). x.command) the_file) text the_deps
+
+-- after the text of the file at a place was taken, those of the files at later places are as they were
+pub left_texts : (edges : List (List ℕ)) (order : List ℕ) → IsBuildOrder edges order → (texts left : List (List ℕ)) (place : ℕ)
+    → ((at : ℕ) → place ≤ at → at < length order → get_or left (get_or order at 0) [] ≡ get_or texts (get_or order at 0) [])
+    → (at : ℕ) → place + 1 ≤ at → at < length order → get_or (set left (get_or order place 0) []) (get_or order at 0) [] ≡ get_or texts (get_or order at 0) []
+left_texts edges order is texts left place before at later within =
+    get_or-set_other left (get_or order place 0) (get_or order at 0) [] [] (λ e. is.distinct place at 0 (omega arith) within (sym e)) ∙ before at (omega arith) within

@@ -1,6 +1,7 @@
 //! The graph of a linked project.
 
-ghost use Rattle.std.specs.Prelude.{◌≡◌, ℕ, ◌<◌, ◌≤◌, length, filter, All, IfOk};
+ghost use Rattle.std.specs.Prelude.{◌≡◌, ℕ, ◌<◌, ◌≤◌, [], length, get_or, filter, All, IfOk};
+ghost use Rattle.std.proofs.Math.ListN.{set};
 ghost use Rattle.vr_base.specs.PresentGraph.{below};
 ghost use Rattle.vr_base.specs.Projects.{IsProject};
 ghost use Rattle.position_set.specs.Positions.{has};
@@ -10,56 +11,67 @@ ghost use Rattle.order_spec.specs.LinkedGraph.{FitTexts, linked};
 use crate::closures::{closures, places_of};
 use position_set::PositionSet;
 use std::alloc::Global;
+use std::mem;
 use vr_base::{Edges, Entry, Graph, NoMemory, Order, Project, ProjectFile, Text, TextList};
+
+/// Takes the text of a file out of texts, and leaves an empty one there, which takes no memory.
+fn take_text(alloc: Global, texts: &mut Vec<Text>, file: usize) -> Text
+    requires { file < length texts.old.items }
+    ensures text { result ≡ get_or texts.old.items file [] }
+    ensures left { texts.new.items ≡ set texts.old.items file [] }
+{
+    mem::replace(&mut texts[file], Text::new(alloc))
+}
 
 /// A file with its text and the positions of a set below an end.
 fn entry_of(
     alloc: Global,
     file: &ProjectFile,
-    text: &Text,
+    text: Text,
     row: &PositionSet,
     end: u32,
 ) -> Result<Entry, NoMemory>
     ensures name { IfOk result (λ entry. entry.name ≡ file.now.name) }
     ensures command { IfOk result (λ entry. entry.command ≡ file.now.command) }
-    ensures text { IfOk result (λ entry. entry.text ≡ text.now) }
+    ensures text { IfOk result (λ entry. entry.text ≡ text) }
     ensures deps { IfOk result (λ entry. entry.deps ≡ filter (has row.now) (below end)) }
 {
     Ok(Entry {
         name: file.name.copy(alloc)?,
         command: file.command.copy(alloc)?,
-        text: text.copy(alloc)?,
+        text,
         deps: row.positions_below(alloc, end)?,
     })
 }
 
 /// The graph of a linked project: its files in an order in which each comes after what it depends on, each with all that
-/// it depends on, directly or not. It takes time in proportion to what the graph has, and to the edges, each of which
-/// joins two rows of bits.
+/// it depends on, directly or not. The texts are moved into the graph. It takes time in proportion to the files and what
+/// they depend on, and to the edges, each of which joins two rows of bits.
 pub fn graph_of(
     alloc: Global,
     project: &Project,
-    texts: &TextList,
+    texts: TextList,
     edges: &Edges,
     order: &Order,
 ) -> Result<Graph, NoMemory>
     requires project { IsProject project.now }
-    requires texts { FitTexts project.now.files texts.now }
+    requires texts { FitTexts project.now.files texts }
     requires edges { AreEdges edges.now }
     requires as_many { length edges.now ≡ length project.now.files }
     requires order { IsBuildOrder edges.now order.now }
-    ensures { IfOk result (λ graph. graph ≡ linked project.now.files texts.now edges.now order.now) }
+    ensures { IfOk result (λ graph. graph ≡ linked project.now.files texts edges.now order.now) }
 {
     let order = order.as_slice();
     let places = places_of(alloc, edges, order)?;
     let rows = closures(alloc, edges, order, places.as_slice())?;
     let files = project.files.as_slice();
-    let texts = texts.as_slice();
+    let mut texts = texts.into_vec();
     let mut graph = Graph::new(alloc);
     for place in 0..order.len() {
         let file = order[place] as usize;
         let count = order.len() as u32;
-        let entry = entry_of(alloc, &files[file], &texts[file], &rows[place], count)?;
+        let text = take_text(alloc, &mut texts, file);
+        let entry = entry_of(alloc, &files[file], text, &rows[place], count)?;
         graph.push(entry)?;
     }
     Ok(graph)

@@ -26,12 +26,12 @@ static FILES: &[u8] = b"lib,a\nlib,b\nlib,c\nlib,d\nlib,e\n";
 fn graph_over(
     alloc: Global,
     project: &Project,
-    texts: &TextList,
+    texts: TextList,
     edges: &Edges,
 ) -> Result<Option<Graph>, NoMemory>
     requires { IsProject project.now }
 {
-    if !fit_texts(project, texts) {
+    if !fit_texts(project, &texts) {
         return Ok(None);
     }
     if !are_edges(edges) {
@@ -50,7 +50,7 @@ fn graph_over(
 fn graph_listed(
     alloc: Global,
     bytes: &[u8],
-    texts: &TextList,
+    texts: TextList,
     edges: &Edges,
 ) -> Result<Option<Graph>, NoMemory> {
     if bytes.len() > 100 {
@@ -99,7 +99,7 @@ fn is_graph(alloc: Global, edges: &Edges, wanted: &[u8]) -> Result<bool, NoMemor
     if end > FILES.len() {
         return Ok(false);
     }
-    match graph_listed(alloc, &FILES[..end], &texts, edges)? {
+    match graph_listed(alloc, &FILES[..end], texts, edges)? {
         Some(graph) => Ok(spelled(alloc, &graph)?.as_slice() == wanted),
         None => Ok(false),
     }

@@ -13,10 +13,12 @@ use Rattle.vr_outside.specs.Streams.{take_end}
 use Rattle.run_spec.specs.ChildJournal.{since}
 use Rattle.run_report.specs.Texts.{limit_text, bad_request}
 use Rattle.scan_spec.specs.Scans.{Finding}
-use Rattle.vunit_top.specs.Sources.{LeadsTo}
-use Rattle.vunit_top.specs.declared.sources.ReadStop.{ReadStop}
-use Rattle.vunit_top.specs.declared.sources.ReadStop.TheVariants as stops
-use Rattle.vunit_top.specs.Reading.{Reading, Bad, Child, Stops, Over, Go, begins_as_child, is_compile, reading}
+use Rattle.project_reading.specs.Sources.{LeadsTo}
+use Rattle.project_reading.specs.declared.sources.ReadStop.{ReadStop}
+use Rattle.project_reading.specs.declared.sources.ReadStop.TheVariants as stops
+use Rattle.project_reading.specs.Reading.{SourceReading}
+use Rattle.project_reading.specs.Reading as sources
+use Rattle.vunit_top.specs.Reading.{begins_as_child, is_compile, of_sources, reading}
 use Rattle.vunit_top.specs.Said.{Said, graph_of, refusal_said, child_said, input_bytes}
 
 -- nothing was added
@@ -41,15 +43,15 @@ child_gives_none scan words tree child = rw child refl
 pub bad_gives_none : (scan : List ℕ → Finding) (words : List (List ℕ)) (tree : List ℕ → Option (List ℕ)) → begins_as_child words ≡ false → is_compile words ≡ false → graph_of (reading scan words tree) ≡ []
 bad_gives_none scan words tree no_child no_command = rw (no_child, no_command) refl
 
-pub stop_gives_none : (r : Reading) (stop : ReadStop) (reason : Refusal) → LeadsTo r (Err stop) → stop ≡ stops.Refused reason → graph_of r ≡ []
-stop_gives_none r stop reason leads is = ap graph_of (let here : r ≡ Stops reason = subst (λ (s : ReadStop). LeadsTo r (Err s)) is leads in here)
+pub stop_gives_none : (r : SourceReading) (stop : ReadStop) (reason : Refusal) → LeadsTo r (Err stop) → stop ≡ stops.Refused reason → graph_of (of_sources r) ≡ []
+stop_gives_none r stop reason leads is = ap (λ (s : SourceReading). graph_of (of_sources s)) (let here : r ≡ sources.Stops reason = subst (λ (s : ReadStop). LeadsTo r (Err s)) is leads in here)
 
-pub limit_gives_none : (r : Reading) (stop : ReadStop) (limit : Limit) (number : ℕ) → LeadsTo r (Err stop) → stop ≡ stops.Over limit number → graph_of r ≡ []
-limit_gives_none r stop limit number leads is = ap graph_of (let here : r ≡ Over limit number = subst (λ (s : ReadStop). LeadsTo r (Err s)) is leads in here)
+pub limit_gives_none : (r : SourceReading) (stop : ReadStop) (limit : Limit) (number : ℕ) → LeadsTo r (Err stop) → stop ≡ stops.Over limit number → graph_of (of_sources r) ≡ []
+limit_gives_none r stop limit number leads is = ap (λ (s : SourceReading). graph_of (of_sources s)) (let here : r ≡ sources.Over limit number = subst (λ (s : ReadStop). LeadsTo r (Err s)) is leads in here)
 
 -- what is said of a limit that is passed
-pub limit_said : (r : Reading) (stop : ReadStop) (limit : Limit) (number : ℕ) (what : Said) → LeadsTo r (Err stop) → stop ≡ stops.Over limit number → refusal_said r ≡ Some what → record { outcome = outcome.OverLimit limit; text = limit_text limit number } ≡ what
+pub limit_said : (r : SourceReading) (stop : ReadStop) (limit : Limit) (number : ℕ) (what : Said) → LeadsTo r (Err stop) → stop ≡ stops.Over limit number → refusal_said (of_sources r) ≡ Some what → record { outcome = outcome.OverLimit limit; text = limit_text limit number } ≡ what
 limit_said r stop limit number what leads is said =
-    some_said _ what (sym (ap refusal_said (let here : r ≡ Over limit number = subst (λ (s : ReadStop). LeadsTo r (Err s)) is leads in here)) ∙ said) where
+    some_said _ what (sym (ap (λ (s : SourceReading). refusal_said (of_sources s)) (let here : r ≡ sources.Over limit number = subst (λ (s : ReadStop). LeadsTo r (Err s)) is leads in here)) ∙ said) where
       some_said : (x y : Said) → ◌≡◌ {A = Option Said} (Some x) (Some y) → x ≡ y
       some_said x y e = cc

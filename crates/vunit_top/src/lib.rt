@@ -3,9 +3,6 @@
 
 mod building;
 mod ends;
-mod limits;
-mod scanning;
-mod sources;
 mod top;
 mod words;
 

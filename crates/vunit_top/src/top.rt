@@ -7,16 +7,17 @@ ghost use Rattle.run_spec.specs.ChildJournal.{since};
 ghost use Rattle.run_spec.specs.JournalParts.{compile_part};
 ghost use Rattle.run_spec.specs.Marks.{marks_of};
 ghost use Rattle.scan_spec.specs.Scans.{Finding, IsScanner};
-ghost use Rattle.vunit_top.specs.Asked.{AsksFirst, project_paths};
-ghost use Rattle.vunit_top.specs.Reading.{Go, reading, project_reading, begins_as_child, is_compile};
+ghost use Rattle.project_reading.specs.Asked.{AsksFirst, project_paths};
+ghost use Rattle.project_reading.specs.Reading.{project_reading};
+ghost use Rattle.vunit_top.specs.Reading.{Go, reading, of_sources, begins_as_child, is_compile};
 ghost use Rattle.vunit_top.specs.Runs.{RunsAs, order_of, run_of, has_risen};
 ghost use Rattle.vunit_top.specs.Said.{Said, Says, Causes, CountsStand, latest_in, one_at_a_time, refusal_said, build_said, child_said};
 
 use crate::building::build_over;
 use crate::ends::{say, say_build, say_limit, say_refusal, say_usage};
-use crate::sources::{ReadStop, read_project};
 use crate::words::{begins_as_child, is_compile};
 use compile_loop::BuildFault;
+use project_reading::{ReadStop, read_project};
 use std::alloc::Global;
 use vr_base::{Graph, Outcome, TextList, Which};
 use vr_outside::{Disk, Procs, Sink, Source, SourceFault, TakeEnd, Tree};
@@ -166,21 +167,21 @@ fn run_compile<T: Tree, D: Disk, P: Procs, O: Sink>(
         ≡ P.journal procs.old ++ since (P.journal procs.old) (P.journal procs.new)) }
     ensures ran { (scan : List ℕ → Finding) → IsScanner scan → (words : List (List ℕ)) →
         T.tells → D.tells → P.tells →
-        RunsAs scan (P.answer procs.old) (project_reading scan (T.file tree.old))
+        RunsAs scan (P.answer procs.old) (of_sources (project_reading scan (T.file tree.old)))
         (run_of words result
         (has_risen (D.failed_disk_calls disk.old) (D.failed_disk_calls disk.new))
         (since (P.journal procs.old) (P.journal procs.new))
         (added_since (D.moments disk.old) (D.moments disk.new)))
         (D.moments disk.old).now (D.moments disk.new).now }
     ensures untouched { (scan : List ℕ → Finding) → IsScanner scan → T.tells →
-        order_of (project_reading scan (T.file tree.old)) ≡ None →
+        order_of (of_sources (project_reading scan (T.file tree.old))) ≡ None →
         (disk.new ≡ disk.old) × (procs.new ≡ procs.old) }
     ensures says_refusal { (scan : List ℕ → Finding) → IsScanner scan → T.tells → O.tells →
-        (what : Said) → refusal_said (project_reading scan (T.file tree.old)) ≡ Some what →
+        (what : Said) → refusal_said (of_sources (project_reading scan (T.file tree.old))) ≡ Some what →
         Says result what (O.contents out.old) (O.contents out.new) }
     ensures says_build { (scan : List ℕ → Finding) → IsScanner scan → T.tells → D.tells →
         P.tells → O.tells → (graph : List Entry) →
-        project_reading scan (T.file tree.old) ≡ Go graph →
+        of_sources (project_reading scan (T.file tree.old)) ≡ Go graph →
         let setting = one_at_a_time (latest_in (D.moments disk.old).now) graph in
         let events = compile_part (since (P.journal procs.old) (P.journal procs.new)) in
         Says result (build_said graph (marks_of setting events)) (O.contents out.old)

@@ -1,11 +1,12 @@
-use Rattle.std.proofs.Common.{refl, sym, arith, inl, inr}
-use Rattle.vunit_top.specs.Reading.{project_reading}
+use Rattle.std.proofs.Common.{ap, refl, sym, arith, inl, inr}
+use Rattle.project_reading.specs.Reading.{project_reading}
+use Rattle.vunit_top.specs.Reading.{Reading, of_sources}
 use Rattle.vunit_top.proofs.Tops.{stop_gives_none, limit_gives_none, limit_said}
 use Rattle.vunit_top.proofs.RunTruths.{runs_idle}
 use Rattle.vunit_top.proofs.top.run_compile.Goals as goal
 
 pub returns-in-Ok-clause-ran : goal.returns-in-Ok-clause-ran
-returns-in-Ok-clause-ran g c = λ scan is words t d p. rw (c.in-Ok.ensures.graph scan is t) (c.run_build.ensures.ran scan words d p)
+returns-in-Ok-clause-ran g c = λ scan is words t d p. rw (ap of_sources (c.in-Ok.ensures.graph scan is t)) (c.run_build.ensures.ran scan words d p)
 
 pub returns-in-Ok-clause-stand : goal.returns-in-Ok-clause-stand
 returns-in-Ok-clause-stand g c = λ input.
@@ -14,12 +15,12 @@ returns-in-Ok-clause-stand g c = λ input.
 
 pub returns-in-Err-Refused-clause-ran : goal.returns-in-Err-Refused-clause-ran
 returns-in-Err-Refused-clause-ran g c = λ scan is words t d p.
-    runs_idle scan _ (project_reading scan (g.T.Tree.file c.args.tree.now)) words c.say_refusal.result _ (g.P.Procs.journal c.args.procs.now) (g.D.Disk.moments c.args.disk.now) (g.met.D.Disk.sound c.args.disk.now)
+    runs_idle scan _ (of_sources (project_reading scan (g.T.Tree.file c.args.tree.now))) words c.say_refusal.result _ (g.P.Procs.journal c.args.procs.now) (g.D.Disk.moments c.args.disk.now) (g.met.D.Disk.sound c.args.disk.now)
     (λ said. stop_gives_none _ c.in-Err-Refused.field-0 _ (c.in-Err-Refused.ensures.graph scan is t) c.in-Err-Refused.field-0-is)
 
 pub returns-in-Err-Over-clause-ran : goal.returns-in-Err-Over-clause-ran
 returns-in-Err-Over-clause-ran g c = λ scan is words t d p.
-    runs_idle scan _ (project_reading scan (g.T.Tree.file c.args.tree.now)) words c.say_limit.result _ (g.P.Procs.journal c.args.procs.now) (g.D.Disk.moments c.args.disk.now) (g.met.D.Disk.sound c.args.disk.now)
+    runs_idle scan _ (of_sources (project_reading scan (g.T.Tree.file c.args.tree.now))) words c.say_limit.result _ (g.P.Procs.journal c.args.procs.now) (g.D.Disk.moments c.args.disk.now) (g.met.D.Disk.sound c.args.disk.now)
     (λ said. limit_gives_none _ c.in-Err-Over.field-0 _ _ (c.in-Err-Over.ensures.graph scan is t) c.in-Err-Over.field-0-is)
 
 pub returns-in-Err-Over-clause-says_refusal : goal.returns-in-Err-Over-clause-says_refusal
@@ -28,11 +29,11 @@ returns-in-Err-Over-clause-says_refusal g c = λ scan is t puts what said.
 
 pub returns-in-Err-Failed-clause-ran : goal.returns-in-Err-Failed-clause-ran
 returns-in-Err-Failed-clause-ran g c = λ scan is words t d p.
-    runs_idle scan _ (project_reading scan (g.T.Tree.file c.args.tree.now)) words _ _ (g.P.Procs.journal c.args.procs.now) (g.D.Disk.moments c.args.disk.now) (g.met.D.Disk.sound c.args.disk.now) (λ said. absurd said)
+    runs_idle scan _ (of_sources (project_reading scan (g.T.Tree.file c.args.tree.now))) words _ _ (g.P.Procs.journal c.args.procs.now) (g.D.Disk.moments c.args.disk.now) (g.met.D.Disk.sound c.args.disk.now) (λ said. absurd said)
 
 pub returns-in-Err-NoMemory-clause-ran : goal.returns-in-Err-NoMemory-clause-ran
 returns-in-Err-NoMemory-clause-ran g c = λ scan is words t d p.
-    runs_idle scan _ (project_reading scan (g.T.Tree.file c.args.tree.now)) words _ _ (g.P.Procs.journal c.args.procs.now) (g.D.Disk.moments c.args.disk.now) (g.met.D.Disk.sound c.args.disk.now) (λ said. absurd said)
+    runs_idle scan _ (of_sources (project_reading scan (g.T.Tree.file c.args.tree.now))) words _ _ (g.P.Procs.journal c.args.procs.now) (g.D.Disk.moments c.args.disk.now) (g.met.D.Disk.sound c.args.disk.now) (λ said. absurd said)
 
 pub returns-in-Ok-clause-asked : goal.returns-in-Ok-clause-asked
 returns-in-Ok-clause-asked g c = λ t. inl (c.in-Ok.ensures.asked t)

@@ -1,6 +1,6 @@
 use Rattle.std.proofs.Common.{refl, sym, ◌∙◌, inr}
 use Rattle.vunit_top.specs.Reading.{reading}
-use Rattle.vunit_top.proofs.Asks.{asks_none}
+use Rattle.project_reading.proofs.Asks.{asks_none}
 use Rattle.vunit_top.proofs.Tops.{child_gives_none, bad_gives_none}
 use Rattle.vunit_top.proofs.RunTruths.{runs_idle}
 use Rattle.vunit_top.proofs.top.run_vunit.Goals as goal

@@ -1,0 +1,8 @@
+-- The lemmas.
+pub mod Asks
+mod Afters
+mod TextLemmas
+mod ScanLemmas
+mod Listings
+mod LinkLemmas
+mod Steps

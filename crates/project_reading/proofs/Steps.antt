@@ -1,0 +1,66 @@
+-- One step of reading, and then the next.
+use Rattle.std.proofs.Common.{◌≡◌, ℕ, ◌≤◌, List, length, Result, Ok, Err, sym, ap, subst, ◌∙◌, inl, inr}
+use Rattle.std.specs.Prelude.{IfOk}
+use Rattle.std.proofs.lemmas.Bool.{cases_Bool, cond-true, cond-false}
+use Rattle.vr_base.specs.declared.design.Scan.{Scan}
+use Rattle.vr_base.specs.declared.linking.Linked.{Linked}
+use Rattle.vr_base.specs.declared.linking.LinkFault.{LinkFault}
+use Rattle.vr_base.specs.declared.project.Project.{Project}
+use Rattle.vr_base.specs.Projects.{IsProject}
+use Rattle.order_spec.specs.BuildOrder.{FileOrder, Ordered, Cyclic, file_order}
+use Rattle.order_spec.specs.LinkedGraph.{FitTexts}
+use Rattle.scan_spec.specs.Dependencies.{link_units, link_of}
+use Rattle.scan_spec.specs.Scans.{AreScansOf}
+use Rattle.project_reading.specs.declared.limits.TheConstants.{PROJECT_FILE_LIMIT}
+use Rattle.project_reading.specs.declared.linking.ReadProject.{ReadProject}
+use Rattle.project_reading.specs.declared.stops.ReadStop.{ReadStop}
+use Rattle.project_reading.specs.declared.stops.ReadStop.TheVariants as stop
+use Rattle.project_reading.specs.Reading.{SourceReading, Found, then_read, linked_or, order_or, listed_reading, linked_reading, ordered_reading, links_of, scanned_reading}
+use Rattle.project_reading.specs.Sources.{Gives, LeadsTo, IsReadProject}
+
+-- a step gives nothing to go on with
+pub stops_there : {T : Type 0} (next : T → SourceReading) (whole : Result T SourceReading) (e : ReadStop) → Gives {T = T} whole (Err e) → LeadsTo (then_read next whole) (Err e)
+stops_there next whole (stop.Refused reason) none = ap (then_read next) none
+stops_there next whole (stop.Over limit number) none = ap (then_read next) none
+stops_there next whole stop.Failed none = tt
+stops_there next whole stop.NoMemory none = tt
+
+-- a step gives what is gone on with
+pub goes_on : {T : Type 0} (next : T → SourceReading) (whole : Result T SourceReading) (value : T) (result : Result ReadProject ReadStop) → whole ≡ Ok value → LeadsTo (next value) result → LeadsTo (then_read next whole) result
+goes_on {T} next whole value result is then = subst (λ (step : Result T SourceReading). LeadsTo (then_read next step) result) (sym is) then
+
+abbrev HasParts : Project → List Scan → ReadProject → Type 0
+HasParts project scans read = (project ≡ read.project) × (scans ≡ read.scans)
+
+has_parts : (mine read : ReadProject) → Found mine ≡ Found read → HasParts mine.project mine.scans read
+has_parts mine read same = (cc, cc)
+
+module _ (project : Project) (texts : List (List ℕ)) (scans : List Scan) (read : ReadProject) where
+  of_order : (links : Linked) (said : FileOrder) → then_read (ordered_reading project texts scans links) (order_or project.files said) ≡ Found read → HasParts project scans read
+  of_order links (Ordered order) is = has_parts _ read is
+  of_order links (Cyclic cycle) is = let nothing : ⊥ = cc in absurd nothing
+
+  of_links : (said : Result Linked LinkFault) → then_read (linked_reading project texts scans) (linked_or said) ≡ Found read → HasParts project scans read
+  of_links (Ok links) is = of_order links (file_order links.edges) is
+  of_links (Err fault) is = let nothing : ⊥ = cc in absurd nothing
+
+  parts : scanned_reading project texts scans ≡ Found read → HasParts project scans read
+  unfolding scanned_reading
+  parts is =
+      elim (cases_Bool project.listed) [
+        | inl listed ↦ has_parts _ read (sym (cond-true project.listed (listed_reading project texts scans) (then_read (linked_reading project texts scans) (links_of project texts scans)) listed) ∙ is)
+        | inr unlisted ↦ of_links (link_of project (link_units 0 project.files texts scans)) (sym (cond-false project.listed (listed_reading project texts scans) (then_read (linked_reading project texts scans) (links_of project texts scans)) unlisted) ∙ is)
+      ]
+
+-- what is read of a project with its texts and scans
+pub is_read : (project : Project) (texts : List (List ℕ)) (scans : List Scan) → IsProject project → length project.files ≤ PROJECT_FILE_LIMIT → FitTexts project.files texts → AreScansOf texts scans → (result : Result ReadProject ReadStop) → LeadsTo (scanned_reading project texts scans) result → IfOk result IsReadProject
+is_read project texts scans proper few fit are (Err e) leads = tt
+is_read project texts scans proper few fit are (Ok read) leads =
+    let same = parts project texts scans read leads in record {
+      project = subst IsProject same.0 proper;
+      few = subst (λ (p : Project). length p.files ≤ PROJECT_FILE_LIMIT) same.0 few;
+      texts = texts;
+      fit = subst (λ (p : Project). FitTexts p.files texts) same.0 fit;
+      scans = subst (AreScansOf texts) same.1 are;
+      whole = subst (λ (p : Project). scanned_reading p texts read.scans ≡ Found read) same.0 (subst (λ (ss : List Scan). scanned_reading project texts ss ≡ Found read) same.1 leads);
+    }

@@ -1,0 +1,9 @@
+use Rattle.scan_spec.specs.Dependencies.{link_units}
+use Rattle.project_reading.proofs.LinkLemmas.{edges_for_each}
+use Rattle.project_reading.proofs.linking.links_of.Goals as goal
+
+pub returns-in-Ok-clause-count : goal.returns-in-Ok-clause-count
+returns-in-Ok-clause-count c = edges_for_each c.args.project.now (link_units 0 c.args.project.now.files c.args.texts.now c.args.scans.now) c.in-Ok.links c.in-Ok.ensures.exact
+
+pub returns-in-Err-clause-links : goal.returns-in-Err-clause-links
+returns-in-Err-clause-links c = c.link_stop.ensures.stop _ c.in-Err.ensures.exact

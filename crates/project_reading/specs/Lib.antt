@@ -1,0 +1,5 @@
+-- The definitions.
+pub mod Reading
+pub mod Sources
+pub mod Scanning
+pub mod Asked

@@ -1,0 +1,164 @@
+-- What the sources of a project say is to be done: a function of what a tree holds and lists.
+use Rattle.std.specs.Prelude.{ℕ, ◌+◌, nat_le, if◌then◌else◌, List, [], ◌∷◌, length, codes, slice_get, Option, option_map, Result, Ok, Err}
+use Rattle.std.specs.List.{filter_map}
+use Rattle.vr_base.specs.declared.file.FileName.{FileName}
+use Rattle.vr_base.specs.declared.project.Project.{Project}
+use Rattle.vr_base.specs.declared.project.ProjectFile.{ProjectFile}
+use Rattle.vr_base.specs.declared.project.ProjectFault.{ProjectFault}
+use Rattle.vr_base.specs.declared.design.Scan.{Scan}
+use Rattle.vr_base.specs.declared.linking.Linked.{Linked}
+use Rattle.vr_base.specs.declared.linking.LinkFault.{LinkFault}
+use Rattle.vr_base.specs.declared.linking.LinkFault.TheVariants as link
+use Rattle.vr_base.specs.declared.outcome.Refusal.{Refusal}
+use Rattle.vr_base.specs.declared.outcome.Refusal.TheVariants as refusal
+use Rattle.vr_base.specs.declared.outcome.Limit.{Limit}
+use Rattle.vr_base.specs.declared.outcome.Limit.TheVariants as limit
+use Rattle.vr_base.specs.declared.limits.TheConstants.{TEXT_LIMIT, NAME_LIMIT}
+use Rattle.vr_base.specs.PresentGraph.{listed}
+use Rattle.vr_outside.specs.declared.tree.ReadEnd.{ReadEnd}
+use Rattle.vr_outside.specs.declared.tree.ReadEnd.TheVariants as read
+use Rattle.vr_outside.specs.declared.tree.NamesEnd.{NamesEnd}
+use Rattle.vr_outside.specs.declared.tree.NamesEnd.TheVariants as names
+use Rattle.vr_outside.specs.Trees.{read_end, names_end}
+use Rattle.project_file.specs.Csv.{csv_project}
+use Rattle.project_file.specs.Toml.{toml_project}
+use Rattle.scan_spec.specs.Scans.{Finding, Clean, Lexical, Grammatical}
+use Rattle.scan_spec.specs.Dependencies.{link_units, link_of}
+use Rattle.order_spec.specs.BuildOrder.{FileOrder, Ordered, Cyclic, file_order}
+use Rattle.order_spec.specs.LinkedGraph.{linked}
+use Rattle.project_reading.specs.declared.limits.TheConstants.{PROJECT_FILE_LIMIT, PROJECT_TEXT_LIMIT}
+use Rattle.project_reading.specs.declared.linking.ReadProject.{ReadProject}
+
+-- The sources are refused; a quantity is over its limit, which is this number; or this project is read.
+pub data SourceReading : Type 0 where
+  Stops : Refusal → SourceReading
+  Over : Limit → ℕ → SourceReading
+  Found : ReadProject → SourceReading
+
+-- what a step gives, and what is then read with it
+abbrev pub then_read : {T : Type 0} → (T → SourceReading) → Result T SourceReading → SourceReading
+then_read next (Ok value) = next value
+then_read next (Err reading) = reading
+
+-- one, and then the others
+abbrev pub before_others : {T : Type 0} → T → Result (List T) SourceReading → Result (List T) SourceReading
+before_others one (Ok more) = Ok (one ∷ more)
+before_others one (Err reading) = Err reading
+
+abbrev pub and_others : {T : Type 0} → (T → Result (List T) SourceReading) → Result T SourceReading → Result (List T) SourceReading
+and_others others (Ok one) = before_others one (others one)
+and_others others (Err reading) = Err reading
+
+-- ## The project
+
+abbrev pub project_or : Result Project ProjectFault → Result Project SourceReading
+project_or (Ok project) = Ok project
+project_or (Err fault) = Err (Stops (refusal.Project fault))
+
+-- the project of what is read of a project file of lines
+abbrev pub csv_said : ReadEnd → Result Project SourceReading
+csv_said read.Absent = Err (Stops refusal.NoProject)
+csv_said read.TooLong = Err (Over limit.TextBytes TEXT_LIMIT)
+csv_said (read.Got bytes) = project_or (csv_project bytes)
+
+-- the project of a TOML file, over the names that are listed
+abbrev pub toml_said : List ℕ → NamesEnd → Result Project SourceReading
+toml_said bytes names.TooMany = Err (Over limit.Names NAME_LIMIT)
+toml_said bytes (names.Got paths) = project_or (toml_project bytes paths)
+
+-- the project of what is read of a TOML file: only where there is none, that of a project file of lines
+abbrev pub project_said : (List ℕ → Option (List ℕ)) → List (List ℕ) → ReadEnd → Result Project SourceReading
+project_said file listed read.Absent = csv_said (read_end (file (codes "vunit.csv")) TEXT_LIMIT)
+project_said file listed read.TooLong = Err (Over limit.TextBytes TEXT_LIMIT)
+project_said file listed (read.Got bytes) = toml_said bytes (names_end listed NAME_LIMIT)
+
+-- the project of a tree of these files, which lists these names
+unfoldable pub project_in : (List ℕ → Option (List ℕ)) → List (List ℕ) → Result Project SourceReading
+project_in file listed = project_said file listed (read_end (file (codes "vunit.toml")) TEXT_LIMIT)
+
+-- ## Its texts
+
+-- a text, where it and those before it have no more bytes together than they may
+abbrev pub text_after : ℕ → List ℕ → Result (List ℕ) SourceReading
+text_after before text = if nat_le (before + length text) PROJECT_TEXT_LIMIT then Ok text else Err (Over limit.TotalBytes PROJECT_TEXT_LIMIT)
+
+-- the text of a file after texts of so many bytes, or why nothing is compiled
+abbrev pub text_of : FileName → ℕ → ReadEnd → Result (List ℕ) SourceReading
+text_of name before read.Absent = Err (Stops (refusal.AbsentFile name))
+text_of name before read.TooLong = Err (Over limit.TextBytes TEXT_LIMIT)
+text_of name before (read.Got text) = text_after before text
+
+-- the texts of files after texts of so many bytes; or what the first file says, in project order, that gives no text
+unfoldable pub texts_of : (List ℕ → Option (List ℕ)) → ℕ → List ProjectFile → Result (List (List ℕ)) SourceReading
+texts_of file before [] = Ok []
+texts_of file before (first ∷ rest) = and_others (λ text. texts_of file (before + length text) rest) (text_of first.name before (read_end (file first.name.path) TEXT_LIMIT))
+
+-- ## Their scans
+
+-- the scan of a file by what is found in it, or its refusal
+abbrev pub scan_of : FileName → Finding → Result Scan SourceReading
+scan_of name (Clean scan) = Ok scan
+scan_of name (Lexical fault) = Err (Stops (refusal.Lex name fault))
+scan_of name (Grammatical fault) = Err (Stops (refusal.Units name fault))
+
+-- the scans of files with their texts, or the refusal of the first in project order that has a fault
+unfoldable pub scans_of : (List ℕ → Finding) → List ProjectFile → List (List ℕ) → Result (List Scan) SourceReading
+scans_of scan [] texts = Ok []
+scans_of scan (file ∷ files) [] = Ok []
+scans_of scan (file ∷ files) (text ∷ texts) = and_others (λ one. scans_of scan files texts) (scan_of file.name (scan text))
+
+-- ## The graph
+
+-- the refusal of what is wrong with the names of units; the last row is never met, since nothing is said of memory
+abbrev pub link_refusal : LinkFault → Refusal
+link_refusal (link.DuplicateUnit unit first second) = refusal.DuplicateUnit unit first second
+link_refusal (link.MissingUnit file library unit) = refusal.MissingUnit file library unit
+link_refusal (link.MissingArchitecture file library entity architecture) = refusal.MissingArchitecture file library entity architecture
+link_refusal link.NoMemory = refusal.NotBuilt
+
+abbrev pub linked_or : Result Linked LinkFault → Result Linked SourceReading
+linked_or (Ok linked) = Ok linked
+linked_or (Err fault) = Err (Stops (link_refusal fault))
+
+-- what depends on what in a project of these texts and scans, and the warnings about it
+abbrev pub links_of : Project → List (List ℕ) → List Scan → Result Linked SourceReading
+links_of project texts scans = linked_or (link_of project (link_units 0 project.files texts scans))
+
+-- the names of the files at positions
+unfoldable pub names_at : List ProjectFile → List ℕ → List FileName
+names_at files positions = filter_map (λ at. option_map (λ file. file.name) (slice_get files at)) positions
+
+abbrev pub order_or : List ProjectFile → FileOrder → Result (List ℕ) SourceReading
+order_or files (Ordered order) = Ok order
+order_or files (Cyclic cycle) = Err (Stops (refusal.Cycle (names_at files cycle)))
+
+-- a linked project, its graph in compile order
+abbrev pub ordered_reading : Project → List (List ℕ) → List Scan → Linked → List ℕ → SourceReading
+ordered_reading project texts scans links order = Found (record { project = project; graph = linked project.files texts links.edges order; scans = scans; warnings = links.warnings })
+
+abbrev pub linked_reading : Project → List (List ℕ) → List Scan → Linked → SourceReading
+linked_reading project texts scans links = then_read (ordered_reading project texts scans links) (order_or project.files (file_order links.edges))
+
+-- a listed project, its graph in listed order
+abbrev pub listed_reading : Project → List (List ℕ) → List Scan → SourceReading
+listed_reading project texts scans = Found (record { project = project; graph = listed project.files texts; scans = scans; warnings = [] })
+
+-- the reading of a project of these texts and scans
+unfoldable pub scanned_reading : Project → List (List ℕ) → List Scan → SourceReading
+scanned_reading project texts scans = if project.listed then listed_reading project texts scans else then_read (linked_reading project texts scans) (links_of project texts scans)
+
+-- ## All
+
+abbrev pub texts_reading : (List ℕ → Finding) → Project → List (List ℕ) → SourceReading
+texts_reading scan project texts = then_read (scanned_reading project texts) (scans_of scan project.files texts)
+
+abbrev pub files_reading : (List ℕ → Finding) → (List ℕ → Option (List ℕ)) → Project → SourceReading
+files_reading scan file project = then_read (texts_reading scan project) (texts_of file 0 project.files)
+
+-- the reading of a project over these files
+abbrev pub sources_reading : (List ℕ → Finding) → (List ℕ → Option (List ℕ)) → Project → SourceReading
+sources_reading scan file project = if nat_le (length project.files) PROJECT_FILE_LIMIT then files_reading scan file project else Over limit.Files PROJECT_FILE_LIMIT
+
+-- the reading of a tree of these files, which lists these names, over a scanner
+unfoldable pub project_reading : (List ℕ → Finding) → (List ℕ → Option (List ℕ)) → List (List ℕ) → SourceReading
+project_reading scan file listed = then_read (sources_reading scan file) (project_in file listed)

@@ -1,0 +1,53 @@
+-- What the steps of reading give, and what each answer comes of.
+use Rattle.std.specs.Prelude.{◌≡◌, ℕ, ◌≤◌, List, length, Result, Ok, Err}
+use Rattle.vr_base.specs.Projects.{IsProject}
+use Rattle.vr_outside.specs.Counts.{Counted}
+use Rattle.order_spec.specs.LinkedGraph.{FitTexts}
+use Rattle.scan_spec.specs.Scans.{AreScansOf}
+use Rattle.project_reading.specs.declared.limits.TheConstants.{PROJECT_FILE_LIMIT}
+use Rattle.project_reading.specs.Reading.{SourceReading, Stops, Over, Found, scanned_reading}
+use Rattle.project_reading.specs.declared.linking.ReadProject.{ReadProject}
+use Rattle.project_reading.specs.declared.stops.ReadStop.{ReadStop}
+use Rattle.project_reading.specs.declared.stops.ReadStop.TheVariants as stop
+
+-- what was read is what there is to read; after a fault and out of memory nothing is owed
+abbrev pub Gives : {T : Type 0} → Result T SourceReading → Result T ReadStop → Type 0
+Gives whole (Ok value) = whole ≡ Ok value
+Gives whole (Err (stop.Refused reason)) = whole ≡ Err (Stops reason)
+Gives whole (Err (stop.Over limit number)) = whole ≡ Err (Over limit number)
+Gives whole (Err stop.Failed) = Unit {0}
+Gives whole (Err stop.NoMemory) = Unit {0}
+
+-- the reading is what was read: a project, a refusal, or a limit that is passed; after a fault and out of memory nothing is owed
+abbrev pub LeadsTo : SourceReading → Result ReadProject ReadStop → Type 0
+LeadsTo whole (Ok read) = whole ≡ Found read
+LeadsTo whole (Err (stop.Refused reason)) = whole ≡ Stops reason
+LeadsTo whole (Err (stop.Over limit number)) = whole ≡ Over limit number
+LeadsTo whole (Err stop.Failed) = Unit {0}
+LeadsTo whole (Err stop.NoMemory) = Unit {0}
+
+-- After each answer: the tree's fault was counted, and else its count is unchanged.
+abbrev pub ReadCounts : {T : Type 0} → Result T ReadStop → ℕ → ℕ → Type 0
+ReadCounts (Ok value) before now = now ≡ before
+ReadCounts (Err (stop.Refused reason)) before now = now ≡ before
+ReadCounts (Err (stop.Over limit number)) before now = now ≡ before
+ReadCounts (Err stop.Failed) before now = Counted before now
+ReadCounts (Err stop.NoMemory) before now = now ≡ before
+
+-- no refusal, and no limit that is passed
+abbrev pub IsPlain : {T : Type 0} → Result T ReadStop → Type 0
+IsPlain (Ok value) = Unit {0}
+IsPlain (Err (stop.Refused reason)) = ⊥
+IsPlain (Err (stop.Over limit number)) = ⊥
+IsPlain (Err stop.Failed) = Unit {0}
+IsPlain (Err stop.NoMemory) = Unit {0}
+
+-- What was read is a project, some text for each of its files, the scans of these texts, and what they give, whatever the
+-- tree tells.
+pub record IsReadProject (read : ReadProject) : Type 0 where
+  pub project : IsProject read.project
+  pub few : length read.project.files ≤ PROJECT_FILE_LIMIT
+  pub texts : List (List ℕ)
+  pub fit : FitTexts read.project.files texts
+  pub scans : AreScansOf texts read.scans
+  pub whole : scanned_reading read.project texts read.scans ≡ Found read

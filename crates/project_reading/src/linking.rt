@@ -1,0 +1,212 @@
+//! The graph of a project whose texts and scans are there.
+
+ghost use Rattle.std.specs.Prelude.{◌≡◌, ◌≤◌, ℕ, true, false, ◌∷◌, ◌++◌, [], length, Result, Err, IfOk, OnOk};
+ghost use Rattle.vr_base.specs.declared.linking.Linked.{Linked as Links};
+ghost use Rattle.vr_base.specs.declared.linking.LinkFault.{LinkFault as Fault};
+ghost use Rattle.vr_base.specs.Projects.{IsProject};
+ghost use Rattle.scan_spec.specs.Scans.{AreScansOf};
+ghost use Rattle.order_spec.specs.BuildOrder.{AreEdges, IsBuildOrder, file_order};
+ghost use Rattle.order_spec.specs.LinkedGraph.{FitTexts};
+ghost use Rattle.file_graph.specs.Results.{GivesLinks};
+ghost use Rattle.project_reading.specs.Reading.{linked_or, links_of, names_at, order_or, listed_reading, linked_reading, then_read, scanned_reading};
+ghost use Rattle.project_reading.specs.Sources.{Gives, LeadsTo, ReadCounts};
+
+use crate::limits::PROJECT_FILE_LIMIT;
+use crate::stops::ReadStop;
+use build_order::order;
+use file_graph::link;
+use present_graph::graph_of;
+use source_view::listed_graph;
+use std::alloc::Global;
+use vr_base::{
+    Edges, FileList, Graph, LinkFault, Linked, NoMemory, Order, OrderFault, Project, ProjectFile,
+    Refusal, Scans, TextList, WarningList,
+};
+
+/// What is read of a project.
+#[derive(Drop)]
+pub struct ReadProject {
+    pub project: Project,
+    /// Its files in compile order, each with its text and the files that it depends on.
+    pub graph: Graph,
+    /// The scans of its files, in project order.
+    pub scans: Scans,
+    /// The uses of whole libraries that give no dependency, in project order.
+    pub warnings: WarningList,
+}
+
+/// Why a project whose names of units are wrong isn't compiled.
+fn link_stop(fault: LinkFault) -> ReadStop
+    ensures stop { (said : Result Links Fault) → GivesLinks said (Err fault) →
+        Gives {T = Links} (linked_or said) (Err result) }
+    ensures cause { (count : ℕ) → ReadCounts {T = Links} (Err result) count count }
+{
+    match fault {
+        LinkFault::NoMemory => ReadStop::NoMemory,
+        LinkFault::DuplicateUnit {
+            unit,
+            first,
+            second,
+        } => ReadStop::Refused(Refusal::DuplicateUnit {
+            unit,
+            first,
+            second,
+        }),
+        LinkFault::MissingUnit {
+            file,
+            library,
+            unit,
+        } => ReadStop::Refused(Refusal::MissingUnit {
+            file,
+            library,
+            unit,
+        }),
+        LinkFault::MissingArchitecture {
+            file,
+            library,
+            entity,
+            architecture,
+        } => ReadStop::Refused(Refusal::MissingArchitecture {
+            file,
+            library,
+            entity,
+            architecture,
+        }),
+    }
+}
+
+/// What depends on what in a project, or what is wrong with the names of its units.
+fn links_of(
+    alloc: Global,
+    project: &Project,
+    texts: &TextList,
+    scans: &Scans,
+) -> Result<Linked, ReadStop>
+    requires few { length project.now.files ≤ PROJECT_FILE_LIMIT }
+    requires texts { FitTexts project.now.files texts.now }
+    requires scans { AreScansOf texts.now scans.now }
+    ensures links { Gives (links_of project.now texts.now scans.now) result }
+    ensures edges { IfOk result (λ links. AreEdges links.edges) }
+    ensures count { IfOk result (λ links. length links.edges ≡ length project.now.files) }
+    ensures cause { (count : ℕ) → ReadCounts result count count }
+{
+    match link(alloc, project, texts, scans) {
+        Ok(links) => Ok(links),
+        Err(fault) => Err(link_stop(fault)),
+    }
+}
+
+/// Adds the name of the file at a position, where there is one.
+#[tactic(auto, unfolding(crate::specs::Reading::names_at))]
+fn add_name(
+    alloc: Global,
+    names: &mut FileList,
+    files: &[ProjectFile],
+    position: u32,
+) -> Result<(), NoMemory>
+    ensures { OnOk result (names.new ≡ names.old ++ names_at files.now (position ∷ [])) }
+{
+    match files.get(position as usize) {
+        Some(file) => names.push(file.name.copy(alloc)?),
+        None => Ok(()),
+    }
+}
+
+/// The names of the files at positions.
+fn names_at(alloc: Global, files: &[ProjectFile], positions: &[u32]) -> Result<FileList, NoMemory>
+    ensures { IfOk result (λ names. names ≡ names_at files.now positions.now) }
+{
+    let mut names = FileList::new(alloc);
+    for position in positions {
+        add_name(alloc, &mut names, files, *position)?;
+    }
+    Ok(names)
+}
+
+/// The order of the files of a project, or the cycle that leaves them without one.
+fn order_of(alloc: Global, files: &[ProjectFile], edges: &Edges) -> Result<Order, ReadStop>
+    requires { AreEdges edges.now }
+    ensures order { Gives (order_or files.now (file_order edges.now)) result }
+    ensures sorted { IfOk result (IsBuildOrder edges.now) }
+    ensures cause { (count : ℕ) → ReadCounts result count count }
+{
+    match order(alloc, edges) {
+        Ok(order) => Ok(order),
+        Err(OrderFault::NoMemory) => Err(ReadStop::NoMemory),
+        Err(OrderFault::Cycle { files: cycle }) => Err(ReadStop::Refused(Refusal::Cycle {
+            files: names_at(alloc, files, cycle.as_slice())?,
+        })),
+    }
+}
+
+/// A listed project, its graph in listed order.
+fn listed_project(
+    alloc: Global,
+    project: Project,
+    texts: TextList,
+    scans: Scans,
+) -> Result<ReadProject, ReadStop>
+    requires project { IsProject project }
+    requires few { length project.files ≤ PROJECT_FILE_LIMIT }
+    requires texts { FitTexts project.files texts }
+    ensures reading { LeadsTo (listed_reading project texts scans) result }
+    ensures cause { (count : ℕ) → ReadCounts result count count }
+{
+    let graph = listed_graph(alloc, &project, texts)?;
+    let warnings = WarningList::new(alloc);
+    Ok(ReadProject {
+        project,
+        graph,
+        scans,
+        warnings,
+    })
+}
+
+/// A project with what depends on what in it, its graph in compile order.
+fn linked_project(
+    alloc: Global,
+    project: Project,
+    texts: TextList,
+    scans: Scans,
+    links: Linked,
+) -> Result<ReadProject, ReadStop>
+    requires project { IsProject project }
+    requires texts { FitTexts project.files texts }
+    requires edges { AreEdges links.edges }
+    requires count { length links.edges ≡ length project.files }
+    ensures reading { LeadsTo (linked_reading project texts scans links) result }
+    ensures cause { (count : ℕ) → ReadCounts result count count }
+{
+    let Linked { edges, warnings } = links;
+    let order = order_of(alloc, project.files.as_slice(), &edges)?;
+    let graph = graph_of(alloc, &project, texts, &edges, &order)?;
+    Ok(ReadProject {
+        project,
+        graph,
+        scans,
+        warnings,
+    })
+}
+
+/// A project of these texts and scans. Texts exist once: they are lent until it is known what depends on what, and then
+/// moved into the graph.
+#[tactic(auto, unfolding(crate::specs::Reading::scanned_reading))]
+pub(crate) fn scanned_project(
+    alloc: Global,
+    project: Project,
+    texts: TextList,
+    scans: Scans,
+) -> Result<ReadProject, ReadStop>
+    requires project { IsProject project }
+    requires few { length project.files ≤ PROJECT_FILE_LIMIT }
+    requires texts { FitTexts project.files texts }
+    requires scans { AreScansOf texts scans }
+    ensures reading { LeadsTo (scanned_reading project texts scans) result }
+    ensures cause { (count : ℕ) → ReadCounts result count count }
+{
+    if project.listed {
+        return listed_project(alloc, project, texts, scans);
+    }
+    let links = links_of(alloc, &project, &texts, &scans)?;
+    linked_project(alloc, project, texts, scans, links)
+}

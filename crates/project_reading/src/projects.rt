@@ -1,0 +1,121 @@
+//! The project that the project file of a tree says.
+
+ghost use Rattle.std.specs.Prelude.{◌≡◌, ◌≤◌, ◌∷◌, [], ℕ, length, codes, Result, Err, IfOk};
+ghost use Rattle.vr_base.specs.declared.project.Project.{Project as Said};
+ghost use Rattle.vr_base.specs.declared.project.ProjectFault.{ProjectFault as Fault};
+ghost use Rattle.vr_base.specs.Projects.{IsProject};
+ghost use Rattle.vr_outside.specs.Trees.{read_end, names_end, IsListing, FitsReadLimit};
+ghost use Rattle.project_file.specs.Csv.{csv_project};
+ghost use Rattle.project_file.specs.Toml.{toml_project};
+ghost use Rattle.project_file.specs.Steps.{ReadsStep};
+ghost use Rattle.project_reading.specs.Reading.{project_or, csv_said, toml_said, project_in};
+ghost use Rattle.project_reading.specs.Sources.{Gives, ReadCounts};
+ghost use Rattle.project_reading.specs.Asked.{project_file_paths, AsksInOrder};
+
+use crate::asking::{list_names, read_file};
+use crate::stops::ReadStop;
+use project_file::{read_csv_project, read_toml_project};
+use std::alloc::Global;
+use vr_base::{Limit, NAME_LIMIT, Project, ProjectFault, Refusal, TEXT_LIMIT, Text, TextList};
+use vr_outside::{NamesEnd, ReadEnd, Tree};
+
+/// The most bytes of a project file.
+const MOST_TEXT: u64 = TEXT_LIMIT as u64;
+
+/// The most names that are listed.
+const MOST_NAMES: u64 = NAME_LIMIT as u64;
+
+/// Why nothing is compiled where a project file has a fault.
+fn project_stop(fault: ProjectFault) -> ReadStop
+    ensures stop { (said : Result Said Fault) → ReadsStep said (Err fault) →
+        Gives {T = Said} (project_or said) (Err result) }
+    ensures cause { (count : ℕ) → ReadCounts {T = Said} (Err result) count count }
+{
+    match fault {
+        ProjectFault::NoMemory => ReadStop::NoMemory,
+        fault => ReadStop::Refused(Refusal::Project { fault }),
+    }
+}
+
+/// The project of the bytes of a project file of lines.
+fn csv_said(alloc: Global, bytes: &[u8]) -> Result<Project, ReadStop>
+    requires { length bytes.now ≤ TEXT_LIMIT }
+    ensures project { Gives (project_or (csv_project bytes.now)) result }
+    ensures valid { IfOk result IsProject }
+    ensures cause { (count : ℕ) → ReadCounts result count count }
+{
+    match read_csv_project(alloc, bytes) {
+        Ok(project) => Ok(project),
+        Err(fault) => Err(project_stop(fault)),
+    }
+}
+
+/// The project of the bytes of a TOML file, over the names that are listed.
+fn toml_said(alloc: Global, bytes: &[u8], names: &TextList) -> Result<Project, ReadStop>
+    requires { IsListing NAME_LIMIT (NamesEnd.Got names.now) }
+    ensures project { Gives (project_or (toml_project bytes.now names.now)) result }
+    ensures valid { IfOk result IsProject }
+    ensures cause { (count : ℕ) → ReadCounts result count count }
+{
+    match read_toml_project(alloc, bytes, names) {
+        Ok(project) => Ok(project),
+        Err(fault) => Err(project_stop(fault)),
+    }
+}
+
+/// The project of a TOML file, over the names that a tree lists.
+fn read_toml<T: Tree>(alloc: Global, tree: &mut T, bytes: Text) -> Result<Project, ReadStop>
+    ensures project { T.tells →
+        Gives (toml_said bytes (names_end (T.listed tree.old) NAME_LIMIT)) result }
+    ensures valid { IfOk result IsProject }
+    ensures same { T.file tree.new ≡ T.file tree.old }
+    ensures same_list { T.listed tree.new ≡ T.listed tree.old }
+    ensures asked { T.asked tree.new ≡ T.asked tree.old }
+    ensures cause { ReadCounts result (T.failed_reads tree.old) (T.failed_reads tree.new) }
+{
+    match list_names(alloc, tree, MOST_NAMES)? {
+        NamesEnd::Got(names) => toml_said(alloc, bytes.bytes(), &names),
+        NamesEnd::TooMany => Err(ReadStop::Over(Limit::Names, MOST_NAMES)),
+    }
+}
+
+/// The project in a tree that has no `vunit.toml`.
+fn read_csv<T: Tree>(alloc: Global, tree: &mut T) -> Result<Project, ReadStop>
+    ensures project { T.tells →
+        let read = read_end (T.file tree.old (codes "vunit.csv")) TEXT_LIMIT in
+        Gives (csv_said read) result }
+    ensures valid { IfOk result IsProject }
+    ensures same { T.file tree.new ≡ T.file tree.old }
+    ensures same_list { T.listed tree.new ≡ T.listed tree.old }
+    ensures asked { AsksInOrder result (codes "vunit.csv" ∷ [])
+        (T.asked tree.old) (T.asked tree.new) }
+    ensures cause { ReadCounts result (T.failed_reads tree.old) (T.failed_reads tree.new) }
+{
+    let path = Text::from_slice(alloc, b"vunit.csv")?;
+    match read_file(alloc, tree, &path, MOST_TEXT)? {
+        ReadEnd::Absent => Err(ReadStop::Refused(Refusal::NoProject)),
+        ReadEnd::TooLong => Err(ReadStop::Over(Limit::TextBytes, MOST_TEXT)),
+        ReadEnd::Got(bytes) => csv_said(alloc, bytes.bytes()),
+    }
+}
+
+/// The project in a tree, or what is wrong with its project file.
+#[tactic(auto, unfolding(crate::specs::Reading::project_in))]
+pub(crate) fn find_project<T: Tree>(alloc: Global, tree: &mut T) -> Result<Project, ReadStop>
+    ensures project { T.tells →
+        Gives (project_in (T.file tree.old) (T.listed tree.old)) result }
+    ensures valid { IfOk result IsProject }
+    ensures same { T.file tree.new ≡ T.file tree.old }
+    ensures same_list { T.listed tree.new ≡ T.listed tree.old }
+    ensures asked { T.tells →
+        AsksInOrder result (project_file_paths (T.file tree.old))
+        (T.asked tree.old) (T.asked tree.new) }
+    ensures cause { ReadCounts result (T.failed_reads tree.old) (T.failed_reads tree.new) }
+{
+    let path = Text::from_slice(alloc, b"vunit.toml")?;
+    match read_file(alloc, tree, &path, MOST_TEXT)? {
+        ReadEnd::Absent => read_csv(alloc, tree),
+        ReadEnd::TooLong => Err(ReadStop::Over(Limit::TextBytes, MOST_TEXT)),
+        ReadEnd::Got(bytes) => read_toml(alloc, tree, bytes),
+    }
+}

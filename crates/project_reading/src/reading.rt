@@ -1,0 +1,96 @@
+//! What is read of a tree: the project in it, with its texts, scans and graph; or why nothing is compiled.
+
+ghost use Rattle.std.specs.Prelude.{◌≡◌, ◌≤◌, length, List, ℕ, IfOk};
+ghost use Rattle.vr_base.specs.Projects.{IsProject};
+ghost use Rattle.scan_spec.specs.Scans.{Finding, IsScanner};
+ghost use Rattle.order_spec.specs.LinkedGraph.{FitTexts};
+ghost use Rattle.project_reading.specs.Reading.{texts_reading, files_reading, sources_reading, project_reading};
+ghost use Rattle.project_reading.specs.Sources.{LeadsTo, ReadCounts, IsReadProject};
+ghost use Rattle.project_reading.specs.Asked.{file_paths, source_paths, project_paths, AsksInOrder};
+
+use crate::limits::PROJECT_FILE_LIMIT;
+use crate::linking::{ReadProject, scanned_project};
+use crate::projects::find_project;
+use crate::scanning::scans_of;
+use crate::stops::ReadStop;
+use crate::texts::texts_of;
+use std::alloc::Global;
+use vr_base::{Limit, Project, TextList};
+use vr_outside::Tree;
+
+/// The most files of a project.
+const MOST_FILES: u64 = PROJECT_FILE_LIMIT as u64;
+
+/// What is read of a project whose texts are there.
+fn scan_texts(alloc: Global, project: Project, texts: TextList) -> Result<ReadProject, ReadStop>
+    requires project { IsProject project }
+    requires few { length project.files ≤ PROJECT_FILE_LIMIT }
+    requires texts { FitTexts project.files texts }
+    ensures reading { (scan : List ℕ → Finding) → IsScanner scan →
+        LeadsTo (texts_reading scan project texts) result }
+    ensures form { IfOk result IsReadProject }
+    ensures cause { (count : ℕ) → ReadCounts result count count }
+{
+    let scans = scans_of(alloc, project.files.as_slice(), texts.as_slice())?;
+    scanned_project(alloc, project, texts, scans)
+}
+
+/// What is read of a project of few files over the files of a tree.
+fn read_files<T: Tree>(
+    alloc: Global,
+    tree: &mut T,
+    project: Project,
+) -> Result<ReadProject, ReadStop>
+    requires project { IsProject project }
+    requires few { length project.files ≤ PROJECT_FILE_LIMIT }
+    ensures reading { (scan : List ℕ → Finding) → IsScanner scan → T.tells →
+        LeadsTo (files_reading scan (T.file tree.old) project) result }
+    ensures form { IfOk result IsReadProject }
+    ensures same { T.file tree.new ≡ T.file tree.old }
+    ensures same_list { T.listed tree.new ≡ T.listed tree.old }
+    ensures asked { AsksInOrder result (file_paths project.files)
+        (T.asked tree.old) (T.asked tree.new) }
+    ensures cause { ReadCounts result (T.failed_reads tree.old) (T.failed_reads tree.new) }
+{
+    let texts = texts_of(alloc, tree, project.files.as_slice())?;
+    scan_texts(alloc, project, texts)
+}
+
+/// What is read of a project over the files of a tree.
+fn read_sources<T: Tree>(
+    alloc: Global,
+    tree: &mut T,
+    project: Project,
+) -> Result<ReadProject, ReadStop>
+    requires { IsProject project }
+    ensures reading { (scan : List ℕ → Finding) → IsScanner scan → T.tells →
+        LeadsTo (sources_reading scan (T.file tree.old) project) result }
+    ensures form { IfOk result IsReadProject }
+    ensures same { T.file tree.new ≡ T.file tree.old }
+    ensures same_list { T.listed tree.new ≡ T.listed tree.old }
+    ensures asked { AsksInOrder result (source_paths project)
+        (T.asked tree.old) (T.asked tree.new) }
+    ensures cause { ReadCounts result (T.failed_reads tree.old) (T.failed_reads tree.new) }
+{
+    if project.files.len() > MOST_FILES {
+        return Err(ReadStop::Over(Limit::Files, MOST_FILES));
+    }
+    read_files(alloc, tree, project)
+}
+
+/// The project in a tree with its graph, or what is wrong with its sources. Each file is read once, and no call changes
+/// what the tree holds and lists.
+pub fn read_project<T: Tree>(alloc: Global, tree: &mut T) -> Result<ReadProject, ReadStop>
+    ensures reading { (scan : List ℕ → Finding) → IsScanner scan → T.tells →
+        LeadsTo (project_reading scan (T.file tree.old) (T.listed tree.old)) result }
+    ensures form { IfOk result IsReadProject }
+    ensures same { T.file tree.new ≡ T.file tree.old }
+    ensures same_list { T.listed tree.new ≡ T.listed tree.old }
+    ensures asked { T.tells →
+        let paths = project_paths (T.file tree.old) (T.listed tree.old) in
+        AsksInOrder result paths (T.asked tree.old) (T.asked tree.new) }
+    ensures cause { ReadCounts result (T.failed_reads tree.old) (T.failed_reads tree.new) }
+{
+    let project = find_project(alloc, tree)?;
+    read_sources(alloc, tree, project)
+}

@@ -1,0 +1,121 @@
+//! The scans of the files of a project, or the refusal of the first file that has a fault.
+
+ghost use Rattle.std.specs.Prelude.{◌≡◌, ◌≤◌, ℕ, List, length, IfOk};
+ghost use Rattle.scan_spec.specs.Units.{AreTokensOf};
+ghost use Rattle.scan_spec.specs.Scans.{Finding, IsScanner, AreScansOf};
+ghost use Rattle.order_spec.specs.LinkedGraph.{FitTexts};
+ghost use Rattle.project_reading.specs.Reading.{scan_of, scans_of};
+ghost use Rattle.project_reading.specs.Sources.{Gives, ReadCounts};
+ghost use Rattle.project_reading.specs.Scanning.{GivesScan};
+
+use crate::stops::ReadStop;
+use std::alloc::Global;
+use vhdl_lex::scan_tokens;
+use vhdl_units::outline;
+use vr_base::{
+    FileName, LexFault, NoMemory, ProjectFile, Refusal, Scan, Scans, TEXT_LIMIT, Text, TokenList,
+    Tokens, UnitFault,
+};
+
+/// A refusal of a file for a lexical fault.
+fn lexical(alloc: Global, file: &FileName, fault: LexFault) -> Result<Refusal, NoMemory>
+    ensures { IfOk result (λ refusal. refusal ≡ Refusal.Lex file.now fault) }
+{
+    Ok(Refusal::Lex {
+        file: file.copy(alloc)?,
+        fault,
+    })
+}
+
+/// A refusal of a file for a fault of the unit grammar.
+fn grammatical(alloc: Global, file: &FileName, fault: UnitFault) -> Result<Refusal, NoMemory>
+    ensures { IfOk result (λ refusal. refusal ≡ Refusal.Units file.now fault) }
+{
+    Ok(Refusal::Units {
+        file: file.copy(alloc)?,
+        fault,
+    })
+}
+
+/// The same tokens, in no more room than they need: the scanner reserves by the length of the text.
+fn without_spare_room(tokens: Tokens) -> Tokens
+    ensures { result ≡ tokens }
+{
+    let Tokens { list, comments } = tokens;
+    let mut list = list.into_vec();
+    list.shrink_to_fit();
+    Tokens {
+        list: TokenList::from_vec(list),
+        comments,
+    }
+}
+
+/// The scan of a file whose tokens are known, or its refusal for a fault of the unit grammar.
+fn scan_units(alloc: Global, file: &FileName, text: &[u8], tokens: Tokens) -> Result<Scan, ReadStop>
+    requires tokens { AreTokensOf text.now tokens }
+    requires small { length text.now ≤ TEXT_LIMIT }
+    ensures scan { GivesScan file.now text.now result }
+    ensures cause { (count : ℕ) → ReadCounts result count count }
+{
+    match outline(alloc, text, &tokens) {
+        Ok(units) => Ok(Scan { tokens, units }),
+        Err(UnitFault::NoMemory) => Err(ReadStop::NoMemory),
+        Err(UnitFault::NotUnit { at }) => Err(ReadStop::Refused(grammatical(
+            alloc,
+            file,
+            UnitFault::NotUnit { at },
+        )?)),
+        Err(UnitFault::NotEnded { at }) => Err(ReadStop::Refused(grammatical(
+            alloc,
+            file,
+            UnitFault::NotEnded { at },
+        )?)),
+    }
+}
+
+/// The scan of a file, or its refusal for its lexical fault or its fault of the unit grammar.
+fn scan_file(alloc: Global, file: &FileName, text: &[u8]) -> Result<Scan, ReadStop>
+    requires { length text.now ≤ TEXT_LIMIT }
+    ensures scan { GivesScan file.now text.now result }
+    ensures cause { (count : ℕ) → ReadCounts result count count }
+{
+    match scan_tokens(alloc, text) {
+        Ok(tokens) => scan_units(alloc, file, text, without_spare_room(tokens)),
+        Err(LexFault::NoMemory) => Err(ReadStop::NoMemory),
+        Err(LexFault::UnclosedString { at }) => Err(ReadStop::Refused(lexical(
+            alloc,
+            file,
+            LexFault::UnclosedString { at },
+        )?)),
+        Err(LexFault::UnclosedExtended { at }) => Err(ReadStop::Refused(lexical(
+            alloc,
+            file,
+            LexFault::UnclosedExtended { at },
+        )?)),
+        Err(LexFault::UnclosedComment { at }) => Err(ReadStop::Refused(lexical(
+            alloc,
+            file,
+            LexFault::UnclosedComment { at },
+        )?)),
+    }
+}
+
+/// The scans of the files, one a file, in project order; or the refusal of the first file that has a fault.
+pub(crate) fn scans_of(
+    alloc: Global,
+    files: &[ProjectFile],
+    texts: &[Text],
+) -> Result<Scans, ReadStop>
+    requires { FitTexts files.now texts.now }
+    ensures are { IfOk result (AreScansOf texts.now) }
+    ensures scans { (scan : List ℕ → Finding) → IsScanner scan →
+        Gives (scans_of scan files.now texts.now) result }
+    ensures cause { (count : ℕ) → ReadCounts result count count }
+{
+    let mut scans = Scans::new(alloc);
+    for i in 0..files.len() {
+        let scan = scan_file(alloc, &files[i].name, texts[i].bytes())?;
+        scans.push(scan)?;
+    }
+    Ok(scans)
+}
