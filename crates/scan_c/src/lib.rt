@@ -2,15 +2,18 @@
 //! it, so it hands out counts and no tokens or units. A caller in C must hand over at most 4,194,304 bytes.
 #![tactic(auto)]
 
+mod graphs;
 mod scopes;
 
 ghost use Rattle.std.specs.Prelude.{◌≡◌, ◌≤◌, ◌%◌, ◌^◌, IfOk, false, length, true};
 ghost use Rattle.vr_base.specs.declared.lexical.LexFault.{LexFault};
 ghost use Rattle.scan_spec.specs.Scans.{IsScanOf};
 ghost use Rattle.scan_spec.specs.Units.{AreTokensOf, roles_of};
+ghost use Rattle.scan_c.specs.Graphs.{IsTold};
 ghost use Rattle.scan_c.specs.Projects.{HasLibraries, HasScans};
 ghost use Rattle.scan_c.specs.Counts.{HasTokens, HasUnits, HasLexicalFault, IsFaulty, IsReferred, ref_count};
 
+use crate::graphs::{Graphed, told_of};
 use crate::scopes::{library_count, scan_files};
 use std::alloc::Global;
 use vhdl_lex::scan_tokens;
@@ -234,4 +237,32 @@ pub extern "C" fn bench_scopes(alloc: Global, text: &[u8], ends: &[usize], out: 
         Err(_nothing) => (false, 0),
     };
     *out = Seen { whole, libraries };
+}
+
+/// Scans and outlines the files of a project, and puts them into a graph by their references. The project is a project file
+/// of at most 2,147,483,647 bytes, which lists its files, and one text with the places where they end. Nothing is told
+/// where the places don't rise within the text, where there are more files than a graph has, where a name or a text is too
+/// long, where a file has a fault or its names can't be linked, or where there was no memory. C declares it as
+/// `void bench_graph(const uint8_t *csv, size_t csv_length, const uint8_t *text, size_t length, const size_t *ends,
+/// size_t count, struct graphed *out)`.
+#[unsafe(no_mangle)]
+pub extern "C" fn bench_graph(
+    alloc: Global,
+    csv: &[u8],
+    text: &[u8],
+    ends: &[usize],
+    out: &mut Graphed,
+)
+    ensures whole { out.new.whole ≡ true → IsTold csv.now text.now ends.now out.new }
+    ensures cyclic { out.new.cyclic ≡ true → IsTold csv.now text.now ends.now out.new }
+{
+    *out = match told_of(alloc, csv, text, ends) {
+        Ok(told) => told,
+        Err(_nothing) => Graphed {
+            whole: false,
+            cyclic: false,
+            files: 0,
+            deps: 0,
+        },
+    };
 }

@@ -59,7 +59,7 @@ fn part_of(alloc: Global, text: &[u8], from: usize, end: usize) -> Result<Text, 
 }
 
 /// The files of a text, which end at places.
-fn parts_of(alloc: Global, text: &[u8], ends: &[usize]) -> Result<TextList, NothingTold>
+pub fn parts_of(alloc: Global, text: &[u8], ends: &[usize]) -> Result<TextList, NothingTold>
     ensures parts { IfOk result (λ parts. parts ≡ parts_at text.now 0 ends.now) }
     ensures small { IfOk result (All IsTextSmall) }
 {
@@ -82,7 +82,7 @@ fn scan_of(alloc: Global, text: &[u8]) -> Result<Scan, NothingTold>
 }
 
 /// The scans of texts, in order.
-fn scans_of(alloc: Global, texts: &TextList) -> Result<Scans, NothingTold>
+pub fn scans_of(alloc: Global, texts: &TextList) -> Result<Scans, NothingTold>
     requires { All IsTextSmall texts.now }
     ensures { IfOk result (AreScansOf texts.now) }
 {
