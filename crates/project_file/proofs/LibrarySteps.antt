@@ -1,7 +1,6 @@
 -- Libraries after those before them.
-use Rattle.std.proofs.Common.{◌≡◌, ℕ, ◌+◌, ◌<◌, ◌≤◌, Bool, true, false, cond, List, [], ◌∷◌, ◌++◌, length, get_or, map, Some, Ok, Err, refl, sym, ap, subst, ◌∙◌, inl, inr}
+use Rattle.std.proofs.Common.{◌≡◌, ℕ, ◌<◌, true, false, cond, List, [], ◌∷◌, ◌++◌, length, get_or, map, Some, Ok, Err, sym, ap, ◌∙◌, inl, inr}
 use Rattle.std.specs.Prelude.{Contains, codes, slice_get}
-use Rattle.std.specs.List.{list_any}
 use Rattle.std.specs.Str.{bytes_eq}
 use Rattle.std.proofs.lemmas.Bool.{cases_Bool, cond-true, cond-false}
 use Rattle.std.proofs.lemmas.List.{get_or-map, length-map}
@@ -10,7 +9,6 @@ use Rattle.std.proofs.lemmas.Map.Views.{Contains-from_any}
 use Rattle.std.proofs.lemmas.Slice.Eq.{bytes_eq-Decides}
 use Rattle.std.proofs.lemmas.Option.{get_or_from_slice_get, slice_get_within}
 use Rattle.vr_base.specs.declared.file.FileName.{FileName}
-use Rattle.vr_base.specs.declared.project.ProjectFault.{ProjectFault}
 use Rattle.vr_base.specs.declared.project.ProjectFault.TheVariants.{WorkLibrary, DuplicateLibrary}
 use Rattle.numbering.specs.Numbers.{IsNumbered}
 use Rattle.project_file.specs.Toml.{is_among, new_library}

@@ -1,17 +1,15 @@
 -- The names that a pattern matches, name after name, and what patterns match, pattern after pattern.
-use Rattle.std.proofs.Common.{◌≡◌, ◌≢◌, ℕ, ◌+◌, ◌<◌, ◌≤◌, Bool, true, false, not, ◌&&◌, ◌||◌, cond, List, [], ◌∷◌, ◌++◌, length, take, drop, get_or, map, Ok, Err, Result, refl, sym, ap, subst, ◌∙◌, arith, ◌⊎◌, inl, inr}
+use Rattle.std.proofs.Common.{◌≡◌, ◌≢◌, ℕ, ◌+◌, ◌<◌, ◌≤◌, Bool, true, false, not, ◌&&◌, ◌||◌, cond, List, [], ◌∷◌, ◌++◌, length, take, drop, get_or, map, Ok, Err, Result, refl, sym, ap, subst, ◌∙◌, arith, inl, inr}
 use Rattle.std.specs.Prelude.{All, AllPairs, Contains, filter}
 use Rattle.std.specs.List.{list_any}
 use Rattle.std.specs.Str.{bytes_eq}
 use Rattle.std.proofs.Math.Path.{fun_ext}
-use Rattle.std.proofs.lemmas.Bool.{cases_Bool, cases_lt, cond-true, cond-false, or_left, or_right, or_parts, both_ways, false_from_ne_true}
+use Rattle.std.proofs.lemmas.Bool.{cases_lt, false_from_ne_true}
 use Rattle.std.proofs.lemmas.List.{get_or-map, length-map, get_or-take, length-take, map_push, append-nil, append_assoc, drop_more, drop_all, get_or_default}
 use Rattle.std.proofs.lemmas.List.Elements.{filter_more, All-push}
 use Rattle.std.proofs.lemmas.List.Folds.{list_any_at, list_any-append}
 use Rattle.std.proofs.lemmas.Map.Views.{Contains-from_any}
 use Rattle.std.proofs.lemmas.Slice.Eq.{bytes_eq-Decides}
-use Rattle.test_select.specs.Segments.{is_match}
-use Rattle.test_select.specs.Patterns.{pieces_of}
 use Rattle.test_select.specs.Fits.{ends_of, first_is, fits_pieces}
 use Rattle.numbering.specs.Numbers.{NumbersBelow, IsAdded}
 use Rattle.vr_base.specs.declared.project.ProjectFault.{ProjectFault}

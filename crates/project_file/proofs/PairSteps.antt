@@ -1,5 +1,5 @@
 -- Dependencies, table after table, over an index of names.
-use Rattle.std.proofs.Common.{◌≡◌, ◌≢◌, ℕ, zero, suc, ◌+◌, ◌<◌, ◌≤◌, Bool, true, false, true≢false, ltb, cond, List, [], ◌∷◌, ◌++◌, length, take, drop, get_or, map, Option, Some, None, Ok, Err, Result, refl, sym, ap, subst, ◌∙◌, arith, inl, inr}
+use Rattle.std.proofs.Common.{◌≡◌, ◌≢◌, ℕ, zero, suc, ◌+◌, ◌<◌, ◌≤◌, Bool, false, true≢false, ltb, List, [], ◌∷◌, ◌++◌, length, take, drop, get_or, map, Option, Some, None, Ok, Err, Result, refl, sym, ap, subst, ◌∙◌, arith, inl, inr}
 use Rattle.std.specs.Prelude.{AllPairs, Contains, slice_get, position}
 use Rattle.std.specs.Option.{ok_or}
 use Rattle.std.specs.List.{position_or_len}
@@ -7,7 +7,7 @@ use Rattle.std.proofs.lemmas.Bool.{cases_Bool, cases_lt, cond-true, ltb-false}
 use Rattle.std.proofs.lemmas.List.Quantifiers.{position-Some}
 use Rattle.std.proofs.lemmas.List.{drop_more, drop_all, append-nil, append_assoc, get_or-map, length-map, map_push, take_more, get_or-take, length-take}
 use Rattle.std.proofs.lemmas.Option.{get_or_from_slice_get, slice_get_within, none-some}
-use Rattle.numbering.specs.Numbers.{IsPlaceOf, IsNumbered}
+use Rattle.numbering.specs.Numbers.{IsNumbered}
 use Rattle.numbering.specs.NameLaws.{names_decide}
 use Rattle.toml.specs.Data.{Members}
 use Rattle.vr_base.specs.declared.file.FileName.{FileName}

@@ -1,5 +1,5 @@
 -- What remains to be proved of `take_matching`.
-use Rattle.std.proofs.Common.{◌≡◌, ◌||◌, ℕ, List, [], sym, ap, ◌∙◌, get_or, take}
+use Rattle.std.proofs.Common.{◌≡◌, ◌||◌, [], sym, ap, ◌∙◌, get_or, take}
 use Rattle.std.specs.List.{list_any}
 use Rattle.std.proofs.lemmas.List.{get_or_default}
 use Rattle.std.proofs.lemmas.List.Folds.{list_any_more}

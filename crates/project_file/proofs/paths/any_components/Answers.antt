@@ -1,5 +1,5 @@
 -- What remains to be proved of `any_components`.
-use Rattle.std.proofs.Common.{ℕ, ◌≡◌, ◌+◌, ◌-◌, ◌<◌, ◌≤◌, length, sym, ◌∙◌, subst, arith, Bool, List}
+use Rattle.std.proofs.Common.{◌≡◌, ◌+◌, ◌-◌, ◌<◌, length, ◌∙◌, subst, arith}
 use Rattle.std.proofs.lemmas.List.{length-set}
 use Rattle.project_file.specs.PathRows.{IsRowFrom, any_end}
 use Rattle.project_file.proofs.PathSteps.{any_step, row_from}

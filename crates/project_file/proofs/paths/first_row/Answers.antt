@@ -1,5 +1,5 @@
 -- What remains to be proved of `first_row`.
-use Rattle.std.proofs.Common.{◌≡◌, ◌++◌, ◌∷◌, [], List, Bool, false, true, length, subst, sym, ap, ◌∙◌}
+use Rattle.std.proofs.Common.{◌≡◌, ◌++◌, ◌∷◌, [], false, true, length, subst, sym, ap, ◌∙◌}
 use Rattle.std.specs.Prelude.{replicate}
 use Rattle.project_file.specs.PathRows.{IsRow, fits_parts}
 use Rattle.project_file.proofs.PathSteps.{no_parts_row}

@@ -1,8 +1,6 @@
 -- What remains to be proved of `fits_parts`.
-use Rattle.std.proofs.Common.{ℕ, ◌≡◌, ◌+◌, ◌-◌, ◌<◌, ◌≤◌, List, Bool, length, drop, subst, sym, ap, ◌∙◌, arith}
-use Rattle.test_select.specs.Segments.{is_match}
-use Rattle.test_select.specs.Fits.{first_is}
-use Rattle.project_file.specs.PathRows.{IsRow, fits_parts, any_end}
+use Rattle.std.proofs.Common.{◌≡◌, ◌+◌, ◌-◌, ◌<◌, length, drop, subst, arith}
+use Rattle.project_file.specs.PathRows.{IsRow, fits_parts}
 use Rattle.project_file.proofs.PathSteps.{any_part, one_part}
 use Rattle.project_file.proofs.paths.fits_parts.Goals as goal
 

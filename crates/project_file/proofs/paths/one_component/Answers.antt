@@ -1,5 +1,5 @@
 -- What remains to be proved of `one_component`.
-use Rattle.std.proofs.Common.{ℕ, ◌≡◌, ◌+◌, ◌<◌, ◌≤◌, length, sym, ◌∙◌, arith, Bool, List}
+use Rattle.std.proofs.Common.{◌∙◌, arith}
 use Rattle.std.proofs.lemmas.List.{length-set}
 use Rattle.test_select.specs.Segments.{is_match}
 use Rattle.project_file.proofs.PathSteps.{one_step, one_last}
