@@ -10,3 +10,4 @@ pub mod LibrarySum
 pub mod PairSteps
 pub mod TomlNames
 pub mod TomlTables
+mod TomlValid

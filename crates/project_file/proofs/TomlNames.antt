@@ -68,7 +68,7 @@ names_once library command (path ∷ paths) once =
     AllPairs-cons (λ a b. a ≢ b) (record { library = library; path = path }) (names_of (map (file_in library command) paths)) (other_paths library command path paths (λ k d low. once 0 (suc k) d (omega arith) (omega (arith, low))))
     (names_once library command paths (λ i j d lt low. once (suc i) (suc j) d (omega (arith, lt)) (omega (arith, low))))
 
-new_by : (work came : Bool) (library named : List ℕ) → ◌≡◌ {A = Result (List ℕ) ProjectFault} (cond work (Err WorkLibrary) (cond came (Err (DuplicateLibrary library)) (Ok library))) (Ok named) → (library ≡ named) × (came ≡ false)
+pub new_by : (work came : Bool) (library named : List ℕ) → ◌≡◌ {A = Result (List ℕ) ProjectFault} (cond work (Err WorkLibrary) (cond came (Err (DuplicateLibrary library)) (Ok library))) (Ok named) → (library ≡ named) × (came ≡ false)
 new_by true came library named h = absurd cc
 new_by false true library named h = absurd cc
 new_by false false library named h = (ok_same library named h, refl)

@@ -108,8 +108,19 @@ fn text_project(alloc: Global, text: &str, names: &[Text]) -> Result<Project, Pr
     }
 }
 
-/// The project that the bytes of a project file in TOML say, over the names of all files, or its first fault.
+/// The project that bytes say.
 #[tactic(auto, unfolding(crate::specs::Toml::toml_project))]
+fn bytes_project(alloc: Global, bytes: &[u8], names: &[Text]) -> Result<Project, ProjectFault>
+    requires distinct { AllPairs (λ name other. name ≢ other) names.now }
+    ensures { ReadsStep (toml_project bytes.now names.now) result }
+{
+    match str::from_utf8(bytes) {
+        Ok(text) => text_project(alloc, text, names),
+        Err(_error) => Err(ProjectFault::NotToml),
+    }
+}
+
+/// The project that the bytes of a project file in TOML say, over the names of all files, or its first fault.
 pub fn read_toml_project(
     alloc: Global,
     bytes: &[u8],
@@ -117,10 +128,8 @@ pub fn read_toml_project(
 ) -> Result<Project, ProjectFault>
     requires distinct { AllPairs (λ name other. name ≢ other) names.now }
     requires fit { All (λ name. IsBetween 1 PATH_LIMIT (length name)) names.now }
-    ensures { ReadsStep (toml_project bytes.now names.now) result }
+    ensures project { ReadsStep (toml_project bytes.now names.now) result }
+    ensures valid { IfOk result IsProject }
 {
-    match str::from_utf8(bytes) {
-        Ok(text) => text_project(alloc, text, names.as_slice()),
-        Err(_error) => Err(ProjectFault::NotToml),
-    }
+    bytes_project(alloc, bytes, names.as_slice())
 }
