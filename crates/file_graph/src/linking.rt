@@ -5,7 +5,7 @@ ghost use Rattle.std.specs.List.{All};
 ghost use Rattle.scan_spec.specs.Scans.{AreScansOf};
 ghost use Rattle.scan_spec.specs.Dependencies.{link_of, link_units};
 ghost use Rattle.order_spec.specs.BuildOrder.{AreEdges};
-ghost use Rattle.name_scope.specs.Scopes.{IsTextSmall};
+ghost use Rattle.name_scope.specs.Scopes.{AreRolesOf, IsTextSmall};
 ghost use Rattle.name_scope.specs.Tables.{AreVisible};
 ghost use Rattle.file_graph.specs.Indexes.{ArePlacesOfFiles};
 ghost use Rattle.file_graph.specs.Linking.{AreRowsOf, GivesAll, Knows};
@@ -16,10 +16,12 @@ use crate::libraries::libraries_of;
 use crate::pairs::rows_of_pairs;
 use crate::seen::Tables;
 use crate::units::link_file;
-use name_scope::visible_sets;
+use name_scope::{roles_of_files, visible_sets_by_roles};
 use position_set::PositionSet;
 use std::alloc::Global;
-use vr_base::{Edges, FILE_LIMIT, LinkFault, Linked, Project, Scans, TextList, WarningList};
+use vr_base::{
+    Edges, FILE_LIMIT, Items, LinkFault, Linked, Project, RoleList, Scans, TextList, WarningList,
+};
 
 /// Takes up the references of all files.
 fn link_files(
@@ -27,6 +29,7 @@ fn link_files(
     project: &Project,
     texts: &TextList,
     scans: &Scans,
+    roles: &Items<RoleList>,
     tables: &Tables,
     rows: &[PositionSet],
 ) -> Result<Linked, LinkFault>
@@ -34,6 +37,7 @@ fn link_files(
     requires each { length texts.now ≡ length project.now.files }
     requires scans { AreScansOf texts.now scans.now }
     requires small { All IsTextSmall texts.now }
+    requires roles { AreRolesOf texts.now scans.now roles.now }
     requires rows { AreRowsOf project.now rows.now }
     requires places { ArePlacesOfFiles (length project.now.files) tables.now.index }
     requires seen { AreVisible project.now.files texts.now scans.now tables.now.sets }
@@ -55,6 +59,7 @@ fn link_files(
             file as u32,
             text,
             scans.get(file),
+            roles.get(file),
             &mut row,
             &mut warnings,
         )?;
@@ -84,12 +89,21 @@ pub fn link(
 {
     let index = index_of(alloc, project, texts, scans)?;
     let libraries = libraries_of(alloc, project)?;
-    let sets = visible_sets(alloc, project, texts, scans)?;
+    let roles = roles_of_files(alloc, texts, scans)?;
+    let sets = visible_sets_by_roles(alloc, project, texts, scans, &roles)?;
     let rows = rows_of_pairs(alloc, project)?;
     let tables = Tables {
         index,
         libraries,
         sets,
     };
-    link_files(alloc, project, texts, scans, &tables, rows.as_slice())
+    link_files(
+        alloc,
+        project,
+        texts,
+        scans,
+        &roles,
+        &tables,
+        rows.as_slice(),
+    )
 }

@@ -16,7 +16,6 @@ use crate::warnings::note_unit;
 use position_set::PositionSet;
 use std::alloc::Global;
 use vhdl_refs::find_refs;
-use vhdl_units::roles_of;
 use vr_base::{
     FILE_LIMIT, FileName, LinkFault, Project, RoleList, Scan, TEXT_LIMIT, UnitId, WarningList,
 };
@@ -58,6 +57,7 @@ pub fn link_file(
     file: u32,
     text: &[u8],
     scan: &Scan,
+    roles: &RoleList,
     row: &mut PositionSet,
     warnings: &mut WarningList,
 ) -> Result<(), LinkFault>
@@ -66,21 +66,21 @@ pub fn link_file(
     requires each { length tables.now.sets.starts ≡ length project.now.files }
     requires scan { IsScanOf text.now scan.now }
     requires small { length text.now ≤ TEXT_LIMIT }
+    requires roles { roles.now ≡ roles_of text.now scan.now.tokens.list }
     ensures { (units : List LinkUnit) (named : ProjectFile) → Knows project.now units tables.now →
         slice_get project.now.files file ≡ Some named →
         StandAll units tables.now file named text.now scan.now →
         FileGives project.now units (link_unit file named text.now scan.now) scan.now.units
         row.old row.new warnings.old warnings.new result }
 {
-    let roles = roles_of(alloc, text, &scan.tokens)?;
     let name = &project.files.get(file as u64).name;
     for number in 0..scan.units.len() {
         let id = UnitId {
             file,
             unit: number as u32,
         };
-        link_unit(alloc, project, tables, id, name, text, scan, &roles, row)?;
-        note_unit(alloc, tables, id, name, text, scan, &roles, warnings)?;
+        link_unit(alloc, project, tables, id, name, text, scan, roles, row)?;
+        note_unit(alloc, tables, id, name, text, scan, roles, warnings)?;
     }
     Ok(())
 }

@@ -1,10 +1,12 @@
 -- The design units of a project, as the program keeps them.
 use Rattle.std.specs.Prelude.{◌≡◌, ℕ, ◌<◌, ◌≤◌, List, ◌++◌, length, map, take, slice_get, slice_index, Some}
 use Rattle.std.specs.List.{AllZip}
+use Rattle.vr_base.specs.declared.design.Role.{Role}
 use Rattle.vr_base.specs.declared.design.Scan.{Scan}
 use Rattle.vr_base.specs.declared.design.Unit.{Unit as DesignUnit}
 use Rattle.vr_base.specs.declared.project.ProjectFile.{ProjectFile}
 use Rattle.vr_base.specs.declared.limits.TheConstants.{TEXT_LIMIT}
+use Rattle.scan_spec.specs.Units.{roles_of}
 use Rattle.scan_spec.specs.Visibility.{ScopeUnit, scope_unit, scope_units}
 use Rattle.name_scope.specs.declared.scope.UnitScope.{UnitScope}
 use Rattle.name_scope.specs.declared.links.Link.{Link}
@@ -15,6 +17,11 @@ use Rattle.name_scope.specs.declared.scope.Scopes.{Scopes}
 
 abbrev pub IsTextSmall : List ℕ → Type 0
 IsTextSmall text = length text ≤ TEXT_LIMIT
+
+-- of each file the roles of its tokens
+pub record AreRolesOf (texts : List (List ℕ)) (scans : List Scan) (roles : List (List Role)) : Type 0 where
+  pub each : length roles ≡ length texts
+  pub are : (i : ℕ) (text : List ℕ) (scan : Scan) → slice_get texts i ≡ Some text → slice_get scans i ≡ Some scan → slice_get roles i ≡ Some (roles_of text scan.tokens.list)
 
 -- the program's record of a unit
 abbrev pub as_scope : ScopeUnit → UnitScope

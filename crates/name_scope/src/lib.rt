@@ -11,6 +11,7 @@ mod look;
 mod names;
 mod order;
 mod own;
+mod roles;
 mod row;
 mod scope;
 mod spread;
@@ -21,4 +22,5 @@ mod want;
 mod wants;
 mod work;
 
-pub use table::{VisibleLibraries, visible_libraries, visible_sets};
+pub use roles::roles_of_files;
+pub use table::{VisibleLibraries, visible_libraries, visible_sets, visible_sets_by_roles};

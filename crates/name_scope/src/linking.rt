@@ -8,7 +8,7 @@ ghost use Rattle.scan_spec.specs.Scans.{AreScansOf, IsScanOf};
 ghost use Rattle.scan_spec.specs.Visibility.{scope_unit, scope_units};
 ghost use Rattle.name_scope.specs.Names.{keys_of};
 ghost use Rattle.name_scope.specs.Joins.{IsLinkedFor};
-ghost use Rattle.name_scope.specs.Scopes.{AddsLinks, IsTextSmall};
+ghost use Rattle.name_scope.specs.Scopes.{AddsLinks, AreRolesOf, IsTextSmall};
 
 use crate::groups::Groups;
 use crate::joins::links_of;
@@ -17,7 +17,6 @@ use crate::names::Names;
 use crate::wants::wants_of;
 use std::alloc::Global;
 use vhdl_refs::context_refs;
-use vhdl_units::roles_of;
 use vr_base::{Items, NoMemory, Project, RoleList, Scan, Scans, TEXT_LIMIT, Text, TextList};
 
 /// The links of the unit of a number in a scan.
@@ -56,15 +55,16 @@ fn add_links(
     library: &Text,
     text: &[u8],
     scan: &Scan,
+    roles: &RoleList,
     links: &mut Vec<Items<Link>>,
 ) -> Result<(), NoMemory>
     requires room { places + length groups.now.keys ≤ usize.MAX }
     requires scan { IsScanOf text.now scan.now }
     requires small { length text.now ≤ TEXT_LIMIT }
+    requires roles { roles.now ≡ roles_of text.now scan.now.tokens.list }
     ensures { OnOk result (AddsLinks (keys_of names.now) groups.now.keys places
         library.now text.now scan.now links.old.items links.new.items) }
 {
-    let roles = roles_of(alloc, text, &scan.tokens)?;
     for number in 0..scan.units.len() {
         links.push(unit_links(
             alloc,
@@ -74,7 +74,7 @@ fn add_links(
             library,
             text,
             scan,
-            &roles,
+            roles,
             number as u32,
         )?)?;
     }
@@ -90,11 +90,13 @@ pub fn links_of_units(
     project: &Project,
     texts: &TextList,
     scans: &Scans,
+    roles: &Items<RoleList>,
 ) -> Result<Vec<Items<Link>>, NoMemory>
     requires room { places + length groups.now.keys ≤ usize.MAX }
     requires each { length texts.now ≡ length project.now.files }
     requires scans { AreScansOf texts.now scans.now }
     requires small { All IsTextSmall texts.now }
+    requires roles { AreRolesOf texts.now scans.now roles.now }
     ensures { IfOk result (λ links. AllZip (IsLinkedFor (keys_of names.now) groups.now.keys places)
         links.items (scope_units project.now.files texts.now scans.now)) }
 {
@@ -109,6 +111,7 @@ pub fn links_of_units(
             library,
             texts.get(file).bytes(),
             scans.get(file),
+            roles.get(file),
             &mut links,
         )?;
     }

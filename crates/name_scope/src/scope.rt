@@ -4,13 +4,12 @@ ghost use Rattle.std.specs.Prelude.{◌≡◌, ◌<◌, ◌≤◌, IfOk, OnOk, l
 ghost use Rattle.std.specs.List.{All};
 ghost use Rattle.scan_spec.specs.Units.{roles_of};
 ghost use Rattle.scan_spec.specs.Scans.{AreScansOf, IsScanOf};
-ghost use Rattle.name_scope.specs.Scopes.{AddsScopes, AreScopes, IsScopeAt, IsTextSmall};
+ghost use Rattle.name_scope.specs.Scopes.{AddsScopes, AreRolesOf, AreScopes, IsScopeAt, IsTextSmall};
 
 use crate::want::Group;
 use crate::wants::own_groups;
 use std::alloc::Global;
 use vhdl_refs::library_names;
-use vhdl_units::roles_of;
 use vr_base::{Items, NoMemory, Project, RoleList, Scan, Scans, TEXT_LIMIT, Text, TextList};
 
 /// What a design unit is to others: the groups that it is in, and the names of its library clauses.
@@ -55,16 +54,17 @@ fn add_scopes(
     library: &Text,
     text: &[u8],
     scan: &Scan,
+    roles: &RoleList,
     units: &mut Vec<UnitScope>,
 ) -> Result<(), NoMemory>
     requires scan { IsScanOf text.now scan.now }
     requires small { length text.now ≤ TEXT_LIMIT }
+    requires roles { roles.now ≡ roles_of text.now scan.now.tokens.list }
     ensures { OnOk result
         (AddsScopes library.now text.now scan.now units.old.items units.new.items) }
 {
-    let roles = roles_of(alloc, text, &scan.tokens)?;
     for number in 0..scan.units.len() {
-        units.push(scope_of(alloc, library, text, scan, &roles, number as u32)?)?;
+        units.push(scope_of(alloc, library, text, scan, roles, number as u32)?)?;
     }
     Ok(())
 }
@@ -75,10 +75,12 @@ pub fn scopes_of(
     project: &Project,
     texts: &TextList,
     scans: &Scans,
+    roles: &Items<RoleList>,
 ) -> Result<Scopes, NoMemory>
     requires each { length texts.now ≡ length project.now.files }
     requires scans { AreScansOf texts.now scans.now }
     requires small { All IsTextSmall texts.now }
+    requires roles { AreRolesOf texts.now scans.now roles.now }
     ensures { IfOk result (AreScopes project.now.files texts.now scans.now) }
 {
     let mut starts = Vec::new(alloc);
@@ -91,6 +93,7 @@ pub fn scopes_of(
             library,
             texts.get(file).bytes(),
             scans.get(file),
+            roles.get(file),
             &mut units,
         )?;
     }

@@ -7,7 +7,7 @@ ghost use Rattle.scan_spec.specs.Scans.{AreScansOf};
 ghost use Rattle.scan_spec.specs.Visibility.{ScopeUnit, scope_units};
 ghost use Rattle.name_scope.specs.Exact.{AreGrown};
 ghost use Rattle.name_scope.specs.Names.{HasAll, implicit, keys_of};
-ghost use Rattle.name_scope.specs.Scopes.{IsTextSmall};
+ghost use Rattle.name_scope.specs.Scopes.{AreRolesOf, IsTextSmall};
 ghost use Rattle.name_scope.specs.Tables.{AreExactly, AreVisible, ListsNames, IsUnitAt, set_at, table_sees};
 
 use crate::groups::groups_of;
@@ -16,13 +16,14 @@ use crate::linking::links_of_units;
 use crate::listing::{rising_names, sees_name};
 use crate::names::{self, Names, names_of};
 use crate::own::rows_of;
+use crate::roles::roles_of_files;
 use crate::row::Row;
 use crate::scope::{Scopes, UnitScope, scopes_of};
 use crate::spread::spread;
 use crate::wants::WORK;
 use std::alloc::Global;
 use std::marker::Model;
-use vr_base::{Items, NoMemory, Project, Scans, TextList, UnitId};
+use vr_base::{Items, NoMemory, Project, RoleList, Scans, TextList, UnitId};
 
 /// The rows of units, grown until each takes all that it wants.
 fn grown_rows(
@@ -32,6 +33,7 @@ fn grown_rows(
     project: &Project,
     texts: &TextList,
     scans: &Scans,
+    roles: &Items<RoleList>,
 ) -> Result<Vec<Row>, NoMemory>
     requires named { HasAll (implicit ++ flat_map (λ unit. unit.names) units.now)
         [] (keys_of names.now) }
@@ -40,6 +42,7 @@ fn grown_rows(
     requires each { length texts.now ≡ length project.now.files }
     requires scans { AreScansOf texts.now scans.now }
     requires small { All IsTextSmall texts.now }
+    requires roles { AreRolesOf texts.now scans.now roles.now }
     ensures { IfOk result (λ rows. AreGrown units.now
         (scope_units project.now.files texts.now scans.now) (keys_of names.now) rows.items) }
 {
@@ -53,7 +56,16 @@ fn grown_rows(
         Some(gate) => gate,
         None => unreachable!(),
     };
-    let mut links = links_of_units(alloc, names, &groups, units.len(), project, texts, scans)?;
+    let mut links = links_of_units(
+        alloc,
+        names,
+        &groups,
+        units.len(),
+        project,
+        texts,
+        scans,
+        roles,
+    )?;
     let mut members = group_links(alloc, &groups, units, gate)?;
     links.append(&mut members)?;
     spread(alloc, links.as_slice(), rows.as_mut_slice(), words)?;
@@ -90,9 +102,35 @@ pub fn visible_sets(
     requires small { All IsTextSmall texts.now }
     ensures { IfOk result (AreVisible project.now.files texts.now scans.now) }
 {
-    let Scopes { starts, units } = scopes_of(alloc, project, texts, scans)?;
+    let roles = roles_of_files(alloc, texts, scans)?;
+    visible_sets_by_roles(alloc, project, texts, scans, &roles)
+}
+
+/// `visible_sets` for a caller that has the roles of the tokens of all files already.
+pub fn visible_sets_by_roles(
+    alloc: Global,
+    project: &Project,
+    texts: &TextList,
+    scans: &Scans,
+    roles: &Items<RoleList>,
+) -> Result<VisibleLibraries, NoMemory>
+    requires each { length texts.now ≡ length project.now.files }
+    requires scans { AreScansOf texts.now scans.now }
+    requires small { All IsTextSmall texts.now }
+    requires roles { AreRolesOf texts.now scans.now roles.now }
+    ensures { IfOk result (AreVisible project.now.files texts.now scans.now) }
+{
+    let Scopes { starts, units } = scopes_of(alloc, project, texts, scans, roles)?;
     let names = names_of(alloc, units.as_slice())?;
-    let rows = grown_rows(alloc, &names, units.as_slice(), project, texts, scans)?;
+    let rows = grown_rows(
+        alloc,
+        &names,
+        units.as_slice(),
+        project,
+        texts,
+        scans,
+        roles,
+    )?;
     Ok(VisibleLibraries {
         starts,
         names,

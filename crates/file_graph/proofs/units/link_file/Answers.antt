@@ -22,7 +22,7 @@ overflow_cast-id c = let few = few_units c.args.text.now c.args.scan.now c.requi
 
 pub returns-in_err-link_unit : goal.returns-in_err-link_unit
 returns-in_err-link_unit c units named known got_file stand =
-    let p = err_from_is_err_and c.from_residual-in_err-link_unit.result c.from_residual-in_err-link_unit.ensures.1 in
+    let p = err_from_is_err_and c.from_residual.result c.from_residual.ensures.1 in
     let number : ℕ = c.loop-number.number in
     let designs : List DesignUnit = c.args.scan.now.units in
     let design : DesignUnit = get_or designs number no_design in

@@ -7,7 +7,7 @@ use Rattle.name_scope.specs.Exact.{AreGrown}
 use Rattle.name_scope.specs.Scopes.{IsScopeOf}
 use Rattle.name_scope.proofs.ScopeLemmas.{as_long}
 use Rattle.name_scope.proofs.TableLemmas.{visible}
-use Rattle.name_scope.proofs.table.visible_sets.Goals as goal
+use Rattle.name_scope.proofs.table.visible_sets_by_roles.Goals as goal
 
 pub grown_rows-requires-clause-units : goal.grown_rows-requires-clause-units
 grown_rows-requires-clause-units c = ap length c.as_slice-2.ensures.value ∙ as_long IsScopeOf _ _ c.in_ok-starts.ensures.units
