@@ -27,7 +27,7 @@ ok_is x y e = cc
 err_is_ok : {X : Type 0} (f : ProjectFault) (y : X) → ◌≡◌ {A = Result X ProjectFault} (Err f) (Ok y) → ⊥
 err_is_ok f y e = cc
 
-begins_not_empty : (name : List ℕ) → begins_with_letter name ≡ true → 1 ≤ length name
+pub begins_not_empty : (name : List ℕ) → begins_with_letter name ≡ true → 1 ≤ length name
 begins_not_empty [] h = absurd cc
 begins_not_empty (byte ∷ bytes) h = omega arith
 

@@ -4,3 +4,7 @@ pub mod Steps
 pub mod NewNames
 pub mod Paths
 pub mod Toml
+pub mod Forms
+pub mod PathRows
+pub mod Libraries
+pub mod Pairs

@@ -16,3 +16,9 @@ abbrev pub ReadsStep : {T : Type 0} → Result T ProjectFault → Result T Proje
 ReadsStep said (Ok read) = said ≡ Ok read
 ReadsStep said (Err problem.NoMemory) = Unit {0}
 ReadsStep said (Err fault) = said ≡ Err fault
+
+-- the same of what is read as something else
+abbrev pub ReadsAs : {S T : Type 0} → (S → T) → Result T ProjectFault → Result S ProjectFault → Type 0
+ReadsAs see said (Ok read) = said ≡ Ok (see read)
+ReadsAs see said (Err problem.NoMemory) = Unit {0}
+ReadsAs see said (Err fault) = said ≡ Err fault

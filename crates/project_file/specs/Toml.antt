@@ -76,11 +76,13 @@ optional read default place key table = value_or (Ok default) read place key tab
 abbrev pub is_among : List (List ℕ) → List ℕ → Bool
 is_among texts text = list_any (bytes_eq text) texts
 
+-- a library isn't `work`, and didn't come before
+unfoldable pub new_library : List (List ℕ) → List ℕ → Result (List ℕ) ProjectFault
+new_library before library = if bytes_eq library (codes "work") then Err WorkLibrary else if is_among before library then Err (DuplicateLibrary library) else Ok library
+
 -- the name of a library after those before it
 unfoldable pub library_after : List (List ℕ) → Members → Result (List ℕ) ProjectFault
-library_after before table =
-    then_read (required (text_of library_in) (codes "library.") (codes "name") table) (λ library.
-    if bytes_eq library (codes "work") then Err WorkLibrary else if is_among before library then Err (DuplicateLibrary library) else Ok library)
+library_after before table = then_read (required (text_of library_in) (codes "library.") (codes "name") table) (new_library before)
 
 -- pattern by pattern, the names that it matches and that aren't there yet
 unfoldable pub matching_names : List (List ℕ) → List (List ℕ) → List (List ℕ) → Result (List (List ℕ)) ProjectFault
@@ -135,18 +137,26 @@ pairs_of files (table ∷ tables) = then_read (pair_of files table) (λ pair. th
 
 -- ## The project
 
--- the project of a table, over the names of all files
+-- the project of these files and settings, with the dependencies of a table
+unfoldable pub linked_project : List ProjectFile → List (List ℕ) → List (List ℕ) → Bool → Members → Result Project ProjectFault
+linked_project files simulator external bodies table =
+    then_read (optional (array_of as_table) [] [] (codes "depends") table) (λ tables.
+    then_read (pairs_of files tables) (λ depends.
+    Ok (record { files = files; simulator = simulator; external = external; bodies = bodies; depends = depends; listed = false })))
+
+-- the project of these settings, with the libraries and the dependencies of a table
+unfoldable pub files_project : List (List ℕ) → List (List ℕ) → List (List ℕ) → List (List ℕ) → Bool → Members → Result Project ProjectFault
+files_project names compiler simulator external bodies table =
+    then_read (required (array_of as_table) [] (codes "library") table) (λ libraries.
+    then_read (files_of names compiler [] libraries) (λ files. linked_project files simulator external bodies table))
+
+-- the project of a table, over the names of all files: its settings first
 unfoldable pub table_project : List (List ℕ) → Members → Result Project ProjectFault
 table_project names table =
     then_read (optional (words_of 1) listed_command [] (codes "compiler") table) (λ compiler.
     then_read (optional (words_of 1) listed_simulator [] (codes "simulator") table) (λ simulator.
     then_read (optional (texts_of library_in) [] [] (codes "external") table) (λ external.
-    then_read (optional as_bool false [] (codes "users_depend_on_bodies") table) (λ bodies.
-    then_read (required (array_of as_table) [] (codes "library") table) (λ libraries.
-    then_read (files_of names compiler [] libraries) (λ files.
-    then_read (optional (array_of as_table) [] [] (codes "depends") table) (λ tables.
-    then_read (pairs_of files tables) (λ depends.
-    Ok (record { files = files; simulator = simulator; external = external; bodies = bodies; depends = depends; listed = false })))))))))
+    then_read (optional as_bool false [] (codes "users_depend_on_bodies") table) (λ bodies. files_project names compiler simulator external bodies table))))
 
 -- the project of the bytes, over the names of all files, or its first fault
 unfoldable pub toml_project : List ℕ → List (List ℕ) → Result Project ProjectFault

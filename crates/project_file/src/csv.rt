@@ -21,7 +21,7 @@ use vr_base::{
 };
 
 /// Whether two texts have the same bytes.
-fn is_same(a: &[u8], b: &[u8]) -> bool
+pub fn is_same(a: &[u8], b: &[u8]) -> bool
     ensures { result ≡ bytes_eq a.now b.now }
 {
     a == b
@@ -48,7 +48,7 @@ fn all_library_bytes(name: &[u8]) -> bool
     name.iter().all(|byte| is_library_byte(*byte))
 }
 
-fn is_library(name: &[u8]) -> bool
+pub fn is_library(name: &[u8]) -> bool
     ensures { result ≡ is_library name.now }
 {
     begins_with_letter(name) && all_library_bytes(name) && name.len() <= LIBRARY_LIMIT
@@ -66,7 +66,7 @@ fn is_component(part: &[u8]) -> bool
     !is_same(part, b"") && !is_same(part, b".") && !is_same(part, b"..")
 }
 
-fn is_utf8(bytes: &[u8]) -> bool
+pub fn is_utf8(bytes: &[u8]) -> bool
     ensures { result ≡ is_utf8 bytes.now }
 {
     str::from_utf8(bytes).is_ok()
@@ -97,7 +97,7 @@ fn has_path_bytes(path: &[u8]) -> bool
     1 <= path.len() && path.len() <= PATH_LIMIT && all_path_bytes(path)
 }
 
-fn is_path(path: &[u8]) -> bool
+pub fn is_path(path: &[u8]) -> bool
     ensures { result ≡ is_path path.now }
 {
     has_path_bytes(path) && has_components(path) && is_utf8(path)
@@ -136,7 +136,7 @@ fn without_blanks_after(bytes: &[u8]) -> &[u8]
 }
 
 /// The bytes in lower case.
-fn to_lower_case(alloc: Global, bytes: &[u8]) -> Result<Text, NoMemory>
+pub fn to_lower_case(alloc: Global, bytes: &[u8]) -> Result<Text, NoMemory>
     ensures { IfOk result (λ text. text ≡ map to_ascii_lowercase bytes.now) }
 {
     let mut lowered = Vec::new(alloc);
@@ -266,7 +266,7 @@ fn read_files(alloc: Global, bytes: &[u8]) -> Result<FileList, ProjectFault>
 }
 
 /// The words of a command.
-fn words(alloc: Global, first: &[u8], second: &[u8]) -> Result<TextList, NoMemory>
+pub fn words(alloc: Global, first: &[u8], second: &[u8]) -> Result<TextList, NoMemory>
     ensures { IfOk result (λ words. words ≡ first.now ∷ second.now ∷ []) }
 {
     let mut words = TextList::new(alloc);

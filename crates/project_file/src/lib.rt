@@ -2,9 +2,16 @@
 #![tactic(auto)]
 
 mod csv;
+mod keys;
+mod libraries;
+mod pairs;
 mod parts;
+mod paths;
+mod tables;
+mod values;
 
 pub use csv::read_csv_project;
+pub use tables::read_toml_project;
 
 #[cfg(test)]
 mod tests;

@@ -1,0 +1,183 @@
+//! What the keys of a TOML table say.
+
+ghost use Rattle.std.specs.Prelude.{◌≡◌, ◌++◌, ◌∷◌, [], false, Err, Some, codes, option_map, IfOk};
+ghost use Rattle.std.specs.Option.{ok_or};
+ghost use Rattle.toml.specs.Data.{as_bool, as_table, get_member};
+ghost use Rattle.toml.specs.View.{view, table_view};
+ghost use Rattle.vr_base.specs.declared.project.ProjectFault.TheVariants.{MissingKey, WrongType};
+ghost use Rattle.project_file.specs.Toml.{array_of, library_in, text_of, texts_of, words_of, required, optional};
+ghost use Rattle.project_file.specs.Forms.{form_of, tables_view};
+ghost use Rattle.project_file.specs.Steps.{ReadsStep, ReadsAs};
+
+use crate::csv::words;
+use crate::values::{Form, Tables, tables_of, text_of, texts_of, words_of};
+use std::alloc::Global;
+use toml::{Table, Value};
+use vr_base::{NoMemory, ProjectFault, Text, TextList};
+
+fn value_at<'a>(table: &'a Table, key: &str) -> Option<&'a Value>
+    ensures { option_map (λ value. view value.now) result
+        ≡ get_member key.now (table_view table.now) }
+{
+    table.get(key)
+}
+
+/// A key after the words for its table.
+fn key_name(alloc: Global, place: &str, key: &str) -> Result<Text, NoMemory>
+    ensures { IfOk result (λ name. name ≡ place.now ++ key.now) }
+{
+    let mut name = Vec::from_slice(alloc, place.as_bytes())?;
+    name.extend_from_slice(key.as_bytes())?;
+    Ok(Text::from_vec(name))
+}
+
+/// What is read of the value of a key, or that it is of another form.
+fn known<T: Drop>(alloc: Global, place: &str, key: &str, read: Option<T>) -> Result<T, ProjectFault>
+    ensures { ReadsStep (ok_or read (WrongType (place.now ++ key.now))) result }
+{
+    match read {
+        Some(read) => Ok(read),
+        None => Err(ProjectFault::WrongType {
+            key: key_name(alloc, place, key)?,
+        }),
+    }
+}
+
+fn missing_key(alloc: Global, place: &str, key: &str) -> Result<ProjectFault, NoMemory>
+    ensures { IfOk result (λ fault. fault ≡ MissingKey (place.now ++ key.now)) }
+{
+    Ok(ProjectFault::MissingKey {
+        key: key_name(alloc, place, key)?,
+    })
+}
+
+/// The text of a form at a key, which has to be there.
+pub fn text_at(
+    alloc: Global,
+    form: Form,
+    place: &str,
+    key: &str,
+    table: &Table,
+) -> Result<Text, ProjectFault>
+    ensures { ReadsStep
+        (required (text_of (form_of form)) place.now key.now (table_view table.now)) result }
+{
+    match value_at(table, key) {
+        Some(value) => known(alloc, place, key, text_of(alloc, form, value)?),
+        None => Err(missing_key(alloc, place, key)?),
+    }
+}
+
+/// The texts of a form at a key, which has to be there.
+pub fn texts_at(
+    alloc: Global,
+    form: Form,
+    place: &str,
+    key: &str,
+    table: &Table,
+) -> Result<TextList, ProjectFault>
+    ensures { ReadsStep
+        (required (texts_of (form_of form)) place.now key.now (table_view table.now)) result }
+{
+    match value_at(table, key) {
+        Some(value) => known(alloc, place, key, texts_of(alloc, form, value)?),
+        None => Err(missing_key(alloc, place, key)?),
+    }
+}
+
+/// The names of libraries at a key; none where it is missing.
+pub fn libraries_at(alloc: Global, key: &str, table: &Table) -> Result<TextList, ProjectFault>
+    ensures { ReadsStep
+        (optional (texts_of library_in) [] [] key.now (table_view table.now)) result }
+{
+    match value_at(table, key) {
+        Some(value) => known(alloc, "", key, texts_of(alloc, Form::Library, value)?),
+        None => Ok(TextList::new(alloc)),
+    }
+}
+
+/// The words of a command at a key; where it is missing, this word of the program itself.
+pub fn command_at(
+    alloc: Global,
+    key: &str,
+    table: &Table,
+    word: &[u8],
+) -> Result<TextList, ProjectFault>
+    ensures { ReadsStep
+        (optional (words_of 1) (codes "@self" ∷ word.now ∷ []) [] key.now (table_view table.now))
+        result }
+{
+    match value_at(table, key) {
+        Some(value) => known(alloc, "", key, words_of(alloc, 1, value)?),
+        None => Ok(words(alloc, b"@self", word)?),
+    }
+}
+
+/// The words at a key; none where it is missing.
+pub fn words_at(
+    alloc: Global,
+    place: &str,
+    key: &str,
+    table: &Table,
+) -> Result<TextList, ProjectFault>
+    ensures { ReadsStep
+        (optional (words_of 0) [] place.now key.now (table_view table.now)) result }
+{
+    match value_at(table, key) {
+        Some(value) => known(alloc, place, key, words_of(alloc, 0, value)?),
+        None => Ok(TextList::new(alloc)),
+    }
+}
+
+/// Whether a key says so; it doesn't where it is missing.
+pub fn flag_at(alloc: Global, key: &str, table: &Table) -> Result<bool, ProjectFault>
+    ensures { ReadsStep (optional as_bool false [] key.now (table_view table.now)) result }
+{
+    match value_at(table, key) {
+        Some(value) => known(alloc, "", key, value.as_bool()),
+        None => Ok(false),
+    }
+}
+
+/// What is read of the tables of a key, or that its value is of another form.
+fn known_tables<'a>(
+    alloc: Global,
+    key: &str,
+    read: Option<Tables<'a>>,
+) -> Result<Tables<'a>, ProjectFault>
+    ensures { ReadsAs tables_view
+        (ok_or (option_map tables_view read.entry) (WrongType key.now)) result }
+{
+    match read {
+        Some(read) => Ok(read),
+        None => Err(ProjectFault::WrongType {
+            key: key_name(alloc, "", key)?,
+        }),
+    }
+}
+
+/// The tables at a key, which has to be there.
+pub fn tables_at<'a>(alloc: Global, key: &str, table: &'a Table) -> Result<Tables<'a>, ProjectFault>
+    ensures { ReadsAs tables_view
+        (required (array_of as_table) [] key.now (table_view table.now)) result }
+{
+    match value_at(table, key) {
+        Some(value) => known_tables(alloc, key, tables_of(alloc, value)?),
+        None => Err(missing_key(alloc, "", key)?),
+    }
+}
+
+/// The tables at a key; none where it is missing.
+pub fn any_tables_at<'a>(
+    alloc: Global,
+    key: &str,
+    table: &'a Table,
+) -> Result<Tables<'a>, ProjectFault>
+    ensures { ReadsAs tables_view
+        (optional (array_of as_table) [] [] key.now (table_view table.now)) result }
+{
+    match value_at(table, key) {
+        Some(value) => known_tables(alloc, key, tables_of(alloc, value)?),
+        None => Ok(Vec::new(alloc)),
+    }
+}

@@ -1,0 +1,260 @@
+//! The libraries of a TOML table, and their files.
+
+ghost use Rattle.std.specs.Prelude.{◌≡◌, ◌≢◌, ◌<◌, ◌≤◌, ◌++◌, [], ◌∷◌, List, ℕ, Ok, length, map, AllPairs, All, IfOk, IfErr, OnOk};
+ghost use Rattle.numbering.specs.Numbers.{IsAdded};
+ghost use Rattle.toml.specs.View.{table_view};
+ghost use Rattle.project_file.specs.Toml.{new_library, library_after, matching_names, file_in, library_files, files_of};
+ghost use Rattle.project_file.specs.Steps.{ReadsStep};
+ghost use Rattle.project_file.specs.Forms.{tables_view};
+ghost use Rattle.project_file.specs.Libraries.{alone, libraries_of, AddsLibrary, texts_at, ArePlaces, AddsWanted, TakesMatching, TakesNames, AddsSaid, AddsTable, FailsTable};
+
+use crate::csv::is_same;
+use crate::keys::{text_at, texts_at, words_at};
+use crate::paths::{either, matches_path, parts_of};
+use crate::values::Form;
+use numbering::{NumberSet, Numbered};
+use std::alloc::Global;
+use toml::Table;
+use vr_base::{FileName, NoMemory, ProjectFault, ProjectFile, ProjectFileList, Text, TextList};
+
+/// A library without a path.
+fn alone(alloc: Global, library: &Text) -> Result<FileName, NoMemory>
+    ensures { IfOk result (λ name. name ≡ alone library.now) }
+{
+    Ok(FileName {
+        library: library.copy(alloc)?,
+        path: Text::new(alloc),
+    })
+}
+
+/// Adds a library to those before it, unless it is one of them.
+#[tactic(auto, using(crate::proofs::LibrarySteps::work_is, crate::proofs::LibrarySteps::came_is, crate::proofs::LibrarySteps::new_is))]
+fn add_library(
+    alloc: Global,
+    before: &mut Numbered<FileName>,
+    library: Text,
+) -> Result<Text, ProjectFault>
+    ensures { before.old.keys ≡ map alone (libraries_of before.old.keys) →
+        AddsLibrary before.old.keys before.new.keys
+        (new_library (libraries_of before.old.keys) library) result }
+{
+    if is_same(library.bytes(), b"work") {
+        return Err(ProjectFault::WorkLibrary);
+    }
+    let key = alone(alloc, &library)?;
+    match before.number(&key) {
+        Some(_known) => Err(ProjectFault::DuplicateLibrary { name: library }),
+        None => {
+            before.add(key)?;
+            Ok(library)
+        }
+    }
+}
+
+/// The library that a table names, after those before it.
+#[tactic(auto, unfolding(crate::specs::Toml::library_after))]
+fn library_after(
+    alloc: Global,
+    before: &mut Numbered<FileName>,
+    table: &Table,
+) -> Result<Text, ProjectFault>
+    ensures { before.old.keys ≡ map alone (libraries_of before.old.keys) →
+        AddsLibrary before.old.keys before.new.keys
+        (library_after (libraries_of before.old.keys) (table_view table.now)) result }
+{
+    let library = text_at(alloc, Form::Library, "library.", "name", table)?;
+    add_library(alloc, before, library)
+}
+
+/// Adds a place where it is wanted.
+fn add_wanted(found: &mut NumberSet, place: usize, wanted: bool) -> Result<(), NoMemory>
+    requires { place < found.old.size }
+    ensures { OnOk result (AddsWanted wanted place found.old found.new) }
+{
+    if !wanted {
+        return Ok(());
+    }
+    found.add(place)?;
+    Ok(())
+}
+
+/// Takes the names that a pattern matches, and says whether there are any.
+fn take_matching(
+    alloc: Global,
+    names: &[Text],
+    pattern: &[u8],
+    found: &mut NumberSet,
+) -> Result<bool, NoMemory>
+    requires distinct { AllPairs (λ name other. name ≢ other) names.now }
+    requires places { ArePlaces names.now found.old }
+    ensures { IfOk result (TakesMatching names.now pattern.now found.old found.new) }
+{
+    let parts = parts_of(alloc, pattern)?;
+    let mut any = false;
+    for i in 0..names.len() {
+        let wanted = matches_path(alloc, parts.as_slice(), names[i].bytes())?;
+        add_wanted(found, i, wanted)?;
+        any = either(any, wanted);
+    }
+    Ok(any)
+}
+
+/// Takes the names that patterns match, pattern by pattern.
+#[tactic(auto, using(crate::proofs::MatchSteps::goes_on, crate::proofs::MatchSteps::stops, crate::proofs::MatchSteps::all_taken))]
+fn take_names(
+    alloc: Global,
+    names: &[Text],
+    patterns: &[Text],
+    found: &mut NumberSet,
+) -> Result<(), ProjectFault>
+    requires distinct { AllPairs (λ name other. name ≢ other) names.now }
+    requires places { ArePlaces names.now found.old }
+    ensures { TakesNames names.now patterns.now found.old found.new result }
+{
+    for i in 0..patterns.len() {
+        if !take_matching(alloc, names, patterns[i].bytes(), found)? {
+            let pattern = patterns[i].copy(alloc)?;
+            return Err(ProjectFault::NothingMatches { pattern });
+        }
+    }
+    Ok(())
+}
+
+/// The words of one command, and then those of another.
+fn joined(alloc: Global, first: &[Text], second: &[Text]) -> Result<TextList, NoMemory>
+    ensures { IfOk result (λ words. words ≡ first.now ++ second.now) }
+{
+    let mut words = TextList::new(alloc);
+    for i in 0..first.len() {
+        words.push(first[i].copy(alloc)?)?;
+    }
+    for i in 0..second.len() {
+        words.push(second[i].copy(alloc)?)?;
+    }
+    Ok(words)
+}
+
+fn file_in(
+    alloc: Global,
+    library: &Text,
+    command: &[Text],
+    path: &Text,
+) -> Result<ProjectFile, NoMemory>
+    ensures { IfOk result (λ file. file ≡ file_in library.now command.now path.now) }
+{
+    Ok(ProjectFile {
+        name: FileName {
+            library: library.copy(alloc)?,
+            path: path.copy(alloc)?,
+        },
+        command: joined(alloc, command, &[])?,
+    })
+}
+
+/// Adds the files of a library at places of names.
+fn add_files(
+    alloc: Global,
+    files: &mut ProjectFileList,
+    library: &Text,
+    command: &[Text],
+    names: &[Text],
+    places: &[usize],
+) -> Result<(), NoMemory>
+    requires { All (λ place. place < length names.now) places.now }
+    ensures { OnOk result (files.new ≡
+        files.old ++ map (file_in library.now command.now) (texts_at names.now places.now)) }
+{
+    for i in 0..places.len() {
+        files.push(file_in(alloc, library, command, &names[places[i]])?)?;
+    }
+    Ok(())
+}
+
+/// Adds the files of a library.
+#[tactic(auto, unfolding(crate::specs::Toml::library_files))]
+fn add_library_files(
+    alloc: Global,
+    files: &mut ProjectFileList,
+    names: &[Text],
+    compiler: &[Text],
+    library: &Text,
+    table: &Table,
+    found: &mut NumberSet,
+) -> Result<(), ProjectFault>
+    requires distinct { AllPairs (λ name other. name ≢ other) names.now }
+    requires size { length names.now ≤ found.old.size }
+    ensures added { AddsSaid files.old files.new
+        (library_files names.now compiler.now library.now (table_view table.now)) result }
+    ensures size { OnOk result (length names.now ≤ found.new.size) }
+{
+    let patterns = texts_at(alloc, Form::Pattern, "library.", "files", table)?;
+    found.clear();
+    take_names(alloc, names, patterns.as_slice(), found)?;
+    let options = words_at(alloc, "library.", "options", table)?;
+    let command = joined(alloc, compiler, options.as_slice())?;
+    add_files(
+        alloc,
+        files,
+        library,
+        command.as_slice(),
+        names,
+        found.as_slice(),
+    )?;
+    Ok(())
+}
+
+/// Adds the files of a table's library, after those of the tables before it.
+#[tactic(auto, using(crate::proofs::LibrarySum::no_library, crate::proofs::LibrarySum::no_files, crate::proofs::LibrarySum::files_more, crate::proofs::LibrarySum::library_fault, crate::proofs::LibrarySum::added_fault))]
+fn add_table(
+    alloc: Global,
+    files: &mut ProjectFileList,
+    before: &mut Numbered<FileName>,
+    found: &mut NumberSet,
+    names: &[Text],
+    compiler: &[Text],
+    table: &Table,
+) -> Result<(), ProjectFault>
+    requires distinct { AllPairs (λ name other. name ≢ other) names.now }
+    requires size { length names.now ≤ found.old.size }
+    requires keys { before.old.keys ≡ map alone (libraries_of before.old.keys) }
+    ensures added { OnOk result (AddsTable names.now compiler.now (table_view table.now)
+        before.old.keys before.new.keys files.old files.new) }
+    ensures fails { IfErr result
+        (FailsTable names.now compiler.now (table_view table.now) before.old.keys) }
+    ensures size { OnOk result (length names.now ≤ found.new.size) }
+{
+    let library = library_after(alloc, before, table)?;
+    add_library_files(alloc, files, names, compiler, &library, table, found)?;
+    Ok(())
+}
+
+/// The files of libraries.
+#[tactic(auto, using(crate::proofs::LibrarySum::table_more, crate::proofs::LibrarySum::table_fails, crate::proofs::LibrarySum::files_all))]
+pub fn files_of(
+    alloc: Global,
+    names: &[Text],
+    compiler: &[Text],
+    tables: &[&Table],
+) -> Result<ProjectFileList, ProjectFault>
+    requires distinct { AllPairs (λ name other. name ≢ other) names.now }
+    ensures { ReadsStep
+        (files_of names.now compiler.now [] (map (λ t. table_view t.now) tables.now)) result }
+{
+    let mut files = ProjectFileList::new(alloc);
+    let mut before = Numbered::new(alloc);
+    let mut found = NumberSet::new(alloc);
+    found.grow_to(names.len())?;
+    for i in 0..tables.len() {
+        let table = tables[i];
+        add_table(
+            alloc,
+            &mut files,
+            &mut before,
+            &mut found,
+            names,
+            compiler,
+            table,
+        )?;
+    }
+    Ok(files)
+}
