@@ -14,3 +14,6 @@ pub use limits::{PROJECT_FILE_LIMIT, PROJECT_TEXT_LIMIT};
 pub use linking::ReadProject;
 pub use reading::read_project;
 pub use stops::ReadStop;
+
+#[cfg(test)]
+mod tests;
