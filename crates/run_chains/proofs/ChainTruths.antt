@@ -1,6 +1,6 @@
 -- What follows of one run, and then of the next.
 use Rattle.std.proofs.Common.{◌≡◌, ℕ, ◌<◌, Bool, true, false, List, [], ◌∷◌, ◌++◌, length, Option, Some, None, refl, sym, ap, subst, ◌∙◌, arith, inl, inr}
-use Rattle.std.specs.Prelude.{◌↔◌, is_some, Contains}
+use Rattle.std.specs.Prelude.{◌↔◌, is_some, unwrap_or, Contains}
 use Rattle.std.proofs.lemmas.Bool.{cases_Bool, false≢true}
 use Rattle.std.proofs.lemmas.List.{append-nil}
 use Rattle.std.proofs.lemmas.List.Elements.{All-contains}
@@ -15,7 +15,6 @@ use Rattle.vr_base.specs.declared.outcome.Outcome.TheVariants as outcome
 use Rattle.vr_outside.specs.declared.records.Record.{Record}
 use Rattle.vr_outside.specs.Disks.{DiskState, Moments, AreSound, reads_of, added_since}
 use Rattle.vr_outside.specs.Commits.{last_state}
-use Rattle.record_store.specs.Stored.{records_in}
 use Rattle.run_spec.specs.ChildJournal.{Setting, Lawful, Answered, EachAfter, book_of, artefact_after}
 use Rattle.run_spec.specs.Faithful.{IsFaithfulDisk}
 use Rattle.run_spec.specs.Histories.{Sources, Order, ProgramRun, Ran, Stopped, IsReadable, IsMoment, IsLeft, RunStep, IsHistory, run_setting}
@@ -29,39 +28,36 @@ use Rattle.history_laws.specs.Spares.{IsAcknowledged, SparesFile, AllSpare}
 use Rattle.history_laws.proofs.RightRuns.{all_right}
 use Rattle.history_laws.proofs.StoppedRuns.{stopped_spares}
 use Rattle.scan_spec.specs.Scans.{Finding}
-use Rattle.vunit_top.specs.Reading.{Reading, Bad, Child, Stops, Over, Go, reading}
-use Rattle.vunit_top.specs.Runs.{order_of, world_of, run_of, has_risen, RunsAs}
-use Rattle.vunit_top.specs.Said.{IsSaid, latest_in, graph_of, build_of}
+use Rattle.vunit_top.specs.Store.{records_in_image}
+use Rattle.vunit_top.specs.Orders.{latest_for}
+use Rattle.vunit_top.specs.Reading.{Reading, reading}
+use Rattle.vunit_top.specs.Runs.{world_of, run_of, has_risen, RunsAs}
+use Rattle.vunit_top.specs.Said.{IsSaid, no_order, order_of, order_in, build_of}
 use Rattle.vunit_top.proofs.RunTruths.{readable_now}
 use Rattle.run_chains.specs.Chains.{Deeds, run_by, RanTwice, RanAfterStop}
 
 module _ (scan : List ℕ → Finding) (answer : Request → Exit) (run : ProgramRun) (first : DiskState) where
   -- where something is recorded of each file, a run starts nothing
-  nothing_started : (r : Reading) → RunStep (world_of scan answer) (order_of r) run first → ((position : ℕ) → position < length (graph_of r) → recorded_at (latest_in first) (graph_of r) position ≡ None → ⊥) → run.events ≡ []
-  nothing_started Bad step each = step.events
-  nothing_started Child step each = step.events
-  nothing_started (Stops reason) step each = step.events
-  nothing_started (Over limit number) step each = step.events
-  nothing_started (Go graph) (inl idle) each = idle.events
-  nothing_started (Go graph) (inr build) each = nothing_due (build_of (latest_in first) (Go graph)) each run.events build.lawful
+  nothing_started : (order : Option Order) → RunStep (world_of scan answer) order run first
+      → ((position : ℕ) → position < length (unwrap_or order no_order).graph → (build_of first (unwrap_or order no_order)).recorded position ≡ None → ⊥) → run.events ≡ []
+  nothing_started None step each = step.events
+  nothing_started (Some order) (inl idle) each = idle.events
+  nothing_started (Some order) (inr build) each = nothing_due (build_of first order) each run.events build.lawful
 
   -- the events of a run are its compilers' answers
-  answered_in : (r : Reading) → RunStep (world_of scan answer) (order_of r) run first → Answered answer run.events
+  answered_in : (order : Option Order) → RunStep (world_of scan answer) order run first → Answered answer run.events
   unfolding EachAfter
-  answered_in Bad step = subst (Answered answer) (sym step.events) tt
-  answered_in Child step = subst (Answered answer) (sym step.events) tt
-  answered_in (Stops reason) step = subst (Answered answer) (sym step.events) tt
-  answered_in (Over limit number) step = subst (Answered answer) (sym step.events) tt
-  answered_in (Go graph) (inl idle) = subst (Answered answer) (sym idle.events) tt
-  answered_in (Go graph) (inr build) = build.answered
+  answered_in None step = subst (Answered answer) (sym step.events) tt
+  answered_in (Some order) (inl idle) = subst (Answered answer) (sym idle.events) tt
+  answered_in (Some order) (inr build) = build.answered
 
   -- a run that is done has started exactly the files that nothing was recorded of
-  exact_starts : (r : Reading) (last : DiskState) → RunsAs scan answer r run first last → IsFaithfulDisk answer records_in first → run.outcome ≡ outcome.Done → (position : ℕ) → position < length (graph_of r) →
-      Contains (book_of (build_of (latest_in first) r) run.events).taken position ↔ (recorded_at (latest_in first) (graph_of r) position ≡ None)
+  exact_starts : (r : Reading) (last : DiskState) → RunsAs scan answer r run first last → IsFaithfulDisk answer records_in_image first → run.outcome ≡ outcome.Done → (position : ℕ) → position < length (order_in r).graph →
+      Contains (book_of (build_of first (order_in r)) run.events).taken position ↔ ((build_of first (order_in r)).recorded position ≡ None)
   exact_starts r last did faithful done position inside =
-      let setting : Setting = build_of (latest_in first) r in
+      let setting : Setting = build_of first (order_in r) in
       let lawful : Lawful setting run.events = (did.whole (subst IsSaid (sym done) tt)).lawful in
-      let answered : Answered answer run.events = answered_in r did.step in
+      let answered : Answered answer run.events = answered_in (order_of r) did.step in
       let made : is_some (artefact_after setting run.events position) ≡ true = did.made faithful done position inside in (
         λ contains. All-contains (λ p. setting.recorded p ≡ None) (book_of setting run.events).taken position (started_unrecorded answer setting run.events lawful answered) contains,
         λ none. elim (cases_Bool (was_taken (book_of setting run.events) position)) [
@@ -81,10 +77,11 @@ module _ (scan : List ℕ → Finding) (answer : Request → Exit) (words : List
   Second middle last = RunsAs scan answer r (run_by words two after) middle last
 
   -- after a run that is done each file has a current record
-  each_recorded : (first middle : DiskState) → IsReadable middle → First first middle → IsFaithfulDisk answer records_in first → one ≡ outcome.Done → (position : ℕ) → position < length (graph_of r) → recorded_at (latest_in middle) (graph_of r) position ≡ None → ⊥
-  each_recorded first middle readable did faithful done position inside none =
+  each_recorded : (first middle : DiskState) → IsReadable middle → First first middle → IsFaithfulDisk answer records_in_image first → (order_in r).clean ≡ false → one ≡ outcome.Done → (position : ℕ) → position < length (order_in r).graph
+      → (build_of middle (order_in r)).recorded position ≡ None → ⊥
+  each_recorded first middle readable did faithful kept_store done position inside none =
       let kept = did.recorded (subst IsSaid (sym done) tt) position inside (did.made faithful done position inside) (reads_of middle) readable in
-      none-some kept.artefact (sym none ∙ recorded_of_record (latest_in middle) (graph_of r) position kept)
+      none-some kept.artefact (sym (subst (λ (clean : Bool). recorded_at (latest_for records_in_image clean middle) (order_in r).graph position ≡ None) kept_store none) ∙ recorded_of_record (latest_for records_in_image false middle) (order_in r).graph position kept)
 
   pub ran_twice : (first middle last : DiskState) (old new : List Event) → IsReadable middle → First first middle → Second middle last → new ≡ (old ++ before.events) ++ after.events → RanTwice scan answer words sources one two first last old new
   unfolding IsHistory
@@ -94,7 +91,7 @@ module _ (scan : List ℕ → Finding) (answer : Request → Exit) (words : List
     history = (did.step, (subst (RunStep (world_of scan answer) (order_of r) (run_by words two after)) (sym did.ends) next.step, tt));
     ends = ap (λ (disk : DiskState). last_state disk after.later) did.ends ∙ next.ends;
     journal = journal;
-    idle = λ faithful done. nothing_started scan answer (run_by words two after) middle r next.step (each_recorded first middle readable did faithful done);
+    idle = λ faithful kept done. nothing_started scan answer (run_by words two after) middle (order_of r) next.step (each_recorded first middle readable did faithful kept done);
   }
 
   -- a stop at a moment of the first run has left what the second finds
@@ -110,7 +107,7 @@ module _ (scan : List ℕ → Finding) (answer : Request → Exit) (words : List
         (stopped_spares (world_of scan answer) sources first (run_by words one before) (record { events = compile_part before.events; moment = moment; disk = left }) (Ran (run_by words two after) ∷ []) name kept
         (two_runs (compile_part before.events) [] (sym (append-nil (compile_part before.events)))) here).0
 
-    still_true : IsReadable first → IsFaithfulDisk answer records_in first → IsFaithfulDisk answer records_in left
+    still_true : IsReadable first → IsFaithfulDisk answer records_in_image first → IsFaithfulDisk answer records_in_image left
     unfolding IsHistory AllRight
     still_true readable faithful =
         (all_right (world_of scan answer) (Stopped (run_by words one before) (record { events = compile_part before.events; moment = moment; disk = left }) ∷ []) sources first readable faithful

@@ -34,8 +34,11 @@ pub fn run_twice<I: Source, T: Tree, D: Disk, P: Procs, O: Sink>(
     ensures running { P.running procs.new ≡ [] }
     ensures same { P.answer procs.new ≡ P.answer procs.old }
     ensures sources { T.file tree.new ≡ T.file tree.old }
+    ensures listed { T.listed tree.new ≡ T.listed tree.old }
     ensures ran { (scan : List ℕ → Finding) → IsScanner scan → T.tells → D.tells → P.tells →
-        RanTwice scan (P.answer procs.old) words.now (T.file tree.old) result.first result.second
+        RanTwice scan (P.answer procs.old) words.now
+        (record { file = T.file tree.old; listed = T.listed tree.old })
+        result.first result.second
         (D.moments disk.old).now (D.moments disk.new).now
         (P.journal procs.old) (P.journal procs.new) }
 {
@@ -60,12 +63,14 @@ pub fn run_after_stop<I: Source, T: Tree, D: Disk, E: Disk, P: Procs, O: Sink>(
     ensures running { P.running procs.new ≡ [] }
     ensures same { P.answer procs.new ≡ P.answer procs.old }
     ensures sources { T.file tree.new ≡ T.file tree.old }
+    ensures listed { T.listed tree.new ≡ T.listed tree.old }
     ensures ran { (scan : List ℕ → Finding) → IsScanner scan → T.tells → D.tells → E.tells →
         P.tells → (moment : DiskState) →
         IsMoment moment (D.moments disk.old).now
         (added_since (D.moments disk.old) (D.moments disk.new)) →
         IsLeft moment (E.moments left.old).now →
-        RanAfterStop scan (P.answer procs.old) words.now (T.file tree.old)
+        RanAfterStop scan (P.answer procs.old) words.now
+        (record { file = T.file tree.old; listed = T.listed tree.old })
         result.first result.second
         (has_risen (D.failed_disk_calls disk.old) (D.failed_disk_calls disk.new))
         (D.moments disk.old).now (added_since (D.moments disk.old) (D.moments disk.new)) moment

@@ -17,9 +17,10 @@ use Rattle.vr_outside.specs.Phases.{HasPhases}
 use Rattle.run_spec.specs.ChildJournal.{Setting, Lawful, Answered}
 use Rattle.run_spec.specs.Commits.{setting_of, commits, Waits}
 
--- the files of a project folder, each path with its bytes
-abbrev pub Sources : Type 0
-Sources = List ℕ → Option (List ℕ)
+-- the files of a project folder, each path with its bytes, and the paths that the folder lists
+pub record Sources : Type 0 where
+  pub file : List ℕ → Option (List ℕ)
+  pub listed : List (List ℕ)
 
 -- what a run is to build: a graph, with so many children at once, going on after a refusal or not, over the records that
 -- are there or over none

@@ -19,15 +19,15 @@ use Rattle.vr_base.specs.PresentGraph.{below}
 use Rattle.vr_base.proofs.Below.{get_or-below, length-below}
 use Rattle.vr_outside.specs.Counts.{Rose}
 use Rattle.vr_outside.specs.declared.records.Record.{Record}
-use Rattle.vr_outside.specs.Disks.{DiskState, Image, IsImage, Moments, AreSound, IsDurable, Follows, OpensWith, added_since, reads_of}
+use Rattle.vr_outside.specs.Disks.{DiskState, Image, IsImage, Moments, AreSound, IsDurable, Follows, AtAnyMoment, IsEither, OpensWith, added_since, reads_of}
 use Rattle.vr_outside.specs.Records.{latest, IsAllOrLatest, IsRecorded}
-use Rattle.vr_outside.specs.Phases.{HasPhases, committed}
+use Rattle.vr_outside.specs.declared.records.StoreFault.{StoreFault}
+use Rattle.vr_outside.specs.Phases.{IsOpening, IsBase, HasPhases, opened, committed}
 use Rattle.vr_outside.proofs.MomentLaws.{follows_by, joined_follows}
-use Rattle.vr_outside.proofs.PhaseLaws.{open_failed, open_done, then_committed}
-use Rattle.record_store.specs.Stored.{records_in}
+use Rattle.vr_outside.proofs.PhaseLaws.{open_failed, open_done, then_emptied, then_committed}
 use Rattle.run_spec.specs.ChildJournal.{Setting, End, IsWhole, book_of, artefact_after, artefact_so_far, exit_at, since, EachAfter}
 use Rattle.run_spec.specs.Commits.{setting_of, commits}
-use Rattle.run_spec.specs.Histories.{IsReadable}
+use Rattle.run_spec.specs.Histories.{Order, IsReadable}
 use Rattle.run_spec.specs.Marks.{mark_of, mark_at, marks_of}
 use Rattle.run_spec.proofs.Journal.{since-added}
 use Rattle.run_spec.proofs.Prefixes.{lawful_none}
@@ -38,21 +38,45 @@ use Rattle.compile_loop.specs.declared.faults.BuildFault.{BuildFault}
 use Rattle.compile_loop.specs.declared.faults.BuildFault.TheVariants as fault
 use Rattle.compile_loop.specs.Faults.{fault_of, is_no_memory, is_all_committed}
 use Rattle.compile_loop.specs.Ran.{BuildRan, is_made}
-use Rattle.vunit_top.specs.Said.{latest_in, one_at_a_time, IsDurablyRecorded}
-use Rattle.vunit_top.specs.Building.{BuildsOver}
+use Rattle.vunit_top.specs.Orders.{latest_for, setting_for, IsDurablyRecorded}
+use Rattle.vunit_top.specs.Building.{OpensStore, BuildsOver}
 use Rattle.vunit_top.specs.Runs.{has_risen}
 
-abbrev HasReadOf : DiskState → Image → Type 0
-HasReadOf disk image = IsAllOrLatest (records_in (reads_of disk)) (records_in image)
+module _ (K : Type 0) (records_of : Image → List Record) (old middle new : Moments) where
+  abbrev HasRead : Image → Type 0
+  HasRead image = IsAllOrLatest (records_of (reads_of old.now)) (records_of image)
+
+  -- a store that could not be opened
+  pub open_fails : (clean : Bool) (why : StoreFault) → Follows old new → OpensWith old new HasRead → OpensStore {K = K} records_of clean (Err why) old new
+  open_fails clean why follows opens = record { follows = follows; phases = λ more. open_failed records_of clean more old new opens; opening = tt; base = tt }
+
+  -- one that is open
+  pub opens_store : (store : K) → Follows old new → OpensWith old new HasRead → HasRead (reads_of new.now) → IsDurable new.now → OpensStore records_of false (Ok store) old new
+  opens_store store follows opens kept durable =
+      let opening : IsOpening records_of false old.now (added_since old new) = open_done records_of false old new opens kept durable in
+      record { follows = follows; phases = λ more. opened refl opening; opening = opening; base = kept }
+
+  -- one that is emptied once it is open
+  module _ (first : Follows old middle) (opens : OpensWith old middle HasRead) (kept : HasRead (reads_of middle.now)) (durable : IsDurable middle.now)
+      (moments : AtAnyMoment middle new (λ image. IsEither (records_of image) (records_of (reads_of middle.now)) [])) where
+    emptying : IsOpening records_of true old.now (added_since old new)
+    emptying = then_emptied records_of old middle new first (open_done records_of true old middle opens kept durable) kept moments
+
+    follows_both : Follows old new
+    follows_both = follows_by old new (added_since old middle ++ added_since middle new) (joined_follows old middle new first moments.follows)
+
+    pub empties_store : (result : Result K StoreFault) → OnOk result (records_of (reads_of new.now) ≡ []) → OpensStore records_of true result old new
+    empties_store (Ok store) none = record { follows = follows_both; phases = λ more. opened refl emptying; opening = emptying; base = none }
+    empties_store (Err why) none = record { follows = follows_both; phases = λ more. opened refl emptying; opening = tt; base = tt }
 
 -- a build whose store could not be opened starts nothing
-pub not_opened : (answer : Request → Exit) (graph : List Entry) (why : BuildFault) (failed : Bool) (old new : Moments) (events : List Event) → events ≡ [] → IsGraph graph → AreSound new → Follows old new → OpensWith old new (HasReadOf old.now) →
-    BuildsOver answer graph (Err why) failed old new events
+pub not_opened : (records_of : Image → List Record) (answer : Request → Exit) (order : Order) (why : BuildFault) (failed : Bool) (old new : Moments) (events : List Event) → events ≡ [] → IsGraph order.graph → AreSound new → Follows old new
+    → ((more : List Record) → HasPhases records_of order.clean 0 more old.now (added_since old new)) → BuildsOver records_of answer order (Err why) failed old new events
 unfolding EachAfter
-not_opened answer graph why failed old new events none is sound follows opens =
-    let s : Setting = one_at_a_time (latest_in old.now) graph in
+not_opened records_of answer order why failed old new events none is sound follows phases =
+    let s : Setting = setting_for records_of order old.now in
     let nothing : commits s [] ≡ [] = no_commits s in
-    subst (BuildsOver answer graph (Err why) failed old new) (sym none) (record {
+    subst (BuildsOver records_of answer order (Err why) failed old new) (sym none) (record {
       graph_form = is;
       lawful = lawful_none s;
       answered = tt;
@@ -62,7 +86,7 @@ not_opened answer graph why failed old new events none is sound follows opens =
       follows = follows;
       readable = (readable_since old new follows sound).1;
       acknowledged = 0;
-      phases = open_failed records_in false (commits s []) old new opens;
+      phases = phases (commits s []);
       waits = waits_none s 0;
       all = λ disk memory. ap length (sym nothing);
     })
@@ -81,14 +105,20 @@ mark_there setting events position inside =
     slice_get-map mark (below (length setting.graph)) position ∙ ap (option_map mark) here
 
 -- a store knows what whatever a stop can leave holds
-pub record KnowsDisk (latest_of : FileName → Option Record) (disk : DiskState) : Type 0 where
+pub record KnowsDisk (records_of : Image → List Record) (latest_of : FileName → Option Record) (disk : DiskState) : Type 0 where
   pub durable : IsDurable disk
-  pub held : (name : FileName) → latest_of name ≡ latest name (records_in (reads_of disk))
+  pub held : (name : FileName) → latest_of name ≡ latest name (records_of (reads_of disk))
 
-durable_if_known : (graph : List Entry) (latest_of : FileName → Option Record) (disk : DiskState) → KnowsDisk latest_of disk → (position : ℕ) → IsRecorded latest_of graph position → IsDurablyRecorded disk graph position
-durable_if_known graph latest_of disk knows position recorded image is =
-    subst (λ (i : Image). IsRecorded (λ name. latest name (records_in i)) graph position) (sym (knows.durable image is))
+durable_if_known : (records_of : Image → List Record) (graph : List Entry) (latest_of : FileName → Option Record) (disk : DiskState) → KnowsDisk records_of latest_of disk → (position : ℕ) → IsRecorded latest_of graph position → IsDurablyRecorded records_of disk graph position
+durable_if_known records_of graph latest_of disk knows position recorded image is =
+    subst (λ (i : Image). IsRecorded (λ name. latest name (records_of i)) graph position) (sym (knows.durable image is))
     (record { entry = recorded.entry; is_entry = recorded.is_entry; artefact = recorded.artefact; is = sym (knows.held recorded.entry.name) ∙ recorded.is })
+
+-- the latest records of a store that was opened are those that a build goes by
+base_latest : (records_of : Image → List Record) (clean : Bool) (disk : DiskState) (records : List Record) (name : FileName) → IsBase records_of clean disk records → latest name records ≡ latest_for records_of clean disk name
+unfolding latest
+base_latest records_of true disk records name none = ap (latest name) none
+base_latest records_of false disk records name kept = same_latest name (records_of (reads_of disk)) records kept
 
 on_ok_if : (A : Type 0) (result : Result (List Mark) BuildFault) → OnTrue (is_ok result) A → OnOk result A
 on_ok_if A (Ok marks) a = a
@@ -105,52 +135,56 @@ not_no_memory (Err fault.StartFailed) other = refl
 not_no_memory (Err fault.ChildLost) other = refl
 not_no_memory (Err fault.DiskFailed) other = refl
 
-recorded_in_end : (setting : Setting) (now : FileName → Option Record) (result : Result (List Mark) BuildFault) (events : List Event) (disk : DiskState) → IfOk result (λ marks. marks ≡ marks_of setting events)
-    → IfOk result (λ marks. (position : ℕ) (mark : Mark) → slice_get marks position ≡ Some mark → is_made mark ≡ true → IsRecorded now setting.graph position) → OnOk result (KnowsDisk now disk)
-    → OnOk result ((position : ℕ) → position < length setting.graph → is_some (artefact_after setting events position) ≡ true → IsDurablyRecorded disk setting.graph position)
-recorded_in_end setting now (Ok marks) events disk marked recorded knows = λ position inside is.
+recorded_in_end : (records_of : Image → List Record) (setting : Setting) (now : FileName → Option Record) (result : Result (List Mark) BuildFault) (events : List Event) (disk : DiskState) → IfOk result (λ marks. marks ≡ marks_of setting events)
+    → IfOk result (λ marks. (position : ℕ) (mark : Mark) → slice_get marks position ≡ Some mark → is_made mark ≡ true → IsRecorded now setting.graph position) → OnOk result (KnowsDisk records_of now disk)
+    → OnOk result ((position : ℕ) → position < length setting.graph → is_some (artefact_after setting events position) ≡ true → IsDurablyRecorded records_of disk setting.graph position)
+recorded_in_end records_of setting now (Ok marks) events disk marked recorded knows = λ position inside is.
     let mark : Mark = mark_at setting (book_of setting events).ends position in
-    durable_if_known setting.graph now disk knows position
+    durable_if_known records_of setting.graph now disk knows position
     (recorded position mark (ap (λ (all : List Mark). slice_get all position) marked ∙ mark_there setting events position inside) (made_mark setting.keep_going (exit_at (book_of setting events).ends position) (artefact_after setting events position) is))
-recorded_in_end setting now (Err why) events disk marked recorded knows = tt
+recorded_in_end records_of setting now (Err why) events disk marked recorded knows = tt
 
-module _ (answer : Request → Exit) (graph : List Entry) (is : IsGraph graph) (old mid new : Moments) (sound : AreSound new) (first : Follows old mid) (opening : OpensWith old mid (HasReadOf old.now)) (kept : HasReadOf old.now (reads_of mid.now))
-    (before now : FileName → Option Record) (knows : KnowsDisk before mid.now) (tells told : Type 0) (t : tells) (d : told) (result : Result (List Mark) BuildFault) (old_journal journal : List Event) (broken failed : Bool) where
-  latest_is : before ≡ latest_in old.now
-  latest_is = fun_ext (λ name. knows.held name ∙ same_latest name (records_in (reads_of old.now)) (records_in (reads_of mid.now)) kept)
+module _ (records_of : Image → List Record) (answer : Request → Exit) (order : Order) (is : IsGraph order.graph) (old mid new : Moments) (sound : AreSound new) (first : Follows old mid) (opening : IsOpening records_of order.clean old.now (added_since old mid))
+    (base : IsBase records_of order.clean old.now (records_of (reads_of mid.now))) (before now : FileName → Option Record) (knows : KnowsDisk records_of before mid.now) (tells told : Type 0) (t : tells) (d : told) (result : Result (List Mark) BuildFault)
+    (old_journal journal : List Event) (broken failed : Bool) where
+  latest_is : before ≡ latest_for records_of order.clean old.now
+  latest_is = fun_ext (λ name. knows.held name ∙ base_latest records_of order.clean old.now (records_of (reads_of mid.now)) name base)
+
+  abbrev by : (FileName → Option Record) → Setting
+  by latest_of = setting_of latest_of order.graph order.slots order.keep_going
 
   abbrev Ran : (FileName → Option Record) → Type 0
   Ran latest_of =
-      BuildRan tells told answer records_in (setting_of latest_of graph 1 false) old_journal journal mid new latest_of now (is_ok result) (fault_of result) broken
-      (λ events. IfOk result (λ marks. marks ≡ marks_of (setting_of latest_of graph 1 false) events))
+      BuildRan tells told answer records_of (by latest_of) old_journal journal mid new latest_of now (is_ok result) (fault_of result) broken
+      (λ events. IfOk result (λ marks. marks ≡ marks_of (by latest_of) events))
 
-  over : Ran (latest_in old.now) → IfOk result (λ marks. (position : ℕ) (mark : Mark) → slice_get marks position ≡ Some mark → is_made mark ≡ true → IsRecorded now graph position) → OnOk result (KnowsDisk now new.now) →
-      (failed ≡ false → broken ≡ false) → BuildsOver answer graph result failed old new (since old_journal journal)
+  over : Ran (latest_for records_of order.clean old.now) → IfOk result (λ marks. (position : ℕ) (mark : Mark) → slice_get marks position ≡ Some mark → is_made mark ≡ true → IsRecorded now order.graph position) → OnOk result (KnowsDisk records_of now new.now) →
+      (failed ≡ false → broken ≡ false) → BuildsOver records_of answer order result failed old new (since old_journal journal)
   over ran recorded knows_now usable =
+      let s : Setting = setting_for records_of order old.now in
       let second : Follows mid new = (ran.images d).images.any_moment.follows in
       let follows : Follows old new = follows_by old new (added_since old mid ++ added_since mid new) (joined_follows old mid new first second) in
       let events : since old_journal journal ≡ ran.events = ap (since old_journal) (ran.journal t) ∙ since-added old_journal ran.events in
       let marked = if_ok_if _ result ran.says in
-      subst (BuildsOver answer graph result failed old new) (sym events) (record {
+      subst (BuildsOver records_of answer order result failed old new) (sym events) (record {
         graph_form = is;
         lawful = ran.lawful t;
         answered = ran.answered t;
         whole = on_ok_if _ result (ran.whole t);
         marks = marked;
-        recorded = recorded_in_end (one_at_a_time (latest_in old.now) graph) now result ran.events new.now marked recorded knows_now;
+        recorded = recorded_in_end records_of s now result ran.events new.now marked recorded knows_now;
         follows = follows;
         readable = (readable_since old new follows sound).1;
         acknowledged = ran.acknowledged;
-        phases = committed broken (then_committed records_in false ran.acknowledged broken (commits (one_at_a_time (latest_in old.now) graph) ran.events) (records_in (reads_of mid.now)) old mid new first
-            (open_done records_in false old mid opening kept knows.durable) kept (ran.images d).images);
+        phases = committed broken (then_committed records_of order.clean ran.acknowledged broken (commits s ran.events) (records_of (reads_of mid.now)) old mid new first opening base (ran.images d).images);
         waits = ran.committed.waits;
         all = λ disk memory. OnTrue_at (both (not_no_memory result memory) (usable disk)) ran.committed.whole;
       }) where
         both : {a b : Bool} → a ≡ false → b ≡ false → (not a && not b) ≡ true
         both x y = rw (x, y) refl
 
-  pub opened_over : Ran before → IfOk result (λ marks. (position : ℕ) (mark : Mark) → slice_get marks position ≡ Some mark → is_made mark ≡ true → IsRecorded now graph position) → OnOk result (KnowsDisk now new.now) →
-      (failed ≡ false → broken ≡ false) → BuildsOver answer graph result failed old new (since old_journal journal)
+  pub opened_over : Ran before → IfOk result (λ marks. (position : ℕ) (mark : Mark) → slice_get marks position ≡ Some mark → is_made mark ≡ true → IsRecorded now order.graph position) → OnOk result (KnowsDisk records_of now new.now) →
+      (failed ≡ false → broken ≡ false) → BuildsOver records_of answer order result failed old new (since old_journal journal)
   opened_over ran recorded knows_now usable = over (subst Ran latest_is ran) recorded knows_now usable
 
 -- a store that is usable after a build knows what whatever a stop can leave holds
@@ -159,6 +193,6 @@ knows_if A B (Ok marks) broken usable in_step gives = gives (subst (λ (b : Bool
 knows_if A B (Err why) broken usable in_step gives = tt
 
 -- a store is usable where no fault of the disk was counted
-pub usable_if : (broken : Bool) (first opened now : ℕ) → opened ≡ first → (broken ≡ true → Rose opened now) → has_risen first now ≡ false → broken ≡ false
-usable_if false first opened now same breaks none = refl
-usable_if true first opened now same breaks none = let rose : min (opened + 1) (2 ^ 64 - 1) ≤ now = breaks refl in absurd (false≢true (sym none ∙ le-leb (min (first + 1) (2 ^ 64 - 1)) now (subst (λ (n : ℕ). min (n + 1) (2 ^ 64 - 1) ≤ now) same rose)))
+pub usable_if : (broken : Bool) (first middle now : ℕ) → middle ≡ first → (broken ≡ true → Rose middle now) → has_risen first now ≡ false → broken ≡ false
+usable_if false first middle now same breaks none = refl
+usable_if true first middle now same breaks none = let rose : min (middle + 1) (2 ^ 64 - 1) ≤ now = breaks refl in absurd (false≢true (sym none ∙ le-leb (min (first + 1) (2 ^ 64 - 1)) now (subst (λ (n : ℕ). min (n + 1) (2 ^ 64 - 1) ≤ now) same rose)))

@@ -16,32 +16,33 @@ use Rattle.vr_outside.specs.Disks.{DiskState, Moments, IsSound, AreSound, reads_
 use Rattle.vr_outside.specs.Commits.{last_state}
 use Rattle.vr_outside.proofs.MomentLaws.{last_is}
 use Rattle.vr_outside.proofs.PhaseLaws.{nothing_added}
-use Rattle.record_store.specs.Stored.{records_in}
 use Rattle.run_spec.specs.Moves.{LawfulMoves, GreedyMoves, next_start, first_from}
 use Rattle.run_spec.specs.ChildJournal.{Setting, AreRequested, EachAfter, moves_after, after_all, Lawful, Answered, IsWhole, artefact_after, since}
 use Rattle.run_spec.specs.Commits.{commits, Waits}
-use Rattle.run_spec.specs.Recorded.{recorded_at}
 use Rattle.run_spec.specs.JournalParts.{compile_part}
 use Rattle.vr_outside.specs.Phases.{HasPhases}
 use Rattle.run_spec.specs.CleanBuild.{RecordsClean}
-use Rattle.run_spec.specs.Faithful.{IsTrueRecord, IsFaithfulDisk}
+use Rattle.run_spec.specs.Faithful.{IsFaithfulDisk}
 use Rattle.run_spec.specs.Histories.{Order, World, ProgramRun, IsReadable, IsBuildRun, IsIdleRun, RunStep}
 use Rattle.run_spec.specs.Marks.{marks_of, is_refused, refused_files, NoRefusalHalts}
 use Rattle.run_spec.proofs.Parts.{build_parts}
 use Rattle.run_spec.proofs.RunSteps.{idle_run}
-use Rattle.clean_laws.proofs.TrueRecords.{records_clean, All-latest}
 use Rattle.clean_laws.proofs.JournalMarks.{all_files_made}
 use Rattle.clean_laws.proofs.JournalOutcomes.{all_started, all_steady}
 use Rattle.history_laws.specs.Rights.{IsRightStep}
-use Rattle.history_laws.proofs.RightRuns.{run_right}
+use Rattle.history_laws.proofs.RightRuns.{run_clean, run_right}
 use Rattle.compile_loop.specs.declared.faults.BuildFault.{BuildFault}
 use Rattle.compile_loop.specs.declared.faults.BuildFault.TheVariants as fault
 use Rattle.run_report.specs.Outcomes.{build_outcome}
 use Rattle.scan_spec.specs.Scans.{Finding}
-use Rattle.vunit_top.specs.Reading.{Reading, Go}
-use Rattle.vunit_top.specs.Said.{IsSaid, latest_in, one_at_a_time, graph_of, build_of, IsDurablyRecorded}
+use Rattle.vunit_top.specs.Store.{records_in_image}
+use Rattle.vunit_top.specs.Orders.{IsDurablyRecorded}
+use Rattle.project_reading.specs.Reading.{SourceReading}
+use Rattle.vunit_top.specs.declared.words.Job.{Job}
+use Rattle.vunit_top.specs.Reading.{Reading, Builds, full_reading}
+use Rattle.vunit_top.specs.Said.{IsSaid, order_of, order_in, build_of}
 use Rattle.vunit_top.specs.Building.{BuildsOver}
-use Rattle.vunit_top.specs.Runs.{order_of, world_of, run_of, IsExact, RunsAs}
+use Rattle.vunit_top.specs.Runs.{world_of, run_of, IsExact, RunsAs}
 use Rattle.vunit_top.proofs.Tops.{since_itself}
 
 sound_last : (past : List DiskState) (now : DiskState) → AllByRecursion IsSound (past ++ now ∷ []) → IsSound now
@@ -61,19 +62,18 @@ done_refuses_none graph marks done =
     ]
 
 -- a step from a disk of true records is right
-right_step : (scan : List ℕ → Finding) (answer : Request → Exit) (order : Option Order) (run : ProgramRun) (first : DiskState) → IsReadable first → RunStep (world_of scan answer) order run first → IsFaithfulDisk answer records_in first →
+right_step : (scan : List ℕ → Finding) (answer : Request → Exit) (order : Option Order) (run : ProgramRun) (first : DiskState) → IsReadable first → RunStep (world_of scan answer) order run first → IsFaithfulDisk answer records_in_image first →
     IsRightStep (world_of scan answer) order run first
 right_step scan answer order run first readable step faithful = run_right (world_of scan answer) order run first readable faithful step
 
 -- what is recorded is what a clean build makes
-recorded_clean : (answer : Request → Exit) (graph : List Entry) (first : DiskState) → IsGraph graph → IsReadable first → IsFaithfulDisk answer records_in first → RecordsClean answer graph (recorded_at (latest_in first) graph)
-recorded_clean answer graph first is readable faithful =
-    records_clean answer (latest_in first) graph is (λ name found is_found. All-latest (IsTrueRecord answer) name (records_in (reads_of first)) found (faithful (reads_of first) readable) is_found)
+recorded_clean : (scan : List ℕ → Finding) (answer : Request → Exit) (order : Order) (first : DiskState) → IsGraph order.graph → IsReadable first → IsFaithfulDisk answer records_in_image first → RecordsClean answer order.graph (build_of first order).recorded
+recorded_clean scan answer order first is readable faithful = run_clean (world_of scan answer) order first is readable faithful
 
-module _ (scan : List ℕ → Finding) (answer : Request → Exit) (graph : List Entry) (result : Result (List Mark) BuildFault) (failed : Bool) (old new : Moments) (sound : AreSound old) (events : List Event)
-    (over : BuildsOver answer graph result failed old new events) (words : List (List ℕ)) (said : Outcome) where
+module _ (scan : List ℕ → Finding) (answer : Request → Exit) (order : Order) (warnings : List ℕ) (result : Result (List Mark) BuildFault) (failed : Bool) (old new : Moments) (sound : AreSound old) (events : List Event)
+    (over : BuildsOver records_in_image answer order result failed old new events) (words : List (List ℕ)) (said : Outcome) where
   abbrev s : Setting
-  s = one_at_a_time (latest_in old.now) graph
+  s = build_of old.now order
 
   compiled : compile_part events ≡ events
   compiled = (build_parts s events over.lawful).0
@@ -86,31 +86,31 @@ module _ (scan : List ℕ → Finding) (answer : Request → Exit) (graph : List
   moved P p = subst P (sym compiled) p
 
   module _ (no_memory : result ≡ Err fault.NoMemory → said ≡ outcome.NoMemory) where
-    build_step : RunStep (world_of scan answer) (order_of (Go graph)) run old.now
+    build_step : RunStep (world_of scan answer) (Some order) run old.now
     build_step = inr (record {
       graph = over.graph_form;
       lawful = moved (λ l. Lawful s l) over.lawful;
       answered = moved (λ l. Answered answer l) over.answered;
       readable = over.readable;
       acknowledged = over.acknowledged;
-      phases = moved (λ l. HasPhases records_in false over.acknowledged (commits s l) old.now (added_since old new)) over.phases;
+      phases = moved (λ l. HasPhases records_in_image order.clean over.acknowledged (commits s l) old.now (added_since old new)) over.phases;
       waits = moved (λ l. Waits s over.acknowledged l) over.waits;
       all = λ disk memory. moved (λ l. over.acknowledged ≡ length (commits s l)) (over.all disk (λ is. memory (no_memory is)));
     })
 
-    clean : IsFaithfulDisk answer records_in old.now → RecordsClean answer graph s.recorded
-    clean faithful = recorded_clean answer graph old.now over.graph_form (readable_now old sound) faithful
+    clean : IsFaithfulDisk answer records_in_image old.now → RecordsClean answer order.graph s.recorded
+    clean faithful = recorded_clean scan answer order old.now over.graph_form (readable_now old sound) faithful
 
-    pub runs_over : (IsSaid said → (marks : List Mark) × (result ≡ Ok marks)) → (said ≡ outcome.Done → list_any is_refused (marks_of s events) ≡ false) → RunsAs scan answer (Go graph) run old.now new.now
+    pub runs_over : (IsSaid said → (marks : List Mark) × (result ≡ Ok marks)) → (said ≡ outcome.Done → list_any is_refused (marks_of s events) ≡ false) → RunsAs scan answer (Builds order warnings) run old.now new.now
     runs_over ends done =
         let whole : IsSaid said → IsWhole s events = λ is. subst (λ (r : Result (List Mark) BuildFault). OnOk r (IsWhole s events)) (ends is).1 over.whole in
         record {
           step = build_step;
           ends = last_is old new over.follows;
           whole = λ is. moved (λ l. IsWhole s l) (whole is);
-          recorded = λ is. moved (λ l. (position : ℕ) → position < length graph → is_some (artefact_after s l position) ≡ true → IsDurablyRecorded new.now graph position)
-              (subst (λ (r : Result (List Mark) BuildFault). OnOk r ((position : ℕ) → position < length graph → is_some (artefact_after s events position) ≡ true → IsDurablyRecorded new.now graph position)) (ends is).1 over.recorded);
-          right = right_step scan answer (order_of (Go graph)) run old.now (readable_now old sound) build_step;
+          recorded = λ is. moved (λ l. (position : ℕ) → position < length order.graph → is_some (artefact_after s l position) ≡ true → IsDurablyRecorded records_in_image new.now order.graph position)
+              (subst (λ (r : Result (List Mark) BuildFault). OnOk r ((position : ℕ) → position < length order.graph → is_some (artefact_after s events position) ≡ true → IsDurablyRecorded records_in_image new.now order.graph position)) (ends is).1 over.recorded);
+          right = right_step scan answer (Some order) run old.now (readable_now old sound) build_step;
           exact = λ faithful is none. record {
             started = all_started answer s over.graph_form (clean faithful) (compile_part events) (moved (λ l. IsWhole s l) (whole is)) (moved (λ l. Answered answer l) over.answered) none;
             steady = all_steady answer s over.graph_form (clean faithful) (compile_part events) (moved (λ l. IsWhole s l) (whole is)) (moved (λ l. Answered answer l) over.answered) none;
@@ -120,21 +120,21 @@ module _ (scan : List ℕ → Finding) (answer : Request → Exit) (graph : List
         }
 
 -- the marks of a build are those of what its compilers did
-pub marked_over : (answer : Request → Exit) (graph : List Entry) (marks : List Mark) (failed : Bool) (old new : Moments) (events : List Event) → BuildsOver answer graph (Ok marks) failed old new events → marks ≡ marks_of (one_at_a_time (latest_in old.now) graph) (compile_part events)
-marked_over answer graph marks failed old new events over = over.marks ∙ ap (marks_of (one_at_a_time (latest_in old.now) graph)) (sym (build_parts (one_at_a_time (latest_in old.now) graph) events over.lawful).0)
+pub marked_over : (answer : Request → Exit) (order : Order) (marks : List Mark) (failed : Bool) (old new : Moments) (events : List Event) → BuildsOver records_in_image answer order (Ok marks) failed old new events → marks ≡ marks_of (build_of old.now order) (compile_part events)
+marked_over answer order marks failed old new events over = over.marks ∙ ap (marks_of (build_of old.now order)) (sym (build_parts (build_of old.now order) events over.lawful).0)
 
 -- a run whose build ended by itself
-pub ended_over : (scan : List ℕ → Finding) (answer : Request → Exit) (graph : List Entry) (marks : List Mark) (failed : Bool) (old new : Moments) → AreSound old → (events : List Event) → BuildsOver answer graph (Ok marks) failed old new events → (words : List (List ℕ)) (said : Outcome) → (IsSaid said → said ≡ build_outcome graph marks) →
-    RunsAs scan answer (Go graph) (run_of words said failed events (added_since old new)) old.now new.now
-ended_over scan answer graph marks failed old new sound events over words said answered =
-    runs_over scan answer graph (Ok marks) failed old new sound events over words said (λ is. let nothing : ⊥ = cc in absurd nothing) (λ is. (marks, refl)) (λ is.
-    subst (λ (m : List Mark). list_any is_refused m ≡ false) over.marks (done_refuses_none graph marks (sym is ∙ answered (subst IsSaid (sym is) tt))))
+pub ended_over : (scan : List ℕ → Finding) (answer : Request → Exit) (order : Order) (warnings : List ℕ) (marks : List Mark) (failed : Bool) (old new : Moments) → AreSound old → (events : List Event) → BuildsOver records_in_image answer order (Ok marks) failed old new events → (words : List (List ℕ)) (said : Outcome)
+    → (IsSaid said → said ≡ build_outcome order.graph marks) → RunsAs scan answer (Builds order warnings) (run_of words said failed events (added_since old new)) old.now new.now
+ended_over scan answer order warnings marks failed old new sound events over words said answered =
+    runs_over scan answer order warnings (Ok marks) failed old new sound events over words said (λ is. let nothing : ⊥ = cc in absurd nothing) (λ is. (marks, refl)) (λ is.
+    subst (λ (m : List Mark). list_any is_refused m ≡ false) over.marks (done_refuses_none order.graph marks (sym is ∙ answered (subst IsSaid (sym is) tt))))
 
 -- a run whose build had a fault
-pub faulted_over : (scan : List ℕ → Finding) (answer : Request → Exit) (graph : List Entry) (why : BuildFault) (failed : Bool) (old new : Moments) → AreSound old → (events : List Event) → BuildsOver answer graph (Err why) failed old new events → (words : List (List ℕ)) (said : Outcome) → (IsSaid said → ⊥) → (why ≡ fault.NoMemory → said ≡ outcome.NoMemory) →
-    RunsAs scan answer (Go graph) (run_of words said failed events (added_since old new)) old.now new.now
-faulted_over scan answer graph why failed old new sound events over words said fails memory =
-    runs_over scan answer graph (Err why) failed old new sound events over words said (λ is. memory (same_fault why is)) (λ is. absurd (fails is)) (λ is. absurd (fails (subst IsSaid (sym is) tt))) where
+pub faulted_over : (scan : List ℕ → Finding) (answer : Request → Exit) (order : Order) (warnings : List ℕ) (why : BuildFault) (failed : Bool) (old new : Moments) → AreSound old → (events : List Event) → BuildsOver records_in_image answer order (Err why) failed old new events → (words : List (List ℕ)) (said : Outcome)
+    → (IsSaid said → ⊥) → (why ≡ fault.NoMemory → said ≡ outcome.NoMemory) → RunsAs scan answer (Builds order warnings) (run_of words said failed events (added_since old new)) old.now new.now
+faulted_over scan answer order warnings why failed old new sound events over words said fails memory =
+    runs_over scan answer order warnings (Err why) failed old new sound events over words said (λ is. memory (same_fault why is)) (λ is. absurd (fails is)) (λ is. absurd (fails (subst IsSaid (sym is) tt))) where
       same_fault : (why : BuildFault) → ◌≡◌ {A = Result (List Mark) BuildFault} (Err why) (Err fault.NoMemory) → why ≡ fault.NoMemory
       same_fault why is = cc
 
@@ -157,10 +157,10 @@ module _ (scan : List ℕ → Finding) (answer : Request → Exit) (r : Reading)
   idle = record { events = nothing; later = nothing_added moments }
 
   -- without a graph, or after a fault or out of memory
-  pub runs_idle : (IsSaid said → graph_of r ≡ []) → RunsAs scan answer r rest moments.now moments.now
+  pub runs_idle : (IsSaid said → (order_in r).graph ≡ []) → RunsAs scan answer r rest moments.now moments.now
   unfolding LawfulMoves GreedyMoves AreRequested EachAfter moves_after next_start first_from after_all
   runs_idle none =
-      let s : Setting = build_of (latest_in moments.now) r in
+      let s : Setting = build_of moments.now (order_in r) in
       let step = idle_step (world_of scan answer) (order_of r) rest moments.now idle in
       let whole : IsSaid said → IsWhole s [] = λ is. record {
         lawful = record { moves = tt; requests = tt; tickets = tt };
@@ -168,10 +168,10 @@ module _ (scan : List ℕ → Finding) (answer : Request → Exit) (r : Reading)
         finished = record { idle = refl; over = rw (none is) refl };
         none_lost = refl;
       } in
-      let empty : IsSaid said → IsGraph (graph_of r) = λ is. subst IsGraph (sym (none is)) no_graph in
-      let no_file : IsSaid said → (position : ℕ) → position < length (graph_of r) → ⊥ = λ is position inside.
+      let empty : IsSaid said → IsGraph (order_in r).graph = λ is. subst IsGraph (sym (none is)) no_graph in
+      let no_file : IsSaid said → (position : ℕ) → position < length (order_in r).graph → ⊥ = λ is position inside.
       let none_there : position < 0 = subst (λ (g : List Entry). position < length g) (none is) inside in omega (arith, none_there) in
-      let clean : IsSaid said → IsFaithfulDisk answer records_in moments.now → RecordsClean answer (graph_of r) s.recorded = λ is faithful. recorded_clean answer (graph_of r) moments.now (empty is) (readable_now moments sound) faithful in
+      let clean : IsSaid said → IsFaithfulDisk answer records_in_image moments.now → RecordsClean answer (order_in r).graph s.recorded = λ is faithful. recorded_clean scan answer (order_in r) moments.now (empty is) (readable_now moments sound) faithful in
       record {
         step = step;
         ends = ap (last_state moments.now) (nothing_added moments);
@@ -184,3 +184,7 @@ module _ (scan : List ℕ → Finding) (answer : Request → Exit) (r : Reading)
         };
         made = λ faithful is position inside. absurd (no_file (subst IsSaid (sym is) tt) position inside);
       }
+
+-- what a run did, where its words are said in two ways
+pub ran_by : (scan : List ℕ → Finding) (answer : Request → Exit) (j k : Result Job Reading) (s : SourceReading) (run : ProgramRun) (first last : DiskState) → j ≡ k → RunsAs scan answer (full_reading k s) run first last → RunsAs scan answer (full_reading j s) run first last
+ran_by scan answer j k s run first last same did = subst (λ (i : Result Job Reading). RunsAs scan answer (full_reading i s) run first last) (sym same) did

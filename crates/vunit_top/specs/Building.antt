@@ -1,36 +1,45 @@
--- What a build over the records of a disk does.
+-- What opening a store and a build over its records do.
 use Rattle.std.specs.Prelude.{◌≡◌, ℕ, ◌<◌, Bool, true, false, List, length, Result, Err, is_some, IfOk, OnOk}
 use Rattle.std.specs.List.{AllByRecursion}
-use Rattle.vr_base.specs.declared.graph.Entry.{Entry}
 use Rattle.vr_base.specs.declared.child.Request.{Request}
 use Rattle.vr_base.specs.declared.child.Exit.{Exit}
 use Rattle.vr_base.specs.declared.child.Event.{Event}
 use Rattle.vr_base.specs.declared.outcome.Mark.{Mark}
 use Rattle.vr_base.specs.Graphs.{IsGraph}
-use Rattle.vr_outside.specs.Disks.{Moments, Follows, added_since}
-use Rattle.vr_outside.specs.Phases.{HasPhases}
-use Rattle.record_store.specs.Stored.{records_in}
+use Rattle.vr_outside.specs.declared.records.Record.{Record}
+use Rattle.vr_outside.specs.declared.records.StoreFault.{StoreFault}
+use Rattle.vr_outside.specs.Disks.{Image, Moments, Follows, added_since, reads_of}
+use Rattle.vr_outside.specs.Phases.{IsOpening, IsBase, HasPhases}
 use Rattle.run_spec.specs.ChildJournal.{Lawful, Answered, IsWhole, artefact_after}
 use Rattle.run_spec.specs.Commits.{commits, Waits}
-use Rattle.run_spec.specs.Histories.{IsReadable}
+use Rattle.run_spec.specs.Histories.{Order, IsReadable}
 use Rattle.run_spec.specs.Marks.{marks_of}
 use Rattle.compile_loop.specs.declared.faults.BuildFault.{BuildFault}
 use Rattle.compile_loop.specs.declared.faults.BuildFault.TheVariants as fault
-use Rattle.vunit_top.specs.Said.{latest_in, one_at_a_time, IsDurablyRecorded}
+use Rattle.vunit_top.specs.Orders.{setting_for, IsDurablyRecorded}
 
--- The build is that of the records that reads of the disk gave before it. Its moments go through the phases of a store to
--- which its commits are added, so many of which are acknowledged: all of them where neither the disk nor memory failed. At
--- its end each file that is made has a record of its present view in whatever a stop can leave.
-pub record BuildsOver (answer : Request → Exit) (graph : List Entry) (result : Result (List Mark) BuildFault) (disk_failed : Bool) (old new : Moments) (events : List Event) : Type 0 where
-  pub graph_form : IsGraph graph
-  pub lawful : Lawful (one_at_a_time (latest_in old.now) graph) events
+-- What opening a store leaves of a disk, on every answer. Once it is open, its records are the base of what is committed:
+-- none where it was emptied.
+pub record OpensStore {K : Type 0} (records_of : Image → List Record) (clean : Bool) (result : Result K StoreFault) (old new : Moments) : Type 0 where
+  pub follows : Follows old new
+  pub phases : (more : List Record) → HasPhases records_of clean 0 more old.now (added_since old new)
+  pub opening : OnOk result (IsOpening records_of clean old.now (added_since old new))
+  pub base : OnOk result (IsBase records_of clean old.now (records_of (reads_of new.now)))
+
+-- The build is that of the records that reads of the disk gave before it, or of none where the store is emptied. Its moments
+-- go through the phases of a store to which its commits are added, so many of which are acknowledged: all of them where
+-- neither the disk nor memory failed. At its end each file that is made has a record of its present view in whatever a stop
+-- can leave.
+pub record BuildsOver (records_of : Image → List Record) (answer : Request → Exit) (order : Order) (result : Result (List Mark) BuildFault) (disk_failed : Bool) (old new : Moments) (events : List Event) : Type 0 where
+  pub graph_form : IsGraph order.graph
+  pub lawful : Lawful (setting_for records_of order old.now) events
   pub answered : Answered answer events
-  pub whole : OnOk result (IsWhole (one_at_a_time (latest_in old.now) graph) events)
-  pub marks : IfOk result (λ marks. marks ≡ marks_of (one_at_a_time (latest_in old.now) graph) events)
-  pub recorded : OnOk result ((position : ℕ) → position < length graph → is_some (artefact_after (one_at_a_time (latest_in old.now) graph) events position) ≡ true → IsDurablyRecorded new.now graph position)
+  pub whole : OnOk result (IsWhole (setting_for records_of order old.now) events)
+  pub marks : IfOk result (λ marks. marks ≡ marks_of (setting_for records_of order old.now) events)
+  pub recorded : OnOk result ((position : ℕ) → position < length order.graph → is_some (artefact_after (setting_for records_of order old.now) events position) ≡ true → IsDurablyRecorded records_of new.now order.graph position)
   pub follows : Follows old new
   pub readable : AllByRecursion IsReadable (added_since old new)
   pub acknowledged : ℕ
-  pub phases : HasPhases records_in false acknowledged (commits (one_at_a_time (latest_in old.now) graph) events) old.now (added_since old new)
-  pub waits : Waits (one_at_a_time (latest_in old.now) graph) acknowledged events
-  pub all : disk_failed ≡ false → (result ≡ Err fault.NoMemory → ⊥) → acknowledged ≡ length (commits (one_at_a_time (latest_in old.now) graph) events)
+  pub phases : HasPhases records_of order.clean acknowledged (commits (setting_for records_of order old.now) events) old.now (added_since old new)
+  pub waits : Waits (setting_for records_of order old.now) acknowledged events
+  pub all : disk_failed ≡ false → (result ≡ Err fault.NoMemory → ⊥) → acknowledged ≡ length (commits (setting_for records_of order old.now) events)

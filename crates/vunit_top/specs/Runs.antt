@@ -1,6 +1,5 @@
 -- What a run of the program did: a step of a history, and what follows of it.
-use Rattle.std.specs.Prelude.{◌≡◌, ◌↔◌, ℕ, ◌+◌, ◌-◌, ◌^◌, ◌<◌, nat_le, min, Bool, true, false, List, length, Option, Some, None, is_some, Contains}
-use Rattle.vr_base.specs.declared.graph.Entry.{Entry}
+use Rattle.std.specs.Prelude.{◌≡◌, ◌↔◌, ℕ, ◌+◌, ◌-◌, ◌^◌, ◌<◌, nat_le, min, Bool, true, false, List, length, Option, Some, is_some, Contains}
 use Rattle.vr_base.specs.declared.child.Request.{Request}
 use Rattle.vr_base.specs.declared.child.Exit.{Exit}
 use Rattle.vr_base.specs.declared.child.Event.{Event}
@@ -8,29 +7,22 @@ use Rattle.vr_base.specs.declared.outcome.Outcome.{Outcome}
 use Rattle.vr_base.specs.declared.outcome.Outcome.TheVariants as outcome
 use Rattle.vr_outside.specs.Disks.{DiskState}
 use Rattle.vr_outside.specs.Commits.{last_state}
-use Rattle.record_store.specs.Stored.{records_in}
 use Rattle.run_spec.specs.ChildJournal.{Setting, IsWhole, book_of, artefact_after}
 use Rattle.run_spec.specs.CleanBuild.{request_unless}
 use Rattle.run_spec.specs.Faithful.{IsFaithfulDisk}
-use Rattle.run_spec.specs.Histories.{Sources, Order, World, ProgramRun, RunStep}
+use Rattle.run_spec.specs.Histories.{World, ProgramRun, RunStep}
 use Rattle.run_spec.specs.JournalParts.{compile_part}
 use Rattle.run_spec.specs.Marks.{marks_of, steady_marks, NoRefusalHalts}
 use Rattle.history_laws.specs.Rights.{IsRightStep}
 use Rattle.scan_spec.specs.Scans.{Finding}
-use Rattle.vunit_top.specs.Reading.{Reading, Bad, Child, Stops, Over, Go, reading}
-use Rattle.vunit_top.specs.Said.{IsSaid, latest_in, graph_of, build_of, IsDurablyRecorded}
-
--- the order that a reading gives: its graph, one child at a time, no more after a refusal, over the records that are there
-abbrev pub order_of : Reading → Option Order
-order_of Bad = None
-order_of Child = None
-order_of (Stops reason) = None
-order_of (Over limit number) = None
-order_of (Go graph) = Some (record { graph = graph; slots = 1; keep_going = false; clean = false })
+use Rattle.vunit_top.specs.Store.{records_in_image}
+use Rattle.vunit_top.specs.Orders.{IsDurablyRecorded}
+use Rattle.vunit_top.specs.Reading.{Reading, reading}
+use Rattle.vunit_top.specs.Said.{IsSaid, order_of, order_in, build_of}
 
 -- what runs of the program have in common, over one compiler
 abbrev pub world_of : (List ℕ → Finding) → (Request → Exit) → World
-world_of scan answer = record { answer = answer; records_of = records_in; reading = λ words sources. order_of (reading scan words sources) }
+world_of scan answer = record { answer = answer; records_of = records_in_image; reading = λ words sources. order_of (reading scan words sources) }
 
 -- a count of faults rose
 abbrev pub has_risen : ℕ → ℕ → Bool
@@ -54,8 +46,8 @@ pub record IsExact (answer : Request → Exit) (setting : Setting) (events : Lis
 pub record RunsAs (scan : List ℕ → Finding) (answer : Request → Exit) (r : Reading) (run : ProgramRun) (first last : DiskState) : Type 0 where
   pub step : RunStep (world_of scan answer) (order_of r) run first
   pub ends : last_state first run.later ≡ last
-  pub whole : IsSaid run.outcome → IsWhole (build_of (latest_in first) r) run.events
-  pub recorded : IsSaid run.outcome → (position : ℕ) → position < length (graph_of r) → is_some (artefact_after (build_of (latest_in first) r) run.events position) ≡ true → IsDurablyRecorded last (graph_of r) position
-  pub right : IsFaithfulDisk answer records_in first → IsRightStep (world_of scan answer) (order_of r) run first
-  pub exact : IsFaithfulDisk answer records_in first → IsSaid run.outcome → NoRefusalHalts (build_of (latest_in first) r) run.events → IsExact answer (build_of (latest_in first) r) run.events
-  pub made : IsFaithfulDisk answer records_in first → run.outcome ≡ outcome.Done → (position : ℕ) → position < length (graph_of r) → is_some (artefact_after (build_of (latest_in first) r) run.events position) ≡ true
+  pub whole : IsSaid run.outcome → IsWhole (build_of first (order_in r)) run.events
+  pub recorded : IsSaid run.outcome → (position : ℕ) → position < length (order_in r).graph → is_some (artefact_after (build_of first (order_in r)) run.events position) ≡ true → IsDurablyRecorded records_in_image last (order_in r).graph position
+  pub right : IsFaithfulDisk answer records_in_image first → IsRightStep (world_of scan answer) (order_of r) run first
+  pub exact : IsFaithfulDisk answer records_in_image first → IsSaid run.outcome → NoRefusalHalts (build_of first (order_in r)) run.events → IsExact answer (build_of first (order_in r)) run.events
+  pub made : IsFaithfulDisk answer records_in_image first → run.outcome ≡ outcome.Done → (position : ℕ) → position < length (order_in r).graph → is_some (artefact_after (build_of first (order_in r)) run.events position) ≡ true

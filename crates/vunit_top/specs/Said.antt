@@ -1,5 +1,5 @@
 -- What a run answers and puts, and what each of its answers comes of.
-use Rattle.std.specs.Prelude.{◌≡◌, ℕ, ◌≤◌, nat_le, false, if◌then◌else◌, List, [], ◌++◌, length, Option, Some, None}
+use Rattle.std.specs.Prelude.{◌≡◌, ℕ, ◌≤◌, nat_le, false, if◌then◌else◌, List, [], ◌++◌, length, Option, Some, None, unwrap_or}
 use Rattle.vr_base.specs.declared.graph.Entry.{Entry}
 use Rattle.vr_base.specs.declared.outcome.Mark.{Mark}
 use Rattle.vr_base.specs.declared.outcome.Which.TheVariants as which
@@ -7,42 +7,44 @@ use Rattle.vr_base.specs.declared.outcome.Outcome.{Outcome}
 use Rattle.vr_base.specs.declared.outcome.Outcome.TheVariants as outcome
 use Rattle.vr_outside.specs.Counts.{Rose}
 use Rattle.vr_outside.specs.Streams.{AddsPrefix}
-use Rattle.vr_base.specs.declared.file.FileName.{FileName}
-use Rattle.vr_outside.specs.declared.records.Record.{Record}
-use Rattle.vr_outside.specs.Disks.{DiskState, EachImage, reads_of}
-use Rattle.vr_outside.specs.Records.{latest, IsRecorded}
-use Rattle.record_store.specs.Stored.{records_in}
+use Rattle.vr_outside.specs.Disks.{DiskState}
 use Rattle.run_spec.specs.ChildJournal.{Setting}
-use Rattle.run_spec.specs.Commits.{setting_of}
+use Rattle.run_spec.specs.Histories.{Order}
 use Rattle.run_report.specs.Outcomes.{build_outcome}
-use Rattle.run_report.specs.Texts.{shown_bytes, build_text, refusal_text, limit_text, usage_text, bad_request}
-use Rattle.vunit_top.specs.Reading.{Reading, Bad, Child, Stops, Over, Go}
+use Rattle.run_report.specs.Texts.{shown_bytes, build_text, refusal_text, limit_text, usage_text, bad_request, files_list}
+use Rattle.vunit_top.specs.Store.{records_in_image}
+use Rattle.vunit_top.specs.Orders.{setting_for}
+use Rattle.vunit_top.specs.Reading.{Reading, Bad, Child, Stops, Over, Lists, Builds}
 
 -- an answer, and the text that is put with it
 pub record Said : Type 0 where
   pub outcome : Outcome
   pub text : List ℕ
 
--- the latest record of each name, as reads of a disk give it
-abbrev pub latest_in : DiskState → FileName → Option Record
-latest_in disk name = latest name (records_in (reads_of disk))
+-- an order of nothing
+abbrev pub no_order : Order
+no_order = record { graph = []; slots = 1; keep_going = false; clean = false }
 
--- one child at a time, over the latest records, and no more after a refusal
-abbrev pub one_at_a_time : (FileName → Option Record) → List Entry → Setting
-one_at_a_time latest_of graph = setting_of latest_of graph 1 false
+-- the order of a reading, if it gives one
+abbrev pub order_of : Reading → Option Order
+order_of Bad = None
+order_of Child = None
+order_of (Stops reason) = None
+order_of (Over limit number) = None
+order_of (Lists graph) = None
+order_of (Builds order warnings) = Some order
 
--- the graph that a reading gives, which has no file where nothing is to be compiled
-abbrev pub graph_of : Reading → List Entry
-graph_of (Go graph) = graph
-graph_of reading = []
+-- what is to be built: nothing, where there is no order
+abbrev pub order_in : Reading → Order
+order_in reading = unwrap_or (order_of reading) no_order
 
--- the build of a reading
-abbrev pub build_of : (FileName → Option Record) → Reading → Setting
-build_of latest_of reading = one_at_a_time latest_of (graph_of reading)
+-- what a build of an order works on, over the disk that it finds
+abbrev pub build_of : DiskState → Order → Setting
+build_of disk order = setting_for records_in_image order disk
 
--- what a build of these marks answers, and its text
-abbrev pub build_said : List Entry → List Mark → Said
-build_said graph marks = record { outcome = build_outcome graph marks; text = build_text shown_bytes graph marks }
+-- what a build of these marks answers, and its text after that of warnings
+abbrev pub build_said : List ℕ → List Entry → List Mark → Said
+build_said warnings graph marks = record { outcome = build_outcome graph marks; text = warnings ++ build_text shown_bytes graph marks }
 
 -- the most bytes that a child takes
 abbrev pub input_bytes : ℕ
@@ -52,13 +54,14 @@ input_bytes = 2147483648
 abbrev pub child_said : List ℕ → Said
 child_said input = if nat_le (length input) input_bytes then record { outcome = outcome.Child 0; text = [] } else record { outcome = outcome.Child 2; text = bad_request }
 
--- what is said where words or sources give nothing to build
-abbrev pub refusal_said : Reading → Option Said
-refusal_said Bad = Some (record { outcome = outcome.BadWords; text = usage_text })
-refusal_said Child = None
-refusal_said (Stops reason) = Some (record { outcome = outcome.Refused reason; text = refusal_text reason })
-refusal_said (Over limit number) = Some (record { outcome = outcome.OverLimit limit; text = limit_text limit number })
-refusal_said (Go graph) = None
+-- what is said where nothing is built
+abbrev pub plain_said : Reading → Option Said
+plain_said Bad = Some (record { outcome = outcome.BadWords; text = usage_text })
+plain_said Child = None
+plain_said (Stops reason) = Some (record { outcome = outcome.Refused reason; text = refusal_text reason })
+plain_said (Over limit number) = Some (record { outcome = outcome.OverLimit limit; text = limit_text limit number })
+plain_said (Lists graph) = Some (record { outcome = outcome.Done; text = files_list graph })
+plain_said (Builds order warnings) = None
 
 -- At each answer but a fault and out of memory that is the answer, and its text was put. After out of memory
 -- nothing was put. After a fault nothing was put, but for a prefix of the text where the output failed.
@@ -73,10 +76,6 @@ abbrev pub IsSaid : Outcome → Type 0
 IsSaid outcome.NoMemory = ⊥
 IsSaid (outcome.OutsideFault which) = ⊥
 IsSaid answer = Unit {0}
-
--- in whatever a stop can leave, the latest record of the file at a position has its present view
-abbrev pub IsDurablyRecorded : DiskState → List Entry → ℕ → Type 0
-IsDurablyRecorded disk graph position = EachImage (λ image. IsRecorded (λ name. latest name (records_in image)) graph position) disk
 
 -- the counts of faults of the objects that a run is handed
 pub record Counts : Type 0 where

@@ -1,25 +1,82 @@
 //! A build over the records of a disk.
 
-ghost use Rattle.std.specs.Prelude.{◌≡◌, ◌++◌, [], length, IfOk};
+ghost use Rattle.std.specs.Prelude.{◌≡◌, ◌≤◌, ◌++◌, [], false, length, IfOk, OnOk};
+ghost use Rattle.vr_outside.specs.Counts.{StoreCounts};
+ghost use Rattle.vr_outside.specs.Disks.{reads_of, AtAnyMoment, IsEither};
 ghost use Rattle.run_spec.specs.ChildJournal.{since};
 ghost use Rattle.compile_loop.specs.Faults.{Explains, NoneFell, fault_of};
-ghost use Rattle.vunit_top.specs.Building.{BuildsOver};
+ghost use Rattle.vunit_top.specs.Building.{OpensStore, BuildsOver};
+ghost use Rattle.vunit_top.specs.Reading.{order_by};
 ghost use Rattle.vunit_top.specs.Runs.{has_risen};
 
 use compile_loop::{BuildFault, build_marks};
-use record_store::RecordStore;
 use std::alloc::Global;
-use vr_base::{FILE_LIMIT, Graph, MarkList};
+use vr_base::{DiskFailed, FILE_LIMIT, Graph, MarkList, SLOT_LIMIT};
 use vr_outside::{Disk, Procs, Records, StoreFault};
 
-/// Opens the store of a disk, and builds over its records, one child at a time.
-pub fn build_over<D: Disk, P: Procs>(
+/// How a graph is built: with so many children at once, going on after a refusal or not, and over the records that are there
+/// or over none.
+#[derive(Clone, Copy, Debug, PartialEq, Eq)]
+pub struct BuildOptions {
+    pub slots: u32,
+    pub keep_going: bool,
+    pub clean: bool,
+}
+
+/// Empties a store.
+fn emptied<K: Records + Drop, D: Disk>(mut store: K, disk: &mut D) -> Result<K, StoreFault>
+    requires usable { K.broken store ≡ false }
+    requires in_step { D.tells → K.in_step store (D.moments disk.old).now }
+    ensures any_moment { D.tells →
+        let before = K.records_of (reads_of (D.moments disk.old).now) in
+        AtAnyMoment (D.moments disk.old) (D.moments disk.new)
+        (λ image. IsEither (K.records_of image) before []) }
+    ensures none { D.tells → OnOk result (K.records_of (reads_of (D.moments disk.new).now) ≡ []) }
+    ensures in_step { D.tells → IfOk result (λ store. K.in_step store (D.moments disk.new).now) }
+    ensures usable { IfOk result (λ store. K.broken store ≡ false) }
+    ensures cause { StoreCounts result (D.failed_disk_calls disk.old)
+        (D.failed_disk_calls disk.new) }
+{
+    match store.reset(disk) {
+        Ok(()) => Ok(store),
+        Err(DiskFailed) => Err(StoreFault::DiskFailed),
+    }
+}
+
+/// Opens the store of a disk, and empties it where it is to be clean.
+fn open_store<K: Records + Drop, D: Disk>(
+    alloc: Global,
+    disk: &mut D,
+    clean: bool,
+) -> Result<K, StoreFault>
+    ensures opens { D.tells →
+        OpensStore K.records_of clean result (D.moments disk.old) (D.moments disk.new) }
+    ensures in_step { D.tells → IfOk result (λ store. K.in_step store (D.moments disk.new).now) }
+    ensures usable { IfOk result (λ store. K.broken store ≡ false) }
+    ensures cause { StoreCounts result (D.failed_disk_calls disk.old)
+        (D.failed_disk_calls disk.new) }
+{
+    match K::from_disk(alloc, disk) {
+        Ok(store) => {
+            if clean {
+                return emptied(store, disk);
+            }
+            Ok(store)
+        }
+        Err(fault) => Err(fault),
+    }
+}
+
+/// Opens the store of a disk, and builds over its records.
+pub fn build_over<K: Records + Drop, D: Disk, P: Procs>(
     alloc: Global,
     graph: &Graph,
+    options: BuildOptions,
     disk: &mut D,
     procs: &mut P,
 ) -> Result<MarkList, BuildFault>
-    requires { P.running procs.old ≡ [] }
+    requires slots { (1 ≤ options.slots) × (options.slots ≤ SLOT_LIMIT) }
+    requires idle { P.running procs.old ≡ [] }
     ensures running { P.running procs.new ≡ [] }
     ensures same { P.answer procs.new ≡ P.answer procs.old }
     ensures count { IfOk result (λ marks. length marks ≡ length graph.now) }
@@ -27,7 +84,7 @@ pub fn build_over<D: Disk, P: Procs>(
         (P.journal procs.new
         ≡ P.journal procs.old ++ since (P.journal procs.old) (P.journal procs.new)) }
     ensures told { D.tells → P.tells →
-        BuildsOver (P.answer procs.old) graph.now result
+        BuildsOver K.records_of (P.answer procs.old) (order_by options graph.now) result
         (has_risen (D.failed_disk_calls disk.old) (D.failed_disk_calls disk.new))
         (D.moments disk.old) (D.moments disk.new)
         (since (P.journal procs.old) (P.journal procs.new)) }
@@ -55,8 +112,16 @@ pub fn build_over<D: Disk, P: Procs>(
         }) }
 {
     prove!(graph.len() <= FILE_LIMIT as u64);
-    match RecordStore::from_disk(alloc, disk) {
-        Ok(mut store) => build_marks(alloc, graph, &mut store, disk, procs, 1, false),
+    match open_store::<K, D>(alloc, disk, options.clean) {
+        Ok(mut store) => build_marks(
+            alloc,
+            graph,
+            &mut store,
+            disk,
+            procs,
+            options.slots,
+            options.keep_going,
+        ),
         Err(StoreFault::NoMemory) => Err(BuildFault::NoMemory),
         Err(StoreFault::DiskFailed) => Err(BuildFault::DiskFailed),
     }

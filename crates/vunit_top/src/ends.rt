@@ -1,14 +1,14 @@
 //! What a run puts, and what it then answers.
 
-ghost use Rattle.std.specs.Prelude.{◌≡◌, ◌≤◌, length};
+ghost use Rattle.std.specs.Prelude.{◌≡◌, ◌≤◌, ◌++◌, length, IfOk};
 ghost use Rattle.run_report.specs.Outcomes.{build_outcome};
 ghost use Rattle.vunit_top.specs.Said.{Says, IsSaid, build_said};
-ghost use Rattle.run_report.specs.Texts.{refusal_text, limit_text, usage_text};
+ghost use Rattle.run_report.specs.Texts.{shown_bytes, build_text, refusal_text, limit_text, files_list, usage_text};
 ghost use Rattle.vunit_top.specs.Ends.{OutCauses};
 
-use run_report::{build_outcome, build_text, limit_text, refusal_text};
+use run_report::{build_outcome, build_text, limit_text, list_files, refusal_text};
 use std::alloc::Global;
-use vr_base::{Graph, Limit, MarkList, Outcome, Refusal, Which};
+use vr_base::{Graph, Limit, MarkList, NoMemory, Outcome, Refusal, Text, Which};
 use vr_outside::{Sink, SinkFault};
 
 /// What is put where the words aren't a command line of the program.
@@ -71,18 +71,54 @@ pub fn say_limit<O: Sink>(alloc: Global, limit: Limit, number: u64, out: &mut O)
     }
 }
 
-/// Puts the text of a build with these marks.
-pub fn say_build<O: Sink>(alloc: Global, graph: &Graph, marks: &MarkList, out: &mut O) -> Outcome
+/// Puts the files of a graph, in compile order.
+pub fn say_files<O: Sink>(alloc: Global, graph: &Graph, out: &mut O) -> Outcome
+    ensures said { O.tells →
+        Says result (record { outcome = Outcome.Done; text = files_list graph.now })
+        (O.contents out.old) (O.contents out.new) }
+    ensures cause { OutCauses result (O.failed_puts out.old) (O.failed_puts out.new) }
+    ensures stand { O.failed_puts out.old ≤ O.failed_puts out.new }
+{
+    match list_files(alloc, graph) {
+        Ok(text) => say(text.bytes(), Outcome::Done, out),
+        Err(_) => Outcome::NoMemory,
+    }
+}
+
+/// The text of a build with these marks, after that of warnings.
+fn whole_text(
+    alloc: Global,
+    warnings: Text,
+    graph: &Graph,
+    marks: &MarkList,
+) -> Result<Text, NoMemory>
+    requires { length marks.now ≡ length graph.now }
+    ensures { IfOk result (λ text.
+        text ≡ warnings ++ build_text shown_bytes graph.now marks.now) }
+{
+    let mut text = warnings.into_vec();
+    text.extend_from_slice(build_text(alloc, graph, marks)?.bytes())?;
+    Ok(Text::from_vec(text))
+}
+
+/// Puts the text of warnings and of a build with these marks.
+pub fn say_build<O: Sink>(
+    alloc: Global,
+    warnings: Text,
+    graph: &Graph,
+    marks: &MarkList,
+    out: &mut O,
+) -> Outcome
     requires { length marks.now ≡ length graph.now }
     ensures answer { IsSaid result → result ≡ build_outcome graph.now marks.now }
     ensures said { O.tells →
-        Says result (build_said graph.now marks.now)
+        Says result (build_said warnings graph.now marks.now)
         (O.contents out.old) (O.contents out.new) }
     ensures cause { OutCauses result (O.failed_puts out.old) (O.failed_puts out.new) }
     ensures stand { O.failed_puts out.old ≤ O.failed_puts out.new }
 {
     match (
-        build_text(alloc, graph, marks),
+        whole_text(alloc, warnings, graph, marks),
         build_outcome(alloc, graph, marks),
     ) {
         (Ok(text), Ok(answer)) => say(text.bytes(), answer, out),

@@ -6,7 +6,9 @@ mod ends;
 mod top;
 mod words;
 
+pub use building::BuildOptions;
 pub use top::run_vunit;
+pub use words::Job;
 
 #[cfg(test)]
 mod edit_tests;

@@ -1,34 +1,76 @@
-//! The words of the command line.
+//! What the words of the command line say is to be done.
 
-ghost use Rattle.std.specs.Prelude.{◌≡◌, ◌<◌, ◌^◌, length, map, IfOk, IfErr};
+ghost use Rattle.std.specs.Prelude.{◌≡◌, ◌≤◌, ◌<◌, ◌^◌, length, map, IfSome};
 ghost use Rattle.std.specs.Str.{bytes_eq};
-ghost use Rattle.vunit_top.specs.Reading.{begins_as_child, is_compile};
+ghost use Rattle.run_spec.specs.JournalParts.{is_given};
+ghost use Rattle.vunit_top.specs.Reading.{HasSlots, begins_with, job_of, options_of};
 
-use vr_base::TextList;
+use crate::building::BuildOptions;
+use command_line::Setting;
+use vr_base::{MaybeText, SLOT_LIMIT, TextList};
 
-/// Whether two texts have the same bytes.
-pub fn is_same(a: &[u8], b: &[u8]) -> bool
+/// What is done with the sources.
+#[derive(Clone, Copy, Debug, PartialEq, Eq)]
+pub enum Job {
+    /// The files are listed, in compile order.
+    ListFiles,
+    Build(BuildOptions),
+}
+
+fn is_same(a: &[u8], b: &[u8]) -> bool
     ensures { result ≡ bytes_eq a.now b.now }
 {
     a == b
 }
 
-/// Whether the words start the program as a child.
-pub fn begins_as_child(words: &TextList) -> bool
-    ensures { result ≡ begins_as_child words.now }
+/// Whether this is the first word.
+pub fn begins_with(first: &[u8], words: &TextList) -> bool
+    ensures { result ≡ begins_with first.now words.now }
 {
     match words.as_slice() {
-        [word, ..] => is_same(word.bytes(), b"child-analyse"),
+        [word, ..] => is_same(word.bytes(), first),
         [] => false,
     }
 }
 
-/// Whether the words are the one word `--compile`.
-pub fn is_compile(words: &TextList) -> bool
-    ensures { result ≡ is_compile words.now }
+fn is_given(text: &MaybeText) -> bool
+    ensures { result ≡ is_given text.now }
 {
-    match words.as_slice() {
-        [word] => is_same(word.bytes(), b"--compile"),
-        _ => false,
+    matches!(text, MaybeText::Given(_))
+}
+
+fn options_of(setting: &Setting) -> BuildOptions
+    requires { setting.now.num_threads ≤ SLOT_LIMIT }
+    ensures { result ≡ options_of setting.now }
+{
+    BuildOptions {
+        slots: setting.num_threads as u32,
+        keep_going: setting.keep_compiling,
+        clean: setting.clean,
     }
+}
+
+/// What a setting says is done with the sources; `None` where that isn't built yet.
+pub fn job_of(setting: &Setting) -> Option<Job>
+    requires some { 1 ≤ setting.now.num_threads }
+    requires few { setting.now.num_threads ≤ SLOT_LIMIT }
+    ensures job { result ≡ job_of setting.now }
+    ensures slots { IfSome result HasSlots }
+{
+    if setting.generate > 0 {
+        return None;
+    }
+    if is_given(&setting.export_json) {
+        return None;
+    }
+    if setting.list {
+        return None;
+    }
+    if setting.files {
+        return Some(Job::ListFiles);
+    }
+    if setting.compile {
+        return Some(Job::Build(options_of(setting)));
+    }
+    None
 }

@@ -22,10 +22,10 @@ returns-clause-ran g c = λ scan is t d e p moment at stop.
       events = since (g.P.Procs.journal one.procs) (g.P.Procs.journal two.procs);
       later = added_since (g.E.Disk.moments c.args.left.now) (g.E.Disk.moments two.disk);
     } in
-    ran_after_stop scan (g.P.Procs.answer c.args.procs.now) c.args.words.now (g.T.Tree.file c.args.tree.now) c.run_vunit-first.result c.run_vunit-second.result before after
+    ran_after_stop scan (g.P.Procs.answer c.args.procs.now) c.args.words.now (record { file = g.T.Tree.file c.args.tree.now; listed = g.T.Tree.listed c.args.tree.now }) c.run_vunit-first.result c.run_vunit-second.result before after
     (g.D.Disk.moments c.args.disk.now).now (g.D.Disk.moments one.disk).now moment (g.E.Disk.moments c.args.left.now).now (g.E.Disk.moments two.disk).now
     (c.run_vunit-first.ensures.ran scan is t d p) at stop
-    (rw (sym c.run_vunit-first.ensures.same, sym c.run_vunit-first.ensures.sources) (c.run_vunit-second.ensures.ran scan is t e p))
+    (rw (sym c.run_vunit-first.ensures.same, sym c.run_vunit-first.ensures.sources, sym c.run_vunit-first.ensures.listed) (c.run_vunit-second.ensures.ran scan is t e p))
     (g.P.Procs.journal c.args.procs.now) (g.P.Procs.journal two.procs)
     (readable_now (g.D.Disk.moments c.args.disk.now) (g.met.D.Disk.sound c.args.disk.now))
     (c.run_vunit-second.ensures.kept p ∙ ap (λ (l : List Event). l ++ after.events) (c.run_vunit-first.ensures.kept p))

@@ -22,9 +22,9 @@ returns-clause-ran g c = λ scan is t d p.
       events = since (g.P.Procs.journal one.procs) (g.P.Procs.journal two.procs);
       later = added_since (g.D.Disk.moments one.disk) (g.D.Disk.moments two.disk);
     } in
-    ran_twice scan (g.P.Procs.answer c.args.procs.now) c.args.words.now (g.T.Tree.file c.args.tree.now) c.run_vunit-first.result c.run_vunit-second.result before after
+    ran_twice scan (g.P.Procs.answer c.args.procs.now) c.args.words.now (record { file = g.T.Tree.file c.args.tree.now; listed = g.T.Tree.listed c.args.tree.now }) c.run_vunit-first.result c.run_vunit-second.result before after
     (g.D.Disk.moments c.args.disk.now).now (g.D.Disk.moments one.disk).now (g.D.Disk.moments two.disk).now (g.P.Procs.journal c.args.procs.now) (g.P.Procs.journal two.procs)
     (readable_now (g.D.Disk.moments one.disk) (g.met.D.Disk.sound one.disk))
     (c.run_vunit-first.ensures.ran scan is t d p)
-    (rw (sym c.run_vunit-first.ensures.same, sym c.run_vunit-first.ensures.sources) (c.run_vunit-second.ensures.ran scan is t d p))
+    (rw (sym c.run_vunit-first.ensures.same, sym c.run_vunit-first.ensures.sources, sym c.run_vunit-first.ensures.listed) (c.run_vunit-second.ensures.ran scan is t d p))
     (c.run_vunit-second.ensures.kept p ∙ ap (λ (l : List Event). l ++ after.events) (c.run_vunit-first.ensures.kept p))

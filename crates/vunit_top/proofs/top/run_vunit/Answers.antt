@@ -1,32 +1,52 @@
-use Rattle.std.proofs.Common.{refl, sym, ◌∙◌, inr}
-use Rattle.vunit_top.specs.Reading.{reading}
-use Rattle.project_reading.proofs.Asks.{asks_none}
-use Rattle.vunit_top.proofs.Tops.{child_gives_none, bad_gives_none}
-use Rattle.vunit_top.proofs.RunTruths.{runs_idle}
+use Rattle.std.proofs.Common.{Err, refl, sym, subst, ◌∙◌}
+use Rattle.command_line.specs.declared.setting.WordsFault.{WordsFault}
+use Rattle.command_line.specs.Words.{setting_of, ReadsWords}
+use Rattle.project_reading.specs.Reading.{project_reading}
+use Rattle.vunit_top.specs.Reading.{Bad, Child, setting_job, words_job, reading}
+use Rattle.vunit_top.proofs.Tops.{nothing_by, child_job, bench_job, setting_read, bad_read, plain_by, builds_by}
+use Rattle.vunit_top.proofs.RunTruths.{runs_idle, ran_by}
 use Rattle.vunit_top.proofs.top.run_vunit.Goals as goal
 
-pub returns-then-begins_as_child-clause-ran : goal.returns-then-begins_as_child-clause-ran
-returns-then-begins_as_child-clause-ran g c = λ scan is t d p.
-    runs_idle scan _ (reading scan c.args.words.now (g.T.Tree.file c.args.tree.now)) c.args.words.now c.run_as_child.result _ (g.P.Procs.journal c.args.procs.now) (g.D.Disk.moments c.args.disk.now) (g.met.D.Disk.sound c.args.disk.now)
-    (λ said. child_gives_none scan c.args.words.now (g.T.Tree.file c.args.tree.now) (sym c.begins_as_child.ensures ∙ c.if-begins_as_child.true))
+pub returns-then-begins_with-clause-ran : goal.returns-then-begins_with-clause-ran
+returns-then-begins_with-clause-ran g c = λ scan is t d p.
+    runs_idle scan _ (reading scan c.args.words.now (record { file = g.T.Tree.file c.args.tree.now; listed = g.T.Tree.listed c.args.tree.now })) c.args.words.now c.run_as_child.result _ (g.P.Procs.journal c.args.procs.now) (g.D.Disk.moments c.args.disk.now) (g.met.D.Disk.sound c.args.disk.now)
+    (λ said. nothing_by (words_job c.args.words.now) Child _ (child_job c.args.words.now (sym c.begins_with.ensures ∙ c.if-begins_with.true)) refl)
 
-pub returns-then-begins_as_child-clause-stand : goal.returns-then-begins_as_child-clause-stand
-returns-then-begins_as_child-clause-stand g c = c.run_as_child.ensures.stand _ _ _ _
+pub returns-then-begins_with-clause-stand : goal.returns-then-begins_with-clause-stand
+returns-then-begins_with-clause-stand g c = c.run_as_child.ensures.stand _ _ _ _
 
-pub returns-then-not-is_compile-clause-ran : goal.returns-then-not-is_compile-clause-ran
-returns-then-not-is_compile-clause-ran g c = λ scan is t d p.
-    runs_idle scan _ (reading scan c.args.words.now (g.T.Tree.file c.args.tree.now)) c.args.words.now c.say_usage.result _ (g.P.Procs.journal c.args.procs.now) (g.D.Disk.moments c.args.disk.now) (g.met.D.Disk.sound c.args.disk.now)
-    (λ said. bad_gives_none scan c.args.words.now (g.T.Tree.file c.args.tree.now) (sym c.begins_as_child.ensures ∙ c.if-begins_as_child.false) (sym c.is_compile.ensures ∙ c.if-not-is_compile.true))
+pub returns-then-begins_with-2-clause-ran : goal.returns-then-begins_with-2-clause-ran
+returns-then-begins_with-2-clause-ran g c = λ scan is t d p.
+    runs_idle scan _ (reading scan c.args.words.now (record { file = g.T.Tree.file c.args.tree.now; listed = g.T.Tree.listed c.args.tree.now })) c.args.words.now c.say_usage.result _ (g.P.Procs.journal c.args.procs.now) (g.D.Disk.moments c.args.disk.now) (g.met.D.Disk.sound c.args.disk.now)
+    (λ said. nothing_by (words_job c.args.words.now) Bad _ (bench_job c.args.words.now (sym c.begins_with.ensures ∙ c.if-begins_with.false) (sym c.begins_with-2.ensures ∙ c.if-begins_with-2.true)) refl)
 
-pub returns-clause-ran : goal.returns-clause-ran
-returns-clause-ran g c = λ scan is t d p.
-    rw (sym c.begins_as_child.ensures ∙ c.if-begins_as_child.false, sym c.is_compile.ensures ∙ c.if-not-is_compile.false) (c.run_compile.ensures.ran scan is c.args.words.now t d p)
+pub returns-in-Ok-clause-ran : goal.returns-in-Ok-clause-ran
+returns-in-Ok-clause-ran g c = λ scan is t d p.
+    ran_by scan _ (words_job c.args.words.now) (setting_job c.in-Ok.setting) (project_reading scan (g.T.Tree.file c.args.tree.now) (g.T.Tree.listed c.args.tree.now)) _ _ _ (setting_read c.args.words.now (sym c.begins_with.ensures ∙ c.if-begins_with.false) (sym c.begins_with-2.ensures ∙ c.if-begins_with-2.false) c.in-Ok.setting c.in-Ok.ensures.read)
+    (c.run_setting.ensures.ran scan is c.args.words.now t d p)
 
-pub returns-clause-stand : goal.returns-clause-stand
-returns-clause-stand g c = c.run_compile.ensures.stand _
+pub returns-in-Ok-clause-says_words : goal.returns-in-Ok-clause-says_words
+returns-in-Ok-clause-says_words g c = λ puts r is what said.
+    c.run_setting.ensures.says_words puts r (sym (setting_read c.args.words.now (sym c.begins_with.ensures ∙ c.if-begins_with.false) (sym c.begins_with-2.ensures ∙ c.if-begins_with-2.false) c.in-Ok.setting c.in-Ok.ensures.read) ∙ is) what said
 
-pub returns-then-begins_as_child-clause-asked : goal.returns-then-begins_as_child-clause-asked
-returns-then-begins_as_child-clause-asked g c = λ t. inr (asks_none _ _, refl, refl)
+pub returns-in-Ok-clause-says_plain : goal.returns-in-Ok-clause-says_plain
+returns-in-Ok-clause-says_plain g c = λ scan is t puts what said.
+    c.run_setting.ensures.says_plain scan is t puts what (plain_by (words_job c.args.words.now) (setting_job c.in-Ok.setting) (project_reading scan (g.T.Tree.file c.args.tree.now) (g.T.Tree.listed c.args.tree.now)) (setting_read c.args.words.now (sym c.begins_with.ensures ∙ c.if-begins_with.false) (sym c.begins_with-2.ensures ∙ c.if-begins_with-2.false) c.in-Ok.setting c.in-Ok.ensures.read) what said)
 
-pub returns-then-not-is_compile-clause-asked : goal.returns-then-not-is_compile-clause-asked
-returns-then-not-is_compile-clause-asked g c = λ t. inr (asks_none _ _, refl, refl)
+pub returns-in-Ok-clause-says_build : goal.returns-in-Ok-clause-says_build
+returns-in-Ok-clause-says_build g c = λ scan is t d p puts order warnings builds.
+    c.run_setting.ensures.says_build scan is t d p puts order warnings (builds_by (words_job c.args.words.now) (setting_job c.in-Ok.setting) (project_reading scan (g.T.Tree.file c.args.tree.now) (g.T.Tree.listed c.args.tree.now)) (setting_read c.args.words.now (sym c.begins_with.ensures ∙ c.if-begins_with.false) (sym c.begins_with-2.ensures ∙ c.if-begins_with-2.false) c.in-Ok.setting c.in-Ok.ensures.read) order warnings builds)
+
+pub returns-in-Ok-clause-stand : goal.returns-in-Ok-clause-stand
+returns-in-Ok-clause-stand g c = c.run_setting.ensures.stand _
+
+pub returns-in-Err-Bad-clause-ran : goal.returns-in-Err-Bad-clause-ran
+returns-in-Err-Bad-clause-ran g c = λ scan is t d p.
+    runs_idle scan _ (reading scan c.args.words.now (record { file = g.T.Tree.file c.args.tree.now; listed = g.T.Tree.listed c.args.tree.now })) c.args.words.now c.say_usage-in-Err-Bad.result _ (g.P.Procs.journal c.args.procs.now) (g.D.Disk.moments c.args.disk.now) (g.met.D.Disk.sound c.args.disk.now)
+    (λ said. nothing_by (words_job c.args.words.now) Bad _ (bad_read c.args.words.now (sym c.begins_with.ensures ∙ c.if-begins_with.false) (sym c.begins_with-2.ensures ∙ c.if-begins_with-2.false)
+    (subst (λ (fault : WordsFault). ReadsWords (setting_of c.args.words.now) (Err fault)) c.in-Err-Bad.field-0-is c.in-Err-Bad.ensures.read)) refl)
+
+pub returns-in-Err-NoMemory-clause-ran : goal.returns-in-Err-NoMemory-clause-ran
+returns-in-Err-NoMemory-clause-ran g c = λ scan is t d p.
+    runs_idle scan _ (reading scan c.args.words.now (record { file = g.T.Tree.file c.args.tree.now; listed = g.T.Tree.listed c.args.tree.now })) c.args.words.now _ _ (g.P.Procs.journal c.args.procs.now) (g.D.Disk.moments c.args.disk.now) (g.met.D.Disk.sound c.args.disk.now)
+    (λ said. absurd said)

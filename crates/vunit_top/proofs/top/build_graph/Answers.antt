@@ -1,0 +1,28 @@
+use Rattle.std.proofs.Common.{refl, sym}
+use Rattle.vunit_top.specs.Reading.{order_by}
+use Rattle.vunit_top.proofs.RunTruths.{faulted_over, ended_over, marked_over}
+use Rattle.vunit_top.proofs.top.build_graph.Goals as goal
+
+pub returns-in-Ok-clause-ran : goal.returns-in-Ok-clause-ran
+returns-in-Ok-clause-ran g c = λ scan words tells runs.
+    ended_over scan _ (order_by c.args.options c.args.graph.now) _ _ _ _ _ (g.met.D.Disk.sound c.args.disk.now) _ (c.in-Ok.ensures.told tells runs) words c.say_build.result c.say_build.ensures.answer
+
+pub returns-in-Ok-clause-says : goal.returns-in-Ok-clause-says
+returns-in-Ok-clause-says g c = λ tells runs puts.
+    rw (sym (marked_over _ (order_by c.args.options c.args.graph.now) _ _ _ _ _ (c.in-Ok.ensures.told tells runs))) (c.say_build.ensures.said puts)
+
+pub returns-in-Err-NoMemory-clause-ran : goal.returns-in-Err-NoMemory-clause-ran
+returns-in-Err-NoMemory-clause-ran g c = λ scan words tells runs.
+    faulted_over scan _ (order_by c.args.options c.args.graph.now) _ _ _ _ _ (g.met.D.Disk.sound c.args.disk.now) _ (c.in-Err-NoMemory.ensures.told tells runs) words _ (λ is. is) (λ is. refl)
+
+pub returns-in-Err-StartFailed-clause-ran : goal.returns-in-Err-StartFailed-clause-ran
+returns-in-Err-StartFailed-clause-ran g c = λ scan words tells runs.
+    faulted_over scan _ (order_by c.args.options c.args.graph.now) _ _ _ _ _ (g.met.D.Disk.sound c.args.disk.now) _ (c.in-Err-StartFailed.ensures.told tells runs) words _ (λ is. is) (λ is. absurd cc)
+
+pub returns-in-Err-ChildLost-clause-ran : goal.returns-in-Err-ChildLost-clause-ran
+returns-in-Err-ChildLost-clause-ran g c = λ scan words tells runs.
+    faulted_over scan _ (order_by c.args.options c.args.graph.now) _ _ _ _ _ (g.met.D.Disk.sound c.args.disk.now) _ (c.in-Err-ChildLost.ensures.told tells runs) words _ (λ is. is) (λ is. absurd cc)
+
+pub returns-clause-ran : goal.returns-clause-ran
+returns-clause-ran g c = λ scan words tells runs.
+    faulted_over scan _ (order_by c.args.options c.args.graph.now) _ _ _ _ _ (g.met.D.Disk.sound c.args.disk.now) _ (c.in-Err-DiskFailed.ensures.told tells runs) words _ (λ is. is) (λ is. absurd cc)

@@ -1,0 +1,9 @@
+-- The store of the program: which records an image of its disk holds.
+use Rattle.std.specs.Prelude.{List}
+use Rattle.vr_outside.specs.declared.records.Record.{Record}
+use Rattle.vr_outside.specs.Disks.{Image}
+use Rattle.record_store.specs.Stored.{records_in}
+
+-- the records that an image holds
+abbrev pub records_in_image : Image → List Record
+records_in_image = records_in
