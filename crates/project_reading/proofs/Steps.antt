@@ -11,7 +11,7 @@ use Rattle.order_spec.specs.BuildOrder.{FileOrder, Ordered, Cyclic, file_order}
 use Rattle.order_spec.specs.LinkedGraph.{FitTexts}
 use Rattle.scan_spec.specs.Dependencies.{link_units, link_of}
 use Rattle.scan_spec.specs.Scans.{AreScansOf}
-use Rattle.project_reading.specs.declared.limits.TheConstants.{PROJECT_FILE_LIMIT}
+use Rattle.vr_base.specs.declared.limits.TheConstants.{FILE_LIMIT}
 use Rattle.project_reading.specs.declared.linking.ReadProject.{ReadProject}
 use Rattle.project_reading.specs.declared.stops.ReadStop.{ReadStop}
 use Rattle.project_reading.specs.declared.stops.ReadStop.TheVariants as stop
@@ -53,12 +53,12 @@ module _ (project : Project) (texts : List (List ℕ)) (scans : List Scan) (read
       ]
 
 -- what is read of a project with its texts and scans
-pub is_read : (project : Project) (texts : List (List ℕ)) (scans : List Scan) → IsProject project → length project.files ≤ PROJECT_FILE_LIMIT → FitTexts project.files texts → AreScansOf texts scans → (result : Result ReadProject ReadStop) → LeadsTo (scanned_reading project texts scans) result → IfOk result IsReadProject
+pub is_read : (project : Project) (texts : List (List ℕ)) (scans : List Scan) → IsProject project → length project.files ≤ FILE_LIMIT → FitTexts project.files texts → AreScansOf texts scans → (result : Result ReadProject ReadStop) → LeadsTo (scanned_reading project texts scans) result → IfOk result IsReadProject
 is_read project texts scans proper few fit are (Err e) leads = tt
 is_read project texts scans proper few fit are (Ok read) leads =
     let same = parts project texts scans read leads in record {
       project = subst IsProject same.0 proper;
-      few = subst (λ (p : Project). length p.files ≤ PROJECT_FILE_LIMIT) same.0 few;
+      few = subst (λ (p : Project). length p.files ≤ FILE_LIMIT) same.0 few;
       texts = texts;
       fit = subst (λ (p : Project). FitTexts p.files texts) same.0 fit;
       scans = subst (AreScansOf texts) same.1 are;

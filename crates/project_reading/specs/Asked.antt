@@ -1,12 +1,11 @@
 -- Which paths a tree is asked for: those of a project's sources, each once, in project order.
 use Rattle.std.specs.Prelude.{◌≡◌, ℕ, nat_le, if◌then◌else◌, List, [], ◌∷◌, ◌++◌, length, map, codes, Option, Result, Ok, Err}
-use Rattle.vr_base.specs.declared.limits.TheConstants.{TEXT_LIMIT}
+use Rattle.vr_base.specs.declared.limits.TheConstants.{FILE_LIMIT, TEXT_LIMIT}
 use Rattle.vr_base.specs.declared.project.Project.{Project}
 use Rattle.vr_base.specs.declared.project.ProjectFile.{ProjectFile}
 use Rattle.vr_outside.specs.declared.tree.ReadEnd.{ReadEnd}
 use Rattle.vr_outside.specs.declared.tree.ReadEnd.TheVariants as read
 use Rattle.vr_outside.specs.Trees.{read_end}
-use Rattle.project_reading.specs.declared.limits.TheConstants.{PROJECT_FILE_LIMIT}
 use Rattle.project_reading.specs.Reading.{SourceReading, project_in}
 use Rattle.project_reading.specs.declared.stops.ReadStop.{ReadStop}
 
@@ -16,7 +15,7 @@ file_paths files = map (λ file. file.name.path) files
 
 -- the paths of the files of a project; those of too many files aren't read
 abbrev pub source_paths : Project → List (List ℕ)
-source_paths project = if nat_le (length project.files) PROJECT_FILE_LIMIT then file_paths project.files else []
+source_paths project = if nat_le (length project.files) FILE_LIMIT then file_paths project.files else []
 
 abbrev pub maybe_paths : Result Project SourceReading → List (List ℕ)
 maybe_paths (Ok project) = source_paths project

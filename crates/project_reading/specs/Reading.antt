@@ -13,7 +13,7 @@ use Rattle.vr_base.specs.declared.outcome.Refusal.{Refusal}
 use Rattle.vr_base.specs.declared.outcome.Refusal.TheVariants as refusal
 use Rattle.vr_base.specs.declared.outcome.Limit.{Limit}
 use Rattle.vr_base.specs.declared.outcome.Limit.TheVariants as limit
-use Rattle.vr_base.specs.declared.limits.TheConstants.{TEXT_LIMIT, NAME_LIMIT}
+use Rattle.vr_base.specs.declared.limits.TheConstants.{FILE_LIMIT, GRAPH_TEXT_LIMIT, TEXT_LIMIT, NAME_LIMIT}
 use Rattle.vr_base.specs.PresentGraph.{listed}
 use Rattle.vr_outside.specs.declared.tree.ReadEnd.{ReadEnd}
 use Rattle.vr_outside.specs.declared.tree.ReadEnd.TheVariants as read
@@ -26,7 +26,6 @@ use Rattle.scan_spec.specs.Scans.{Finding, Clean, Lexical, Grammatical}
 use Rattle.scan_spec.specs.Dependencies.{link_units, link_of}
 use Rattle.order_spec.specs.BuildOrder.{FileOrder, Ordered, Cyclic, file_order}
 use Rattle.order_spec.specs.LinkedGraph.{linked}
-use Rattle.project_reading.specs.declared.limits.TheConstants.{PROJECT_FILE_LIMIT, PROJECT_TEXT_LIMIT}
 use Rattle.project_reading.specs.declared.linking.ReadProject.{ReadProject}
 
 -- The sources are refused; a quantity is over its limit, which is this number; or this project is read.
@@ -80,7 +79,7 @@ project_in file listed = project_said file listed (read_end (file (codes "vunit.
 
 -- a text, where it and those before it have no more bytes together than they may
 abbrev pub text_after : ℕ → List ℕ → Result (List ℕ) SourceReading
-text_after before text = if nat_le (before + length text) PROJECT_TEXT_LIMIT then Ok text else Err (Over limit.TotalBytes PROJECT_TEXT_LIMIT)
+text_after before text = if nat_le (before + length text) GRAPH_TEXT_LIMIT then Ok text else Err (Over limit.TotalBytes GRAPH_TEXT_LIMIT)
 
 -- the text of a file after texts of so many bytes, or why nothing is compiled
 abbrev pub text_of : FileName → ℕ → ReadEnd → Result (List ℕ) SourceReading
@@ -157,7 +156,7 @@ files_reading scan file project = then_read (texts_reading scan project) (texts_
 
 -- the reading of a project over these files
 abbrev pub sources_reading : (List ℕ → Finding) → (List ℕ → Option (List ℕ)) → Project → SourceReading
-sources_reading scan file project = if nat_le (length project.files) PROJECT_FILE_LIMIT then files_reading scan file project else Over limit.Files PROJECT_FILE_LIMIT
+sources_reading scan file project = if nat_le (length project.files) FILE_LIMIT then files_reading scan file project else Over limit.Files FILE_LIMIT
 
 -- the reading of a tree of these files, which lists these names, over a scanner
 unfoldable pub project_reading : (List ℕ → Finding) → (List ℕ → Option (List ℕ)) → List (List ℕ) → SourceReading

@@ -4,7 +4,7 @@ use Rattle.vr_base.specs.Projects.{IsProject}
 use Rattle.vr_outside.specs.Counts.{Counted}
 use Rattle.order_spec.specs.LinkedGraph.{FitTexts}
 use Rattle.scan_spec.specs.Scans.{AreScansOf}
-use Rattle.project_reading.specs.declared.limits.TheConstants.{PROJECT_FILE_LIMIT}
+use Rattle.vr_base.specs.declared.limits.TheConstants.{FILE_LIMIT}
 use Rattle.project_reading.specs.Reading.{SourceReading, Stops, Over, Found, scanned_reading}
 use Rattle.project_reading.specs.declared.linking.ReadProject.{ReadProject}
 use Rattle.project_reading.specs.declared.stops.ReadStop.{ReadStop}
@@ -46,7 +46,7 @@ IsPlain (Err stop.NoMemory) = Unit {0}
 -- tree tells.
 pub record IsReadProject (read : ReadProject) : Type 0 where
   pub project : IsProject read.project
-  pub few : length read.project.files ≤ PROJECT_FILE_LIMIT
+  pub few : length read.project.files ≤ FILE_LIMIT
   pub texts : List (List ℕ)
   pub fit : FitTexts read.project.files texts
   pub scans : AreScansOf texts read.scans

@@ -2,7 +2,6 @@
 #![tactic(auto)]
 
 mod asking;
-mod limits;
 mod linking;
 mod projects;
 mod reading;
@@ -10,7 +9,6 @@ mod scanning;
 mod stops;
 mod texts;
 
-pub use limits::{PROJECT_FILE_LIMIT, PROJECT_TEXT_LIMIT};
 pub use linking::ReadProject;
 pub use reading::read_project;
 pub use stops::ReadStop;

@@ -11,7 +11,6 @@ ghost use Rattle.file_graph.specs.Results.{GivesLinks};
 ghost use Rattle.project_reading.specs.Reading.{linked_or, links_of, names_at, order_or, listed_reading, linked_reading, then_read, scanned_reading};
 ghost use Rattle.project_reading.specs.Sources.{Gives, LeadsTo, ReadCounts};
 
-use crate::limits::PROJECT_FILE_LIMIT;
 use crate::stops::ReadStop;
 use build_order::order;
 use file_graph::link;
@@ -19,8 +18,8 @@ use present_graph::graph_of;
 use source_view::listed_graph;
 use std::alloc::Global;
 use vr_base::{
-    Edges, FileList, Graph, LinkFault, Linked, NoMemory, Order, OrderFault, Project, ProjectFile,
-    Refusal, Scans, TextList, WarningList,
+    Edges, FILE_LIMIT, FileList, Graph, LinkFault, Linked, NoMemory, Order, OrderFault, Project,
+    ProjectFile, Refusal, Scans, TextList, WarningList,
 };
 
 /// What is read of a project.
@@ -82,7 +81,7 @@ fn links_of(
     texts: &TextList,
     scans: &Scans,
 ) -> Result<Linked, ReadStop>
-    requires few { length project.now.files ≤ PROJECT_FILE_LIMIT }
+    requires few { length project.now.files ≤ FILE_LIMIT }
     requires texts { FitTexts project.now.files texts.now }
     requires scans { AreScansOf texts.now scans.now }
     ensures links { Gives (links_of project.now texts.now scans.now) result }
@@ -147,7 +146,7 @@ fn listed_project(
     scans: Scans,
 ) -> Result<ReadProject, ReadStop>
     requires project { IsProject project }
-    requires few { length project.files ≤ PROJECT_FILE_LIMIT }
+    requires few { length project.files ≤ FILE_LIMIT }
     requires texts { FitTexts project.files texts }
     ensures reading { LeadsTo (listed_reading project texts scans) result }
     ensures cause { (count : ℕ) → ReadCounts result count count }
@@ -198,7 +197,7 @@ pub(crate) fn scanned_project(
     scans: Scans,
 ) -> Result<ReadProject, ReadStop>
     requires project { IsProject project }
-    requires few { length project.files ≤ PROJECT_FILE_LIMIT }
+    requires few { length project.files ≤ FILE_LIMIT }
     requires texts { FitTexts project.files texts }
     requires scans { AreScansOf texts scans }
     ensures reading { LeadsTo (scanned_reading project texts scans) result }

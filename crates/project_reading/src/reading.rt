@@ -8,23 +8,22 @@ ghost use Rattle.project_reading.specs.Reading.{texts_reading, files_reading, so
 ghost use Rattle.project_reading.specs.Sources.{LeadsTo, ReadCounts, IsReadProject};
 ghost use Rattle.project_reading.specs.Asked.{file_paths, source_paths, project_paths, AsksInOrder};
 
-use crate::limits::PROJECT_FILE_LIMIT;
 use crate::linking::{ReadProject, scanned_project};
 use crate::projects::find_project;
 use crate::scanning::scans_of;
 use crate::stops::ReadStop;
 use crate::texts::texts_of;
 use std::alloc::Global;
-use vr_base::{Limit, Project, TextList};
+use vr_base::{FILE_LIMIT, Limit, Project, TextList};
 use vr_outside::Tree;
 
 /// The most files of a project.
-const MOST_FILES: u64 = PROJECT_FILE_LIMIT as u64;
+const MOST_FILES: u64 = FILE_LIMIT as u64;
 
 /// What is read of a project whose texts are there.
 fn scan_texts(alloc: Global, project: Project, texts: TextList) -> Result<ReadProject, ReadStop>
     requires project { IsProject project }
-    requires few { length project.files ≤ PROJECT_FILE_LIMIT }
+    requires few { length project.files ≤ FILE_LIMIT }
     requires texts { FitTexts project.files texts }
     ensures reading { (scan : List ℕ → Finding) → IsScanner scan →
         LeadsTo (texts_reading scan project texts) result }
@@ -42,7 +41,7 @@ fn read_files<T: Tree>(
     project: Project,
 ) -> Result<ReadProject, ReadStop>
     requires project { IsProject project }
-    requires few { length project.files ≤ PROJECT_FILE_LIMIT }
+    requires few { length project.files ≤ FILE_LIMIT }
     ensures reading { (scan : List ℕ → Finding) → IsScanner scan → T.tells →
         LeadsTo (files_reading scan (T.file tree.old) project) result }
     ensures form { IfOk result IsReadProject }

@@ -1,12 +1,13 @@
 //! Small trees, and what is read of them, written out by hand.
 
-use crate::{PROJECT_FILE_LIMIT, PROJECT_TEXT_LIMIT, ReadProject, ReadStop, read_project};
+use crate::{ReadProject, ReadStop, read_project};
 use run_report::{limit_text, refusal_text, warning_text};
 use std::alloc::Global;
 use std::process::Abort;
 use std::test::Fail;
 use vr_base::{
-    Graph, Items, Limit, NAME_LIMIT, NamedText, NamedTextList, Numbers, TEXT_LIMIT, Text,
+    FILE_LIMIT, GRAPH_TEXT_LIMIT, Graph, Items, Limit, NAME_LIMIT, NamedText, NamedTextList,
+    Numbers, TEXT_LIMIT, Text,
 };
 use vr_memory::{MemTree, have_paths};
 
@@ -261,9 +262,9 @@ fn of_names(alloc: Global, count: usize) -> Result<NamedTextList, Fail> {
 #[test]
 fn a_project_has_no_more_files_than_it_may(rt: HostRuntime) -> Result<(), Fail> {
     let alloc = rt.alloc();
-    let most = alone(alloc, b"vunit.csv", listing(alloc, PROJECT_FILE_LIMIT)?)?;
+    let most = alone(alloc, b"vunit.csv", listing(alloc, FILE_LIMIT)?)?;
     assert!(rt; letter_of(&rt, alloc, most, NEVER)? == b'R');
-    let more = alone(alloc, b"vunit.csv", listing(alloc, PROJECT_FILE_LIMIT + 1)?)?;
+    let more = alone(alloc, b"vunit.csv", listing(alloc, FILE_LIMIT + 1)?)?;
     assert!(rt; letter_of(&rt, alloc, more, NEVER)? == b'F');
     Ok(())
 }
@@ -283,9 +284,9 @@ fn a_project_file_is_no_longer_than_it_may(rt: HostRuntime) -> Result<(), Fail> 
 #[test]
 fn files_have_no_more_bytes_than_they_may(rt: HostRuntime) -> Result<(), Fail> {
     let alloc = rt.alloc();
-    let most = of_total(alloc, PROJECT_TEXT_LIMIT)?;
+    let most = of_total(alloc, GRAPH_TEXT_LIMIT)?;
     assert!(rt; letter_of(&rt, alloc, most, NEVER)? == b'k');
-    let more = of_total(alloc, PROJECT_TEXT_LIMIT + 1)?;
+    let more = of_total(alloc, GRAPH_TEXT_LIMIT + 1)?;
     assert!(rt; letter_of(&rt, alloc, more, NEVER)? == b'A');
     Ok(())
 }

@@ -8,24 +8,25 @@ ghost use Rattle.project_reading.specs.Sources.{Gives, ReadCounts};
 ghost use Rattle.project_reading.specs.Asked.{file_paths, AsksInOrder};
 
 use crate::asking::read_file;
-use crate::limits::PROJECT_TEXT_LIMIT;
 use crate::stops::ReadStop;
 use std::alloc::Global;
-use vr_base::{FileName, Limit, NoMemory, ProjectFile, Refusal, TEXT_LIMIT, Text, TextList};
+use vr_base::{
+    FileName, GRAPH_TEXT_LIMIT, Limit, NoMemory, ProjectFile, Refusal, TEXT_LIMIT, Text, TextList,
+};
 use vr_outside::{ReadEnd, Tree};
 
 /// The most bytes of a file.
 const MOST_TEXT: u64 = TEXT_LIMIT as u64;
 
 /// The most bytes of all files of a project together.
-const MOST_TOTAL: u64 = PROJECT_TEXT_LIMIT as u64;
+const MOST_TOTAL: u64 = GRAPH_TEXT_LIMIT as u64;
 
 /// A text after texts of so many bytes, where they have no more together than they may.
 fn text_after(before: u64, text: Text) -> Result<Text, ReadStop>
-    requires before { before ≤ PROJECT_TEXT_LIMIT }
+    requires before { before ≤ GRAPH_TEXT_LIMIT }
     requires short { length text ≤ TEXT_LIMIT }
     ensures text { Gives (text_after before text) result }
-    ensures size { IfOk result (λ text. before + length text ≤ PROJECT_TEXT_LIMIT) }
+    ensures size { IfOk result (λ text. before + length text ≤ GRAPH_TEXT_LIMIT) }
     ensures short { IfOk result (λ text. length text ≤ TEXT_LIMIT) }
     ensures cause { (count : ℕ) → ReadCounts result count count }
 {
@@ -51,11 +52,11 @@ fn text_of<T: Tree>(
     name: &FileName,
     before: u64,
 ) -> Result<Text, ReadStop>
-    requires { before ≤ PROJECT_TEXT_LIMIT }
+    requires { before ≤ GRAPH_TEXT_LIMIT }
     ensures text { T.tells →
         let read = read_end (T.file tree.old name.now.path) TEXT_LIMIT in
         Gives (text_of name.now before read) result }
-    ensures size { IfOk result (λ text. before + length text ≤ PROJECT_TEXT_LIMIT) }
+    ensures size { IfOk result (λ text. before + length text ≤ GRAPH_TEXT_LIMIT) }
     ensures short { IfOk result (λ text. length text ≤ TEXT_LIMIT) }
     ensures same { T.file tree.new ≡ T.file tree.old }
     ensures same_list { T.listed tree.new ≡ T.listed tree.old }

@@ -2,8 +2,8 @@
 use Rattle.std.specs.Prelude.{List}
 use Rattle.vr_outside.specs.declared.records.Record.{Record}
 use Rattle.vr_outside.specs.Disks.{Image}
-use Rattle.record_store.specs.Stored.{records_in}
+use Rattle.node_store.specs.Stored.{node_records_in}
 
 -- the records that an image holds
 abbrev pub records_in_image : Image → List Record
-records_in_image = records_in
+records_in_image = node_records_in

@@ -21,8 +21,8 @@ use crate::ends::{say, say_build, say_files, say_limit, say_refusal, say_usage};
 use crate::words::{Job, begins_with, job_of};
 use command_line::{Setting, WordsFault, read_words};
 use compile_loop::BuildFault;
+use node_store::NodeStore;
 use project_reading::{ReadProject, ReadStop, read_project};
-use record_store::RecordStore;
 use run_report::warning_text;
 use std::alloc::Global;
 use vr_base::{Graph, Limit, Outcome, Refusal, SLOT_LIMIT, Text, TextList, Which};
@@ -145,7 +145,7 @@ fn build_graph<D: Disk, P: Procs, O: Sink>(
           input = input;
         }) }
 {
-    match build_over::<RecordStore, D, P>(alloc, graph, options, disk, procs) {
+    match build_over::<NodeStore, D, P>(alloc, graph, options, disk, procs) {
         Ok(marks) => say_build(alloc, warnings, graph, &marks, out),
         Err(BuildFault::NoMemory) => Outcome::NoMemory,
         Err(BuildFault::StartFailed) => Outcome::OutsideFault(Which::Start),
