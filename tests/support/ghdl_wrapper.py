@@ -73,6 +73,13 @@ for library in [b"v08", b"src", b"Lib", b"ghdl_analyse_0"]:
     assert os.listdir(library) == [b"v08"] and not os.listdir(library + b"/v08")
     os.removedirs(library + b"/v08")
 
+# Places in files that are depended on are named too.
+two = [(b"lib", b"%s.vhd" % name, made(b"lib", b"%s.vhd" % name, b"package %s is\n  function f return integer;\nend;\n" % name))
+       for name in (b"one", b"two")]
+calls = b"use work.one.all, work.two.all;\nentity e is\n  generic (g : integer := f);\nend entity e;\n"
+code, said, _ = compile_one(request(b"lib", b"e.vhd", calls, two))
+assert code == 1 and b"one.vhd:2:12" in said and b"two.vhd:2:12" in said and b"ghdl_analyse" not in said, said
+
 # A library of the project stands for one of that name that GHDL brings.
 use = b"library ieee;\nuse ieee.math_real.%s;\nentity e is\nend entity e;\n"
 own = (b"ieee", b"m.vhd", made(b"ieee", b"m.vhd", b"package math_real is\n  constant own : integer := 1;\nend;\n"))
