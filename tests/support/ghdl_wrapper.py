@@ -48,8 +48,8 @@ whole = b"".join(parts)
 edges = {sum(map(len, parts[:count])) for count in range(len(parts))}
 for count in sorted(edges | set(random.Random(16).sample(range(len(whole)), 64))):
     check(f"cut at {count}", compile_one(whole[:count]), (2, b"bad request\n", b""))
-bad = [whole + b"x", b"VRC2" + whole[4:]] + [request(b, b"p.vhd", PACKAGE) for b in [b"", b"../lib", b"a/b", b"1a", b"a" * 65]]
-for data in bad:
+libraries = [b"", b"../lib", b"a/b", b"1a", b"a" * 65]
+for data in [whole + b"x", b"VRC2" + whole[4:], *(request(library, b"p.vhd", PACKAGE) for library in libraries)]:
     check(data[:40], compile_one(data), (2, b"bad request\n", b""))
 
 # Nothing but request and words counts: neither folders nor the time.
@@ -74,8 +74,8 @@ for library in [b"v08", b"src", b"Lib", b"ghdl_analyse_0"]:
     os.removedirs(library + b"/v08")
 
 # Places in files that are depended on are named too.
-two = [(b"lib", b"%s.vhd" % name, made(b"lib", b"%s.vhd" % name, b"package %s is\n  function f return integer;\nend;\n" % name))
-       for name in (b"one", b"two")]
+function = b"package %s is\n  function f return integer;\nend;\n"
+two = [(b"lib", name + b".vhd", made(b"lib", name + b".vhd", function % name)) for name in (b"one", b"two")]
 calls = b"use work.one.all, work.two.all;\nentity e is\n  generic (g : integer := f);\nend entity e;\n"
 code, said, _ = compile_one(request(b"lib", b"e.vhd", calls, two))
 assert code == 1 and b"one.vhd:2:12" in said and b"two.vhd:2:12" in said and b"ghdl_analyse" not in said, said
@@ -108,7 +108,7 @@ code, said, _ = compile_one(whole, ["--frob"])
 assert code == 1 and b"unknown command option '--frob'" in said, said
 
 # Warnings are standard error's, with the user's path; no unit at all is GHDL's to refuse.
-busy = b"entity b is\nend entity b;\narchitecture a of b is\nbegin\n  process\n  begin\n  end process;\nend architecture a;\n"
+busy = b"entity b is\nend entity b;\narchitecture a of b is\nbegin\n  process\n  begin\n  end process;\nend;\n"
 code, _, said = compile_one(request(b"lib", b"b.vhd", busy))
 assert code == 0 and said.startswith(b"b.vhd:5:3:warning: "), said
 check("empty", compile_one(request(b"lib", b"x.vhd", b""))[:2],
@@ -116,7 +116,7 @@ check("empty", compile_one(request(b"lib", b"x.vhd", b""))[:2],
 
 # The body of a generic package, which an instance needs.
 generic = b"package g is\n  generic (n : natural);\n  function f return natural;\nend package g;\n"
-body = b"package body g is\n  function f return natural is\n  begin\n    return n;\n  end function f;\nend package body g;\n"
+body = b"package body g is\n  function f return natural is\n  begin\n    return n;\n  end function f;\nend;\n"
 instance = b"package i is new work.g generic map (n => 1);\n"
 g = (b"lib", b"g.vhd", made(b"lib", b"g.vhd", generic))
 code, said, _ = compile_one(request(b"lib", b"i.vhd", instance, [g]))

@@ -99,11 +99,14 @@ class Project:
         if (*of, "generic") in self.owed_bodies:
             self.owed_bodies.remove((*of, "generic"))
             library = of[0]
-            texts.append(f"package body {of[1]} is\n  function f return integer is\n  begin\n    return n;\n  end function f;\n"
-                         f"end package body {of[1]};\n")
+            texts.append(
+                f"package body {of[1]} is\n  function f return integer is\n  begin\n    return n;\n"
+                f"  end function f;\nend package body {of[1]};\n"
+            )
         items, names = self.seen(library, [of, *self.some(self.constants, 1)])
         self.constants.append((library, name))
-        return library, "".join(texts) + f"{items}package {name} is new {names[0]} generic map (n => {self.value(names[1:])});\n"
+        texts.append(f"{items}package {name} is new {names[0]} generic map (n => {self.value(names[1:])});\n")
+        return library, "".join(texts)
 
     def context(self, library, name):
         used = self.some(self.constants, 3) or [self.constants[0]]
