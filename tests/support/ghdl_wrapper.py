@@ -146,17 +146,22 @@ child.stdin.close()
 check("memory", (child.stdout.read(), child.wait()), (b"ghdl_analyse: out of memory\n", 1))
 
 # Signals, at moments from the start on, and while GHDL runs: nothing is left behind, and GHDL has ended.
-slow = script("slow", "echo $$ >$0.pid\n: >more\nsleep 60\n")
+slow = script("slow", "echo $$ >$0.new\nmv $0.new $0.pid\n: >more\nsleep 60\n")
 for number in [signal.SIGINT, signal.SIGTERM, signal.SIGHUP]:
-    for moment in [*(step / 100 for step in range(2, 14, 2)), 0.4]:
+    for moment in [*(step / 100 for step in range(2, 14, 2)), "in GHDL"]:
+        if os.path.exists("slow/ghdl.pid"):
+            os.remove("slow/ghdl.pid")
         child = subprocess.Popen(alone, stdin=subprocess.PIPE, stdout=subprocess.PIPE, stderr=subprocess.DEVNULL, env=slow)
         child.stdin.write(whole)
         child.stdin.close()
-        time.sleep(moment)
+        if moment != "in GHDL":
+            time.sleep(moment)
+        while moment == "in GHDL" and not os.path.exists("slow/ghdl.pid"):
+            time.sleep(0.01)
         child.send_signal(number)
-        said = child.stdout.read()
-        ended = child.wait()
-        check((number, moment), said, b"")
-        assert ended in (-number, 1, 128 + number) and (moment < 0.4 or ended == 128 + number), ended
+        check((number, moment), child.stdout.read(), b"")
+        # (before the wrapper's first line a signal ends Python, by the signal or with a code of its own)
+        codes = [128 + number] + [-number, 1] * (moment != "in GHDL")
+        assert child.wait() in codes, (number, moment, child.returncode)
     with open("slow/ghdl.pid") as file:
         assert not os.path.exists(f"/proc/{file.read().strip()}")
