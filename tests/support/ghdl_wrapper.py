@@ -151,7 +151,9 @@ for number in [signal.SIGINT, signal.SIGTERM, signal.SIGHUP]:
     for moment in [*(step / 100 for step in range(2, 14, 2)), "in GHDL"]:
         if os.path.exists("slow/ghdl.pid"):
             os.remove("slow/ghdl.pid")
-        child = subprocess.Popen(alone, stdin=subprocess.PIPE, stdout=subprocess.PIPE, stderr=subprocess.DEVNULL, env=slow)
+        # (a shell may have had it ignored)
+        child = subprocess.Popen(alone, stdin=subprocess.PIPE, stdout=subprocess.PIPE, stderr=subprocess.DEVNULL, env=slow,
+                                 preexec_fn=lambda: signal.signal(number, signal.SIG_DFL))
         child.stdin.write(whole)
         child.stdin.close()
         if moment != "in GHDL":
