@@ -1,0 +1,169 @@
+"""Tries wrappers/ghdl_analyse alone: what it answers, what it leaves behind, and that nothing but request and words count.
+Works in the present folder, which is empty."""
+
+import os, random, resource, signal, subprocess, sys, time
+from compile_requests import WRAPPER, compile_one, fields
+
+tmp = os.path.abspath("tmp")
+os.mkdir(tmp)
+os.environ["TMPDIR"] = tmp
+
+PACKAGE = b"package p is\n  constant c : integer := 1;\nend package p;\n"
+ENTITY = b"library lib;\nuse lib.p.all;\nentity e is\n  generic (g : integer := c);\nend entity e;\n"
+REFUSED = b'architecture a of e is\nbegin\n  foo <= "x";\nend architecture a;\n'
+SAID = b"%s:3:3: no declaration for \"foo\"\n  foo <= \"x\";\n  ^\n"
+
+
+def check(name, got, wanted):
+    assert not os.listdir(tmp), f"{name}: left behind: {os.listdir(tmp)}"
+    assert got == wanted, f"{name}: {got} and not {wanted}"
+
+
+def request(*parts):
+    return b"".join(fields(*parts))
+
+
+def made(*parts, words=()):
+    code, artefact, said = compile_one(request(*parts), words)
+    assert code == 0 and not said, (parts[:2], artefact, said)
+    return artefact
+
+
+def script(folder, text):
+    """A command ghdl in a new folder; gives a PATH that begins with it."""
+    os.mkdir(folder)
+    with open(f"{folder}/ghdl", "w") as file:
+        file.write("#!/bin/sh\n" + text)
+    os.chmod(f"{folder}/ghdl", 0o755)
+    return {**os.environ, "PATH": os.path.abspath(folder) + ":" + os.environ["PATH"]}
+
+
+p = (b"lib", b"src/p.vhd", made(b"lib", b"src/p.vhd", PACKAGE))
+e = (b"lib2", b"e.vhd", made(b"lib2", b"e.vhd", ENTITY, [p]))
+check("refused", compile_one(request(b"lib2", b"a.vhd", REFUSED, [p, e])), (1, SAID % b"a.vhd", b""))
+
+# Input that is no request: cut at each edge of a field, at seeded bytes, too long, of bad libraries.
+parts = fields(b"lib2", b"a.vhd", REFUSED, [p, e])
+whole = b"".join(parts)
+edges = {sum(map(len, parts[:count])) for count in range(len(parts))}
+for count in sorted(edges | set(random.Random(16).sample(range(len(whole)), 64))):
+    check(f"cut at {count}", compile_one(whole[:count]), (2, b"bad request\n", b""))
+libraries = [b"", b"../lib", b"a/b", b"1a", b"a" * 65]
+for data in [whole + b"x", b"VRC2" + whole[4:], *(request(library, b"p.vhd", PACKAGE) for library in libraries)]:
+    check(data[:40], compile_one(data), (2, b"bad request\n", b""))
+
+# Nothing but request and words counts: neither folders nor the time.
+os.makedirs("a b/c")
+for folder in [tmp, os.path.abspath("a b/c"), "a b"]:
+    settings = {"env": {**os.environ, "TMPDIR": folder}, "cwd": "." if folder == "a b" else "/"}
+    check(folder, compile_one(request(b"lib2", b"e.vhd", ENTITY, [p]), **settings), (0, e[2], b""))
+    check(folder, compile_one(whole, **settings), (1, SAID % b"a.vhd", b""))
+assert os.listdir("a b") == ["c"] and not os.listdir("a b/c")
+check("no folder", compile_one(whole, env={**os.environ, "TMPDIR": "/nowhere"})[:2],
+      (1, b"ghdl_analyse: No such file or directory\n"))
+
+# Names that are no names of files, and libraries with the names of folders.
+for path in [b'a "b".vhd', b"a\\b.vhd", "ä/€.vhd".encode(), b"ghdl_analyse_0.vhd", b"\\1\\g<0>"]:
+    check(path, compile_one(request(b"lib2", path, REFUSED, [p, e])), (1, SAID % path, b""))
+    check(path, compile_one(request(b"lib2", b"e.vhd", ENTITY, [(b"lib", path, p[2])])), (0, e[2], b""))
+for library in [b"v08", b"src", b"Lib", b"ghdl_analyse_0"]:
+    os.makedirs(library + b"/v08")
+    used = [(library, b"p.vhd", made(library, b"p.vhd", PACKAGE))]
+    made(b"lib2", b"e.vhd", ENTITY.replace(b" lib", b" " + library), used)
+    assert os.listdir(library) == [b"v08"] and not os.listdir(library + b"/v08")
+    os.removedirs(library + b"/v08")
+
+# Places in files that are depended on are named too.
+function = b"package %s is\n  function f return integer;\nend;\n"
+two = [(b"lib", name + b".vhd", made(b"lib", name + b".vhd", function % name)) for name in (b"one", b"two")]
+calls = b"use work.one.all, work.two.all;\nentity e is\n  generic (g : integer := f);\nend entity e;\n"
+code, said, _ = compile_one(request(b"lib", b"e.vhd", calls, two))
+assert code == 1 and b"one.vhd:2:12" in said and b"two.vhd:2:12" in said and b"ghdl_analyse" not in said, said
+
+# A library of the project stands for one of that name that GHDL brings.
+use = b"library ieee;\nuse ieee.math_real.%s;\nentity e is\nend entity e;\n"
+own = (b"ieee", b"m.vhd", made(b"ieee", b"m.vhd", b"package math_real is\n  constant own : integer := 1;\nend;\n"))
+made(b"lib", b"e.vhd", use % b"math_pi")
+made(b"lib", b"e.vhd", use % b"own", [own])
+assert compile_one(request(b"lib", b"e.vhd", use % b"math_pi", [own]))[0] == 1
+
+# Artefacts of others.
+old = made(b"lib", b"src/p.vhd", PACKAGE, words=["--std=93"])
+for other in [b"", b"unit package p\n", b"x" + p[2], p[2] + b"x", p[2][:-1], p[2].replace(b" on ", b"\non "), old]:
+    used = [(b"lib", b'"p"', other)]
+    check(other, compile_one(request(b"lib2", b"e.vhd", ENTITY, used)),
+          (1, b'ghdl_analyse: lib, "p": made by another compiler, or with another --std\n', b""))
+made(b"lib2", b"e.vhd", ENTITY, [(*p[:2], old)], words=["--std=87", "--std=93"])
+
+# Words: --std, libraries that the project doesn't have, and what isn't GHDL's business.
+os.makedirs("vendor/prims")
+with open("vendor/prims/p.vhd", "wb") as file:
+    file.write(PACKAGE)
+subprocess.run(["ghdl", "-a", "--std=08", "--work=lib", "p.vhd"], cwd="vendor/prims", check=True)
+made(b"lib2", b"e.vhd", ENTITY, words=["-Pvendor/prims"])
+for word in ["--work=x", f"--workdir={tmp}", "--PREFIX=/", "x.vhd", ""]:
+    said = f"ghdl_analyse: {word} isn't for the project file: it names a file or a library\n"
+    check(word, compile_one(whole, [word]), (1, said.encode(), b""))
+code, said, _ = compile_one(whole, ["--frob"])
+assert code == 1 and b"unknown command option '--frob'" in said, said
+
+# Warnings are standard error's, with the user's path; no unit at all is GHDL's to refuse.
+busy = b"entity b is\nend entity b;\narchitecture a of b is\nbegin\n  process\n  begin\n  end process;\nend;\n"
+code, _, said = compile_one(request(b"lib", b"b.vhd", busy))
+assert code == 0 and said.startswith(b"b.vhd:5:3:warning: "), said
+check("empty", compile_one(request(b"lib", b"x.vhd", b""))[:2],
+      (1, b"x.vhd:1:1: design file is empty (no design unit found)\n"))
+
+# The body of a generic package, which an instance needs.
+generic = b"package g is\n  generic (n : natural);\n  function f return natural;\nend package g;\n"
+body = b"package body g is\n  function f return natural is\n  begin\n    return n;\n  end function f;\nend;\n"
+instance = b"package i is new work.g generic map (n => 1);\n"
+g = (b"lib", b"g.vhd", made(b"lib", b"g.vhd", generic))
+code, said, _ = compile_one(request(b"lib", b"i.vhd", instance, [g]))
+assert code == 1 and b'i.vhd:1:9: cannot find package body of package "g"' in said, said
+assert said.endswith(b"(in vunit.toml, users_depend_on_bodies = true hands over the bodies of packages)\n"), said
+made(b"lib", b"i.vhd", instance, [g, (b"lib", b"b.vhd", made(b"lib", b"b.vhd", body, [g]))])
+
+# No GHDL, one that keeps objects, one that says nothing, and one that writes something else.
+alone = [sys.executable, "-IS", WRAPPER]
+check("no ghdl", compile_one(whole, wrapper=alone, env={"PATH": tmp, "TMPDIR": tmp}),
+      (1, b"ghdl_analyse: there is no command ghdl\n", b""))
+objects = script("objects", "[ $1 = -a ] && : >x.o\necho ' llvm code generator'\n")
+check("objects", compile_one(whole, env=objects)[:2], (1, b"ghdl_analyse: mcode is supported, and not llvm\n"))
+check("silent", compile_one(whole, env=script("silent", "exit 3\n")), (1, b"ghdl_analyse: ghdl ended with 3\n", b""))
+other = script("other", "echo 'v 5' >lib2-obj08.cf\n")
+check("other", compile_one(whole, env=other)[:2], (1, b"ghdl_analyse: this ghdl writes library files of another form\n"))
+
+# What is too long: an artefact, a source, a request for the memory that there is, which is read to its end all the same.
+digits = random.Random(1).randbytes(300_000).hex().encode()
+for long in [digits, b" " * 4_194_305]:
+    source = PACKAGE + b"".join(b"-- %s\n" % long[at : at + 80] for at in range(0, len(long), 80))
+    check("long", compile_one(request(b"lib", b"p.vhd", source)), (1, b"ghdl_analyse: the file is too long\n", b""))
+little = lambda: resource.setrlimit(resource.RLIMIT_AS, (200_000_000, 200_000_000))
+child = subprocess.Popen(alone, stdin=subprocess.PIPE, stdout=subprocess.PIPE, preexec_fn=little)
+child.stdin.write(request(b"lib", b"p.vhd", bytes(300_000_000)))
+child.stdin.close()
+check("memory", (child.stdout.read(), child.wait()), (b"ghdl_analyse: out of memory\n", 1))
+
+# Signals, at moments from the start on, and while GHDL runs: nothing is left behind, and GHDL has ended.
+slow = script("slow", "echo $$ >$0.new\nmv $0.new $0.pid\n: >more\nsleep 60\n")
+for number in [signal.SIGINT, signal.SIGTERM, signal.SIGHUP]:
+    for moment in [*(step / 100 for step in range(2, 14, 2)), "in GHDL"]:
+        if os.path.exists("slow/ghdl.pid"):
+            os.remove("slow/ghdl.pid")
+        # (a shell may have had it ignored)
+        child = subprocess.Popen(alone, stdin=subprocess.PIPE, stdout=subprocess.PIPE, stderr=subprocess.DEVNULL, env=slow,
+                                 preexec_fn=lambda: signal.signal(number, signal.SIG_DFL))
+        child.stdin.write(whole)
+        child.stdin.close()
+        if moment != "in GHDL":
+            time.sleep(moment)
+        while moment == "in GHDL" and not os.path.exists("slow/ghdl.pid"):
+            time.sleep(0.01)
+        child.send_signal(number)
+        check((number, moment), child.stdout.read(), b"")
+        # (before the wrapper's first line a signal ends Python, by the signal or with a code of its own)
+        codes = [128 + number] + [-number, 1] * (moment != "in GHDL")
+        assert child.wait() in codes, (number, moment, child.returncode)
+    with open("slow/ghdl.pid") as file:
+        assert not os.path.exists(f"/proc/{file.read().strip()}")

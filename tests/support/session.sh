@@ -1,0 +1,38 @@
+# Runs the session of one section of README.md line by line in a copy of what it needs, and compares it with what README.md
+# prints. The lines of its fenced blocks that begin with `$ ` are commands, and the others what these print. Blocks
+# without a command are passed over.
+#
+# usage: session.sh SECTION
+set -eu
+mkdir -p vunit_run/bin tmp home
+cp -R "$TOP/examples" "$TOP/README.md" vunit_run
+[ ! -d "$TOP/wrappers" ] || cp -R "$TOP/wrappers" vunit_run
+printf '#!/bin/sh\nexec "%s" "$@"\n' "$VUNIT_RUN" >vunit_run/bin/vunit_run
+chmod 755 vunit_run/bin/vunit_run
+"$VUNIT_RUN" --no-word-of-the-program >/dev/null || [ $? -eq 2 ]
+
+# (a folder in /tmp is one of this test's)
+awk -v section="## $1" '
+    /^## / { inside = $0 == section }
+    inside && /^```/ { fenced = !fenced; is_session = 0; next }
+    inside && fenced && /^\$ / { is_session = 1 }
+    inside && fenced && is_session' vunit_run/README.md | sed "s#/tmp/#$PWD/tmp/#g" >wanted
+awk -v quote="'" '
+    /^\$ / {
+        command = shown = substr($0, 3)
+        gsub(quote, quote "\\" quote quote, shown)
+        # the status of the command before is left as it was
+        print "kept=$?; printf " quote "%s\\n" quote " " quote "$ " shown quote "; (exit $kept)"
+        print command
+    }' wanted >commands
+
+if ! grep -q -- '--compile' commands || ! grep -q '^cp .*examples/' commands; then
+    echo "README.md has no session in '$1' that copies an example and compiles it"
+    exit 1
+fi
+room=$PWD
+cd vunit_run
+HOME=$room/home TMPDIR=$room/tmp sh "$room/commands" >"$room/printed" 2>&1 </dev/null || :
+cd "$room"
+diff -r "$TOP/examples" vunit_run/examples || { echo "the session changes examples/"; exit 1; }
+diff wanted printed
