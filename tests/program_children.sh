@@ -11,7 +11,8 @@ from trial import build_text, end, environment, expect, fail, package, project, 
 # and when it ends. A line of its source says what it waits for: `-- waits NAME ..`.
 COMPILER = """cat >request.$$
 name=$(grep -a -o 'package [a-z0-9]* is' request.$$ | cut -d ' ' -f 2)
-date +%s%N >begun.$name
+date +%s%N >begin.$name
+mv begin.$name begun.$name
 ls begun.* | wc -l >others.$name
 for wanted in $(sed -n 's/^-- waits //p' request.$$); do
     left=2000
@@ -21,7 +22,8 @@ for wanted in $(sed -n 's/^-- waits //p' request.$$); do
         sleep 0.005
     done
 done
-date +%s%N >ended.$name
+date +%s%N >end.$name
+mv end.$name ended.$name
 rm request.$$
 """
 
