@@ -11,7 +11,7 @@ from store_reader import clean_artefacts, graph_of, latest_of, read_request, rec
 from trial import (COMPILER, PROGRAM, artefact_of, build_text, end, environment, expect, fail, package, project, requests_in, run,
                    started_in, toml, write)
 
-KILLS, SECONDS = 36, 100
+KILLS, SECONDS = 36, 75
 ctypes.CDLL(None).prctl(36, 1, 0, 0, 0)  # what a killed program leaves running becomes a child of this process
 begun = time.monotonic()
 
