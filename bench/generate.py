@@ -63,10 +63,16 @@ end architecture rtl;
 
 """
 
-size = int(sys.argv[1])
-number = 0
-while size > 0:
-    text = ENTITY.format(n=number, d=number % 9)[:size]
-    sys.stdout.write(text)
-    size -= len(text)
-    number += 1
+
+def text_of(size, first=0):
+    """So many bytes of VHDL, whose entities are numbered from first on."""
+    parts, number = [], first
+    while size > 0:
+        parts.append(ENTITY.format(n=number, d=number % 9)[:size])
+        size -= len(parts[-1])
+        number += 1
+    return "".join(parts)
+
+
+if __name__ == "__main__":
+    sys.stdout.write(text_of(int(sys.argv[1])))

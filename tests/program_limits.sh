@@ -11,32 +11,57 @@ blank() {
     awk -v count="$2" 'BEGIN { line = sprintf("%1023s\n", ""); for (; count >= 1024; count -= 1024) printf "%s", line; printf "%" count "s", "" }' >"$1"
 }
 
+# Prints one line of a project file for each of so many libraries, all with one path.
+libraries() {
+    awk -v count="$1" 'BEGIN { for (at = 1; at <= count; at++) print "lib" at ",z.vhd" }'
+}
+
 project
-lines 129 >vunit.csv
-expect "129 files, none of which is there" 5 "vunit_run: over limit: files 128" --compile
+lines 4097 >vunit.csv
+expect "4,097 files, none of which is there" 5 "vunit_run: over limit: files 4096" --compile
+lines 4096 >vunit.csv
+expect "4,096 files, none of which is there" 1 "vunit_run: lib, f1.vhd is absent" --compile
+lines 4097 | sed 's/lib,//' | xargs touch
+expect "4,096 empty files, each over all before it" 0 "$(lines 4096 | sed 's/,/, /'; echo 'Listed 4096 files')" -f
+printf '[[library]]\nname = "lib"\nfiles = ["f*.vhd"]\n' >vunit.toml
+expect "4,097 files of a pattern" 5 "vunit_run: over limit: files 4096" -f
+rm f4097.vhd
+expect "4,096 files of a pattern" 0 "$(lines 4096 | sed 's/,/, /' | LC_ALL=C sort; echo 'Listed 4096 files')" -f
 lines 128 >vunit.csv
-expect "128 files, none of which is there" 1 "vunit_run: lib, f1.vhd is absent" --compile
-for at in $(lines 128 | sed 's/lib,//'); do : >"$at"; done
-expect "128 empty files" 0 "$(lines 128 | sed 's/lib,\(.*\)/Compiling into lib: \1 passed/'; echo 'Compile passed')" --compile
+rm vunit.toml
+expect "128 empty files, each over all before it" 0 "$(lines 128 | sed 's/lib,\(.*\)/Compiling into lib: \1 passed/'; echo 'Compile passed')" --compile -p 8
+expect "the same once more" 0 "Re-compile not needed" --compile -p 8
 
 project vunit.csv 'lib,a.vhd\nlib,b.vhd\n' b.vhd ''
 blank a.vhd 4194305
 expect "a file of one byte too many" 5 "vunit_run: over limit: text bytes 4194304" --compile
 blank a.vhd 4194304
-expect "a file as long as may be is too much for all" 5 "vunit_run: over limit: total bytes 2097152" --compile
-blank a.vhd 2097152
-expect "as many bytes in all as may be" 0 "Compiling into lib: a.vhd passed
+expect "a file as long as may be" 0 "Compiling into lib: a.vhd passed
 Compiling into lib: b.vhd passed
 Compile passed" --compile
 printf ' ' >b.vhd
-expect "one byte too many in all" 5 "vunit_run: over limit: total bytes 2097152" --compile
+expect "the same with a longer file after it" 0 "Compiling into lib: b.vhd passed
+Compile passed" --compile
+
+project b.vhd ''
+blank z.vhd 4194304
+{ libraries 16; echo lib,b.vhd; } >vunit.csv
+expect "as many bytes in all as may be" 0 "$(libraries 16 | sed 's/,/, /'; echo 'lib, b.vhd'; echo 'Listed 17 files')" -f
+printf ' ' >b.vhd
+expect "one byte too many in all" 5 "vunit_run: over limit: total bytes 67108864" --compile
 rm b.vhd
-expect "a file that isn't there after one that is" 1 "vunit_run: lib, b.vhd is absent" --compile
+expect "a file that isn't there after so many bytes" 1 "vunit_run: lib, b.vhd is absent" --compile
+libraries 17 >vunit.csv
+expect "many bytes too many in all" 5 "vunit_run: over limit: total bytes 67108864" -f
 
 project
 blank vunit.csv 4194305
 expect "a project file of one byte too many" 5 "vunit_run: over limit: text bytes 4194304" --compile
 blank vunit.csv 4194304
 expect "a project file of blanks as long as may be" 1 "vunit_run: vunit.csv: bad line 1" --compile
+cp vunit.csv vunit.toml
+expect "a vunit.toml of blanks as long as may be" 1 "vunit_run: vunit.toml: no key library" --compile
+printf ' ' >>vunit.toml
+expect "a vunit.toml of one byte too many" 5 "vunit_run: over limit: text bytes 4194304" --compile
 
 [ "$failures" -eq 0 ]

@@ -24,10 +24,10 @@ def check(answer, files):
 
 
 # The first bad line, also after one of more files than there may be, and also where its fault is one of the last bytes.
-names = [b"lib,%s\n" % (b"a" * (row + 1)) for row in range(129)]
+names = [b"lib,f%d\n" % row for row in range(4097)]
 for text, csv in [
-    (b"bad line 129", b"".join(names[:128]) + b"lib"),
-    (b"bad line 130", b"".join(names) + b"lib"),
+    (b"bad line 4097", b"".join(names[:4096]) + b"lib"),
+    (b"bad line 4098", b"".join(names) + b"lib"),
     (b"bad line 4", b"\r\n\n lib\t, a.vhd \r\nlib,b.vhd\r"),
     (b"bad line 2", b"lib,a.vhd\n  \nlib\n"),
     (b"bad line 1", b"\xef\xbb\xbflib,a.vhd\n"),
@@ -46,25 +46,38 @@ for second, text in [
 ]:
     check((1, b"lib, b.vhd: " + text), {"vunit.csv": LISTING, "a.vhd": PACKAGE, "b.vhd": second, "c.vhd": b"foo"})
 
-# The bytes of vunit.csv, of a.vhd and of b.vhd, where it is there; c.vhd is no design unit.
-TEXT, TOTAL = (5, b"over limit: text bytes 4194304"), (5, b"over limit: total bytes 2097152")
+# A file that 15 libraries list leaves 4,194,304 bytes for the others. Of these the bytes of vunit.csv, of a.vhd and of
+# b.vhd, where it is there; c.vhd is no design unit.
+LONG = b"".join(b"lib%d,z.vhd\n" % at for at in range(15)) + LISTING
+TEXT, TOTAL = (5, b"over limit: text bytes 4194304"), (5, b"over limit: total bytes 67108864")
 SCANNED, ABSENT = (1, b"lib, c.vhd: no design unit at 0"), (1, b"lib, b.vhd is absent")
 for csv, a, b, answer in [
     (4194305, 0, 0, TEXT),
     (4194304, 0, 0, SCANNED),
-    (30, 4194305, None, TEXT),
-    (30, 1000000, 4194305, TEXT),
-    (30, 4194304, None, TOTAL),
-    (30, 2097153, 4194305, TOTAL),
-    (30, 2097152, None, ABSENT),
-    (30, 2097152, 0, TOTAL),
-    (30, 2097149, 0, SCANNED),
-    (30, 0, 2097149, SCANNED),
-    (30, 1000000, 1097149, SCANNED),
-    (30, 1000000, 1097150, TOTAL),
+    (0, 4194305, None, TEXT),
+    (0, 1000000, 4194305, TEXT),
+    (0, 4194304, None, ABSENT),
+    (0, 4194304, 1, TOTAL),
+    (0, 4194304, 4194305, TEXT),
+    (0, 4194304, 0, TOTAL),
+    (0, 4194301, 0, SCANNED),
+    (0, 0, 4194301, SCANNED),
+    (0, 1000000, 3194301, SCANNED),
+    (0, 1000000, 3194302, TOTAL),
 ]:
-    files = {"vunit.csv": LISTING.ljust(csv, b"\n"), "a.vhd": b" " * a, "c.vhd": b"foo"}
+    files = {"vunit.csv": LONG.ljust(csv, b"\n"), "z.vhd": b" " * 4194304, "a.vhd": b" " * a, "c.vhd": b"foo"}
     if b is not None:
         files["b.vhd"] = b" " * b
     check(answer, files)
+
+# A vunit.toml counts before a vunit.csv, and is read whole before a name is looked for.
+LIBRARY = b'[[library]]\nname = "lib"\nfiles = ["%s.vhd"]\n'
+for answer, toml in [
+    (TEXT, (LIBRARY % b"a").ljust(4194305, b"\n")),
+    ((1, b"vunit.toml isn't TOML"), b"lib,a.vhd\n"),
+    ((1, b"nothing matches d.vhd"), LIBRARY % b"d" + LIBRARY % b"a"),
+    ((1, b"library lib stands twice"), LIBRARY % b"a" + LIBRARY % b"d"),
+    ((1, b"lib, a.vhd: no design unit at 0"), LIBRARY % b"a"),
+]:
+    check(answer, {"vunit.toml": toml, "vunit.csv": b"bad\n", "a.vhd": b"foo"})
 EOF

@@ -7,7 +7,7 @@ Compile passed'
 
 project vunit.csv 'lib,a.vhd\nlib,b.vhd\n' a.vhd "$a" b.vhd 'package b is\nend package b;\n'
 expect "two packages" 0 "$both" --compile
-expect "the same once more: records end with a run today" 0 "$both" --compile
+expect "the same once more" 0 "Re-compile not needed" --compile
 project vunit.csv ' Lib\t, a.vhd \r\n\r\n\nLIB,b.vhd' a.vhd "$a" b.vhd ''
 expect "blanks, empty lines, another case, no last line end" 0 "$both" --compile
 project vunit.csv ''
@@ -20,13 +20,15 @@ expect "a line without a comma" 1 "vunit_run: vunit.csv: bad line 2" --compile
 project vunit.csv 'lib,a.vhd\n\nlib,"a.vhd"\n'
 expect "a quote" 1 "vunit_run: vunit.csv: bad line 3" --compile
 project vunit.csv 'work,a.vhd\n'
-expect "the library work" 1 "vunit_run: vunit.csv: bad line 1" --compile
+expect "the library work" 1 "vunit_run: a library may not be named work" --compile
+project vunit.csv 'WORK,a.vhd\nlib\n'
+expect "the library work, in a line before a bad one" 1 "vunit_run: a library may not be named work" --compile
 project vunit.csv 'lib,../a.vhd\n'
 expect "a path upwards" 1 "vunit_run: vunit.csv: bad line 1" --compile
 project vunit.csv 'lib,a.vhd\nLIB,a.vhd\n' a.vhd "$a"
-expect "a file twice" 1 "vunit_run: vunit.csv: bad line 2" --compile
+expect "a file twice" 1 "vunit_run: lib, a.vhd stands twice" --compile
 project vunit.toml '' vunit.csv 'bad\n'
-expect "a vunit.toml" 1 "vunit_run: not built yet" --compile
+expect "a vunit.toml, which comes first" 1 "vunit_run: vunit.toml: no key library" --compile
 
 project vunit.csv 'lib,a.vhd\nlib,b.vhd\n' a.vhd "$a"
 expect "a file that isn't there" 1 "vunit_run: lib, b.vhd is absent" --compile

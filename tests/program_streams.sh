@@ -30,6 +30,13 @@ fi
 echo $? >status
 faulty "a closed output for the usage text"
 
+expect "the record is there whatever became of the output" 0 "Re-compile not needed" --compile
+for closed in '<&-' '>&-' '2>&-' '<&- >&- 2>&-'; do
+    rm -rf vunit_out
+    eval "\"\$VUNIT_RUN\" --compile $closed" >>closed 2>&1
+    expect "the record is there after a run with $closed" 0 "Re-compile not needed" --compile
+done
+
 status=0
 printf 'one\ntwo\n' | { "$VUNIT_RUN" --compile >out && cat >rest; } || status=$?
 if [ "$status" != 0 ] || [ "$(cat rest)" != "one

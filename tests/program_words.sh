@@ -1,16 +1,83 @@
-# Words that are no command line of the program give status 2 and the usage text, before anything is looked at.
+# Words that are no command line of the program give status 2 and the usage text, before anything is looked at. A number
+# of children that is too high comes next, then the modes that aren't built yet, and then the project.
 . "$TOP/tests/support/program.sh"
 
-# a project that would be refused
+# a project that is refused
 project vunit.csv 'bad\n'
-expect "no words" 2 "$usage"
-expect "an unknown option" 2 "$usage" --frob
-expect "a mode that comes later" 2 "$usage" --list
-expect "a number that isn't one" 2 "$usage" -p 0
-expect "an unknown letter" 2 "$usage" -m
-expect "an empty word" 2 "$usage" ''
-expect "a word too many" 2 "$usage" --compile x
-expect "a child's word in another place" 2 "$usage" --compile child-analyse
+refused='vunit_run: vunit.csv: bad line 1'
+while IFS= read -r words; do
+    # shellcheck disable=SC2086
+    expect "no command line: $words" 2 "$usage" $words
+done <<'ROWS'
+--frob
+-m
+-p 0
+-p
+-p x
+-p -1
+-p 18446744073709551616
+--num-threads
+--generate 0
+--generate 18446744073709551616
+-x
+--export-json
+--compile=1
+--compile --compile
+-p 1 -p 2
+-h
+--help
+--version
+-lm
+--list -p 65 --frob
+child-bench
+child-bench --compile
+ROWS
 expect "a word that isn't UTF-8" 2 "$usage" "$(printf '\377')"
+expect "a word that isn't UTF-8, after a child's" 2 "$usage" child-analyse "$(printf '\377')"
+
+while IFS= read -r words; do
+    # shellcheck disable=SC2086
+    expect "too many children: $words" 5 "vunit_run: over limit: slots 64" $words
+done <<'ROWS'
+-p 65
+-p65 --compile
+--list --num-threads=65
+--compile -p 18446744073709551615
+--generate 3 -p 65
+ROWS
+
+while IFS= read -r words; do
+    # shellcheck disable=SC2086
+    expect "a mode that comes later: $words" 1 "vunit_run: not built yet" $words
+done <<'ROWS'
+
+-l
+--list --compile
+-lf
+a.b.* c
+-p 64 -k -v -q --fail-fast --clean --exit-0 -x out.xml
+--export-json e.json --compile
+--generate 3 -f
+ROWS
+
+while IFS= read -r words; do
+    # shellcheck disable=SC2086
+    expect "a project that is refused: $words" 1 "$refused" $words
+done <<'ROWS'
+--compile
+--compile -p 64
+--compile -p +3
+-f
+--files --compile
+-fkvq -p4
+--compile x child-analyse
+--compile child-bench
+-k --compile --num-threads=8 --clean --exit-0 --fail-fast --xunit-xml=out.xml
+--compile -- -l --frob
+ROWS
+if [ -e vunit_out ]; then
+    echo "there is a vunit_out"
+    failures=$((failures + 1))
+fi
 
 [ "$failures" -eq 0 ]

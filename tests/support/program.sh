@@ -10,9 +10,18 @@ project() {
     mkdir -p "$room/$count"
     cd "$room/$count" || exit 1
     while [ $# -gt 1 ]; do
+        case $1 in */*) mkdir -p -- "${1%/*}" ;; esac
         # shellcheck disable=SC2059
-        printf "$2" >"$1"
+        printf -- "$2" >"$1"
         shift 2
+    done
+}
+
+# Prints a vunit.toml: each word is a library, a colon and the patterns of its files with commas between them.
+libraries() {
+    for library; do
+        printf '[[library]]\nname = "%s"\nfiles = ["' "${library%%:*}"
+        printf '%s"]\n' "${library#*:}" | sed 's/,/", "/g'
     done
 }
 
@@ -26,8 +35,8 @@ expect() {
     status=0
     "$VUNIT_RUN" "$@" >"$room/out" 2>"$room/err" </dev/null || status=$?
     if [ "$status" -ne "$wanted" ] || ! cmp -s "$room/wanted" "$room/out" || [ -s "$room/err" ]; then
-        echo "$name: status $status, and not $wanted; wanted and printed (at most 20 lines), and standard error:"
-        for text in wanted out err; do head -n 20 "$room/$text"; echo "--"; done
+        echo "$name: status $status, and not $wanted; wanted and printed (at most 20 lines of 300 bytes), and standard error:"
+        for text in wanted out err; do head -n 20 "$room/$text" | cut -c 1-300; echo "--"; done
         failures=$((failures + 1))
     fi
 }

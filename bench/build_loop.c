@@ -1,0 +1,202 @@
+/* The floor of a first build: starts the compiler of each file as soon as all that it depends on is compiled, so many at
+   once, with the input that the runner gives it, reads its output, and commits a record of the same bytes with the same
+   syncs. It reads no project, scans nothing and looks for no old record.
+
+   A line of the list is a path and the numbers of all files that it depends on, rising. Each is a file of `lib`.
+
+   usage: build_loop PROGRAM LIST SLOTS STORE */
+#define _GNU_SOURCE
+#include <fcntl.h>
+#include <spawn.h>
+#include <stdint.h>
+#include <stdio.h>
+#include <stdlib.h>
+#include <string.h>
+#include <sys/wait.h>
+#include <unistd.h>
+
+extern char **environ;
+
+struct bytes { uint8_t *at; size_t length, room; };
+
+struct file {
+    char *path;
+    uint32_t *needs, count;
+    int started, done, out;
+    pid_t child;
+    struct bytes source, artefact;
+};
+
+static void fail(const char *what) {
+    perror(what);
+    exit(1);
+}
+
+static void add(struct bytes *to, const void *from, size_t length) {
+    if (to->length + length > to->room) {
+        to->room = 2 * (to->length + length);
+        to->at = realloc(to->at, to->room);
+        if (!to->at) fail("memory");
+    }
+    if (length) memcpy(to->at + to->length, from, length);
+    to->length += length;
+}
+
+static void add_number(struct bytes *to, uint64_t number, int width) {
+    uint8_t digits[8];
+    for (int at = 0; at < width; at++) digits[at] = (uint8_t)(number >> 8 * at);
+    add(to, digits, (size_t)width);
+}
+
+static void add_text(struct bytes *to, const void *text, size_t length) {
+    add_number(to, length, 4);
+    add(to, text, length);
+}
+
+static void read_all(int from, struct bytes *to) {
+    uint8_t buffer[65536];
+    ssize_t count;
+    while ((count = read(from, buffer, sizeof buffer)) > 0) add(to, buffer, (size_t)count);
+    if (count < 0) fail("read");
+    close(from);
+}
+
+static struct file *read_list(const char *path, uint32_t *count) {
+    struct file *files = NULL;
+    char *line = NULL;
+    size_t room = 0;
+    FILE *list = fopen(path, "r");
+    if (!list) fail(path);
+    for (*count = 0; getline(&line, &room, list) > 0; ++*count) {
+        struct file *file;
+        char *word = strtok(line, " \n");
+        files = realloc(files, (*count + 1) * sizeof *files);
+        if (!files) fail("memory");
+        file = &files[*count];
+        memset(file, 0, sizeof *file);
+        file->path = strdup(word);
+        file->needs = malloc((*count + 1) * sizeof *file->needs);
+        if (!file->path || !file->needs) fail("memory");
+        while ((word = strtok(NULL, " \n"))) file->needs[file->count++] = (uint32_t)strtoul(word, NULL, 10);
+    }
+    fclose(list);
+    return files;
+}
+
+static void start(char *program, struct file *files, struct file *file) {
+    char *words[] = { program, "child-analyse", NULL };
+    static struct bytes request;
+    int in[2], out[2];
+    posix_spawn_file_actions_t actions;
+    request.length = 0;
+    add(&request, "VRC1", 4);
+    add_text(&request, "lib", 3);
+    add_text(&request, file->path, strlen(file->path));
+    add_text(&request, file->source.at, file->source.length);
+    add_number(&request, file->count, 4);
+    for (uint32_t at = 0; at < file->count; at++) {
+        struct file *need = &files[file->needs[at]];
+        add_text(&request, "lib", 3);
+        add_text(&request, need->path, strlen(need->path));
+        add_text(&request, need->artefact.at, need->artefact.length);
+    }
+    if (pipe2(in, O_CLOEXEC) || pipe2(out, O_CLOEXEC)) fail("pipe");
+    posix_spawn_file_actions_init(&actions);
+    posix_spawn_file_actions_adddup2(&actions, in[0], 0);
+    posix_spawn_file_actions_adddup2(&actions, out[1], 1);
+    if (posix_spawn(&file->child, program, &actions, NULL, words, environ)) fail("spawn");
+    posix_spawn_file_actions_destroy(&actions);
+    close(in[0]);
+    close(out[1]);
+    for (size_t at = 0; at < request.length;) {
+        ssize_t count = write(in[1], request.at + at, request.length - at);
+        if (count < 0) fail("write");
+        at += (size_t)count;
+    }
+    close(in[1]);
+    file->out = out[0];
+    file->started = 1;
+}
+
+/* Writes length, payload and a closed gate, syncs, opens the gate, and syncs. */
+static void commit(int store, uint64_t *gate, const struct file *file, const uint64_t *numbers) {
+    static struct bytes record;
+    uint32_t length;
+    record.length = 0;
+    add_number(&record, 0, 4);
+    add_number(&record, 1, 1);
+    add_text(&record, "lib", 3);
+    add_text(&record, file->path, strlen(file->path));
+    add_number(&record, 2, 4);
+    add_text(&record, "@self", 5);
+    add_text(&record, "child-analyse", 13);
+    add_number(&record, 1, 1);
+    add_text(&record, file->source.at, file->source.length);
+    add_number(&record, file->count, 4);
+    for (uint32_t at = 0; at < file->count; at++) add_number(&record, numbers[file->needs[at]], 8);
+    add_text(&record, file->artefact.at, file->artefact.length);
+    length = (uint32_t)(record.length - 4);
+    memcpy(record.at, &length, 4);
+    add_number(&record, 0, 1);
+    if (pwrite(store, record.at, record.length, (off_t)*gate + 1) != (ssize_t)record.length || fdatasync(store)) fail("store");
+    if (pwrite(store, "\1", 1, (off_t)*gate) != 1 || fdatasync(store)) fail("store");
+    *gate += record.length;
+}
+
+static int can_start(const struct file *files, const struct file *file) {
+    for (uint32_t at = file->count; at > 0; at--) {
+        if (!files[file->needs[at - 1]].done) return 0;
+    }
+    return 1;
+}
+
+int main(int count, char **words) {
+    uint32_t total, slots, running = 0, ended = 0, first = 0, *order;
+    uint64_t gate = 18, *numbers;
+    struct file *files;
+    int store;
+    if (count != 5) {
+        fprintf(stderr, "usage: build_loop PROGRAM LIST SLOTS STORE\n");
+        return 2;
+    }
+    files = read_list(words[2], &total);
+    slots = (uint32_t)strtoul(words[3], NULL, 10);
+    order = malloc(total * sizeof *order);
+    numbers = malloc(total * sizeof *numbers);
+    store = open(words[4], O_RDWR | O_CREAT | O_TRUNC | O_CLOEXEC, 0644);
+    if (store < 0 || !order || !numbers) fail(words[4]);
+    if (pwrite(store, "\1VUNITREC\2\1\0\0\0\0\0\0\0\0", 19, 0) != 19 || fdatasync(store)) fail("store");
+    for (uint32_t at = 0; at < total; at++) {
+        int from = open(files[at].path, O_RDONLY | O_CLOEXEC);
+        if (from < 0) fail(files[at].path);
+        read_all(from, &files[at].source);
+    }
+    while (ended < total) {
+        uint32_t next = total;
+        struct file *file;
+        int status;
+        while (first < total && files[first].started) first++;
+        for (uint32_t at = first; at < total && running < slots && next == total; at++) {
+            if (!files[at].started && can_start(files, &files[at])) next = at;
+        }
+        if (next < total) {
+            start(words[1], files, &files[next]);
+            order[ended + running++] = next;
+            continue;
+        }
+        file = &files[order[ended]];
+        read_all(file->out, &file->artefact);
+        if (waitpid(file->child, &status, 0) < 0) fail("wait");
+        if (!WIFEXITED(status) || WEXITSTATUS(status)) {
+            fprintf(stderr, "build_loop: a child refused its file\n");
+            return 1;
+        }
+        numbers[order[ended]] = ended;
+        commit(store, &gate, file, numbers);
+        file->done = 1;
+        running--;
+        ended++;
+    }
+    printf("%u files\n", ended);
+    return 0;
+}

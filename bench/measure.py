@@ -1,0 +1,112 @@
+"""What the benches in Python share: generated projects, and runs that are timed by turns."""
+import os, random, statistics, subprocess, sys, tempfile, time
+
+from generate import ENTITY
+
+BENCH = os.path.dirname(os.path.abspath(__file__))
+# The program as a user starts it, unless another one is named.
+PROGRAM = os.environ.get("VUNIT_RUN", os.path.join(os.path.dirname(BENCH), "bin", "vunit_run"))
+SIZE = 16384
+
+
+def new_room():
+    """A folder that lasts as long as the bench: in TMPDIR, where that is given, else in memory, where that can be had."""
+    memory = "/dev/shm"
+    return tempfile.TemporaryDirectory(dir=memory if "TMPDIR" not in os.environ and os.access(memory, os.W_OK) else None)
+
+
+def needs_of(at, kind, chance):
+    """The files that a file uses: up to four before it in its group of 64, or four of all before it."""
+    if kind == "near":
+        return list(range(max(at // 64 * 64, at - 4), at))
+    return sorted(chance.sample(range(at), min(at, 4)))
+
+
+def make_project(folder, count, kind, compiler=None):
+    """Makes a project of so many packages of 16,384 bytes, and gives what each uses."""
+    chance = random.Random(15)
+    all_needs = [needs_of(at, kind, chance) for at in range(count)]
+    os.makedirs(os.path.join(folder, "src"))
+    for at, needs in enumerate(all_needs):
+        text = "".join(f"use work.p{need:04}.all;\n" for need in needs) + f"package p{at:04} is\nend package p{at:04};\n\n"
+        number = 8 * at
+        while len(text) + len(piece := ENTITY.format(n=number, d=number % 9)) < SIZE:
+            text += piece
+            number += 1
+        text = text.ljust(SIZE - 1, "-") + "\n"
+        if len(text) != SIZE:
+            sys.exit("a generated file has another size")
+        with open(os.path.join(folder, "src", f"p{at:04}.vhd"), "w") as file:
+            file.write(text)
+    words = "compiler = [" + ", ".join(f"'{word}'" for word in compiler) + "]\n" if compiler else ""
+    with open(os.path.join(folder, "vunit.toml"), "w") as file:
+        file.write(words + '[[library]]\nname = "lib"\nfiles = ["src/*.vhd"]\n')
+    return all_needs
+
+
+def below(all_needs):
+    """All that each file depends on, directly or indirectly, rising."""
+    closed = []
+    for needs in all_needs:
+        found = set(needs)
+        for need in needs:
+            found |= closed[need]
+        closed.append(found)
+    return [sorted(found) for found in closed]
+
+
+def timed(words, folder):
+    """Seconds, peak memory in bytes and standard output of a command that has to end with 0."""
+    with open(os.devnull) as nothing, open(os.path.join(folder, "..", "said"), "w+b") as said:
+        begun = time.perf_counter()
+        child = subprocess.Popen(words, cwd=folder, stdin=nothing, stdout=said)
+        _, status, usage = os.wait4(child.pid, 0)
+        took = time.perf_counter() - begun
+        child.returncode = os.waitstatus_to_exitcode(status)
+        said.seek(0)
+        text = said.read()
+    if child.returncode != 0:
+        sys.exit(f"this ended with {child.returncode}: {' '.join(words)}\n{text[-2000:].decode(errors='replace')}")
+    return took, usage.ru_maxrss * 1024, text
+
+
+def build(folder, *words):
+    """Builds a project, and gives the seconds that it takes."""
+    took, _, text = timed([PROGRAM, "--compile", *words], folder)
+    if not text.endswith(b"Compile passed\n"):
+        sys.exit(f"{folder} isn't built: it says {text[-200:]}")
+    return took
+
+
+def check_no_op(text):
+    if text != b"Re-compile not needed\n":
+        sys.exit(f"something is compiled: it says {text[:200]}")
+
+
+def compiled(name, room):
+    """A program in C of this folder, in a room."""
+    made = os.path.join(room, name)
+    subprocess.run([os.environ.get("CC", "cc"), "-O2", "-o", made, os.path.join(BENCH, name + ".c")], check=True)
+    return made
+
+
+def by_turns(rounds, *works):
+    """The medians of what each work gives, over so many rounds of all by turns. A round before them is thrown away."""
+    found = [[] for _ in works]
+    for at in range(rounds + 1):
+        for work, times in zip(works, found):
+            value = work()
+            if at:
+                times.append(value)
+    return [statistics.median(times) for times in found]
+
+
+def store_bytes(folder):
+    """The length of each side of a project's store."""
+    return [os.path.getsize(os.path.join(folder, "vunit_out", side)) for side in ("store_a", "store_b")]
+
+
+def rounds_given():
+    if len(sys.argv) > 2 or len(sys.argv) == 2 and not sys.argv[1].isdigit():
+        sys.exit(f"usage: {os.path.basename(sys.argv[0])} [ROUNDS]")
+    return int(sys.argv[1]) if len(sys.argv) == 2 else 9

@@ -1,0 +1,171 @@
+#!/bin/sh
+# A build that is killed at any moment keeps what it acknowledged: the next run starts exactly the files without a current
+# record, and the one after it nothing. What is on the disk is read by another reader of its form. While a build runs,
+# another start over the same folder fails, and harms nothing.
+command -v python3 >/dev/null || { echo "python3 is missing"; exit 77; }
+python3 -c 'import tomllib' 2>/dev/null || { echo "python3 has no tomllib"; exit 77; }
+PYTHONPATH=$TOP/tests/support exec python3 -B - <<'END'
+import ctypes, os, shutil, subprocess, time
+
+from store_reader import clean_artefacts, graph_of, latest_of, read_request, records_of, request_of, stale_of, view_at
+from trial import (COMPILER, PROGRAM, artefact_of, build_text, end, environment, expect, fail, package, project, requests_in, run,
+                   started_in, toml, write)
+
+KILLS, SECONDS = 36, 75
+ctypes.CDLL(None).prctl(36, 1, 0, 0, 0)  # what a killed program leaves running becomes a child of this process
+begun = time.monotonic()
+
+# 16 files of one library, each over up to three before it, and 8 of another, each over two of the first.
+FILES = {f"src/p{at}.vhd": package(f"p{at}", *sorted({f"work.p{below}" for below in (at // 2, at * 2 // 3, at - 1) if below in range(at)}))
+         for at in range(16)}
+FILES |= {f"tb/t{at}.vhd": package(f"t{at}", f"lib.p{at}", f"lib.p{2 * at}") for at in range(8)}
+PAIRS = '\n[[depends]]\nlibrary = "tb_lib"\npath = "tb/t7.vhd"\non_library = "tb_lib"\non_path = "tb/t6.vhd"\n'
+
+
+def listing(option):
+    return toml({"lib": ["src/*.vhd"], "tb_lib": ["tb/*.vhd"]}, COMPILER, {"lib": [option]}) + PAIRS
+
+
+def edited(path, number):
+    return {path: FILES[path] + f"-- {number}\n"}
+
+
+def check_store(name):
+    """The records of the disk, each of which is true: a clean build of its files gives its artefact."""
+    records = records_of("project")
+    for view, artefact in records:
+        if view not in true:
+            true[view] = clean_artefacts(view, artefact_of)[-1]
+        if artefact != true[view]:
+            fail(name, f"the record of {view[-1][:2]} isn't true")
+    return records
+
+
+def check_requests(name, records, folder):
+    """Each request of a killed run was made over artefacts that are on the disk."""
+    kept = {(*record.view[-1][:2], record.artefact) for record in records}
+    for request in requests_in(folder):
+        for dependency in read_request(request)[3]:
+            if dependency not in kept:
+                fail(name, f"{read_request(request)[:2]} was started over {dependency}, which isn't on the disk")
+
+
+def check_run(name, folder):
+    """A run starts exactly the files without a current record, over the right artefacts, and leaves nothing to do."""
+    graph, records = graph_of("project"), records_of("project")
+    stale = stale_of("project", records)
+    shutil.rmtree(folder, ignore_errors=True)
+    expect(name, "project", 0, build_text(stale), "--compile", "-p", "4", env=environment(folder))
+    if sorted(started_in(folder)) != sorted(stale):
+        fail(name, f"it started {started_in(folder)}\nand not {stale}")
+    place = {entry[:2]: at for at, entry in enumerate(graph)}
+    for request in requests_in(folder):
+        view = view_at(graph, place[read_request(request)[:2]])
+        if request != request_of(view, clean_artefacts(view, artefact_of)[:-1]):
+            fail(name, f"{view[-1][:2]} was started with another request than by a clean build")
+    check_store(name)
+    if stale_of("project"):
+        fail(name, f"after it these are stale: {stale_of('project')}")
+    expect(name + ", and once more", "project", 0, build_text([]), "--compile", "-p", "4", env=environment(folder))
+    if started_in(folder):
+        fail(name, f"the run after it started {started_in(folder)}")
+
+
+def restore(base):
+    shutil.rmtree("project", ignore_errors=True)
+    shutil.copytree(base, "project", symlinks=True)
+
+
+def start(words, requests, delay=None):
+    return subprocess.Popen([PROGRAM, "--compile", *words], cwd="project", env=environment(requests, delay), stdin=subprocess.DEVNULL,
+                            stdout=subprocess.PIPE, stderr=subprocess.PIPE, start_new_session=True)
+
+
+def reap():
+    """Waits for all that killed programs left running."""
+    try:
+        while True:
+            os.wait()
+    except ChildProcessError:
+        pass
+
+
+true = {}
+# From where the builds that are killed begin: no store, a store with a part that is stale, one that is stale as a whole, and one that is emptied.
+project("project", FILES | {"vunit.toml": listing("-a")})
+shutil.copytree("project", "empty")
+check_run("a first build", "requests")
+shutil.copytree("project", "built")
+BASES = [("empty", {}, []), ("built", edited("src/p3.vhd", 1), []), ("built", {"vunit.toml": listing("-b")}, []),
+         ("built", edited("src/p0.vhd", 1), ["--clean"])]
+took = []
+for base, edits, words in BASES:
+    restore(base)
+    write("project", edits)
+    before = time.monotonic()
+    run("project", "--compile", "-p", "4", *words, env=environment("requests"))
+    took.append(time.monotonic() - before)
+
+kills = 0
+moments = KILLS // len(BASES)
+inside = 0
+for at in range(KILLS):
+    if time.monotonic() - begun > SECONDS or kills >= 40:
+        print(f"only {kills} kills were tried in {SECONDS} seconds")
+        break
+    base, edits, words = BASES[at % len(BASES)]
+    moment = (at // len(BASES) + 0.5) / moments * took[at % len(BASES)]
+    name = f"kill {at} of {base} with {[*edits, *words]} after {moment * 1000:.0f} ms of {took[at % len(BASES)] * 1000:.0f}"
+    restore(base)
+    write("project", edits)
+    before = latest_of(records_of("project"))
+    killed = start(["-p", "4", *words], "killed")
+    time.sleep(moment)
+    killed.kill()
+    inside += killed.wait() == -9
+    kills += 1
+    records = check_store(name)
+    if not words and before.keys() - latest_of(records).keys():
+        fail(name, f"lost the records of {before.keys() - latest_of(records).keys()}")
+    # by turns: as it is, edited back, and with another edit
+    write("project", [{}, {path: FILES[path] for path in edits if path in FILES}, edited("src/p5.vhd", at)][at % 3])
+    check_run(name, "requests")
+    reap()
+    check_requests(name, records, "killed")
+if inside < kills // 2:
+    fail("the moments", f"only {inside} of {kills} kills found the program running")
+
+# Another start over the folder, while a build runs that takes a while.
+restore("empty")
+first = start(["-p", "4"], "first", 0.2)
+until = time.monotonic() + 20
+while not started_in("first") and time.monotonic() < until:
+    time.sleep(0.01)
+for _ in range(3):
+    expect("a second program on the folder", "project", 3, "", "--compile", error="vunit_run: fault of disk\n", env=environment("second"))
+    if os.listdir("second"):
+        fail("a second program on the folder", f"it started {os.listdir('second')}")
+if first.poll() is not None:
+    fail("a second program on the folder", "the first had ended by then")
+out, err = first.communicate()
+names = [entry[:2] for entry in graph_of("project")]
+if (first.returncode, out, err) != (0, build_text(names).encode(), b""):
+    fail("the first program", f"it is {first.returncode, out, err}")
+if sorted(started_in("first")) != sorted(names):
+    fail("the first program", f"it started {started_in('first')}")
+check_store("the first program")
+expect("after both", "project", 0, build_text([]), "--compile", env=environment("requests"))
+
+# The folder is free again as soon as a program is killed, though its compilers still run.
+restore("empty")
+killed = start(["-p", "4"], "killed", 3)
+until = time.monotonic() + 20
+while not started_in("killed") and time.monotonic() < until:
+    time.sleep(0.01)
+killed.kill()
+killed.wait()
+check_run("while compilers of a killed program run", "requests")
+reap()
+print(f"{kills} kills, {inside} of them inside a run, in {time.monotonic() - begun:.0f} seconds")
+end()
+END

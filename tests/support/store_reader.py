@@ -1,0 +1,322 @@
+"""Reads the store of a project, and says which files a build of the project must compile.
+
+It is written from docs/FORMATS.md alone and shares nothing with the program. The model knows simple sources only: packages
+that are declared at the start of a line, and uses of them by `use LIBRARY.PACKAGE`.
+
+usage: store_reader.py FOLDER       lists the records of the folder's store
+"""
+import collections, fnmatch, os, re, struct, sys
+
+FORM = 2
+FILES, TEXT, ALL_TEXT, ARTEFACT = 4096, 4194304, 67108864, 262144
+
+# `deps` are positions of files before it, rising; a view is a tuple of entries, and its last one depends on all others.
+Entry = collections.namedtuple("Entry", "library path command text deps")
+Record = collections.namedtuple("Record", "view artefact")
+Node = collections.namedtuple("Node", "library path command text needs")
+
+
+class Bad(Exception):
+    """Bytes that aren't of the form."""
+
+
+class Bytes:
+    """Bytes that are taken from the left."""
+
+    def __init__(self, data):
+        self.data, self.at = data, 0
+
+    def take(self, count):
+        if self.at + count > len(self.data):
+            raise Bad
+        self.at += count
+        return self.data[self.at - count:self.at]
+
+    def byte(self):
+        return self.take(1)[0]
+
+    def u32(self):
+        return struct.unpack("<I", self.take(4))[0]
+
+    def u64(self):
+        return struct.unpack("<Q", self.take(8))[0]
+
+    def text(self):
+        return self.take(self.u32())
+
+    def many(self, count, take):
+        if count > len(self.data):  # each takes at least a byte
+            raise Bad
+        return tuple(take() for _ in range(count))
+
+    def end(self):
+        if self.at != len(self.data):
+            raise Bad
+
+
+def payloads(side):
+    """The payloads of a live side, up to the closed gate."""
+    found, gate = [], 18
+    while side[gate] == 1 and gate + 5 <= len(side):
+        length = struct.unpack_from("<I", side, gate + 1)[0]
+        after = gate + 5 + length
+        if after >= len(side):
+            break
+        found.append(side[gate + 5:after])
+        gate = after
+    return found, gate
+
+
+def counting_side(sides):
+    """The bytes of the live side that counts, or None."""
+    live = [side for side in sides if len(side) >= 19 and side[:10] == b"\x01VUNITREC" + bytes([FORM])]
+    return max(live, key=lambda side: struct.unpack_from("<Q", side, 10)[0], default=None)  # the first of equal ones
+
+
+def read_sides(folder):
+    sides = []
+    for name in "store_a", "store_b":
+        try:
+            with open(os.path.join(folder, "vunit_out", name), "rb") as file:
+                sides.append(file.read())
+        except FileNotFoundError:
+            sides.append(b"")
+    return sides
+
+
+def is_view(view):
+    """Whether the entries are a valid graph whose last entry depends on all others."""
+    if not 1 <= len(view) <= FILES or view[-1].deps != tuple(range(len(view) - 1)):
+        return False
+    if len({entry[:2] for entry in view}) != len(view) or sum(len(entry.text) for entry in view) > ALL_TEXT:
+        return False
+    for at, entry in enumerate(view):
+        deps = entry.deps
+        if not (1 <= len(entry.library) <= 64 and 1 <= len(entry.path) <= 1024 and len(entry.text) <= TEXT):
+            return False
+        if not 1 <= len(entry.command) <= 64 or any(len(word) > 1024 for word in entry.command):
+            return False
+        if any(a >= b for a, b in zip(deps, deps[1:])) or any(dep >= at for dep in deps):
+            return False
+        if any(not set(view[dep].deps) <= set(deps) for dep in deps):
+            return False
+    return True
+
+
+def unfold(nodes, texts, node):
+    """The entries that a node stands for. The nodes that one lists are those before it in its view."""
+    listed = list(node.needs)
+    place = {number: at for at, number in enumerate(listed)}
+    entries = []
+    for number in listed:
+        one = nodes[number]
+        if any(need not in place for need in one.needs):
+            raise Bad
+        entries.append(Entry(one.library, one.path, one.command, texts[one.text], tuple(place[need] for need in one.needs)))
+    entries.append(Entry(node.library, node.path, node.command, texts[node.text], tuple(range(len(listed)))))
+    return tuple(entries)
+
+
+class Store:
+    """The texts, nodes and records of payloads of form 2."""
+
+    def __init__(self, given):
+        self.texts, self.nodes, self.records = [], [], []
+        self.text_numbers, self.node_numbers, self.views = {}, {}, []
+        for payload in given:
+            try:
+                self.add(Bytes(payload))
+            except Bad:
+                pass
+
+    def add(self, data):
+        kind = data.byte()
+        if kind == 0:
+            number, node, text = data.u64(), None, None
+            if number >= len(self.nodes):
+                raise Bad
+        elif kind in (1, 2):
+            node, text = self.new_node(data)
+            number = len(self.nodes)
+        else:
+            raise Bad
+        artefact = data.text() if kind != 2 else b""
+        data.end()
+        if len(artefact) > ARTEFACT:
+            raise Bad
+        if node is not None:
+            texts = self.texts if text is None else self.texts + [text]
+            view = unfold(self.nodes, texts, node)
+            if node in self.node_numbers or not is_view(view):
+                raise Bad
+            if text is not None:
+                self.text_numbers[text] = len(self.texts)
+                self.texts.append(text)
+            self.node_numbers[node] = number
+            self.nodes.append(node)
+            self.views.append(view)
+        if kind != 2:
+            self.records.append(Record(self.views[number], artefact))
+
+    def new_node(self, data):
+        """The node, and the new text if it has one."""
+        library, path = data.text(), data.text()
+        command = data.many(data.u32(), data.text)
+        old = data.byte()
+        text = None
+        if old == 0:
+            number = data.u64()
+            if number >= len(self.texts):
+                raise Bad
+        elif old == 1:
+            text = data.text()
+            number = len(self.texts)
+            if text in self.text_numbers:
+                raise Bad
+        else:
+            raise Bad
+        needs = data.many(data.u32(), data.u64)
+        if any(need >= len(self.nodes) for need in needs) or len(set(needs)) != len(needs):
+            raise Bad
+        return Node(library, path, command, number, needs), text
+
+
+def records_of(folder):
+    """The records of a folder's store, oldest first."""
+    side = counting_side(read_sides(folder))
+    return Store(payloads(side)[0]).records if side is not None else []
+
+
+def latest_of(records):
+    """The latest record of each library and path."""
+    return {record.view[-1][:2]: record for record in records}
+
+
+def files_of(folder):
+    """The files of a project in project order: pairs of a library and a path, with the command; and the pairs of `depends`."""
+    csv = os.path.join(folder, "vunit.csv")
+    toml = os.path.join(folder, "vunit.toml")
+    if not os.path.exists(toml):
+        with open(csv) as file:
+            lines = [line.strip() for line in file if line.strip()]
+        return {tuple(part.strip() for part in line.split(",")): ("@self", "child-analyse") for line in lines}, None
+    import tomllib
+    with open(toml, "rb") as file:
+        project = tomllib.load(file)
+    names = sorted(
+        os.path.relpath(os.path.join(where, name), folder)
+        for where, _, found in os.walk(folder) for name in found)
+    files = {}
+    for library in project["library"]:
+        own = []
+        for pattern in library["files"]:
+            own += [name for name in names if fnmatch.fnmatchcase(name, pattern) and name.count("/") == pattern.count("/")]
+        command = (*project.get("compiler", ["@self", "child-analyse"]), *library.get("options", []))
+        for name in own:
+            files.setdefault((library["name"].lower(), name), command)
+    pairs = [((pair["library"], pair["path"]), (pair["on_library"], pair["on_path"])) for pair in project.get("depends", [])]
+    return files, pairs
+
+
+def needs_of(names, texts, pairs):
+    """The files that each file depends on directly. Without pairs the project is a listed one."""
+    if pairs is None:
+        return {name: set(names[:at]) for at, name in enumerate(names)}
+    declared = {}
+    for name in names:
+        for package in re.findall(r"(?m)^package (\w+) is", texts[name]):
+            declared[name[0], package] = name
+    needs = {}
+    for name in names:
+        found = set()
+        for library, package in re.findall(r"(?m)\buse (\w+)\.(\w+)", texts[name]):
+            found.add(declared.get((name[0] if library == "work" else library, package), name))
+        found |= {used for user, used in pairs if user == name}
+        needs[name] = found - {name}
+    return needs
+
+
+def graph_of(folder):
+    """The present graph, as entries in compile order."""
+    files, pairs = files_of(folder)
+    texts = {}
+    for name in files:
+        with open(os.path.join(folder, name[1]), newline="") as file:
+            texts[name] = file.read()
+    needs = needs_of(list(files), texts, pairs)
+    order, places, left = [], {}, list(files)
+    while left:
+        name = next(name for name in left if needs[name] <= places.keys())
+        left.remove(name)
+        below = {place for need in needs[name] for place in (*order[places[need]].deps, places[need])}
+        places[name] = len(order)
+        library, path = (part.encode() for part in name)
+        command = tuple(word.encode() for word in files[name])
+        order.append(Entry(library, path, command, texts[name].encode(), tuple(sorted(below))))
+    return order
+
+
+def view_at(graph, at):
+    """A file of a graph with all that it depends on, renumbered."""
+    kept = [*graph[at].deps, at]
+    place = {old: new for new, old in enumerate(kept)}
+    return tuple(graph[old]._replace(deps=tuple(place[dep] for dep in graph[old].deps)) for old in kept)
+
+
+def stale_of(folder, records=None):
+    """The libraries and paths of the files that a build must compile, in compile order."""
+    latest = latest_of(records_of(folder) if records is None else records)
+    graph = graph_of(folder)
+    stale = []
+    for at, entry in enumerate(graph):
+        record = latest.get(entry[:2])
+        if record is None or record.view != view_at(graph, at):
+            stale.append(entry[:2])
+    return stale
+
+
+def request_of(view, artefacts):
+    """What the compiler of a view's last file is asked, where the others gave these artefacts."""
+    def text(data):
+        return struct.pack("<I", len(data)) + data
+    last = view[-1]
+    parts = [b"VRC1", text(last.library), text(last.path), text(last.text), struct.pack("<I", len(view) - 1)]
+    for entry, artefact in zip(view, artefacts):
+        parts += [text(entry.library), text(entry.path), text(artefact)]
+    return b"".join(parts)
+
+
+def read_request(data):
+    """Library, path, source and dependencies of a request, or None where it isn't one whole request."""
+    try:
+        data = Bytes(data)
+        if data.take(4) != b"VRC1":
+            return None
+        read = data.text(), data.text(), data.text(), data.many(data.u32(), lambda: (data.text(), data.text(), data.text()))
+        data.end()
+        return read
+    except Bad:
+        return None
+
+
+def clean_artefacts(view, compiler):
+    """The artefact of each file of a view, where each is compiled over those of the files before it."""
+    made = []
+    for at in range(len(view)):
+        made.append(compiler(request_of(view_at(view, at), [made[dep] for dep in view[at].deps])))
+    return made
+
+
+def main():
+    if len(sys.argv) != 2:
+        sys.exit(__doc__)
+    for view, artefact in records_of(sys.argv[1]):
+        last = view[-1]
+        print(f"{last.library.decode()}, {last.path.decode()}: {len(last.text)} bytes by {' '.join(w.decode() for w in last.command)},"
+              f" artefact of {len(artefact)} bytes, over {len(view) - 1} files")
+        for entry in view[:-1]:
+            print(f"  {entry.library.decode()}, {entry.path.decode()}")
+
+
+if __name__ == "__main__":
+    main()
