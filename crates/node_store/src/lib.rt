@@ -4,6 +4,3 @@
 mod store;
 
 pub use store::{NodeStore, PreparedNode};
-
-#[cfg(test)]
-mod tests;
