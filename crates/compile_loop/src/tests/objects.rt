@@ -4,7 +4,7 @@ use super::plain::{NEVER, Way, pick_of};
 use super::sets::has;
 use super::shapes::{Shape, file_of, graph_of, input_of, letter, text};
 use crate::{BuildEnd, BuildFault, build, build_marks};
-use node_store::NodeStore;
+use record_store::RecordStore;
 use run_report::build_text;
 use std::alloc::Global;
 use std::process::Abort;
@@ -110,7 +110,7 @@ fn build_over(
     limit: u32,
     keep_going: bool,
 ) -> Result<BuildEnd, BuildFault> {
-    let mut store = match NodeStore::from_disk(alloc, disk) {
+    let mut store = match RecordStore::from_disk(alloc, disk) {
         Ok(store) => store,
         Err(StoreFault::NoMemory) => return Err(BuildFault::NoMemory),
         Err(StoreFault::DiskFailed) => return Err(BuildFault::DiskFailed),
@@ -280,7 +280,7 @@ fn build_marks_over(
     procs: &mut ScriptProcs,
     limit: u32,
 ) -> Result<MarkList, Fail> {
-    let mut store = NodeStore::from_disk(alloc, disk)?;
+    let mut store = RecordStore::from_disk(alloc, disk)?;
     assert!(rt; procs.running().is_empty());
     assert!(rt; limit >= 1);
     assert!(rt; limit <= 64);
