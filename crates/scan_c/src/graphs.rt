@@ -52,14 +52,14 @@ fn last_deps(graph: &Graph) -> u64
 fn told_in_order(
     alloc: Global,
     project: &Project,
-    texts: &TextList,
+    texts: TextList,
     edges: &Edges,
 ) -> Result<Graphed, NothingTold>
     requires project { IsProject project.now }
-    requires texts { FitTexts project.now.files texts.now }
+    requires texts { FitTexts project.now.files texts }
     requires edges { AreEdges edges.now }
     requires as_many { length edges.now ≡ length project.now.files }
-    ensures { IfOk result (IsGraphed project.now.files texts.now edges.now) }
+    ensures { IfOk result (IsGraphed project.now.files texts edges.now) }
 {
     match order(alloc, edges) {
         Ok(order) => {
@@ -82,16 +82,16 @@ fn told_in_order(
 }
 
 /// What is told of a project by the units of its texts.
-fn told_of_texts(alloc: Global, project: &Project, texts: &TextList) -> Result<Graphed, NothingTold>
+fn told_of_texts(alloc: Global, project: &Project, texts: TextList) -> Result<Graphed, NothingTold>
     requires project { IsProject project.now }
-    requires texts { FitTexts project.now.files texts.now }
-    ensures { IfOk result (TellsLinks project.now texts.now) }
+    requires texts { FitTexts project.now.files texts }
+    ensures { IfOk result (TellsLinks project.now texts) }
 {
     if project.files.len() > FILE_LIMIT as u64 {
         return Err(NothingTold);
     }
-    let scans = scans_of(alloc, texts)?;
-    let linked = link(alloc, project, texts, &scans)?;
+    let scans = scans_of(alloc, &texts)?;
+    let linked = link(alloc, project, &texts, &scans)?;
     if linked.edges.len() != project.files.len() {
         return Err(NothingTold);
     }
@@ -115,5 +115,5 @@ pub fn told_of(
     if !fit_texts(&project, &texts) {
         return Err(NothingTold);
     }
-    told_of_texts(alloc, &project, &texts)
+    told_of_texts(alloc, &project, texts)
 }
