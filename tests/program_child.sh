@@ -1,4 +1,4 @@
-# The compiler's child takes a request from standard input and, for now, accepts each, with an empty artefact.
+# The compiler's child takes a request from standard input and accepts each, with an empty artefact.
 . "$TOP/tests/support/program.sh"
 
 # Runs the child over a request, in which printf's escapes count, and the words from the third on.
