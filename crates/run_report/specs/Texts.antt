@@ -5,6 +5,8 @@ use Rattle.std.specs.List.{list_any, flat_map}
 use Rattle.std.specs.Option.{option_map_or}
 use Rattle.vr_base.specs.declared.graph.Entry.{Entry}
 use Rattle.vr_base.specs.declared.file.FileName.{FileName}
+use Rattle.vr_base.specs.declared.bench.TestFault.{TestFault}
+use Rattle.vr_base.specs.declared.bench.TestFault.TheVariants as test
 use Rattle.vr_base.specs.declared.lexical.LexFault.{LexFault}
 use Rattle.vr_base.specs.declared.lexical.LexFault.TheVariants as lex
 use Rattle.vr_base.specs.declared.design.UnitFault.{UnitFault}
@@ -187,6 +189,28 @@ cycle_line file = 10 ∷ (codes "  " ++ file_words file)
 unfoldable pub cycle_word : List ℕ
 cycle_word = codes "cycle"
 
+-- what is wrong with a bench, by its name
+unfoldable pub two_architectures : List ℕ → List ℕ
+two_architectures bench = codes "bench " ++ (bench ++ codes " has two architectures")
+
+unfoldable pub lacks_architecture : List ℕ → List ℕ
+lacks_architecture bench = codes "bench " ++ (bench ++ codes " has no architecture")
+
+unfoldable pub bad_test_name : List ℕ → List ℕ
+bad_test_name bench = codes "bench " ++ (bench ++ codes " has a bad test name")
+
+-- or with the full name of a test
+unfoldable pub test_twice : List ℕ → List ℕ
+test_twice name = codes "test " ++ (name ++ stands_twice)
+
+-- what is wrong with the benches of a project
+abbrev pub test_words : TestFault → List ℕ
+test_words test.NoMemory = []
+test_words (test.TwoArchitectures bench) = two_architectures bench
+test_words (test.NoArchitecture bench) = lacks_architecture bench
+test_words (test.DuplicateTest name) = test_twice name
+test_words (test.BadName bench) = bad_test_name bench
+
 abbrev pub refusal_words : Refusal → List ℕ
 refusal_words refusal.NoProject = no_project
 refusal_words (refusal.Project fault) = fault_words fault
@@ -197,6 +221,7 @@ refusal_words (refusal.DuplicateUnit unit first second) = unit ++ both_files fir
 refusal_words (refusal.MissingUnit file library unit) = file_words file ++ missing_unit library unit
 refusal_words (refusal.MissingArchitecture file library entity architecture) = file_words file ++ missing_architecture library entity architecture
 refusal_words (refusal.Cycle files) = cycle_word ++ flat_map cycle_line files
+refusal_words (refusal.Tests fault) = test_words fault
 refusal_words (refusal.Compiler files) = []
 refusal_words refusal.NotBuilt = not_built
 

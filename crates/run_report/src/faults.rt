@@ -1,12 +1,12 @@
-//! What is said of a faulty project file.
+//! What is said of a faulty project file, and of benches that are wrong.
 
 ghost use Rattle.std.specs.Prelude.{◌≡◌, ◌++◌, OnOk};
 ghost use Rattle.std.specs.Fmt.{decimal};
-ghost use Rattle.run_report.specs.Texts.{fault_words, no_key, wrong_value, stands_twice, library_twice, nothing_matches, bad_line};
+ghost use Rattle.run_report.specs.Texts.{fault_words, no_key, wrong_value, stands_twice, library_twice, nothing_matches, bad_line, test_words, two_architectures, lacks_architecture, bad_test_name, test_twice};
 
 use crate::report::{put, put_at, put_file_words};
 use std::alloc::Global;
-use vr_base::{NoMemory, ProjectFault};
+use vr_base::{NoMemory, ProjectFault, TestFault};
 
 #[tactic(auto, unfolding(crate::specs::Texts::bad_line))]
 fn put_bad_line(alloc: Global, out: &mut Vec<u8>, line: u32) -> Result<(), NoMemory>
@@ -85,5 +85,55 @@ pub fn put_fault(alloc: Global, out: &mut Vec<u8>, fault: &ProjectFault) -> Resu
             put(out, b" isn't in the project")?;
             Ok(())
         }
+    }
+}
+
+/// Puts words, a name and words after it.
+fn put_around(out: &mut Vec<u8>, before: &[u8], name: &[u8], after: &[u8]) -> Result<(), NoMemory>
+    ensures { OnOk result (out.new.items ≡ out.old.items ++ (before.now ++ (name.now ++ after.now))) }
+{
+    put(out, before)?;
+    put(out, name)?;
+    put(out, after)?;
+    Ok(())
+}
+
+#[tactic(auto, unfolding(crate::specs::Texts::two_architectures))]
+fn put_two_architectures(out: &mut Vec<u8>, bench: &[u8]) -> Result<(), NoMemory>
+    ensures { OnOk result (out.new.items ≡ out.old.items ++ two_architectures bench.now) }
+{
+    put_around(out, b"bench ", bench, b" has two architectures")
+}
+
+#[tactic(auto, unfolding(crate::specs::Texts::lacks_architecture))]
+fn put_lacks_architecture(out: &mut Vec<u8>, bench: &[u8]) -> Result<(), NoMemory>
+    ensures { OnOk result (out.new.items ≡ out.old.items ++ lacks_architecture bench.now) }
+{
+    put_around(out, b"bench ", bench, b" has no architecture")
+}
+
+#[tactic(auto, unfolding(crate::specs::Texts::bad_test_name))]
+fn put_bad_test_name(out: &mut Vec<u8>, bench: &[u8]) -> Result<(), NoMemory>
+    ensures { OnOk result (out.new.items ≡ out.old.items ++ bad_test_name bench.now) }
+{
+    put_around(out, b"bench ", bench, b" has a bad test name")
+}
+
+#[tactic(auto, unfolding(crate::specs::Texts::test_twice, crate::specs::Texts::stands_twice))]
+fn put_test_twice(out: &mut Vec<u8>, name: &[u8]) -> Result<(), NoMemory>
+    ensures { OnOk result (out.new.items ≡ out.old.items ++ test_twice name.now) }
+{
+    put_around(out, b"test ", name, b" stands twice")
+}
+
+pub fn put_test_fault(out: &mut Vec<u8>, fault: &TestFault) -> Result<(), NoMemory>
+    ensures { OnOk result (out.new.items ≡ out.old.items ++ test_words fault.now) }
+{
+    match fault {
+        TestFault::NoMemory => Ok(()),
+        TestFault::TwoArchitectures { bench } => put_two_architectures(out, bench.bytes()),
+        TestFault::NoArchitecture { bench } => put_lacks_architecture(out, bench.bytes()),
+        TestFault::DuplicateTest { name } => put_test_twice(out, name.bytes()),
+        TestFault::BadName { bench } => put_bad_test_name(out, bench.bytes()),
     }
 }

@@ -6,7 +6,8 @@ use std::process::Abort;
 use std::test::Fail;
 use vr_base::{
     FileList, FileName, Graph, LexFault, Limit, MarkList, NoMemory, Outcome, PairList, Project,
-    ProjectFault, ProjectFile, ProjectFileList, Refusal, Text, TextList, Warning, WarningList,
+    ProjectFault, ProjectFile, ProjectFileList, Refusal, TestFault, Text, TextList, Warning,
+    WarningList,
 };
 
 fn name(alloc: Global, path: &[u8]) -> Result<FileName, NoMemory> {
@@ -99,6 +100,54 @@ fn faulty(alloc: Global, number: u32, word: &[u8]) -> Result<Text, NoMemory> {
 fn faults_of_project_files_are_said(rt: HostRuntime) -> Result<(), Fail> {
     for (number, word, wanted) in &FAULTS {
         let said = faulty(rt.alloc(), *number, word.as_bytes())?;
+        assert!(rt; is(said.bytes(), wanted.as_bytes()), "{wanted}");
+    }
+    Ok(())
+}
+
+// A number for each fault of benches, a name in it, and what is said.
+static TEST_FAULTS: [(u32, &str, &str); 4] = [
+    (
+        1,
+        "lib.tb_a",
+        "vunit_run: bench lib.tb_a has two architectures\n",
+    ),
+    (
+        2,
+        "lib.tb_a",
+        "vunit_run: bench lib.tb_a has no architecture\n",
+    ),
+    (
+        3,
+        "lib.tb_a.one",
+        "vunit_run: test lib.tb_a.one stands twice\n",
+    ),
+    (
+        4,
+        "lib.tb_a",
+        "vunit_run: bench lib.tb_a has a bad test name\n",
+    ),
+];
+
+fn test_fault(alloc: Global, number: u32, word: &[u8]) -> Result<TestFault, NoMemory> {
+    let text = Text::from_slice(alloc, word)?;
+    match number {
+        1 => Ok(TestFault::TwoArchitectures { bench: text }),
+        2 => Ok(TestFault::NoArchitecture { bench: text }),
+        3 => Ok(TestFault::DuplicateTest { name: text }),
+        _ => Ok(TestFault::BadName { bench: text }),
+    }
+}
+
+fn wrong_tests(alloc: Global, number: u32, word: &[u8]) -> Result<Text, NoMemory> {
+    let fault = test_fault(alloc, number, word)?;
+    refusal_text(alloc, &Refusal::Tests { fault })
+}
+
+#[test]
+fn faults_of_benches_are_said(rt: HostRuntime) -> Result<(), Fail> {
+    for (number, word, wanted) in &TEST_FAULTS {
+        let said = wrong_tests(rt.alloc(), *number, word.as_bytes())?;
         assert!(rt; is(said.bytes(), wanted.as_bytes()), "{wanted}");
     }
     Ok(())

@@ -1,6 +1,6 @@
 //! What a run can answer: marks, refusals, limits and outcomes.
 
-use crate::{FileList, FileName, Items, LexFault, ProjectFault, Text, UnitFault};
+use crate::{FileList, FileName, Items, LexFault, ProjectFault, TestFault, Text, UnitFault};
 
 /// What became of a file in a build.
 #[derive(Drop)]
@@ -63,6 +63,10 @@ pub enum Refusal {
     /// Each of these files depends on the next, and the last on the first.
     Cycle {
         files: FileList,
+    },
+    /// What is wrong with the benches. The fault is never out of memory.
+    Tests {
+        fault: TestFault,
     },
     /// The compiler refused these files, in compile order.
     Compiler {
