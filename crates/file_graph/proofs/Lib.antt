@@ -7,3 +7,4 @@ pub mod LinkLemmas
 pub mod UnitLemmas
 pub mod FileLemmas
 pub mod EdgeLemmas
+mod ExternalLemmas

@@ -7,11 +7,11 @@ ghost use Rattle.scan_spec.specs.References.{owner_name};
 ghost use Rattle.scan_spec.specs.Dependencies.{LinkUnit, is_architecture, is_primary, lacks_given};
 ghost use Rattle.file_graph.specs.Indexes.{GivesOrFaults, HoldsUnits};
 ghost use Rattle.file_graph.specs.Libraries.{AreLibraries};
-ghost use Rattle.file_graph.specs.Keys.{is_same_key, key_of};
+ghost use Rattle.file_graph.specs.Keys.{is_same_key, key_of, primary_key};
 ghost use Rattle.file_graph.specs.Meanings.{missing_in, missing_units};
 
 use crate::index::{Index, place_of};
-use crate::key::{UnitKey, architecture_key, primary_key};
+use crate::key::{UnitKey, architecture_key};
 use crate::libraries::{Libraries, is_external};
 use std::alloc::Global;
 use vr_base::{FileName, LinkFault, MaybeText, NoMemory, Project, Ref, Text};
@@ -24,12 +24,13 @@ fn has_unit(index: &Index, key: &UnitKey) -> bool
     place_of(index, key).is_some()
 }
 
-fn has_primary(alloc: Global, index: &Index, library: &Text, name: &Text) -> Result<bool, NoMemory>
-    ensures { IfOk result (λ found. (units : List LinkUnit) → HoldsUnits index.now units →
-        found ≡ list_any (is_primary library.now name.now) units) }
+/// Whether there is a primary unit of a name in a library, which its key names.
+fn has_primary(index: &Index, _library: &Text, _name: &Text, key: &UnitKey) -> bool
+    requires { key.now ≡ primary_key _library.now _name.now }
+    ensures { (units : List LinkUnit) → HoldsUnits index.now units →
+        result ≡ list_any (is_primary _library.now _name.now) units }
 {
-    let key = primary_key(alloc, library, name)?;
-    Ok(has_unit(index, &key))
+    has_unit(index, key)
 }
 
 fn has_architecture(
@@ -105,18 +106,20 @@ fn check_architecture(
     }
 }
 
-/// Finds the unit that a reference names.
+/// Finds the unit that a reference names. `key` is that of the primary unit.
 fn check_units(
     alloc: Global,
     index: &Index,
     file: &FileName,
     library: &Text,
     reference: &Ref,
+    key: &UnitKey,
 ) -> Result<(), LinkFault>
+    requires { key.now ≡ primary_key library.now reference.now.name }
     ensures { (units : List LinkUnit) → HoldsUnits index.now units →
         GivesOrFaults (missing_units units file.now library.now reference.now) (λ value. ⊤) result }
 {
-    if has_primary(alloc, index, library, &reference.name)? {
+    if has_primary(index, library, &reference.name, key) {
         check_architecture(
             alloc,
             index,
@@ -131,7 +134,7 @@ fn check_units(
 }
 
 /// Finds what a reference of a file names in a library, where it can't mean anything but a unit and the library is
-/// looked into.
+/// looked into. `key` is that of the primary unit.
 pub fn check_ref(
     alloc: Global,
     project: &Project,
@@ -140,7 +143,9 @@ pub fn check_ref(
     file: &FileName,
     library: &Text,
     reference: &Ref,
+    key: &UnitKey,
 ) -> Result<(), LinkFault>
+    requires { key.now ≡ primary_key library.now reference.now.name }
     ensures { (units : List LinkUnit) → HoldsUnits index.now units →
         AreLibraries project.now libraries.now →
         GivesOrFaults (missing_in project.now units file.now library.now reference.now)
@@ -152,5 +157,5 @@ pub fn check_ref(
     if is_external(libraries, library.bytes()) {
         return Ok(());
     }
-    check_units(alloc, index, file, library, reference)
+    check_units(alloc, index, file, library, reference, key)
 }

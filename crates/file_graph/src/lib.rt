@@ -16,7 +16,7 @@ mod units;
 mod warnings;
 
 pub use laws::laws_of_links;
-pub use linking::link;
+pub use linking::{link, link_by_roles};
 
 #[cfg(test)]
 mod tests;

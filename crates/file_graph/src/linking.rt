@@ -87,10 +87,30 @@ pub fn link(
         (link_of project.now (link_units 0 project.now.files texts.now scans.now)) result }
     ensures edges { IfOk result (λ linked. AreEdges linked.edges) }
 {
+    let roles = roles_of_files(alloc, texts, scans)?;
+    link_by_roles(alloc, project, texts, scans, &roles)
+}
+
+/// `link` for a caller that has the roles of the tokens of all files already.
+pub fn link_by_roles(
+    alloc: Global,
+    project: &Project,
+    texts: &TextList,
+    scans: &Scans,
+    roles: &Items<RoleList>,
+) -> Result<Linked, LinkFault>
+    requires few { length project.now.files ≤ FILE_LIMIT }
+    requires each { length texts.now ≡ length project.now.files }
+    requires scans { AreScansOf texts.now scans.now }
+    requires small { All IsTextSmall texts.now }
+    requires roles { AreRolesOf texts.now scans.now roles.now }
+    ensures exact { GivesLinks
+        (link_of project.now (link_units 0 project.now.files texts.now scans.now)) result }
+    ensures edges { IfOk result (λ linked. AreEdges linked.edges) }
+{
     let index = index_of(alloc, project, texts, scans)?;
     let libraries = libraries_of(alloc, project)?;
-    let roles = roles_of_files(alloc, texts, scans)?;
-    let sets = visible_sets_by_roles(alloc, project, texts, scans, &roles)?;
+    let sets = visible_sets_by_roles(alloc, project, texts, scans, roles)?;
     let rows = rows_of_pairs(alloc, project)?;
     let tables = Tables {
         index,
@@ -102,7 +122,7 @@ pub fn link(
         project,
         texts,
         scans,
-        &roles,
+        roles,
         &tables,
         rows.as_slice(),
     )

@@ -5,11 +5,12 @@ ghost use Rattle.std.specs.List.{list_any};
 ghost use Rattle.vr_base.specs.declared.project.ProjectFile.{ProjectFile};
 ghost use Rattle.scan_spec.specs.Dependencies.{LinkUnit, is_body, is_given_architecture, is_package_kind, is_primary};
 ghost use Rattle.file_graph.specs.Indexes.{ArePlacesOfFiles, IsIndex, HoldsUnits};
+ghost use Rattle.file_graph.specs.Keys.{primary_key};
 ghost use Rattle.file_graph.specs.Meanings.{names_in};
 ghost use Rattle.file_graph.specs.Rows.{HasAdded, has_package, stands_at};
 
 use crate::index::{Index, place_of};
-use crate::key::{UnitKey, architecture_key, body_key, primary_key};
+use crate::key::{UnitKey, architecture_key, body_key};
 use crate::rows::put_named;
 use position_set::PositionSet;
 use std::alloc::Global;
@@ -90,7 +91,7 @@ fn put_package_body(
     }
 }
 
-/// Puts the files in that have what a reference names in a library.
+/// Puts the files in that have what a reference names in a library. `key` is that of the primary unit.
 pub fn put_ref(
     alloc: Global,
     row: &mut PositionSet,
@@ -98,14 +99,15 @@ pub fn put_ref(
     bodies: bool,
     library: &Text,
     reference: &Ref,
+    key: &UnitKey,
 ) -> Result<(), NoMemory>
-    requires { ArePlacesOfFiles FILE_LIMIT index.now }
+    requires places { ArePlacesOfFiles FILE_LIMIT index.now }
+    requires key { key.now ≡ primary_key library.now reference.now.name }
     ensures { OnOk result ((files : List ProjectFile) (units : List LinkUnit) →
         IsIndex files units index.now → HasAdded (stands_at
         (names_in bodies units library.now reference.now) units) row.old row.new) }
 {
-    let key = primary_key(alloc, library, &reference.name)?;
-    put_named(row, index, &key);
+    put_named(row, index, key);
     put_architecture(
         alloc,
         row,
@@ -117,5 +119,5 @@ pub fn put_ref(
     if !bodies {
         return Ok(());
     }
-    put_package_body(alloc, row, index, &key, library, &reference.name)
+    put_package_body(alloc, row, index, key, library, &reference.name)
 }

@@ -16,7 +16,8 @@ ghost use Rattle.file_graph.specs.Rows.{HasAdded, stands_at};
 
 use crate::check::check_ref;
 use crate::index::Index;
-use crate::libraries::Libraries;
+use crate::key::primary_key;
+use crate::libraries::{Libraries, is_external};
 use crate::refs::put_ref;
 use name_scope::VisibleLibraries;
 use position_set::PositionSet;
@@ -58,6 +59,46 @@ pub fn seen_library<'a>(
 }
 
 /// Takes up a reference of a file to a library: puts in what it names, or finds what is missing.
+fn link_inside(
+    alloc: Global,
+    project: &Project,
+    tables: &Tables,
+    file: &FileName,
+    library: &Text,
+    reference: &Ref,
+    row: &mut PositionSet,
+) -> Result<(), LinkFault>
+    requires { ArePlacesOfFiles FILE_LIMIT tables.now.index }
+    ensures { (units : List LinkUnit) → Knows project.now units tables.now →
+        GivesOrFaults (missing_in project.now units file.now library.now reference.now)
+        (λ value. HasAdded (stands_at
+        (names_in project.now.bodies units library.now reference.now) units)
+        row.old row.new) result }
+{
+    let key = primary_key(alloc, library, &reference.name)?;
+    check_ref(
+        alloc,
+        project,
+        &tables.libraries,
+        &tables.index,
+        file,
+        library,
+        reference,
+        &key,
+    )?;
+    put_ref(
+        alloc,
+        row,
+        &tables.index,
+        project.bodies,
+        library,
+        reference,
+        &key,
+    )?;
+    Ok(())
+}
+
+/// The same, where nothing is looked for in a library that isn't looked into.
 fn link_seen(
     alloc: Global,
     project: &Project,
@@ -74,24 +115,10 @@ fn link_seen(
         (names_in project.now.bodies units library.now reference.now) units)
         row.old row.new) result }
 {
-    check_ref(
-        alloc,
-        project,
-        &tables.libraries,
-        &tables.index,
-        file,
-        library,
-        reference,
-    )?;
-    put_ref(
-        alloc,
-        row,
-        &tables.index,
-        project.bodies,
-        library,
-        reference,
-    )?;
-    Ok(())
+    if is_external(&tables.libraries, library.bytes()) {
+        return Ok(());
+    }
+    link_inside(alloc, project, tables, file, library, reference, row)
 }
 
 /// Takes up a reference of a unit.

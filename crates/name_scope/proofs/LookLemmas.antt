@@ -80,3 +80,14 @@ module _ (first next : List Link) (rows : List (List ℕ)) (old mid new : List �
     taken = both_taken;
     grows = both_grow grew grows before.grows after.grows (not_less grew old mid before.same before.grows) (not_less grows mid new after.same after.grows);
   }
+
+-- a row that has grown may be left as it is, whatever other links hand on
+pub looked_early : (some rest links : List Link) (rows : List (List ℕ)) (old new : List ℕ) (grown : Bool) → some ++ rest ≡ links → grown ≡ true → HasLooked some rows old new grown → HasLooked links rows old new true
+looked_early some rest links rows old new grown whole is looked = record {
+  even = looked.even;
+  larger = looked.larger;
+  sound = λ sets own around takes within. looked.sound sets own around (λ link there. takes link (subst (λ (all : List Link). Contains all link) whole (Contains-append_left some rest link there))) within;
+  same = λ still. let never : ⊥ = cc in absurd never;
+  taken = λ still. let never : ⊥ = cc in absurd never;
+  grows = λ grew. looked.grows is;
+}

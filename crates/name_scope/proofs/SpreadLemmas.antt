@@ -3,15 +3,16 @@ use Rattle.std.proofs.Common.{◌≡◌, ◌≢◌, ℕ, zero, suc, ◌+◌, ◌
 use Rattle.std.specs.List.{All, sum_by}
 use Rattle.std.proofs.Math.ListN.{set}
 use Rattle.std.proofs.Math.Nat.{mul-le-mul_left}
-use Rattle.std.proofs.lemmas.Bool.{cases_lt}
+use Rattle.std.proofs.lemmas.Bool.{cases_lt, false≢true}
 use Rattle.std.proofs.lemmas.Bool.Decides.{eqb_tells}
 use Rattle.std.proofs.lemmas.List.{get_or_past, get_or_default, length-replicate, set-get_or, get_or-set_same, get_or-set_other, length-set, same_lists}
 use Rattle.std.proofs.lemmas.List.Sums.{sum_by-set, get_or-le-sum_by}
 use Rattle.std.proofs.lemmas.List.Elements.{Contains-append_left, Contains-append_right, Contains-append_cases, All-contains, Contains-get_or}
 use Rattle.name_scope.specs.declared.links.Link.{Link}
-use Rattle.name_scope.specs.Bits.{AreWithin, gap, has, row_has}
+use Rattle.name_scope.specs.Bits.{AreWithin, IsPartOf, gap, has, row_has}
 use Rattle.name_scope.specs.Links.{AreEven, AreTaken, AreTakenTo, HasLookedAt, HasSpread, TakesAll, links_at, place_row}
 use Rattle.name_scope.specs.Work.{HasListed, HasRevisited, IsSettling, IsWork, KnowReaders, effort, readers_at}
+use Rattle.name_scope.proofs.BitLemmas.{past}
 use Rattle.name_scope.proofs.LookLemmas.{one_of}
 
 pub spread_none : (links : List (List Link)) (rows : List (List ℕ)) → HasSpread links rows rows
@@ -29,6 +30,55 @@ spread_both links a b c one two = record {
   larger = λ (at number : ℕ) (there : IsTrue (has a at number)). two.larger at number (one.larger at number there);
   sound = λ (sets : ℕ → ℕ → Bool) (taken : AreTaken links sets) (within : AreWithin (has a) sets). two.sound sets taken (one.sound sets taken within);
 }
+
+-- no set has a number that one row doesn't have
+abbrev pub AreInside : List (List ℕ) → List ℕ → Type 0
+AreInside rows top = AreWithin (has rows) (λ (place : ℕ). row_has top)
+
+pub still_inside : (links : List (List Link)) (first rows : List (List ℕ)) (top : List ℕ) → HasSpread links first rows → AreInside first top → AreInside rows top
+still_inside links first rows top spread inside = spread.sound (λ (place : ℕ). row_has top) (λ at link there gated number has_it. has_it) inside
+
+-- a place whose row has all there is takes nothing more
+pub nothing_more : (links : List (List Link)) (at : ℕ) (rows : List (List ℕ)) (top : List ℕ) → AreInside rows top → place_row rows at ≡ top → HasLookedAt links at rows rows false
+nothing_more links at rows top inside is = record {
+  each = refl;
+  even = λ (words : ℕ) (even : AreEven words rows). even;
+  others = λ other differ. refl;
+  looked = record {
+    even = refl;
+    larger = λ number there. there;
+    sound = λ sets own within takes part. part;
+    same = λ still. refl;
+    taken = λ still link there gated number has_it. subst (λ (row : List ℕ). IsTrue (row_has row number)) (sym is) (inside link.source number has_it);
+    grows = λ grew. let never : ⊥ = cc in absurd never;
+  };
+}
+
+or_left : (a b : Bool) → IsTrue a → IsTrue (a || b)
+or_left true b there = refl
+or_left false b there = let never : ⊥ = cc in absurd never
+
+or_right : (a b : Bool) → IsTrue b → IsTrue (a || b)
+or_right true b there = refl
+or_right false b there = there
+
+-- one row more is in the row that has all
+pub inside_more : (rows : List (List ℕ)) (top new item : List ℕ) (at : ℕ) → item ≡ get_or rows at [] → ((number : ℕ) → row_has new number ≡ (row_has top number || row_has item number)) → ((k : ℕ) → k < at → IsPartOf (row_has (get_or rows k [])) (row_has top)) → (k : ℕ) → k < at + 1 → IsPartOf (row_has (get_or rows k [])) (row_has new)
+inside_more rows top new item at is joined so_far k below number there = elim (cases_lt k at) [
+  | inl earlier ↦ subst IsTrue (sym (joined number)) (or_left (row_has top number) (row_has item number) (so_far k earlier number there))
+  | inr late ↦
+      let here : k ≡ at = omega arith in
+      subst IsTrue (sym (joined number)) (or_right (row_has top number) (row_has item number) (subst (λ (row : List ℕ). IsTrue (row_has row number)) (ap (λ (n : ℕ). get_or rows n []) here ∙ sym is) there))
+]
+
+-- past the last row there is none
+pub inside_all : (rows : List (List ℕ)) (top : List ℕ) (end : ℕ) → length rows ≤ end → ((k : ℕ) → k < end → IsPartOf (row_has (get_or rows k [])) (row_has top)) → AreInside rows top
+inside_all rows top end all each at number there = elim (cases_lt at end) [
+  | inl below ↦ each at below number there
+  | inr late ↦
+      let none : get_or rows at [] ≡ [] = get_or_past rows at [] (omega arith) in
+      absurd (false≢true (sym (past [] number (omega arith)) ∙ subst (λ (row : List ℕ). row_has row number ≡ true) none there))
+]
 
 -- one look
 module _ (links : List (List Link)) (at : ℕ) (old new : List (List ℕ)) (grown : Bool) (look : HasLookedAt links at old new grown) where

@@ -15,7 +15,7 @@ use vr_base::{Items, NoMemory};
 
 /// Adds the link for what a unit wants, where there is such a library and such a group. `places` is the number of units:
 /// the groups come after them.
-fn add_link(
+pub fn add_link(
     names: &Names,
     groups: &Groups,
     places: usize,

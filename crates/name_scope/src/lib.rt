@@ -23,4 +23,7 @@ mod wants;
 mod work;
 
 pub use roles::roles_of_files;
-pub use table::{VisibleLibraries, visible_libraries, visible_sets, visible_sets_by_roles};
+pub use table::{
+    VisibleLibraries, visible_libraries, visible_libraries_by_roles, visible_sets,
+    visible_sets_by_roles,
+};

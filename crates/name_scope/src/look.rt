@@ -29,3 +29,20 @@ pub fn look(links: &[Link], rows: &[Row], row: &mut Row) -> bool
     }
     grown
 }
+
+/// The same, but it ends where the row has grown to `top`: there is nothing more to take then, where no row has more.
+pub fn look_up_to(links: &[Link], rows: &[Row], row: &mut Row, top: &Row) -> bool
+    requires sources { All (λ link. link.source < length rows.now) links.now }
+    requires even { All (λ other. length other ≡ length row.old) rows.now }
+    ensures { HasLooked links.now rows.now row.old row.new result }
+{
+    let mut grown = false;
+    for link in links {
+        let more = follow(*link, rows, row);
+        grown |= more;
+        if more && row.same(top) {
+            return true;
+        }
+    }
+    grown
+}

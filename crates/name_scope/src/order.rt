@@ -49,7 +49,8 @@ fn walk_on(
 {
     let some = links[top.place].as_slice();
     if top.next < some.len() {
-        let link = some[top.next];
+        // the last link first: a look follows the first ones first, whose places are then left already
+        let link = some[some.len() - 1 - top.next];
         steps.push(Step {
             place: top.place,
             next: top.next + 1,

@@ -1,6 +1,6 @@
 //! A row: the set of numbers of one place.
 
-ghost use Rattle.std.specs.Prelude.{◌≡◌, ℕ, ◌/◌, ◌<◌, ◌||◌, true, false, length, nat_eq, IfOk, replicate};
+ghost use Rattle.std.specs.Prelude.{◌≡◌, ℕ, ◌/◌, ◌<◌, ◌||◌, true, false, length, nat_eq, IfOk, IsTrue, replicate};
 ghost use Rattle.name_scope.specs.Bits.{row_has, gap};
 
 use crate::bits::{join, row_has, set_bit};
@@ -37,6 +37,13 @@ impl Row {
         ensures { result ≡ row_has self.now number }
     {
         row_has(self.words.as_slice(), number)
+    }
+
+    /// Whether both rows have the same words.
+    pub fn same(&self, other: &Row) -> bool
+        ensures { IsTrue result → self.now ≡ other.now }
+    {
+        self.words.as_slice() == other.words.as_slice()
     }
 
     /// Puts a number into the row.

@@ -2,12 +2,12 @@
 
 ghost use Rattle.std.specs.Prelude.{◌≡◌, ℕ, ◌+◌, ◌<◌, ◌∷◌, ◌++◌, [], Contains, false, length, IfOk, OnOk, slice_index};
 ghost use Rattle.std.specs.List.{All};
-ghost use Rattle.name_scope.specs.Bits.{has};
+ghost use Rattle.name_scope.specs.Bits.{AreWithin, has, row_has};
 ghost use Rattle.name_scope.specs.Links.{AreBelow, AreEven, AreTaken, HasLookedAt, HasSpread};
 ghost use Rattle.name_scope.specs.Work.{AreReaders, HasRevisited, IsSettling, IsWork, KnowReaders};
 
 use crate::links::Link;
-use crate::look::look;
+use crate::look::{look, look_up_to};
 use crate::order::order_of;
 use crate::row::Row;
 use crate::work::{list_all, list_one, readers_of};
@@ -31,17 +31,51 @@ fn look_at(links: &[Items<Link>], rows: &mut [Row], at: usize, room: &mut Row) -
     grown
 }
 
-/// Looks at places, in order.
-fn sweep(links: &[Items<Link>], rows: &mut [Row], order: &[usize], room: &mut Row)
+/// A row that has all numbers of all rows.
+fn top_of(alloc: Global, rows: &[Row], words: usize) -> Result<Row, NoMemory>
+    requires { AreEven words rows.now }
+    ensures { IfOk result (λ top. AreWithin (has rows.now) (λ at. row_has top)) }
+{
+    let mut top = Row::new(alloc, words)?;
+    for row in rows {
+        top.join(row);
+    }
+    Ok(top)
+}
+
+/// Looks at a place, unless its row is one that has all numbers of all rows: then there is nothing to take.
+fn look_below(links: &[Items<Link>], rows: &mut [Row], at: usize, room: &mut Row, top: &Row) -> bool
+    requires at { at < length rows.old }
     requires each { length links.now ≡ length rows.old }
     requires even { AreEven (length room.old) rows.old }
     requires below { AreBelow (length rows.old) links.now }
+    requires inside { AreWithin (has rows.old) (λ place. row_has top.now) }
+    ensures room { length room.new ≡ length room.old }
+    ensures looked { HasLookedAt links.now at rows.old rows.new result }
+{
+    if rows[at].same(top) {
+        return false;
+    }
+    room.copy_from(&rows[at]);
+    let grown = look_up_to(links[at].as_slice(), rows, room, top);
+    if grown {
+        rows[at].copy_from(room);
+    }
+    grown
+}
+
+/// Looks at places, in order. No row has a number that `top` doesn't have.
+fn sweep(links: &[Items<Link>], rows: &mut [Row], order: &[usize], room: &mut Row, top: &Row)
+    requires each { length links.now ≡ length rows.old }
+    requires even { AreEven (length room.old) rows.old }
+    requires below { AreBelow (length rows.old) links.now }
+    requires inside { AreWithin (has rows.old) (λ place. row_has top.now) }
     requires within { All (λ at. at < length rows.old) order.now }
     ensures room { length room.new ≡ length room.old }
     ensures spread { HasSpread links.now rows.old rows.new }
 {
     for at in order {
-        look_at(links, rows, *at, room);
+        look_below(links, rows, *at, room, top);
     }
 }
 
@@ -59,31 +93,33 @@ fn sweep_back(links: &[Items<Link>], rows: &mut [Row], order: &[usize], room: &m
     }
 }
 
-/// Looks at places twice, in order.
-fn sweep_twice(links: &[Items<Link>], rows: &mut [Row], order: &[usize], room: &mut Row)
+/// Looks at places twice, in order. No row has a number that `top` doesn't have.
+fn sweep_twice(links: &[Items<Link>], rows: &mut [Row], order: &[usize], room: &mut Row, top: &Row)
     requires each { length links.now ≡ length rows.old }
     requires even { AreEven (length room.old) rows.old }
     requires below { AreBelow (length rows.old) links.now }
+    requires inside { AreWithin (has rows.old) (λ place. row_has top.now) }
     requires within { All (λ at. at < length rows.old) order.now }
     ensures room { length room.new ≡ length room.old }
     ensures spread { HasSpread links.now rows.old rows.new }
 {
-    sweep(links, rows, order, room);
-    sweep(links, rows, order, room);
+    sweep(links, rows, order, room, top);
+    sweep(links, rows, order, room, top);
 }
 
-/// Looks at each place once, and says whether a row has grown.
-fn sweep_all(links: &[Items<Link>], rows: &mut [Row], room: &mut Row) -> bool
+/// Looks at each place once, and says whether a row has grown. No row has a number that `top` doesn't have.
+fn sweep_all(links: &[Items<Link>], rows: &mut [Row], room: &mut Row, top: &Row) -> bool
     requires each { length links.now ≡ length rows.old }
     requires even { AreEven (length room.old) rows.old }
     requires below { AreBelow (length rows.old) links.now }
+    requires inside { AreWithin (has rows.old) (λ place. row_has top.now) }
     ensures room { length room.new ≡ length room.old }
     ensures spread { HasSpread links.now rows.old rows.new }
     ensures taken { result ≡ false → AreTaken links.now (has rows.new) }
 {
     let mut grown = false;
     for at in 0..rows.len() {
-        let more = look_at(links, rows, at, room);
+        let more = look_below(links, rows, at, room, top);
         grown |= more;
     }
     grown
@@ -185,7 +221,7 @@ fn settle_all(
 
 /// Grows the sets of all places until each takes all that its links hand on: they are then the least that hold the given
 /// ones and take it. Two sweeps, in an order in which a place comes after those that it takes from, settle rings and
-/// what has none; a sweep back and the list of work settle the rest.
+/// what has none; a sweep back and the list of work settle the rest. Sweeps pass over a place whose row has all there is.
 pub fn spread(
     alloc: Global,
     links: &[Items<Link>],
@@ -199,9 +235,10 @@ pub fn spread(
     ensures taken { OnOk result (AreTaken links.now (has rows.new)) }
 {
     let mut room = Row::new(alloc, words)?;
+    let top = top_of(alloc, rows, words)?;
     let order = order_of(alloc, links)?;
-    sweep_twice(links, rows, order.as_slice(), &mut room);
-    if !sweep_all(links, rows, &mut room) {
+    sweep_twice(links, rows, order.as_slice(), &mut room, &top);
+    if !sweep_all(links, rows, &mut room, &top) {
         return Ok(());
     }
     sweep_back(links, rows, order.as_slice(), &mut room);

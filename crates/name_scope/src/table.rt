@@ -191,6 +191,28 @@ pub fn visible_libraries(
         IsUnitAt project.now.files texts.now scans.now unit user →
         AreExactly (scope_units project.now.files texts.now scans.now) user names) }
 {
-    let sets = visible_sets(alloc, project, texts, scans)?;
+    let roles = roles_of_files(alloc, texts, scans)?;
+    visible_libraries_by_roles(alloc, project, texts, scans, &roles, unit)
+}
+
+/// `visible_libraries` for a caller that has the roles of the tokens of all files already.
+pub fn visible_libraries_by_roles(
+    alloc: Global,
+    project: &Project,
+    texts: &TextList,
+    scans: &Scans,
+    roles: &Items<RoleList>,
+    unit: UnitId,
+) -> Result<TextList, NoMemory>
+    requires each { length texts.now ≡ length project.now.files }
+    requires scans { AreScansOf texts.now scans.now }
+    requires small { All IsTextSmall texts.now }
+    requires roles { AreRolesOf texts.now scans.now roles.now }
+    requires file { unit.file < length project.now.files }
+    ensures { IfOk result (λ names. (user : ScopeUnit) →
+        IsUnitAt project.now.files texts.now scans.now unit user →
+        AreExactly (scope_units project.now.files texts.now scans.now) user names) }
+{
+    let sets = visible_sets_by_roles(alloc, project, texts, scans, roles)?;
     sets.libraries(alloc, unit)
 }

@@ -1,14 +1,16 @@
 //! What one design unit is to others, and what it wants of them.
 
-ghost use Rattle.std.specs.Prelude.{◌≡◌, ◌++◌, IfOk, OnOk, map};
+ghost use Rattle.std.specs.Prelude.{◌≡◌, ◌+◌, ◌<◌, IfOk, length};
 ghost use Rattle.std.specs.Str.{bytes_eq};
-ghost use Rattle.scan_spec.specs.References.{work, is_context_kind};
+ghost use Rattle.scan_spec.specs.References.{work, is_context_kind, ref_at};
+ghost use Rattle.scan_spec.specs.Units.{AreTokensOf};
 ghost use Rattle.scan_spec.specs.Visibility.{is_secondary, primary_name};
-ghost use Rattle.name_scope.specs.Wants.{context_want, gate_of, group_of, own_groups, primary_wants, wants_of};
+ghost use Rattle.name_scope.specs.Wants.{context_want, gate_of, group_of, own_groups, primary_wants};
 
 use crate::want::{Group, Want};
 use std::alloc::Global;
-use vr_base::{Items, MaybeText, NoMemory, Ref, RefList, Text, Unit, UnitKind};
+use vhdl_units::name_in;
+use vr_base::{Items, MaybeText, NoMemory, Text, Tokens, Unit, UnitKind};
 
 /// The library of the unit itself.
 pub static WORK: [u8; 4] = *b"work";
@@ -87,19 +89,53 @@ fn primary_wants(alloc: Global, library: &Text, name: MaybeText) -> Result<Items
     Ok(wants)
 }
 
-/// What a reference wants of context declarations.
-fn context_want(alloc: Global, library: &Text, reference: Ref) -> Result<Want, NoMemory>
-    ensures { IfOk result (λ want. want ≡ context_want library.now reference) }
+/// Nothing that is there.
+pub fn no_want(alloc: Global) -> Want {
+    Want {
+        own: false,
+        group: Group {
+            context: false,
+            library: Text::new(alloc),
+            name: Text::new(alloc),
+        },
+    }
+}
+
+/// A copy of a text, in the memory of one that isn't used any more, where that has room.
+fn copy_in(text: &Text, used: Text) -> Result<Text, NoMemory>
+    ensures { IfOk result (λ copy. copy ≡ text.now) }
 {
-    let Ref {
-        library: named,
-        name,
-        architecture: _,
-        strict: _,
-        at: _,
-    } = reference;
+    let mut bytes = used.into_vec();
+    bytes.clear();
+    bytes.extend_from_slice(text.bytes())?;
+    Ok(Text::from_vec(bytes))
+}
+
+/// What the reference at a token wants of context declarations, in the memory of what isn't wanted any more.
+pub fn context_want(
+    library: &Text,
+    text: &[u8],
+    tokens: &Tokens,
+    at: usize,
+    used: Want,
+) -> Result<Want, NoMemory>
+    requires tokens { AreTokensOf text.now tokens.now }
+    requires within { at + 2 < length tokens.now.list }
+    ensures { IfOk result (λ want.
+        want ≡ context_want library.now (ref_at text.now tokens.now.list at)) }
+{
+    // the number of tokens bounds the place of the name
+    let _count = tokens.list.len();
+    let Want { own: _, group } = used;
+    let Group {
+        context: _,
+        library: first,
+        name: second,
+    } = group;
+    let named = name_in(text, tokens, at, first)?;
+    let name = name_in(text, tokens, at + 2, second)?;
     let own = is_work(named.bytes());
-    let library = if own { library.copy(alloc)? } else { named };
+    let library = if own { copy_in(library, named)? } else { named };
     Ok(Want {
         own,
         group: Group {
@@ -121,18 +157,10 @@ pub fn gate_of(want: &Want) -> &[u8]
     }
 }
 
-/// What a unit of a library wants, with its references to context declarations.
-pub fn wants_of(
-    alloc: Global,
-    library: &Text,
-    unit: &Unit,
-    contexts: RefList,
-) -> Result<Items<Want>, NoMemory>
-    ensures { IfOk result (λ wants. wants ≡ wants_of library.now unit.now contexts) }
+/// What a unit of a library wants of the primary units that it belongs to.
+pub fn own_wants(alloc: Global, library: &Text, unit: &Unit) -> Result<Items<Want>, NoMemory>
+    ensures { IfOk result (λ wants. wants ≡
+        primary_wants library.now (primary_name unit.now.kind unit.now)) }
 {
-    let mut wants = primary_wants(alloc, library, primary_name(alloc, unit)?)?;
-    for reference in contexts.into_vec() {
-        wants.push(context_want(alloc, library, reference)?)?;
-    }
-    Ok(wants)
+    primary_wants(alloc, library, primary_name(alloc, unit)?)
 }

@@ -1,18 +1,19 @@
 //! The visible libraries of a project that is handed over as one text, with the places where its files end.
 
-ghost use Rattle.std.specs.Prelude.{◌≡◌, ◌-◌, ◌<◌, ◌≤◌, IfOk, codes, drop, false, length, take, true};
+ghost use Rattle.std.specs.Prelude.{◌≡◌, ◌-◌, ◌<◌, ◌≤◌, [], ◌∷◌, ◌++◌, IfOk, codes, drop, false, length, take, true};
 ghost use Rattle.std.specs.List.{All};
 ghost use Rattle.scan_spec.specs.Scans.{AreScansOf, IsScanOf};
-ghost use Rattle.name_scope.specs.Scopes.{IsTextSmall};
+ghost use Rattle.scan_spec.specs.Units.{roles_of};
+ghost use Rattle.name_scope.specs.Scopes.{AreRolesOf, IsTextSmall};
 ghost use Rattle.scan_c.specs.Projects.{HasLibraries, HasScans, parts_at};
 
-use name_scope::visible_libraries;
+use name_scope::visible_libraries_by_roles;
 use std::alloc::Global;
 use vhdl_lex::scan_tokens;
-use vhdl_units::outline;
+use vhdl_units::{outline_by_roles, roles_of};
 use vr_base::{
-    FileName, Items, LexFault, NoMemory, Project, ProjectFile, Scan, Scans, TEXT_LIMIT, Text,
-    TextList, UnitFault, UnitId,
+    FileName, Items, LexFault, NoMemory, Project, ProjectFile, RoleList, Scan, Scans, TEXT_LIMIT,
+    Text, TextList, UnitFault, UnitId,
 };
 
 /// Nothing is told of a project: its ends don't rise within the text, a file is too long or has a fault, or there was no
@@ -72,23 +73,34 @@ pub fn parts_of(alloc: Global, text: &[u8], ends: &[usize]) -> Result<TextList, 
     Ok(parts)
 }
 
-fn scan_of(alloc: Global, text: &[u8]) -> Result<Scan, NothingTold>
+/// The scan of a text, and the roles of its tokens after those of the texts before.
+fn scan_of(alloc: Global, text: &[u8], roles: &mut Items<RoleList>) -> Result<Scan, NothingTold>
     requires { length text.now ≤ TEXT_LIMIT }
-    ensures { IfOk result (IsScanOf text.now) }
+    ensures scan { IfOk result (IsScanOf text.now) }
+    ensures roles { IfOk result (λ scan.
+        roles.new ≡ roles.old ++ roles_of text.now scan.tokens.list ∷ []) }
 {
     let tokens = scan_tokens(alloc, text)?;
-    let units = outline(alloc, text, &tokens)?;
+    let own = roles_of(alloc, text, &tokens)?;
+    let units = outline_by_roles(alloc, text, &tokens, &own)?;
+    roles.push(own)?;
     Ok(Scan { tokens, units })
 }
 
-/// The scans of texts, in order.
-pub fn scans_of(alloc: Global, texts: &TextList) -> Result<Scans, NothingTold>
-    requires { All IsTextSmall texts.now }
-    ensures { IfOk result (AreScansOf texts.now) }
+/// The scans of texts, in order, and the roles of their tokens.
+pub fn scans_of(
+    alloc: Global,
+    texts: &TextList,
+    roles: &mut Items<RoleList>,
+) -> Result<Scans, NothingTold>
+    requires small { All IsTextSmall texts.now }
+    requires none { roles.old ≡ [] }
+    ensures scans { IfOk result (AreScansOf texts.now) }
+    ensures roles { IfOk result (λ scans. AreRolesOf texts.now scans roles.new) }
 {
     let mut scans = Scans::new(alloc);
     for at in 0..texts.len() {
-        scans.push(scan_of(alloc, texts.get(at).bytes())?)?;
+        scans.push(scan_of(alloc, texts.get(at).bytes(), roles)?)?;
     }
     Ok(scans)
 }
@@ -137,7 +149,8 @@ pub fn scan_files(alloc: Global, text: &[u8], ends: &[usize]) -> Result<(), Noth
     ensures { IfOk result (λ done. HasScans text.now ends.now) }
 {
     let texts = parts_of(alloc, text, ends)?;
-    scans_of(alloc, &texts)?;
+    let mut roles = Items::new(alloc);
+    scans_of(alloc, &texts, &mut roles)?;
     Ok(())
 }
 
@@ -146,12 +159,13 @@ pub fn library_count(alloc: Global, text: &[u8], ends: &[usize]) -> Result<u64, 
     ensures { IfOk result (HasLibraries text.now ends.now) }
 {
     let texts = parts_of(alloc, text, ends)?;
-    let scans = scans_of(alloc, &texts)?;
+    let mut roles = Items::new(alloc);
+    let scans = scans_of(alloc, &texts, &mut roles)?;
     let project = project_of(alloc, files_of(alloc, texts.len())?);
     if texts.is_empty() {
         return Err(NothingTold);
     }
     let first = UnitId { file: 0, unit: 0 };
-    let names = visible_libraries(alloc, &project, &texts, &scans, first)?;
+    let names = visible_libraries_by_roles(alloc, &project, &texts, &scans, &roles, first)?;
     Ok(names.len())
 }

@@ -2,3 +2,4 @@
 mod ClauseSteps
 mod PlaceSteps
 mod Leads
+mod DotSteps

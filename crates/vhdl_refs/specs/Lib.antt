@@ -1,2 +1,4 @@
 -- What the walks of this crate keep.
 pub mod Clauses
+pub mod Dots
+pub mod Contexts

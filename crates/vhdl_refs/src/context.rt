@@ -6,6 +6,7 @@ ghost use Rattle.scan_spec.specs.Units.{AreTokensOf, name_of, roles_of};
 ghost use Rattle.scan_spec.specs.Scans.{IsScanOf};
 ghost use Rattle.scan_spec.specs.References.{context_end, context_refs, is_context_ref, is_in_library_clause, is_library_name, library_names, places, ref_at};
 ghost use Rattle.vhdl_refs.specs.Clauses.{IsClauseAt};
+ghost use Rattle.vhdl_refs.specs.Contexts.{AreContextPlaces, context_places};
 
 use crate::clause::{Clause, clause_after};
 use crate::named::ref_at;
@@ -15,8 +16,8 @@ use crate::words::{is_comma, is_context_word, is_library_word, is_name, role_bef
 use std::alloc::Global;
 use vhdl_units::{name_of, role_at};
 use vr_base::{
-    Items, NoMemory, Ref, RefList, Role, RoleList, Scan, TEXT_LIMIT, Text, TextList, Tokens, Unit,
-    UnitKind,
+    Items, NoMemory, Positions, Ref, RefList, Role, RoleList, Scan, TEXT_LIMIT, Text, TextList,
+    Tokens, Unit, UnitKind,
 };
 
 /// Where the context items of a unit end.
@@ -125,6 +126,75 @@ pub fn context_refs(
         &mut refs,
     )?;
     Ok(Items::from_vec(refs))
+}
+
+/// Adds a token number where a reference to a context declaration is.
+fn push_context_place(
+    roles: &[Role],
+    at: usize,
+    clause: Clause,
+    found: &mut Vec<u32>,
+) -> Result<(), NoMemory>
+    requires within { at < length roles.now }
+    requires small { length roles.now ≤ TEXT_LIMIT }
+    requires clause { IsClauseAt roles.now at clause }
+    requires before { AreContextPlaces roles.now found.old.items }
+    ensures found { OnOk result (found.new.items ≡ found.old.items ++
+        (if is_context_ref roles.now at then at ∷ [] else [])) }
+    ensures after { OnOk result (AreContextPlaces roles.now found.new.items) }
+{
+    if is_context_ref(roles, at, clause) {
+        found.push(at as u32)?;
+    }
+    Ok(())
+}
+
+/// Adds those from the start of a clause up to another token, rising.
+fn push_context_places(
+    roles: &[Role],
+    clause: Clause,
+    end: usize,
+    found: &mut Vec<u32>,
+) -> Result<(), NoMemory>
+    requires ordered { clause.start ≤ end }
+    requires within { end ≤ length roles.now }
+    requires small { length roles.now ≤ TEXT_LIMIT }
+    requires clause { IsClauseAt roles.now clause.start clause }
+    requires before { AreContextPlaces roles.now found.old.items }
+    ensures found { OnOk result (found.new.items ≡ found.old.items ++
+        places (is_context_ref roles.now) clause.start end) }
+    ensures after { OnOk result (AreContextPlaces roles.now found.new.items) }
+{
+    let mut clause = clause;
+    for at in clause.start..end {
+        push_context_place(roles, at, clause, found)?;
+        clause = clause_after(clause, roles, at);
+    }
+    Ok(())
+}
+
+/// The token numbers of the `L` of each reference of the unit of a number in a scan to a context declaration, rising (IEEE
+/// Std 1076-2008, clause 13.4). `roles` are those of the scan's tokens.
+pub fn context_places(
+    alloc: Global,
+    text: &[u8],
+    scan: &Scan,
+    roles: &RoleList,
+    unit: u32,
+) -> Result<Positions, NoMemory>
+    requires scan { IsScanOf text.now scan.now }
+    requires small { length text.now ≤ TEXT_LIMIT }
+    requires roles { roles.now ≡ roles_of text.now scan.now.tokens.list }
+    requires unit { unit < length scan.now.units }
+    ensures found { IfOk result (λ found.
+        option_map (context_places roles.now) (slice_get scan.now.units unit) ≡ Some found) }
+    ensures named { IfOk result (AreContextPlaces roles.now) }
+{
+    let roles = roles.as_slice();
+    let (unit, clause) = unit_at(text, scan, roles, unit);
+    let mut found = Vec::new(alloc);
+    push_context_places(roles, clause, context_end(unit), &mut found)?;
+    Ok(Items::from_vec(found))
 }
 
 /// Whether a token is between `library` and its `;`, of a unit whose keyword is at `first`.

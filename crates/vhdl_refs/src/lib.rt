@@ -3,6 +3,7 @@
 
 mod clause;
 mod context;
+mod dots;
 mod find;
 mod named;
 mod places;
@@ -11,7 +12,7 @@ mod unit;
 mod uses;
 mod words;
 
-pub use context::{context_refs, library_names};
+pub use context::{context_places, context_refs, library_names};
 pub use find::find_refs;
 pub use uses::uses_of_all;
 

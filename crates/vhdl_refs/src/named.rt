@@ -6,6 +6,7 @@ ghost use Rattle.scan_spec.specs.References.{architecture_at, is_in_name_list, i
 ghost use Rattle.vhdl_refs.specs.Clauses.{HasReached, IsClauseAt};
 
 use crate::clause::{Clause, Reached, clause_at};
+use crate::dots::next_dotted;
 use crate::places::{has_architecture, is_reference, is_strict};
 use std::alloc::Global;
 use vhdl_units::name_of;
@@ -107,8 +108,10 @@ pub fn push_named(
         clause,
         at: clause.start,
     };
-    for at in clause.start..end {
+    let mut at = next_dotted(roles, clause.start, end);
+    while at < end {
         push_at(alloc, text, tokens, roles, at, &mut reached, refs)?;
+        at = next_dotted(roles, at + 1, end);
     }
     Ok(())
 }

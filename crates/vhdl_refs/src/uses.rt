@@ -6,21 +6,24 @@ ghost use Rattle.scan_spec.specs.Units.{roles_of};
 ghost use Rattle.scan_spec.specs.Scans.{IsScanOf};
 ghost use Rattle.scan_spec.specs.References.{is_use_of_all, places, uses_of_all};
 
+use crate::dots::next_dotted;
 use crate::unit::unit_at;
 use crate::words::{is_all_word, is_dot, is_name, is_use_word, role_before};
 use std::alloc::Global;
-use vhdl_units::role_at;
 use vr_base::{Items, NoMemory, Positions, Role, RoleList, Scan, TEXT_LIMIT};
 
 /// Whether the `L` of a `use L.all` is at a token.
+#[inline(always)]
 fn is_use_of_all(roles: &[Role], at: usize) -> bool
     requires { at < length roles.now }
     ensures { result ≡ is_use_of_all roles.now at }
 {
-    is_use_word(role_before(roles, at))
-        && is_name(role_at(roles, at))
-        && is_dot(role_at(roles, at + 1))
-        && is_all_word(role_at(roles, at + 2))
+    // a dot is rare, so it is looked for first
+    if at + 2 < roles.len() && is_dot(roles[at + 1]) {
+        is_use_word(role_before(roles, at)) && is_name(roles[at]) && is_all_word(roles[at + 2])
+    } else {
+        false
+    }
 }
 
 /// Adds a token number where it is that of the `L` of a `use L.all`.
@@ -44,8 +47,10 @@ fn push_uses(roles: &[Role], start: usize, end: usize, uses: &mut Vec<u32>) -> R
     ensures { OnOk result (uses.new.items ≡
         uses.old.items ++ places (is_use_of_all roles.now) start end) }
 {
-    for at in start..end {
+    let mut at = next_dotted(roles, start, end);
+    while at < end {
         push_use(roles, at, uses)?;
+        at = next_dotted(roles, at + 1, end);
     }
     Ok(())
 }

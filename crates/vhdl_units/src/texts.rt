@@ -25,6 +25,24 @@ pub fn token_name(alloc: Global, text: &[u8], tokens: &[Token], at: usize) -> Re
     Ok(Text::from_vec(name))
 }
 
+/// The same name, in the memory of a text that isn't used any more, where that has room.
+pub fn token_name_in(text: &[u8], tokens: &[Token], at: usize, used: Text) -> Result<Text, NoMemory>
+    requires lie { AllLieIn text.now tokens.now }
+    requires within { at < length tokens.now }
+    ensures { IfOk result (λ name. name ≡ name_of text.now tokens.now at) }
+{
+    let token = tokens[at];
+    let bytes = &text[token.start as usize..token.end as usize];
+    let mut room = used.into_vec();
+    room.clear();
+    room.extend_from_slice(bytes)?;
+    match token.kind {
+        TokenKind::Extended => {}
+        _ => room.make_ascii_lowercase(),
+    }
+    Ok(Text::from_vec(room))
+}
+
 /// Whether the bytes, in lower case, are these.
 fn is_lowered(bytes: &[u8], name: &[u8]) -> bool
     ensures { IsTrue result ↔ (lower_case bytes.now ≡ name.now) }

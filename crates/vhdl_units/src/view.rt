@@ -4,7 +4,7 @@ ghost use Rattle.std.specs.Prelude.{◌≡◌, ◌<◌, ◌↔◌, IsTrue, IfOk,
 ghost use Rattle.scan_spec.specs.Units.{AreTokensOf, name_of, roles_of};
 
 use crate::roles::token_roles;
-use crate::texts::{token_is_named, token_name};
+use crate::texts::{token_is_named, token_name, token_name_in};
 use std::alloc::Global;
 use vr_base::{Items, NoMemory, RoleList, Text, Tokens};
 
@@ -24,6 +24,15 @@ pub fn name_of(alloc: Global, text: &[u8], tokens: &Tokens, at: usize) -> Result
     ensures { IfOk result (λ name. name ≡ name_of text.now tokens.now.list at) }
 {
     token_name(alloc, text, tokens.list.as_slice(), at)
+}
+
+/// `name_of` in the memory of a text that isn't used any more, where that has room.
+pub fn name_in(text: &[u8], tokens: &Tokens, at: usize, used: Text) -> Result<Text, NoMemory>
+    requires tokens { AreTokensOf text.now tokens.now }
+    requires within { at < length tokens.now.list }
+    ensures { IfOk result (λ name. name ≡ name_of text.now tokens.now.list at) }
+{
+    token_name_in(text, tokens.list.as_slice(), at, used)
 }
 
 /// Whether a token has this name, as `run` or `runner_cfg`, of which no copy is made.

@@ -1,5 +1,5 @@
 -- The roles of one file more.
-use Rattle.std.proofs.Common.{◌≡◌, ℕ, ◌+◌, ◌<◌, ◌≤◌, ◌∷◌, ◌++◌, ◌∙◌, [], List, Some, length, ap, sym, subst, inl, inr, arith}
+use Rattle.std.proofs.Common.{◌≡◌, ℕ, ◌+◌, ◌<◌, ◌∷◌, ◌++◌, ◌∙◌, [], List, Some, length, ap, sym, subst, inl, inr, arith}
 use Rattle.std.specs.Prelude.{slice_get}
 use Rattle.std.proofs.lemmas.Bool.{cases_lt}
 use Rattle.std.proofs.lemmas.List.{get_or_append_left, length-append, length_push}
@@ -7,9 +7,7 @@ use Rattle.std.proofs.lemmas.Option.{slice_get-get_or, slice_get_within}
 use Rattle.std.proofs.Math.Seq.{get_or-append_seam}
 use Rattle.vr_base.specs.declared.design.Role.{Role}
 use Rattle.vr_base.specs.declared.design.Scan.{Scan}
-use Rattle.scan_spec.specs.Scans.{AreScansOf, IsScanOf}
 use Rattle.scan_spec.specs.Units.{AreTokensOf, roles_of}
-use Rattle.name_scope.specs.Scopes.{AreRolesOf}
 use Rattle.name_scope.proofs.roles.roles_of_files.Goals as goal
 
 got_earlier : (all : List (List Role)) (roles : List Role) (i : ℕ) → i < length all → slice_get (all ++ roles ∷ []) i ≡ slice_get all i

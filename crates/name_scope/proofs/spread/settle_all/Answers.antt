@@ -1,5 +1,5 @@
 -- The list of all places settles the sets.
-use Rattle.std.proofs.Common.{◌≡◌, ◌∙◌, ℕ, sym, subst, List}
+use Rattle.std.proofs.Common.{◌∙◌, ℕ, sym, subst, List}
 use Rattle.name_scope.specs.Work.{KnowReaders}
 use Rattle.name_scope.proofs.SpreadLemmas.{settling_first}
 use Rattle.name_scope.proofs.spread.settle_all.Goals as goal

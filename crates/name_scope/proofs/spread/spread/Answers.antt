@@ -2,13 +2,16 @@
 use Rattle.std.proofs.Common.{◌≡◌, ◌∙◌, ap, length}
 use Rattle.std.proofs.lemmas.List.{length-replicate}
 use Rattle.std.proofs.lemmas.Result.{on_ok_weaker}
-use Rattle.name_scope.proofs.SpreadLemmas.{evens, spread_both}
+use Rattle.name_scope.proofs.SpreadLemmas.{evens, spread_both, still_inside}
 use Rattle.name_scope.proofs.spread.spread.Goals as goal
 
 pub sweep_all-requires-clause-even : goal.sweep_all-requires-clause-even
 sweep_all-requires-clause-even c =
     let words : length c.in_ok-room.room ≡ c.args.words = ap length c.in_ok-room.ensures ∙ length-replicate c.args.words 0 in
     evens _ _ _ c.args.words _ c.sweep_twice.ensures.spread c.requires.even (c.sweep_twice.ensures.room ∙ words)
+
+pub sweep_all-requires-clause-inside : goal.sweep_all-requires-clause-inside
+sweep_all-requires-clause-inside c = still_inside _ _ _ _ c.sweep_twice.ensures.spread c.in_ok-top.ensures
 
 pub returns-then-not-sweep_all-clause-spread : goal.returns-then-not-sweep_all-clause-spread
 returns-then-not-sweep_all-clause-spread c = spread_both _ _ _ _ c.sweep_twice.ensures.spread c.sweep_all.ensures.spread

@@ -1,5 +1,5 @@
 -- One scan more.
-use Rattle.std.proofs.Common.{◌≡◌, ℕ, zero, suc, ◌+◌, ◌∷◌, ◌++◌, ◌∙◌, List, [], Some, length, ap, arith, sym, subst}
+use Rattle.std.proofs.Common.{◌≡◌, ℕ, zero, suc, ◌+◌, ◌∷◌, ◌++◌, ◌∙◌, List, [], Some, length, ap, sym, subst}
 use Rattle.std.specs.Prelude.{slice_get}
 use Rattle.std.proofs.lemmas.List.{length_push}
 use Rattle.vr_base.specs.declared.design.Scan.{Scan}

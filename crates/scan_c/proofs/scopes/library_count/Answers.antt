@@ -26,4 +26,4 @@ returns c =
     told c.args.text.now c.args.ends.now c.in_ok-texts.texts c.project_of-project.result.files c.in_ok-scans.scans c.in_ok-names.names c.len-2.result c.in_ok-texts.ensures.parts
     (ap length c.project_of-project.ensures ∙ (c.in_ok-files_of.ensures.each ∙ c.len.ensures))
     (subst (All (λ (file : ProjectFile). file.name.library ≡ codes "l")) (sym c.project_of-project.ensures) c.in_ok-files_of.ensures.library)
-    c.in_ok-scans.ensures c.in_ok-names.ensures c.len-2.ensures
+    c.in_ok-scans.ensures.scans c.in_ok-names.ensures c.len-2.ensures

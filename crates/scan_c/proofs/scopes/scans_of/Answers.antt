@@ -4,6 +4,8 @@ use Rattle.std.specs.Prelude.{slice_get}
 use Rattle.std.proofs.lemmas.List.{length_push}
 use Rattle.vr_base.specs.declared.design.Scan.{Scan}
 use Rattle.scan_spec.specs.Scans.{IsScanOf}
+use Rattle.scan_spec.specs.Units.{roles_of}
+use Rattle.name_scope.proofs.RoleLemmas.{AreOfScans, more_roles}
 use Rattle.scan_c.proofs.scopes.scans_of.Goals as goal
 
 one_more : (texts : List (List ℕ)) (scans : List Scan) (text : List ℕ) (scan : Scan) → ((i : ℕ) (t : List ℕ) (s : Scan) → slice_get texts i ≡ Some t → slice_get scans i ≡ Some s → IsScanOf t s) → slice_get texts (length scans) ≡ Some text → IsScanOf text scan → (i : ℕ) (t : List ℕ) (s : Scan) → slice_get texts i ≡ Some t → slice_get (scans ++ scan ∷ []) i ≡ Some s → IsScanOf t s
@@ -19,8 +21,12 @@ one_more (x ∷ texts) (y ∷ scans) text scan are at is (suc i) t s in_texts in
 pub loop-at-preserved : goal.loop-at-preserved
 loop-at-preserved c =
     let at = ap (slice_get c.args.texts.now) c.loop-at.invariant.each ∙ c.get.ensures in
-    let is = subst (λ (text : List ℕ). IsScanOf text c.in_ok-scan_of.field-0) c.bytes.ensures c.in_ok-scan_of.ensures in
+    let is = subst (λ (text : List ℕ). IsScanOf text c.in_ok-scan_of.field-0) c.bytes.ensures c.in_ok-scan_of.ensures.scan in
+    let of_text : c.scan_of.new.roles ≡ c.loop-at.roles ++ roles_of c.get.result.now c.in_ok-scan_of.field-0.tokens.list ∷ [] = c.in_ok-scan_of.ensures.roles ∙ ap (λ (text : List ℕ). c.loop-at.roles ++ roles_of text c.in_ok-scan_of.field-0.tokens.list ∷ []) c.bytes.ensures in
     record {
+      as_many = ap length of_text ∙ (length_push c.loop-at.roles _ ∙ (ap (λ (n : ℕ). n + 1) c.loop-at.invariant.as_many ∙ sym (ap length c.in_ok-push.ensures.ok ∙ length_push c.loop-at.scans c.in_ok-scan_of.field-0)));
+      roles = subst (AreOfScans c.args.texts.now c.push.new.self) (sym of_text) (subst (λ (scans : List Scan). AreOfScans c.args.texts.now scans (c.loop-at.roles ++ roles_of c.get.result.now c.in_ok-scan_of.field-0.tokens.list ∷ [])) (sym c.in_ok-push.ensures.ok)
+          (more_roles c.args.texts.now c.loop-at.scans c.loop-at.roles c.get.result.now c.in_ok-scan_of.field-0 c.loop-at.invariant.as_many c.loop-at.invariant.roles at));
       each = ap length c.in_ok-push.ensures.ok ∙ (length_push c.loop-at.scans c.in_ok-scan_of.field-0 ∙ ap (λ (n : ℕ). n + 1) c.loop-at.invariant.each);
       are = subst (λ (scans : List Scan). (i : ℕ) (text : List ℕ) (scan : Scan) → slice_get c.args.texts.now i ≡ Some text → slice_get scans i ≡ Some scan → IsScanOf text scan) (sym c.in_ok-push.ensures.ok)
           (one_more c.args.texts.now c.loop-at.scans c.get.result.now c.in_ok-scan_of.field-0 c.loop-at.invariant.are at is);

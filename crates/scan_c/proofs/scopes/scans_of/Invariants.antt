@@ -3,10 +3,13 @@ use Rattle.std.proofs.Common.{◌≡◌, ℕ, List, Some, length}
 use Rattle.std.specs.Prelude.{slice_get}
 use Rattle.vr_base.specs.declared.design.Scan.{Scan}
 use Rattle.scan_spec.specs.Scans.{IsScanOf}
+use Rattle.name_scope.proofs.RoleLemmas.{AreOfScans}
 use Rattle.scan_c.proofs.scopes.scans_of.Given as goal
 
 abbrev pub invariant-loop-at : goal.invariant-loop-at
 invariant-loop-at l = record {
   each : length l.scans ≡ l.at;
+  as_many : length l.roles ≡ length l.scans;
+  roles : AreOfScans l.texts l.scans l.roles;
   are : (i : ℕ) (text : List ℕ) (scan : Scan) → slice_get l.texts i ≡ Some text → slice_get l.scans i ≡ Some scan → IsScanOf text scan;
 }

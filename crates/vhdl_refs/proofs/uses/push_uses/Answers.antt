@@ -1,7 +1,25 @@
--- One token more.
-use Rattle.vhdl_refs.proofs.PlaceSteps.{places_all_more}
+-- One place more, and no use up to the next dot.
+use Rattle.std.proofs.Common.{◌++◌, ◌+◌, ℕ, List, ◌∙◌, ap, sym, arith}
 use Rattle.scan_spec.specs.References.{is_use_of_all}
+use Rattle.vhdl_refs.proofs.DotSteps.{none_so_far, skip_uses}
+use Rattle.vhdl_refs.proofs.PlaceSteps.{places_all_more, places_none}
 use Rattle.vhdl_refs.proofs.uses.push_uses.Goals as goal
 
+pub loop-at-init : goal.loop-at-init
+loop-at-init c =
+    let passed = c.next_dotted-at.ensures in
+    record {
+      after = passed.reaches;
+      within = passed.within;
+      found = none_so_far _ _ (skip_uses c.args.roles.now c.args.start c.args.start c.args.end c.next_dotted-at.result (omega arith) passed ∙ places_none (is_use_of_all c.args.roles.now) c.args.start);
+    }
+
 pub loop-at-preserved : goal.loop-at-preserved
-loop-at-preserved c = places_all_more (is_use_of_all c.args.roles.now) c.args.start c.loop-at.at c.args.uses.now.items c.loop-at.uses.items c.push_use.new.uses.items c.loop-at.auto.at c.loop-at.invariant c.in_ok-push_use.ensures
+loop-at-preserved c =
+    let passed = c.next_dotted-at-in-loop-at.ensures in
+    record {
+      after = let after = c.loop-at.invariant.after in omega (arith, after, passed.reaches);
+      within = passed.within;
+      found = places_all_more (is_use_of_all c.args.roles.now) c.args.start c.loop-at.at c.args.uses.now.items c.loop-at.uses.items c.push_use.new.uses.items c.loop-at.invariant.after c.loop-at.invariant.found c.in_ok-push_use.ensures
+          ∙ ap (λ (xs : List ℕ). c.args.uses.now.items ++ xs) (sym (skip_uses c.args.roles.now c.args.start (c.loop-at.at + 1) c.args.end c.next_dotted-at-in-loop-at.result (let after = c.loop-at.invariant.after in omega (arith, after)) passed));
+    }

@@ -1,7 +1,14 @@
 -- The places so far.
-use Rattle.std.proofs.Common.{◌≡◌, ◌++◌}
+use Rattle.std.proofs.Common.{◌≡◌, ◌++◌, ◌-◌, ◌≤◌}
 use Rattle.scan_spec.specs.References.{is_use_of_all, places}
 use Rattle.vhdl_refs.proofs.uses.push_uses.Given as goal
 
 abbrev pub invariant-loop-at : goal.invariant-loop-at
-invariant-loop-at l = l.uses.items ≡ l.initial.uses.items ++ places (is_use_of_all l.roles) l.start l.at
+invariant-loop-at l = record {
+  after : l.start ≤ l.at;
+  within : l.at ≤ l.end;
+  found : l.uses.items ≡ l.initial.uses.items ++ places (is_use_of_all l.roles) l.start l.at;
+}
+
+abbrev pub decreases-loop-at : goal.decreases-loop-at
+decreases-loop-at l = l.end - l.at

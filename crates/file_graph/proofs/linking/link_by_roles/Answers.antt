@@ -3,7 +3,7 @@ use Rattle.std.proofs.lemmas.Result.{err_from_is_err_and}
 use Rattle.scan_spec.specs.Dependencies.{link_units}
 use Rattle.file_graph.proofs.EdgeLemmas.{gives_edges}
 use Rattle.file_graph.proofs.FileLemmas.{all_links}
-use Rattle.file_graph.proofs.linking.link.Goals as goal
+use Rattle.file_graph.proofs.linking.link_by_roles.Goals as goal
 
 pub returns-in_err-rows-clause-exact : goal.returns-in_err-rows-clause-exact
 returns-in_err-rows-clause-exact c =

@@ -3,7 +3,7 @@ use Rattle.scan_spec.specs.Visibility.{scope_units}
 use Rattle.std.proofs.lemmas.Result.{IfOk-weaker}
 use Rattle.name_scope.specs.Tables.{set_at}
 use Rattle.name_scope.proofs.TableLemmas.{exactly}
-use Rattle.name_scope.proofs.table.visible_libraries.Goals as goal
+use Rattle.name_scope.proofs.table.visible_libraries_by_roles.Goals as goal
 
 pub returns : goal.returns
 returns c =
