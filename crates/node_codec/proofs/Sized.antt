@@ -11,7 +11,7 @@ use Rattle.vr_base.specs.Jobs.{name_bytes}
 use Rattle.record_codec.specs.Spelling.{words_bytes}
 use Rattle.record_codec.proofs.Lengths.{length-number_bytes, length-text_bytes, name_small, words_small}
 use Rattle.node_codec.specs.Forms.{draft_bytes, node_payload_bytes, numbers_bytes, source_bytes}
-use Rattle.node_codec.specs.Forms.NodePayload.{OfDraft, OfNode}
+use Rattle.node_codec.specs.Forms.NodePayload.{DraftAlone, OfDraft, OfNode}
 use Rattle.node_codec.specs.Writing.{IsSmallFile, draft_of, source_of}
 
 length-long : (n : ℕ) → length (to_le_bytes w64 n) ≡ 8
@@ -50,6 +50,21 @@ draft_small entry known deps artefact small fits =
       numbers_small deps small.few,
       length-text_bytes artefact,
       fits,
+    )
+
+pub alone_small : (entry : Entry) (known : Option ℕ) (deps : List ℕ) → IsSmallFile entry deps → length (node_payload_bytes (DraftAlone (draft_of entry known deps))) < 2 ^ 32
+unfolding node_payload_bytes draft_bytes
+alone_small entry known deps small =
+    let source : List ℕ = source_bytes (source_of known entry.text) in
+    omega (
+      arith,
+      length-append (name_bytes entry.name) (words_bytes entry.command ++ (source ++ numbers_bytes deps)),
+      length-append (words_bytes entry.command) (source ++ numbers_bytes deps),
+      length-append source (numbers_bytes deps),
+      name_small entry.name small.name,
+      words_small entry.command small.command,
+      source_small known entry.text small.text,
+      numbers_small deps small.few,
     )
 
 pub node_small : (number : ℕ) (artefact : List ℕ) → length artefact ≤ ARTEFACT_LIMIT → length (node_payload_bytes (OfNode number artefact)) < 2 ^ 32

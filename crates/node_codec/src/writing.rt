@@ -3,7 +3,7 @@
 ghost use Rattle.std.specs.Prelude.{◌≡◌, ◌<◌, ◌≤◌, ◌^◌, ◌++◌, length, All, IfOk, OnOk};
 ghost use Rattle.vr_base.specs.declared.limits.TheConstants.{ARTEFACT_LIMIT};
 ghost use Rattle.node_codec.specs.Forms.{numbers_bytes, source_bytes, draft_bytes, node_payload_bytes};
-ghost use Rattle.node_codec.specs.Forms.NodePayload.{OfDraft, OfNode};
+ghost use Rattle.node_codec.specs.Forms.NodePayload.{DraftAlone, OfDraft, OfNode};
 ghost use Rattle.node_codec.specs.Writing.{IsSmallFile, draft_of, source_of};
 
 use byte_codec::ByteWriter;
@@ -82,6 +82,25 @@ pub fn draft_payload(
     out.plain(&[1])?;
     put_draft(&mut out, entry, known, deps)?;
     out.text(artefact.bytes())?;
+    Ok(out.into_text())
+}
+
+/// The payload of a new node alone, by the numbers of the nodes that it depends on.
+#[tactic(auto, unfolding(crate::specs::Forms::node_payload_bytes))]
+pub fn alone_payload(
+    alloc: Global,
+    entry: &Entry,
+    known: Option<usize>,
+    deps: &[usize],
+) -> Result<Text, NoMemory>
+    requires { IsSmallFile entry.now deps.now }
+    ensures bytes { IfOk result
+        (λ bytes. bytes ≡ node_payload_bytes (DraftAlone (draft_of entry.now known deps.now))) }
+    ensures small { IfOk result (λ bytes. length bytes < 2 ^ 32) }
+{
+    let mut out = ByteWriter::new(alloc);
+    out.plain(&[2])?;
+    put_draft(&mut out, entry, known, deps)?;
     Ok(out.into_text())
 }
 

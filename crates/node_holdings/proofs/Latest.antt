@@ -24,6 +24,8 @@ use Rattle.node_fits.specs.Fits.{blank_node}
 use Rattle.node_shelf.specs.declared.records.RecordPlace.{RecordPlace}
 use Rattle.node_shelf.specs.declared.records.RecordPlaces.{RecordPlaces}
 use Rattle.node_shelf.specs.Places.{AreRecords, artefact_in, record_in}
+use Rattle.node_carry.proofs.RecordNames as names
+use Rattle.node_carry.proofs.RecordNames.{blank_place}
 use Rattle.node_holdings.specs.Held.{HasNode, IsLatestAt}
 
 -- no later record has the name
@@ -41,32 +43,6 @@ latest_at name (first ∷ rest) (suc n) low is none =
     let later : latest name rest ≡ slice_get rest n = latest_at name rest n l is (λ k other a b. none (suc k) other (omega arith) (omega arith)) in
     rw (later, slice_get-get_or rest n first l) refl
 
--- a view that a node unfolds to ends in its name
-view_last : (texts : List (List ℕ)) (nodes : List Node) (n : ℕ) → AreNodes texts nodes → n < length nodes → (last_entry (unfolded texts nodes n) ≡ Some (renumbered (viewed (node_files texts nodes) n) (get_or (node_files texts nodes) n no_entry)))
-view_last texts nodes n are l =
-    let files : List Entry = node_files texts nodes in
-    let size : length files ≡ length nodes = files_length texts nodes in
-    let u = nodes_unfold texts nodes are in
-    let closed = u.closed n l in
-    let positions : List ℕ = viewed files n in
-    let deps : List ℕ = (get_or files n no_entry).deps in
-    let is : positions ≡ deps ++ n ∷ [] = viewed_is files n no_entry (omega (arith, size)) in
-    let count : length positions ≡ length deps + 1 = ap length is ∙ length-append deps (n ∷ []) in
-    let view_count : length (view files n) ≡ length positions = length-closed files positions closed in
-    let k : ℕ = length deps in
-    let low : k < length positions = omega (arith, count) in
-    let position : get_or positions k 0 ≡ n = ap (λ (ps : List ℕ). get_or ps k 0) is ∙ get_or_at deps n [] 0 k refl in
-    let last : length (view files n) - 1 ≡ k = omega (arith, view_count, count) in
-    ap (slice_get (view files n)) last
-    ∙ slice_get-get_or (view files n) k no_entry (omega (arith, view_count, low))
-    ∙ ap (λ (e : Entry). Some e) (file_of_part files positions closed k low ∙ ap (λ (p : ℕ). renumbered positions (get_or files p no_entry)) position)
-
-pub named : (texts : List (List ℕ)) (nodes : List Node) (n : ℕ) (artefact : List ℕ) (name : FileName) → AreNodes texts nodes → n < length nodes → is_of name (record { view = unfolded texts nodes n; artefact = artefact }) ≡ is_same_name (get_or nodes n blank_node).name name
-named texts nodes n artefact name are l =
-    ap (λ (e : Option Entry). option_map_or (λ entry. is_same_name entry.name name) e false) (view_last texts nodes n are l)
-    ∙ ap (λ (e : Entry). is_same_name e.name name) (file_at texts nodes n l)
-    ∙ ap (λ (node : Node). is_same_name node.name name) (get_or_default nodes n no_node blank_node l)
-
 module _ (payloads texts : List (List ℕ)) (table : NodesByNumber) (records : RecordPlaces) (name : FileName) (once : AllPairs (λ a b. a ≢ b) table.names) (nodes_are : AreNodes texts table.nodes) (are : AreRecords payloads table records) where
   abbrev places : List RecordPlace
   places = records.places.items
@@ -78,43 +54,13 @@ module _ (payloads texts : List (List ℕ)) (table : NodesByNumber) (records : R
   all = map (record_in payloads texts table.nodes) places
 
   size : length all ≡ length places
-  size = length-map places (record_in payloads texts table.nodes)
+  size = names.size payloads texts table records name once nodes_are are
 
-  record_name : (k : ℕ) (other : Record) (place : RecordPlace) → k < length places → is_of name (get_or all k other) ≡ is_same_name (get_or table.nodes (get_or places k place).node blank_node).name name
-  record_name k other place l =
-      ap (is_of name) (get_or-map (record_in payloads texts table.nodes) places k place other l)
-      ∙ named texts table.nodes (get_or places k place).node (artefact_in payloads (get_or places k place)) name nodes_are (are.kept k place l).node
-
-  blank : RecordPlace
-  blank = record { node = 0; payload = 0; artefact = record { start = 0; count = 0 } }
-
-  name_at : (k : ℕ) → k < length places → slice_get table.names (get_or marks k 0) ≡ Some (get_or table.nodes (get_or places k blank).node blank_node).name
-  name_at k l = are.named k blank l
-
-  some_same : {X : Type 0} (a b : X) → Some a ≡ Some b → a ≡ b
-  some_same a b e = ap (λ (o : Option _). option_map_or (λ x. x) o a) e
-
-  -- a record of another name
   other_name : (number k : ℕ) → slice_get table.names number ≡ Some name → k < length places → get_or marks k 0 ≢ number → (other : Record) → is_of name (get_or all k other) ≡ false
-  other_name number k at l differs other =
-      rw (record_name k other blank l)
-      (by (is_same_name (get_or table.nodes (get_or places k blank).node blank_node).name name) refl)
-    where
-      by : (b : Bool) → is_same_name (get_or table.nodes (get_or places k blank).node blank_node).name name ≡ b → b ≡ false
-      by false e = refl
-      by true e =
-          let same : (get_or table.nodes (get_or places k blank).node blank_node).name ≡ name = (names_decide (get_or table.nodes (get_or places k blank).node blank_node).name name).0 e in
-          let here = name_at k l in
-          let low : get_or marks k 0 < length table.names = slice_get_within table.names (get_or marks k 0) _ here in
-          let low_number : number < length table.names = slice_get_within table.names number name at in
-          let one = get_or_from_slice_get table.names (get_or marks k 0) _ no_name here in
-          let two = get_or_from_slice_get table.names number name no_name at in
-          absurd (differs (one_place table.names (get_or marks k 0) number no_name once low low_number (one ∙ same ∙ sym two)))
+  other_name number k at l differs other = names.other_name payloads texts table records name once nodes_are are number k at l differs other
 
   own_name : (number k : ℕ) → slice_get table.names number ≡ Some name → k < length places → get_or marks k 0 ≡ number → (other : Record) → is_of name (get_or all k other) ≡ true
-  own_name number k at l same other =
-      let here : Some (get_or table.nodes (get_or places k blank).node blank_node).name ≡ Some name = sym (name_at k l) ∙ ap (slice_get table.names) same ∙ at in
-      record_name k other blank l ∙ (names_decide (get_or table.nodes (get_or places k blank).node blank_node).name name).1 (some_same _ _ here)
+  own_name number k at l same other = names.own_name payloads texts table records name once nodes_are are number k at l same other
 
   -- a name that has a number
   pub latest_is : (number : ℕ) (last : Option ℕ) → slice_get table.names number ≡ Some name → IsLastWith marks number (length marks) last → IsLatestAt all name last
@@ -129,14 +75,14 @@ module _ (payloads texts : List (List ℕ)) (table : NodesByNumber) (records : R
     absent : (k : ℕ) (other : Record) → k < length all → is_of name (get_or all k other) ≡ false
     absent k other l =
         let m : k < length places = omega (arith, size) in
-        rw (record_name k other blank m) (by (is_same_name (get_or table.nodes (get_or places k blank).node blank_node).name name) refl)
+        rw (names.record_name payloads texts table records name once nodes_are are k other blank_place m) (by (is_same_name (get_or table.nodes (get_or places k blank_place).node blank_node).name name) refl)
       where
-        by : (b : Bool) → is_same_name (get_or table.nodes (get_or places k blank).node blank_node).name name ≡ b → b ≡ false
+        by : (b : Bool) → is_same_name (get_or table.nodes (get_or places k blank_place).node blank_node).name name ≡ b → b ≡ false
         by false e = refl
         by true e =
             let m : k < length places = omega (arith, size) in
-            let same = (names_decide (get_or table.nodes (get_or places k blank).node blank_node).name name).0 e in
-            let here = name_at k m in
+            let same = (names_decide (get_or table.nodes (get_or places k blank_place).node blank_node).name name).0 e in
+            let here = names.name_at payloads texts table records name once nodes_are are k m in
             let low = slice_get_within table.names (get_or marks k 0) _ here in
             absurd (none (get_or marks k 0, low, get_or_from_slice_get table.names (get_or marks k 0) _ name here ∙ same))
 

@@ -6,3 +6,4 @@ pub mod Adding
 pub mod Parts
 pub mod NodesAt
 pub mod Preparing
+pub mod Compacting

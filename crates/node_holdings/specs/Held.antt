@@ -5,10 +5,13 @@ use Rattle.vr_base.specs.declared.file.FileName.{FileName}
 use Rattle.vr_base.specs.declared.graph.Entry.{Entry}
 use Rattle.vr_base.specs.View.{view}
 use Rattle.vr_outside.specs.declared.records.Record.{Record}
-use Rattle.vr_outside.specs.Records.{latest}
+use Rattle.vr_outside.specs.Records.{latest, latest_alone}
 use Rattle.node_codec.specs.Nodes.{unfolded}
 use Rattle.node_codec.specs.Shelves.{Shelf, shelf_of}
 use Rattle.node_shelf.specs.declared.shelf.ShelfPlaces.{ShelfPlaces}
+use Rattle.node_carry.specs.declared.plan.Plan.{Plan}
+use Rattle.node_carry.specs.Carrying.{carried_from, none_carried}
+use Rattle.node_carry.specs.Plans.{IsCounted, IsPlanIn, carried_by}
 use Rattle.node_shelf.specs.Places.{IsShelf, PieceList, shelf_in}
 
 -- payloads, the names and commands that are numbered, and for how many more payloads there is room
@@ -59,3 +62,9 @@ IsNodeAt shelf graph at number = (number < length shelf.nodes) × (unfolded shel
 pub record AreNodesAt (shelf : Shelf) (graph : List Entry) (deps numbers : List ℕ) : Type 0 where
   pub count : length numbers ≡ length deps
   pub each : (i : ℕ) → i < length numbers → IsNodeAt shelf graph (slice_index deps i) (slice_index numbers i)
+
+-- A plan keeps the latest records of payloads, and nothing else.
+pub record KeepsLatest (payloads : List (List ℕ)) (plan : Plan) : Type 0 where
+  pub is : IsPlanIn (shelf_of payloads) plan
+  pub carried : carried_by (shelf_of payloads) plan ≡ carried_from none_carried (latest_alone (shelf_of payloads).records)
+  pub counted : IsCounted (shelf_of payloads) plan

@@ -3,7 +3,8 @@
 ghost use Rattle.std.specs.Prelude.{◌≡◌, ◌↔◌, ◌<◌, ◌≤◌, ◌^◌, ◌++◌, ◌∷◌, [], length, All, IsTrue, IfOk, IfSome, OnOk, option_map};
 ghost use Rattle.vr_base.specs.declared.limits.TheConstants.{ARTEFACT_LIMIT};
 ghost use Rattle.vr_base.specs.View.{view};
-ghost use Rattle.vr_outside.specs.Records.{AreNeeds, IsRecorded, deps_at, latest};
+ghost use Rattle.vr_outside.specs.Records.{AreNeeds, IsRecorded, deps_at, latest, latest_alone};
+ghost use Rattle.node_carry.specs.Carrying.{compacted};
 ghost use Rattle.numbering.specs.Numbers.{IsPlaceOf};
 ghost use Rattle.vr_outside.specs.declared.records.Need.TheVariants.{Fresh};
 ghost use Rattle.node_codec.specs.Known.{AreKnown, IsKnown};
@@ -11,12 +12,13 @@ ghost use Rattle.node_codec.specs.Shelves.{draft_node, shelf_of};
 ghost use Rattle.node_codec.specs.Writing.{draft_of};
 ghost use Rattle.node_table.specs.Rows.{IsRowIn, node_of};
 ghost use Rattle.node_holdings.specs.Additions.{AddsNode, AddsOne, AddsRecord, IsAddition, IsRowOfFile};
-ghost use Rattle.node_holdings.specs.Held.{AreNodesAt, IsLatestAt, IsLatestNode, IsNodeAt, IsNumberOfView};
+ghost use Rattle.node_holdings.specs.Held.{AreNodesAt, IsLatestAt, IsLatestNode, IsNodeAt, IsNumberOfView, KeepsLatest};
 
 use crate::additions::{next_of_node, next_of_row, piece_of_draft, piece_of_node};
 use crate::files::{file_number, row_of_file, text_number};
 use crate::{Addition, KnownNode, NewNode, NextPiece};
 use gate_journal::{Payloads, Ready};
+use node_carry::{Plan, carried_payloads, plan_latest};
 use node_codec::bytes_of;
 use node_shelf::{Pieces, ShelfPlaces, put_node, put_record, shelf_of};
 use node_table::Row;
@@ -288,6 +290,27 @@ impl Holdings {
         let row = self.row_of_file(alloc, entry, known, deps)?;
         self.reserve()?;
         self.next_piece(alloc, graph, at, known, row, artefact)
+    }
+
+    /// What keeps the latest record of each name, and nothing else, by numbers.
+    pub fn latest_plan(&self, alloc: Global) -> Result<Plan, NoMemory>
+        ensures { IfOk result (KeepsLatest self.now.payloads) }
+    {
+        let plan = plan_latest(alloc, &self.pieces, &self.shelf)?;
+        Ok(plan)
+    }
+
+    /// The payloads that keep the latest record of each name, and nothing else.
+    pub fn latest_payloads(&self, alloc: Global, plan: &Plan) -> Result<Payloads, NoMemory>
+        requires { KeepsLatest self.now.payloads plan.now }
+        ensures is { IfOk result
+            (λ payloads. payloads ≡ compacted (shelf_of self.now.payloads).records) }
+        ensures records { IfOk result
+            (λ payloads.
+            (shelf_of payloads).records ≡ latest_alone (shelf_of self.now.payloads).records) }
+    {
+        let payloads = carried_payloads(alloc, &self.pieces, &self.shelf, plan)?;
+        Ok(payloads)
     }
 
     /// Makes room for one more payload. What is held is unchanged.

@@ -8,6 +8,7 @@ mod holdings;
 
 pub use additions::{Addition, KnownNode, NewNode, NextPiece};
 pub use holdings::Holdings;
+pub use node_carry::Plan;
 
 #[cfg(test)]
 mod tests;

@@ -1,3 +1,4 @@
 -- The lemmas.
 pub mod NodeRecords
 pub mod NodeMoments
+pub mod Compacting

@@ -1,13 +1,15 @@
 -- What stops can leave of a store, from what they leave of its journal.
-use Rattle.std.proofs.Common.{◌≡◌, ℕ, List, [], ◌∷◌, ◌++◌, sym, ap, ◌∙◌, inl, inr}
+use Rattle.std.proofs.Common.{◌≡◌, ℕ, List, [], ◌∷◌, ◌++◌, sym, ap, subst, ◌∙◌, inl, inr}
 use Rattle.std.specs.List.{AllByRecursion}
 use Rattle.vr_outside.specs.declared.records.Record.{Record}
-use Rattle.vr_outside.specs.Disks.{DiskState, Image, IsEither, Moments, EachImage, AtAnyMoment, StaysTrue, NeverLoses, OpensWith, added_since}
-use Rattle.vr_outside.specs.Records.{IsAllOrLatest, HasRecordsOf}
-use Rattle.vr_outside.proofs.MomentLaws.{weaker_moments}
+use Rattle.vr_outside.specs.Disks.{DiskState, Image, IsEither, Moments, EachImage, AtAnyMoment, StaysTrue, NeverLoses, OpensWith, added_since, reads_of, IsImage, AreSound, IsSound}
+use Rattle.vr_outside.specs.Records.{IsAllOrLatest, HasRecordsOf, latest_alone}
+use Rattle.vr_outside.proofs.MomentLaws.{joined_moments, started_moments, weaker_moments}
 use Rattle.gate_journal.specs.Payloads.{payloads}
-use Rattle.gate_journal.specs.Journals.{HasPayloadsOf}
-use Rattle.node_store.specs.Stored.{node_records_among, node_records_in}
+use Rattle.gate_journal.specs.Journals.{HasPayloadsOf, JournalState}
+use Rattle.node_holdings.specs.Held.{HoldingState}
+use Rattle.node_store.specs.StoreLaws.{node_store_durable}
+use Rattle.node_store.specs.Stored.{IsNodeStoreInStep, node_records_among, node_records_in}
 use Rattle.node_store.proofs.NodeRecords.{no_longer, none_among}
 
 keeps_as : (Q P R : Image → Type 0) → ((image : Image) → Q image → R image → P image) → ((image : Image) → Q image → P image → R image) → (disk : DiskState) (states : List DiskState) → AllByRecursion (EachImage Q) (disk ∷ states) → StaysTrue P disk states → StaysTrue R disk states
@@ -51,6 +53,13 @@ module _ (old new : Moments) (reads : Image) where
     from : (image : Image) → Left 2 (payloads 2 reads ++ payload ∷ []) image → payloads 2 image ≡ payloads 2 reads ++ payload ∷ [] → node_records_in image ≡ node_records_in reads ++ kept ∷ []
     from image left more = ap node_records_among more ∙ is
 
+  -- the records from before, or the latest of these
+  pub compact_leaves : (after : List (List ℕ)) → node_records_among after ≡ latest_alone (node_records_in reads) → AtAnyMoment old new (Left 2 after) → AtAnyMoment old new (λ image. IsAllOrLatest (node_records_in reads) (node_records_in image))
+  compact_leaves after is moments = weaker_moments old new (Left 2 after) (λ image. IsAllOrLatest (node_records_in reads) (node_records_in image)) to moments where
+    to : (image : Image) → Left 2 after image → IsAllOrLatest (node_records_in reads) (node_records_in image)
+    to image (inl same) = inl (ap node_records_among same)
+    to image (inr kept) = inr (ap node_records_among kept ∙ is)
+
   -- the records from before, or none
   pub reset_leaves : AtAnyMoment old new (Left 2 []) → AtAnyMoment old new (λ image. IsEither (node_records_in image) (node_records_in reads) [])
   reset_leaves moments = weaker_moments old new (Left 2 []) (λ image. IsEither (node_records_in image) (node_records_in reads) []) to moments where
@@ -75,6 +84,10 @@ module _ (old new : Moments) (reads : Image) where
     from : (image : Image) → Left 2 [] image → payloads 2 image ≡ [] → node_records_in image ≡ []
     from image left none = ap node_records_among none ∙ none_among
 
+-- a disk that a store is in step with, where nothing happens
+pub still_leaves : (moments : Moments) (journal : JournalState) (held : HoldingState) → IsNodeStoreInStep journal held moments.now → AtAnyMoment moments moments (λ image. IsAllOrLatest (node_records_in (reads_of moments.now)) (node_records_in image))
+still_leaves moments journal held in_step = started_moments moments (λ image. IsAllOrLatest (node_records_in (reads_of moments.now)) (node_records_in image)) (λ image is. inl (ap node_records_in (node_store_durable journal held moments.now in_step image is)))
+
 -- the records of an image at entry
 pub open_leaves : (old new : Moments) → AtAnyMoment old new (HasPayloadsOf 2 old.now) → AtAnyMoment old new (HasRecordsOf node_records_in old.now)
 open_leaves old new moments = weaker_moments old new (HasPayloadsOf 2 old.now) (HasRecordsOf node_records_in old.now) (λ image has. record { before = has.before; was = has.was; kept = inl (ap node_records_among has.same) }) moments
@@ -84,3 +97,24 @@ pub open_opens : (old new : Moments) (reads : Image) → OpensWith old new (λ i
 open_opens old new reads (inl goes) = inl goes
 open_opens old new reads (inr later) =
     inr (later.0, later.1, weaker_moments later.0 new (λ image. payloads 2 image ≡ payloads 2 reads) (λ image. IsAllOrLatest (node_records_in reads) (node_records_in image)) (λ image same. inl (ap node_records_among same)) later.2)
+
+-- an opening that then compacts, whose records are those that reads gave
+module _ (old middle new : Moments) (same : payloads 2 (reads_of middle.now) ≡ payloads 2 (reads_of old.now)) (compacts : AtAnyMoment middle new (λ image. IsAllOrLatest (node_records_in (reads_of middle.now)) (node_records_in image))) where
+  second : AtAnyMoment middle new (λ image. IsAllOrLatest (node_records_in (reads_of old.now)) (node_records_in image))
+  second = subst (λ (ps : List (List ℕ)). AtAnyMoment middle new (λ image. IsAllOrLatest (node_records_among ps) (node_records_in image))) same compacts
+
+  pub then_leaves : IsImage old.now (reads_of old.now) → AtAnyMoment old middle (HasRecordsOf node_records_in old.now) → AtAnyMoment old new (HasRecordsOf node_records_in old.now)
+  then_leaves sound first = joined_moments old middle new (HasRecordsOf node_records_in old.now) first
+      (weaker_moments middle new (λ image. IsAllOrLatest (node_records_in (reads_of old.now)) (node_records_in image)) (HasRecordsOf node_records_in old.now) (λ image kept. record { before = reads_of old.now; was = sound; kept = kept }) second)
+
+  pub then_opens : OpensWith old middle (λ image. IsAllOrLatest (node_records_in (reads_of old.now)) (node_records_in image)) → OpensWith old new (λ image. IsAllOrLatest (node_records_in (reads_of old.now)) (node_records_in image))
+  then_opens (inl goes) = inr (middle, goes, second)
+  then_opens (inr later) = inr (later.0, later.1, joined_moments later.0 middle new (λ image. IsAllOrLatest (node_records_in (reads_of old.now)) (node_records_in image)) later.2 second)
+
+-- what reads give is an image of each sound moment
+last_of : (P : DiskState → Type 0) (states : List DiskState) (last : DiskState) → AllByRecursion P (states ++ last ∷ []) → P last
+last_of P [] last all = all.0
+last_of P (first ∷ rest) last all = last_of P rest last all.1
+
+pub reads_image : (moments : Moments) → AreSound moments → IsImage moments.now (reads_of moments.now)
+reads_image moments sound = (let now = last_of IsSound moments.past moments.now sound in record { a = now.a.image; b = now.b.image })

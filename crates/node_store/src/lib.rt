@@ -4,3 +4,6 @@
 mod store;
 
 pub use store::{NodeStore, PreparedNode};
+
+#[cfg(test)]
+mod tests;

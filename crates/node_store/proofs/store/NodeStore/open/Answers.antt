@@ -1,56 +1,41 @@
-use Rattle.std.proofs.Common.{sym, subst, ◌∙◌}
-use Rattle.std.specs.Prelude.{◌≡◌, Result, Err}
+use Rattle.std.proofs.Common.{◌≡◌, ap, subst, sym, ◌∙◌}
 use Rattle.std.proofs.lemmas.Result.{err_from_is_err_and}
-use Rattle.vr_outside.specs.Disks.{Goes, Moments, reads_of}
-use Rattle.gate_journal.specs.Journals.{Rests}
-use Rattle.node_store.proofs.NodeMoments.{open_leaves, open_opens}
+use Rattle.vr_outside.specs.Disks.{reads_of}
+use Rattle.vr_outside.specs.Records.{IsAllOrLatest}
+use Rattle.node_store.specs.Stored.{node_records_among, node_records_in}
+use Rattle.std.specs.Prelude.{Err}
+use Rattle.vr_outside.specs.declared.records.StoreFault.{StoreFault}
+use Rattle.node_store.proofs.Compacting.{counts_on}
+use Rattle.node_store.proofs.NodeMoments.{reads_image, then_leaves, then_opens}
 use Rattle.node_store.proofs.store.NodeStore.open.Goals as goal
 
--- a run that wrote nothing, and a fault
-err_rests : {T E : Type 0} (result : Result T E) (fault : E) → result ≡ Err fault → (old new : Moments) → Goes old.now old new → Rests result old new
-err_rests result fault is old new goes = subst (λ r. Rests r old new) (sym is) (record { goes = goes; same = tt })
-
-pub returns-in_err-journal-clause-opens : goal.returns-in_err-journal-clause-opens
-returns-in_err-journal-clause-opens g c = λ told.
+pub returns-in_err-compact_where_asked-clause-any_moment : goal.returns-in_err-compact_where_asked-clause-any_moment
+returns-in_err-compact_where_asked-clause-any_moment g c = λ told.
     let old = g.D.Disk.moments c.args.disk.now in
-    open_opens old (g.D.Disk.moments c.from_disk.new.disk) (reads_of old.now) (c.from_disk.ensures.opens told)
+    then_leaves old (g.D.Disk.moments c.read.new.disk) (g.D.Disk.moments c.compact_where_asked.new.disk) (c.in_ok-store.ensures.keeps told) (c.compact_where_asked.ensures.any_moment told) (reads_image old (g.met.D.Disk.sound c.args.disk.now)) (c.read.ensures.any_moment told)
 
-pub returns-in_err-journal-clause-any_moment : goal.returns-in_err-journal-clause-any_moment
-returns-in_err-journal-clause-any_moment g c = λ told. open_leaves (g.D.Disk.moments c.args.disk.now) (g.D.Disk.moments c.from_disk.new.disk) (c.from_disk.ensures.any_moment told)
+pub returns-in_err-compact_where_asked-clause-opens : goal.returns-in_err-compact_where_asked-clause-opens
+returns-in_err-compact_where_asked-clause-opens g c = λ told.
+    then_opens (g.D.Disk.moments c.args.disk.now) (g.D.Disk.moments c.read.new.disk) (g.D.Disk.moments c.compact_where_asked.new.disk) (c.in_ok-store.ensures.keeps told) (c.compact_where_asked.ensures.any_moment told) (c.read.ensures.opens told)
 
-pub returns-in_err-held-clause-any_moment : goal.returns-in_err-held-clause-any_moment
-returns-in_err-held-clause-any_moment g c = λ told. open_leaves (g.D.Disk.moments c.args.disk.now) (g.D.Disk.moments c.from_disk.new.disk) (c.from_disk.ensures.any_moment told)
-
-pub returns-in_err-held-clause-opens : goal.returns-in_err-held-clause-opens
-returns-in_err-held-clause-opens g c = λ told.
-    let old = g.D.Disk.moments c.args.disk.now in
-    open_opens old (g.D.Disk.moments c.from_disk.new.disk) (reads_of old.now) (c.from_disk.ensures.opens told)
+pub returns-in_err-compact_where_asked-clause-cause : goal.returns-in_err-compact_where_asked-clause-cause
+returns-in_err-compact_where_asked-clause-cause g c =
+    let calls = g.D.Disk.failed_disk_calls in
+    let result = c.from_residual-in_err-compact_where_asked.result in
+    let p = err_from_is_err_and result c.from_residual-in_err-compact_where_asked.ensures.1 in
+    counts_on c.compact_where_asked.result result c.in_err-compact_where_asked.field-0.0 (calls c.args.disk.now) (calls c.read.new.disk) (calls c.compact_where_asked.new.disk) c.in_err-compact_where_asked.was
+    (p.1 ∙ ap (λ (f : StoreFault). Err f) p.2) c.in_ok-store.ensures.cause c.compact_where_asked.ensures.cause
 
 pub returns-clause-any_moment : goal.returns-clause-any_moment
-returns-clause-any_moment g c = λ told. open_leaves (g.D.Disk.moments c.args.disk.now) (g.D.Disk.moments c.from_disk.new.disk) (c.from_disk.ensures.any_moment told)
+returns-clause-any_moment g c = λ told.
+    let old = g.D.Disk.moments c.args.disk.now in
+    then_leaves old (g.D.Disk.moments c.read.new.disk) (g.D.Disk.moments c.compact_where_asked.new.disk) (c.in_ok-store.ensures.keeps told) (c.compact_where_asked.ensures.any_moment told) (reads_image old (g.met.D.Disk.sound c.args.disk.now)) (c.read.ensures.any_moment told)
 
 pub returns-clause-opens : goal.returns-clause-opens
 returns-clause-opens g c = λ told.
-    let old = g.D.Disk.moments c.args.disk.now in
-    open_opens old (g.D.Disk.moments c.from_disk.new.disk) (reads_of old.now) (c.from_disk.ensures.opens told)
+    then_opens (g.D.Disk.moments c.args.disk.now) (g.D.Disk.moments c.read.new.disk) (g.D.Disk.moments c.compact_where_asked.new.disk) (c.in_ok-store.ensures.keeps told) (c.compact_where_asked.ensures.any_moment told) (c.read.ensures.opens told)
 
-pub returns-clause-in_step : goal.returns-clause-in_step
-returns-clause-in_step g c = λ told.
-    record {
-      journal_in_step = c.in_ok-journal.ensures.in_step told;
-      form = c.in_ok-journal.ensures.form;
-      payloads_are = c.in_ok-held.ensures ∙ sym (c.in_ok-journal.ensures.held told);
-    }
-
-pub returns-in_err-journal-clause-rests : goal.returns-in_err-journal-clause-rests
-returns-in_err-journal-clause-rests g c = λ told healthy.
-    let p = err_from_is_err_and c.from_residual.result c.from_residual.ensures.1 in
-    err_rests c.from_residual.result p.0 p.1 (g.D.Disk.moments c.args.disk.now) (g.D.Disk.moments c.from_disk.new.disk) (c.from_disk.ensures.rests told healthy).goes
-
-pub returns-in_err-held-clause-rests : goal.returns-in_err-held-clause-rests
-returns-in_err-held-clause-rests g c = λ told healthy.
-    let p = err_from_is_err_and c.from_residual-in_err-held.result c.from_residual-in_err-held.ensures.1 in
-    err_rests c.from_residual-in_err-held.result p.0 p.1 (g.D.Disk.moments c.args.disk.now) (g.D.Disk.moments c.from_disk.new.disk) (c.from_disk.ensures.rests told healthy).goes
-
-pub returns-clause-rests : goal.returns-clause-rests
-returns-clause-rests g c = λ told healthy. record { goes = (c.from_disk.ensures.rests told healthy).goes; same = (c.in_ok-journal.ensures.rests told healthy).same }
+pub returns-clause-records : goal.returns-clause-records
+returns-clause-records g c = λ told.
+    let new = g.D.Disk.moments c.compact_where_asked.new.disk in
+    subst (λ ps. IsAllOrLatest (node_records_among ps) (node_records_in (reads_of new.now))) (c.in_ok-store.ensures.keeps told) (c.in_ok-compact_where_asked.ensures.records told)

@@ -1,0 +1,12 @@
+-- The lemmas.
+pub mod Places
+pub mod Standing
+pub mod Carried
+pub mod Planned
+pub mod Files
+pub mod Walked
+pub mod Written
+pub mod RecordNames
+pub mod Latest
+pub mod Planning
+pub mod Counting

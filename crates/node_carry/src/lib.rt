@@ -1,0 +1,15 @@
+//! What compaction keeps of a store of nodes: the latest records, and the nodes and texts that they reach, by numbers.
+#![tactic(auto)]
+
+mod nodes;
+mod plan;
+mod sizes;
+mod walking;
+mod writing;
+
+pub use plan::{NodeStep, Plan, Step};
+pub use walking::plan_latest;
+pub use writing::carried_payloads;
+
+#[cfg(test)]
+mod tests;

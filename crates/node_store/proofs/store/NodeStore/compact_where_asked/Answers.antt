@@ -1,0 +1,36 @@
+use Rattle.std.proofs.Common.{◌≡◌, ◌<◌, ◌^◌, true, false, arith}
+use Rattle.node_store.proofs.NodeMoments.{still_leaves}
+use Rattle.node_store.proofs.Compacting.{asked_by, asks_by, length_is}
+use Rattle.node_store.proofs.store.NodeStore.compact_where_asked.Goals as goal
+
+pub returns-then-length-le-DEAD_LIMIT-clause-any_moment : goal.returns-then-length-le-DEAD_LIMIT-clause-any_moment
+returns-then-length-le-DEAD_LIMIT-clause-any_moment g c = λ told. still_leaves (g.D.Disk.moments c.args.disk.now) c.args.self.now.journal c.args.self.now.held (c.requires.in_step told)
+
+pub returns-in_err-plan-clause-any_moment : goal.returns-in_err-plan-clause-any_moment
+returns-in_err-plan-clause-any_moment g c = λ told. still_leaves (g.D.Disk.moments c.args.disk.now) c.args.self.now.journal c.args.self.now.held (c.requires.in_step told)
+
+pub returns-then-not-is_asked-clause-any_moment : goal.returns-then-not-is_asked-clause-any_moment
+returns-then-not-is_asked-clause-any_moment g c = λ told. still_leaves (g.D.Disk.moments c.args.disk.now) c.args.self.now.journal c.args.self.now.held (c.requires.in_step told)
+
+pub returns-then-not-is_asked-clause-compacts : goal.returns-then-not-is_asked-clause-compacts
+returns-then-not-is_asked-clause-compacts g c = λ told asks.
+    let journal = c.args.self.now.journal in
+    let fits : journal.len < 2 ^ 64 = omega (arith, c.length.ensures, c.length.type_inv) in
+    let one : c.is_asked.result ≡ true = c.is_asked.ensures.1 (asks_by c.args.self.now.held.payloads c.in_ok-plan.plan journal.generation journal.len c.in_ok-plan.ensures fits (length_is journal c.args.self.now.held (g.D.Disk.moments c.args.disk.now).now (c.requires.in_step told)) asks) in
+    let zero : c.is_asked.result ≡ false = c.if-not-is_asked.true in
+    absurd cc
+
+pub returns-in_err-replace_by-clause-keeps : goal.returns-in_err-replace_by-clause-keeps
+returns-in_err-replace_by-clause-keeps g c = λ told not_asks.
+    let journal = c.args.self.now.journal in
+    let fits : journal.len < 2 ^ 64 = omega (arith, c.length.ensures, c.length.type_inv) in
+    absurd (not_asks (asked_by c.args.self.now.held.payloads c.in_ok-plan.plan journal.generation journal.len c.in_ok-plan.ensures fits (length_is journal c.args.self.now.held (g.D.Disk.moments c.args.disk.now).now (c.requires.in_step told)) (c.is_asked.ensures.0 c.if-not-is_asked.false)))
+
+pub returns-clause-keeps : goal.returns-clause-keeps
+returns-clause-keeps g c = λ told not_asks.
+    let journal = c.args.self.now.journal in
+    let fits : journal.len < 2 ^ 64 = omega (arith, c.length.ensures, c.length.type_inv) in
+    absurd (not_asks (asked_by c.args.self.now.held.payloads c.in_ok-plan.plan journal.generation journal.len c.in_ok-plan.ensures fits (length_is journal c.args.self.now.held (g.D.Disk.moments c.args.disk.now).now (c.requires.in_step told)) (c.is_asked.ensures.0 c.if-not-is_asked.false)))
+
+pub returns-clause-any_moment : goal.returns-clause-any_moment
+returns-clause-any_moment g c = λ told. c.replace_by.ensures.any_moment told
