@@ -6,3 +6,5 @@ mod Left
 mod Sets
 mod Pieces
 pub mod Decided
+mod Chosen
+mod Selected

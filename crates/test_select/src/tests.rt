@@ -1,9 +1,9 @@
 //! Patterns and names whose answers follow from the rules by hand.
 
-use crate::{matches, read_pattern};
+use crate::{PatternList, full_name, matches, read_pattern, select};
 use std::alloc::Global;
 use std::test::Fail;
-use vr_base::NoMemory;
+use vr_base::{Bench, CaseList, NoMemory, TestCase, Tests, Text};
 
 fn is_match(alloc: Global, pattern: &[u8], name: &[u8]) -> Result<bool, NoMemory> {
     Ok(matches(&read_pattern(alloc, pattern)?, name))
@@ -97,5 +97,146 @@ fn the_empty_name_matches_stars_alone(rt: HostRuntime) -> Result<(), Fail> {
             "{pattern}"
         );
     }
+    Ok(())
+}
+
+/// A bench with a case for each word.
+fn bench_of(alloc: Global, library: &str, name: &str, words: &str) -> Result<Bench, NoMemory> {
+    let mut cases = CaseList::new(alloc);
+    for word in words.split(' ') {
+        cases.push(TestCase {
+            name: Text::from_slice(alloc, word.as_bytes())?,
+            file: 0,
+            at: 0,
+            length: 0,
+        })?;
+    }
+    Ok(Bench {
+        library: Text::from_slice(alloc, library.as_bytes())?,
+        name: Text::from_slice(alloc, name.as_bytes())?,
+        architecture: Text::new(alloc),
+        file: 0,
+        cases,
+        whole: false,
+        same_sim: false,
+    })
+}
+
+/// Two benches, the first with the cases `a` and `b,c` and the second with `one`.
+fn two_benches(alloc: Global) -> Result<Tests, NoMemory> {
+    let mut tests = Tests::new(alloc);
+    tests.push(bench_of(alloc, "tb_lib", "tb_x", "a b,c")?)?;
+    tests.push(bench_of(alloc, "lib", "t", "one")?)?;
+    Ok(tests)
+}
+
+/// Each full name with a blank after it.
+fn names_of(alloc: Global, tests: &Tests) -> Result<Vec<u8>, NoMemory> {
+    let mut names = Vec::new(alloc);
+    for bench in tests.as_slice() {
+        for test_case in bench.cases.as_slice() {
+            names.extend_from_slice(full_name(alloc, bench, test_case)?.as_slice())?;
+            names.push(b' ')?;
+        }
+    }
+    Ok(names)
+}
+
+/// The full names that the words of a line select, as patterns.
+fn selected_names(alloc: Global, words: &str) -> Result<Vec<u8>, NoMemory> {
+    let mut patterns = PatternList::new(alloc);
+    for word in words.split(' ') {
+        patterns.push(read_pattern(alloc, word.as_bytes())?)?;
+    }
+    names_of(alloc, &select(alloc, &two_benches(alloc)?, &patterns)?)
+}
+
+// patterns, and after a `;` the names that they select, each with a blank after it
+static SELECTIONS: &str = "\
+*;tb_lib.tb_x.a tb_lib.tb_x.b,c lib.t.one \n\
+*.b*;tb_lib.tb_x.b,c \n\
+[;\n\
+[!a]*;tb_lib.tb_x.a tb_lib.tb_x.b,c lib.t.one \n\
+lib.t.one tb_lib.tb_x.a;tb_lib.tb_x.a lib.t.one \n\
+lib.t.one lib.t.one;lib.t.one \n\
+lib.t;\n\
+lib.t.one.;\n\
+LIB.t.one;\n\
+lib.t.one *.a;tb_lib.tb_x.a lib.t.one \n\
+lib.t.[!o]ne lib.?.o??;lib.t.one \n\
+**;tb_lib.tb_x.a tb_lib.tb_x.b,c lib.t.one \n\
+";
+
+#[test]
+fn patterns_select_names_in_order(rt: HostRuntime) -> Result<(), Fail> {
+    for line in SELECTIONS.lines() {
+        let Some((words, wanted)) = line.split_once(';') else {
+            return Err(Fail::new("a row of another form"));
+        };
+        let found = selected_names(rt.alloc(), words)?;
+        assert!(rt; found.as_slice() == wanted.as_bytes(), "{line}");
+    }
+    Ok(())
+}
+
+/// A name of four letters for each number.
+fn push_word(name: &mut Vec<u8>, number: u32) -> Result<(), NoMemory> {
+    let mut left = number;
+    for _letter in 0..4 {
+        name.push(b'a' + (left % 26) as u8)?;
+        left /= 26;
+    }
+    Ok(())
+}
+
+/// A bench `l.t` with so many cases, and a pattern for the name of each.
+fn many_cases(alloc: Global, count: u32) -> Result<(Tests, PatternList), NoMemory> {
+    let mut words = Vec::new(alloc);
+    let mut patterns = PatternList::new(alloc);
+    for number in 0..count {
+        let mut name = Vec::from_slice(alloc, b"l.t.")?;
+        push_word(&mut name, number)?;
+        patterns.push(read_pattern(alloc, name.as_slice())?)?;
+        push_word(&mut words, number)?;
+    }
+    let mut cases = CaseList::new(alloc);
+    for word in words.chunks(4) {
+        cases.push(TestCase {
+            name: Text::from_slice(alloc, word)?,
+            file: 0,
+            at: 0,
+            length: 0,
+        })?;
+    }
+    let mut tests = Tests::new(alloc);
+    tests.push(Bench {
+        library: Text::from_slice(alloc, b"l")?,
+        name: Text::from_slice(alloc, b"t")?,
+        architecture: Text::new(alloc),
+        file: 0,
+        cases,
+        whole: false,
+        same_sim: false,
+    })?;
+    Ok((tests, patterns))
+}
+
+#[test]
+fn many_names_are_found_by_an_index(rt: HostRuntime) -> Result<(), Fail> {
+    let (tests, patterns) = many_cases(rt.alloc(), 65_536)?;
+    let selected = select(rt.alloc(), &tests, &patterns)?;
+    for bench in selected.as_slice() {
+        assert!(rt; bench.cases.len() == 65_536);
+    }
+    assert!(rt; selected.len() == 1);
+    Ok(())
+}
+
+#[test]
+fn stars_against_a_long_name(rt: HostRuntime) -> Result<(), Fail> {
+    let mut name = Vec::new(rt.alloc());
+    name.resize(4_194_304, b'a')?;
+    assert!(rt; !is_match(rt.alloc(), b"*aa*aab*a*aa*b", name.as_slice())?);
+    assert!(rt; is_match(rt.alloc(), b"*aa*a*a*aa", name.as_slice())?);
     Ok(())
 }

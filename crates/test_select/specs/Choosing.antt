@@ -1,0 +1,34 @@
+-- Patterns taken apart for many names.
+use Rattle.std.specs.Prelude.{◌≡◌, ℕ, ◌<◌, Bool, ◌||◌, List, [], length, slice_index_or, All, Vec}
+use Rattle.std.specs.Global.{Global}
+use Rattle.std.specs.List.{list_any}
+use Rattle.std.specs.Str.{bytes_eq}
+use Rattle.indexmap.specs.IndexSet.{IndexSet}
+use Rattle.test_select.specs.declared.pattern.Piece.{Piece}
+use Rattle.test_select.specs.declared.choosing.Choice.{Choice}
+use Rattle.test_select.specs.Segments.{is_match}
+use Rattle.test_select.specs.Selection.{is_selected}
+
+-- a name is among those that are asked for as they are
+abbrev pub is_asked_for : {S : Type 0} → IndexSet (Vec ℕ Global) S → List ℕ → Bool
+is_asked_for names name = list_any (λ key. bytes_eq name key.items) names.keys
+
+-- the pattern of a number matches a name
+abbrev pub matches_at : List (List Piece) → List ℕ → ℕ → Bool
+matches_at patterns name number = is_match (slice_index_or patterns number []) name
+
+abbrev pub some_matches : List (List Piece) → List ℕ → List ℕ → Bool
+some_matches patterns numbers name = list_any (matches_at patterns name) numbers
+
+-- a name is chosen
+abbrev pub is_chosen : List (List Piece) → Choice → List ℕ → Bool
+is_chosen patterns choice name = choice.all || (is_asked_for choice.plain name || some_matches patterns choice.others.items name)
+
+-- each number is that of a pattern
+abbrev pub AreNumbersOf : List (List Piece) → List ℕ → Type 0
+AreNumbersOf patterns numbers = All (λ number. number < length patterns) numbers
+
+-- what some patterns match is chosen, and nothing else
+pub record Chooses (patterns some : List (List Piece)) (choice : Choice) : Type 0 where
+  pub exact : (name : List ℕ) → is_chosen patterns choice name ≡ is_selected some name
+  pub numbers : AreNumbersOf patterns choice.others.items

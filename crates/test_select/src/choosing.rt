@@ -1,0 +1,130 @@
+//! Patterns taken apart for many names: names that are asked for as they are, and the others.
+
+ghost use Rattle.std.specs.Prelude.{◌≡◌, ℕ, List, ◌<◌, ◌||◌, ◌∷◌, [], IfOk, IfSome, OnOk, IsTrue, length, map};
+ghost use Rattle.std.specs.Str.{bytes_eq};
+ghost use Rattle.test_select.specs.declared.pattern.Piece.TheVariants.{AnyBytes, Byte};
+ghost use Rattle.test_select.specs.Choosing.{AreNumbersOf, Chooses, is_asked_for, is_chosen, matches_at, some_matches};
+
+use crate::matching::matches;
+use crate::pattern::{Pattern, PatternList, Piece};
+use indexmap::IndexSet;
+use std::alloc::Global;
+use vr_base::NoMemory;
+
+/// What patterns choose: all names, where one of them is a `*` alone; the names that are asked for byte by byte; and
+/// what the patterns of these numbers match.
+#[derive(Drop)]
+pub struct Choice {
+    pub all: bool,
+    pub plain: IndexSet<Vec<u8>>,
+    pub others: Vec<usize>,
+}
+
+/// Whether a pattern is a `*` alone, which matches every name.
+fn is_all(pattern: &Pattern) -> bool
+    ensures { IsTrue result → pattern.now ≡ AnyBytes ∷ [] }
+{
+    match pattern.pieces() {
+        [Piece::AnyBytes] => true,
+        _ => false,
+    }
+}
+
+/// The byte that a piece stands for, if it stands for this one alone.
+fn plain_byte(piece: &Piece) -> Option<u8>
+    ensures { IfSome result (λ byte. piece.now ≡ Byte byte) }
+{
+    match piece {
+        Piece::Byte(byte) => Some(*byte),
+        _ => None,
+    }
+}
+
+/// The only name that a pattern matches, where each of its pieces is a byte.
+fn plain_name(alloc: Global, pattern: &Pattern) -> Result<Option<Vec<u8>>, NoMemory>
+    ensures { IfOk result (λ found. IfSome found (λ name. pattern.now ≡ map Byte name.items)) }
+{
+    let mut name = Vec::new(alloc);
+    for piece in pattern.pieces() {
+        let Some(byte) = plain_byte(piece) else {
+            return Ok(None);
+        };
+        name.push(byte)?;
+    }
+    Ok(Some(name))
+}
+
+/// Adds a name that is asked for as it is.
+fn add_name(names: &mut IndexSet<Vec<u8>>, name: Vec<u8>) -> Result<(), NoMemory>
+    ensures { OnOk result ((other : List ℕ) →
+        is_asked_for names.new other
+        ≡ (is_asked_for names.old other || bytes_eq other name.items)) }
+{
+    if !names.contains(name.as_slice()) {
+        names.insert(name)?;
+    }
+    Ok(())
+}
+
+/// Adds the pattern of a number.
+fn add(
+    alloc: Global,
+    patterns: &PatternList,
+    number: usize,
+    choice: &mut Choice,
+) -> Result<(), NoMemory>
+    requires number { number < length patterns.now }
+    requires numbers { AreNumbersOf patterns.now choice.now.others.items }
+    ensures exact { OnOk result ((name : List ℕ) → is_chosen patterns.now choice.new name
+        ≡ (is_chosen patterns.now choice.old name || matches_at patterns.now name number)) }
+    ensures numbers { OnOk result (AreNumbersOf patterns.now choice.new.others.items) }
+{
+    let pattern = patterns.get(number as u64);
+    if is_all(pattern) {
+        choice.all = true;
+        return Ok(());
+    }
+    match plain_name(alloc, pattern)? {
+        Some(name) => add_name(&mut choice.plain, name)?,
+        None => choice.others.push(number)?,
+    }
+    Ok(())
+}
+
+/// What patterns choose.
+pub fn choice_of(alloc: Global, patterns: &PatternList) -> Result<Choice, NoMemory>
+    ensures { IfOk result (λ choice. Chooses patterns.now patterns.now choice) }
+{
+    let mut choice = Choice {
+        all: false,
+        plain: IndexSet::new(alloc),
+        others: Vec::new(alloc),
+    };
+    for number in 0..patterns.len() {
+        add(alloc, patterns, number as usize, &mut choice)?;
+    }
+    Ok(choice)
+}
+
+/// Whether the pattern of some number matches a name.
+fn some_matches(patterns: &PatternList, numbers: &[usize], name: &[u8]) -> bool
+    requires { AreNumbersOf patterns.now numbers.now }
+    ensures { result ≡ some_matches patterns.now numbers.now name.now }
+{
+    for number in numbers {
+        if matches(patterns.get(*number as u64), name) {
+            return true;
+        }
+    }
+    false
+}
+
+/// Whether a name is chosen: by what it is, or by one of the other patterns.
+pub fn is_chosen(patterns: &PatternList, choice: &Choice, name: &[u8]) -> bool
+    requires { AreNumbersOf patterns.now choice.now.others.items }
+    ensures { result ≡ is_chosen patterns.now choice.now name.now }
+{
+    choice.all
+        || choice.plain.contains(name)
+        || some_matches(patterns, choice.others.as_slice(), name)
+}
