@@ -1,0 +1,16 @@
+-- One unit more.
+use Rattle.std.proofs.Common.{List, sym, subst, take}
+use Rattle.std.proofs.lemmas.List.{take_more}
+use Rattle.vr_base.specs.declared.refs.UnitId.{UnitId}
+use Rattle.test_scan.specs.Architectures.{HoldsArchitectures}
+use Rattle.test_scan.specs.Files.{scanned}
+use Rattle.test_scan.proofs.architectures.index_of.Goals as goal
+
+abbrev none : UnitId
+none = record { file = 0; unit = 0 }
+
+pub loop-id-preserved : goal.loop-id-preserved
+loop-id-preserved c = record {
+  within = c.in_ok-add_unit.ensures.within;
+  holds = subst (λ (ids : List UnitId). HoldsArchitectures (scanned c.args.files) ids c.add_unit.new.index) (sym (take_more c.args.ids.now c.loop-id.id-index none c.loop-id-test.true)) (c.in_ok-add_unit.ensures.added (take c.loop-id.id-index c.args.ids.now) c.loop-id.invariant.holds);
+}

@@ -1,0 +1,118 @@
+//! The architectures of each entity of a project: the first, and whether there are more.
+
+ghost use Rattle.std.specs.Prelude.{◌≡◌, ◌∷◌, ◌++◌, [], List, IfOk, OnOk, true};
+ghost use Rattle.vr_base.specs.declared.refs.UnitId.{UnitId as UnitNumber};
+ghost use Rattle.indexmap.specs.IndexMap.{get};
+ghost use Rattle.scan_spec.specs.Dependencies.{is_architecture_kind};
+ghost use Rattle.scan_spec.specs.References.{owner_name};
+ghost use Rattle.test_scan.specs.Benches.{design_unit};
+ghost use Rattle.test_scan.specs.Files.{AreFiles, AreInFiles, IsInFiles, scanned};
+ghost use Rattle.test_scan.specs.Architectures.{AreFoundInFiles, HoldsArchitectures, one_more};
+ghost use Rattle.test_scan.specs.Entities.{is_same_entity};
+
+use crate::files::{Files, Found, find};
+use crate::key::{EntityKey, entity_key};
+use indexmap::IndexMap;
+use std::alloc::Global;
+use vr_base::{MaybeText, NoMemory, Text, UnitId, UnitKind};
+
+/// The first architecture of an entity, and whether there are more.
+#[derive(Clone, Copy)]
+pub struct Architectures {
+    pub first: UnitId,
+    pub several: bool,
+}
+
+/// The architectures by entity, in project and unit order.
+pub type Index = IndexMap<EntityKey, Architectures>;
+
+/// The architectures of an entity, if it has one.
+pub fn architectures_of(index: &Index, key: &EntityKey) -> Option<Architectures>
+    ensures { result ≡ get is_same_entity index.now key.now }
+{
+    match index.get(key) {
+        Some(found) => Some(*found),
+        None => None,
+    }
+}
+
+/// One architecture more.
+fn one_more(found: Option<Architectures>, id: UnitId) -> Architectures
+    ensures { result ≡ one_more found id }
+{
+    match found {
+        Some(found) => Architectures {
+            first: found.first,
+            several: true,
+        },
+        None => Architectures {
+            first: id,
+            several: false,
+        },
+    }
+}
+
+fn is_architecture(kind: UnitKind) -> bool
+    ensures { result ≡ is_architecture_kind kind }
+{
+    match kind {
+        UnitKind::Architecture => true,
+        _ => false,
+    }
+}
+
+/// The name of an owner, which is empty where there is none.
+fn owner_text(alloc: Global, owner: &MaybeText) -> Result<Text, NoMemory>
+    ensures { IfOk result (λ name. name ≡ owner_name owner.now) }
+{
+    match owner {
+        MaybeText::Nothing => Ok(Text::new(alloc)),
+        MaybeText::Given(name) => name.copy(alloc),
+    }
+}
+
+/// The name of the entity of a unit.
+fn owner_key(alloc: Global, found: Found) -> Result<EntityKey, NoMemory>
+    ensures { IfOk result (λ key. key ≡
+        record {
+          library = found.entry.library.now;
+          entity = owner_name found.entry.unit.now.owner;
+        }) }
+{
+    let owner = owner_text(alloc, &found.unit.owner)?;
+    entity_key(alloc, found.library, &owner)
+}
+
+/// Adds a unit, where it is an architecture.
+fn add_unit(alloc: Global, files: Files, id: UnitId, index: &mut Index) -> Result<(), NoMemory>
+    requires files { AreFiles files }
+    requires id { IsInFiles files id }
+    requires within { AreFoundInFiles files index.now }
+    ensures within { OnOk result (AreFoundInFiles files.entry index.new) }
+    ensures added { OnOk result ((ids : List UnitNumber) →
+        HoldsArchitectures (scanned files.entry) ids index.old →
+        HoldsArchitectures (scanned files.entry) (ids ++ id ∷ []) index.new) }
+{
+    let found = find(files, id);
+    if !is_architecture(found.unit.kind) {
+        return Ok(());
+    }
+    let key = owner_key(alloc, found)?;
+    let more = one_more(architectures_of(index, &key), id);
+    index.insert(key, more)?;
+    Ok(())
+}
+
+/// The architectures of the entities of some units.
+pub fn index_of(alloc: Global, files: Files, ids: &[UnitId]) -> Result<Index, NoMemory>
+    requires files { AreFiles files }
+    requires within { AreInFiles files ids.now }
+    ensures within { IfOk result (λ index. AreFoundInFiles files.entry index) }
+    ensures holds { IfOk result (λ index. HoldsArchitectures (scanned files.entry) ids.now index) }
+{
+    let mut index = Index::new(alloc);
+    for id in ids {
+        add_unit(alloc, files, *id, &mut index)?;
+    }
+    Ok(index)
+}
