@@ -1,8 +1,11 @@
 -- One step of reading, and then the next.
-use Rattle.std.proofs.Common.{◌≡◌, ℕ, ◌≤◌, List, length, Result, Ok, Err, sym, ap, subst, ◌∙◌, inl, inr}
-use Rattle.std.specs.Prelude.{IfOk}
+use Rattle.std.proofs.Common.{◌≡◌, ℕ, ◌≤◌, Bool, true, false, List, [], length, Result, Ok, Err, sym, ap, subst, ◌∙◌, inl, inr}
+use Rattle.std.specs.Prelude.{IfOk, nat_le}
 use Rattle.std.proofs.lemmas.Bool.{cases_Bool, cond-true, cond-false}
+use Rattle.vr_base.specs.declared.bench.Bench.{Bench}
+use Rattle.vr_base.specs.declared.bench.TestFault.{TestFault}
 use Rattle.vr_base.specs.declared.design.Scan.{Scan}
+use Rattle.vr_base.specs.declared.outcome.Limit.TheVariants as limit
 use Rattle.vr_base.specs.declared.linking.Linked.{Linked}
 use Rattle.vr_base.specs.declared.linking.LinkFault.{LinkFault}
 use Rattle.vr_base.specs.declared.project.Project.{Project}
@@ -11,11 +14,13 @@ use Rattle.order_spec.specs.BuildOrder.{FileOrder, Ordered, Cyclic, file_order}
 use Rattle.order_spec.specs.LinkedGraph.{FitTexts}
 use Rattle.scan_spec.specs.Dependencies.{link_units, link_of}
 use Rattle.scan_spec.specs.Scans.{AreScansOf}
-use Rattle.vr_base.specs.declared.limits.TheConstants.{FILE_LIMIT}
+use Rattle.test_select.specs.Selection.{count_of_tests}
+use Rattle.test_scan.specs.Benches.{sources_of, tests_of}
+use Rattle.vr_base.specs.declared.limits.TheConstants.{CASE_LIMIT, FILE_LIMIT}
 use Rattle.project_reading.specs.declared.linking.ReadProject.{ReadProject}
 use Rattle.project_reading.specs.declared.stops.ReadStop.{ReadStop}
 use Rattle.project_reading.specs.declared.stops.ReadStop.TheVariants as stop
-use Rattle.project_reading.specs.Reading.{SourceReading, Found, then_read, linked_or, order_or, listed_reading, linked_reading, ordered_reading, links_of, scanned_reading}
+use Rattle.project_reading.specs.Reading.{SourceReading, Over, Found, then_read, linked_or, order_or, tests_or, wanted_tests, found_reading, listed_reading, linked_reading, order_reading, ordered_reading, links_of, scanned_reading}
 use Rattle.project_reading.specs.Sources.{Gives, LeadsTo, IsReadProject}
 
 -- a step gives nothing to go on with
@@ -36,31 +41,47 @@ has_parts : (mine read : ReadProject) → Found mine ≡ Found read → HasParts
 has_parts mine read same = (cc, cc)
 
 module _ (project : Project) (texts : List (List ℕ)) (scans : List Scan) (read : ReadProject) where
-  of_order : (links : Linked) (said : FileOrder) → then_read (ordered_reading project texts scans links) (order_or project.files said) ≡ Found read → HasParts project scans read
-  of_order links (Ordered order) is = has_parts _ read is
-  of_order links (Cyclic cycle) is = let nothing : ⊥ = cc in absurd nothing
+  module _ (found : List Bench → SourceReading) (has : (tests : List Bench) → found tests ≡ Found read → HasParts project scans read) where
+    of_benches : (said : Result (List Bench) TestFault) → then_read found (tests_or said) ≡ Found read → HasParts project scans read
+    of_benches (Ok tests) is =
+        elim (cases_Bool (nat_le (count_of_tests tests) CASE_LIMIT)) [
+          | inl few ↦ has tests (sym (ap (then_read found) (cond-true (nat_le (count_of_tests tests) CASE_LIMIT) (Ok tests) (Err (Over limit.Tests CASE_LIMIT)) few)) ∙ is)
+          | inr many ↦ let over : Over limit.Tests CASE_LIMIT ≡ Found read = sym (ap (then_read found) (cond-false (nat_le (count_of_tests tests) CASE_LIMIT) (Ok tests) (Err (Over limit.Tests CASE_LIMIT)) many)) ∙ is in
+              let nothing : ⊥ = cc in absurd nothing
+        ]
+    of_benches (Err fault) is = let nothing : ⊥ = cc in absurd nothing
 
-  of_links : (said : Result Linked LinkFault) → then_read (linked_reading project texts scans) (linked_or said) ≡ Found read → HasParts project scans read
-  of_links (Ok links) is = of_order links (file_order links.edges) is
-  of_links (Err fault) is = let nothing : ⊥ = cc in absurd nothing
+    of_tests : (wanted : Bool) → then_read found (wanted_tests wanted project texts scans) ≡ Found read → HasParts project scans read
+    unfolding wanted_tests
+    of_tests true is = of_benches (tests_of (sources_of project texts scans)) is
+    of_tests false is = has [] is
 
-  parts : scanned_reading project texts scans ≡ Found read → HasParts project scans read
-  unfolding scanned_reading
-  parts is =
-      elim (cases_Bool project.listed) [
-        | inl listed ↦ has_parts _ read (sym (cond-true project.listed (listed_reading project texts scans) (then_read (linked_reading project texts scans) (links_of project texts scans)) listed) ∙ is)
-        | inr unlisted ↦ of_links (link_of project (link_units 0 project.files texts scans)) (sym (cond-false project.listed (listed_reading project texts scans) (then_read (linked_reading project texts scans) (links_of project texts scans)) unlisted) ∙ is)
-      ]
+  module _ (wanted : Bool) where
+    of_order : (links : Linked) (said : FileOrder) → then_read (order_reading wanted project texts scans links) (order_or project.files said) ≡ Found read → HasParts project scans read
+    of_order links (Ordered order) is = of_tests (ordered_reading project texts scans links order) (λ tests same. has_parts _ read same) wanted is
+    of_order links (Cyclic cycle) is = let nothing : ⊥ = cc in absurd nothing
+
+    of_links : (said : Result Linked LinkFault) → then_read (linked_reading wanted project texts scans) (linked_or said) ≡ Found read → HasParts project scans read
+    of_links (Ok links) is = of_order links (file_order links.edges) is
+    of_links (Err fault) is = let nothing : ⊥ = cc in absurd nothing
+
+    parts : scanned_reading wanted project texts scans ≡ Found read → HasParts project scans read
+    unfolding scanned_reading
+    parts is =
+        elim (cases_Bool project.listed) [
+          | inl listed ↦ of_tests (found_reading project texts scans) (λ tests same. has_parts _ read same) wanted (sym (cond-true project.listed (listed_reading wanted project texts scans) (then_read (linked_reading wanted project texts scans) (links_of project texts scans)) listed) ∙ is)
+          | inr unlisted ↦ of_links (link_of project (link_units 0 project.files texts scans)) (sym (cond-false project.listed (listed_reading wanted project texts scans) (then_read (linked_reading wanted project texts scans) (links_of project texts scans)) unlisted) ∙ is)
+        ]
 
 -- what is read of a project with its texts and scans
-pub is_read : (project : Project) (texts : List (List ℕ)) (scans : List Scan) → IsProject project → length project.files ≤ FILE_LIMIT → FitTexts project.files texts → AreScansOf texts scans → (result : Result ReadProject ReadStop) → LeadsTo (scanned_reading project texts scans) result → IfOk result IsReadProject
-is_read project texts scans proper few fit are (Err e) leads = tt
-is_read project texts scans proper few fit are (Ok read) leads =
-    let same = parts project texts scans read leads in record {
+pub is_read : (wanted : Bool) (project : Project) (texts : List (List ℕ)) (scans : List Scan) → IsProject project → length project.files ≤ FILE_LIMIT → FitTexts project.files texts → AreScansOf texts scans → (result : Result ReadProject ReadStop) → LeadsTo (scanned_reading wanted project texts scans) result → IfOk result (IsReadProject wanted)
+is_read wanted project texts scans proper few fit are (Err e) leads = tt
+is_read wanted project texts scans proper few fit are (Ok read) leads =
+    let same = parts project texts scans read wanted leads in record {
       project = subst IsProject same.0 proper;
       few = subst (λ (p : Project). length p.files ≤ FILE_LIMIT) same.0 few;
       texts = texts;
       fit = subst (λ (p : Project). FitTexts p.files texts) same.0 fit;
       scans = subst (AreScansOf texts) same.1 are;
-      whole = subst (λ (p : Project). scanned_reading p texts read.scans ≡ Found read) same.0 (subst (λ (ss : List Scan). scanned_reading project texts ss ≡ Found read) same.1 leads);
+      whole = subst (λ (p : Project). scanned_reading wanted p texts read.scans ≡ Found read) same.0 (subst (λ (ss : List Scan). scanned_reading wanted project texts ss ≡ Found read) same.1 leads);
     }

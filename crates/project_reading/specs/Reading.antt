@@ -1,10 +1,12 @@
 -- What the sources of a project say is to be done: a function of what a tree holds and lists.
-use Rattle.std.specs.Prelude.{ℕ, ◌+◌, nat_le, if◌then◌else◌, List, [], ◌∷◌, length, codes, slice_get, Option, option_map, Result, Ok, Err}
+use Rattle.std.specs.Prelude.{ℕ, ◌+◌, nat_le, Bool, if◌then◌else◌, List, [], ◌∷◌, length, codes, slice_get, Option, option_map, Result, Ok, Err}
 use Rattle.std.specs.List.{filter_map}
 use Rattle.vr_base.specs.declared.file.FileName.{FileName}
 use Rattle.vr_base.specs.declared.project.Project.{Project}
 use Rattle.vr_base.specs.declared.project.ProjectFile.{ProjectFile}
 use Rattle.vr_base.specs.declared.project.ProjectFault.{ProjectFault}
+use Rattle.vr_base.specs.declared.bench.Bench.{Bench}
+use Rattle.vr_base.specs.declared.bench.TestFault.{TestFault}
 use Rattle.vr_base.specs.declared.design.Scan.{Scan}
 use Rattle.vr_base.specs.declared.linking.Linked.{Linked}
 use Rattle.vr_base.specs.declared.linking.LinkFault.{LinkFault}
@@ -13,7 +15,7 @@ use Rattle.vr_base.specs.declared.outcome.Refusal.{Refusal}
 use Rattle.vr_base.specs.declared.outcome.Refusal.TheVariants as refusal
 use Rattle.vr_base.specs.declared.outcome.Limit.{Limit}
 use Rattle.vr_base.specs.declared.outcome.Limit.TheVariants as limit
-use Rattle.vr_base.specs.declared.limits.TheConstants.{FILE_LIMIT, GRAPH_TEXT_LIMIT, TEXT_LIMIT, NAME_LIMIT}
+use Rattle.vr_base.specs.declared.limits.TheConstants.{CASE_LIMIT, FILE_LIMIT, GRAPH_TEXT_LIMIT, TEXT_LIMIT, NAME_LIMIT}
 use Rattle.vr_base.specs.PresentGraph.{listed}
 use Rattle.vr_outside.specs.declared.tree.ReadEnd.{ReadEnd}
 use Rattle.vr_outside.specs.declared.tree.ReadEnd.TheVariants as read
@@ -24,6 +26,8 @@ use Rattle.project_file.specs.Csv.{csv_project}
 use Rattle.project_file.specs.Toml.{toml_project}
 use Rattle.scan_spec.specs.Scans.{Finding, Clean, Lexical, Grammatical}
 use Rattle.scan_spec.specs.Dependencies.{link_units, link_of}
+use Rattle.test_select.specs.Selection.{count_of_tests}
+use Rattle.test_scan.specs.Benches.{sources_of, tests_of}
 use Rattle.order_spec.specs.BuildOrder.{FileOrder, Ordered, Cyclic, file_order}
 use Rattle.order_spec.specs.LinkedGraph.{linked}
 use Rattle.project_reading.specs.declared.linking.ReadProject.{ReadProject}
@@ -131,33 +135,51 @@ abbrev pub order_or : List ProjectFile → FileOrder → Result (List ℕ) Sourc
 order_or files (Ordered order) = Ok order
 order_or files (Cyclic cycle) = Err (Stops (refusal.Cycle (names_at files cycle)))
 
--- a linked project, its graph in compile order
-abbrev pub ordered_reading : Project → List (List ℕ) → List Scan → Linked → List ℕ → SourceReading
-ordered_reading project texts scans links order = Found (record { project = project; graph = linked project.files texts links.edges order; scans = scans; warnings = links.warnings })
+-- ## The tests
 
-abbrev pub linked_reading : Project → List (List ℕ) → List Scan → Linked → SourceReading
-linked_reading project texts scans links = then_read (ordered_reading project texts scans links) (order_or project.files (file_order links.edges))
+-- the tests of benches, where they have no more cases together than they may
+abbrev pub tests_or : Result (List Bench) TestFault → Result (List Bench) SourceReading
+tests_or (Ok tests) = if nat_le (count_of_tests tests) CASE_LIMIT then Ok tests else Err (Over limit.Tests CASE_LIMIT)
+tests_or (Err fault) = Err (Stops (refusal.Tests fault))
 
--- a listed project, its graph in listed order
-abbrev pub listed_reading : Project → List (List ℕ) → List Scan → SourceReading
-listed_reading project texts scans = Found (record { project = project; graph = listed project.files texts; scans = scans; warnings = [] })
-
--- the reading of a project of these texts and scans
-unfoldable pub scanned_reading : Project → List (List ℕ) → List Scan → SourceReading
-scanned_reading project texts scans = if project.listed then listed_reading project texts scans else then_read (linked_reading project texts scans) (links_of project texts scans)
+-- the tests of a project of these texts and scans, where they are wanted, and else none
+unfoldable pub wanted_tests : (wanted : Bool) → Project → List (List ℕ) → List Scan → Result (List Bench) SourceReading
+wanted_tests wanted project texts scans = if wanted then tests_or (tests_of (sources_of project texts scans)) else Ok []
 
 -- ## All
 
-abbrev pub texts_reading : (List ℕ → Finding) → Project → List (List ℕ) → SourceReading
-texts_reading scan project texts = then_read (scanned_reading project texts) (scans_of scan project.files texts)
+-- a linked project, its graph in compile order
+abbrev pub ordered_reading : Project → List (List ℕ) → List Scan → Linked → List ℕ → List Bench → SourceReading
+ordered_reading project texts scans links order tests = Found (record { project = project; graph = linked project.files texts links.edges order; scans = scans; warnings = links.warnings; tests = tests })
 
-abbrev pub files_reading : (List ℕ → Finding) → (List ℕ → Option (List ℕ)) → Project → SourceReading
-files_reading scan file project = then_read (texts_reading scan project) (texts_of file 0 project.files)
+abbrev pub order_reading : Bool → Project → List (List ℕ) → List Scan → Linked → List ℕ → SourceReading
+order_reading wanted project texts scans links order = then_read (ordered_reading project texts scans links order) (wanted_tests wanted project texts scans)
+
+abbrev pub linked_reading : Bool → Project → List (List ℕ) → List Scan → Linked → SourceReading
+linked_reading wanted project texts scans links = then_read (order_reading wanted project texts scans links) (order_or project.files (file_order links.edges))
+
+-- a listed project, its graph in listed order
+abbrev pub found_reading : Project → List (List ℕ) → List Scan → List Bench → SourceReading
+found_reading project texts scans tests = Found (record { project = project; graph = listed project.files texts; scans = scans; warnings = []; tests = tests })
+
+abbrev pub listed_reading : Bool → Project → List (List ℕ) → List Scan → SourceReading
+listed_reading wanted project texts scans = then_read (found_reading project texts scans) (wanted_tests wanted project texts scans)
+
+-- The reading of a project of these texts and scans, with its tests where they are wanted. What is wrong with the names of
+-- its units or with their order comes first.
+unfoldable pub scanned_reading : Bool → Project → List (List ℕ) → List Scan → SourceReading
+scanned_reading wanted project texts scans = if project.listed then listed_reading wanted project texts scans else then_read (linked_reading wanted project texts scans) (links_of project texts scans)
+
+abbrev pub texts_reading : Bool → (List ℕ → Finding) → Project → List (List ℕ) → SourceReading
+texts_reading wanted scan project texts = then_read (scanned_reading wanted project texts) (scans_of scan project.files texts)
+
+abbrev pub files_reading : Bool → (List ℕ → Finding) → (List ℕ → Option (List ℕ)) → Project → SourceReading
+files_reading wanted scan file project = then_read (texts_reading wanted scan project) (texts_of file 0 project.files)
 
 -- the reading of a project over these files
-abbrev pub sources_reading : (List ℕ → Finding) → (List ℕ → Option (List ℕ)) → Project → SourceReading
-sources_reading scan file project = if nat_le (length project.files) FILE_LIMIT then files_reading scan file project else Over limit.Files FILE_LIMIT
+abbrev pub sources_reading : Bool → (List ℕ → Finding) → (List ℕ → Option (List ℕ)) → Project → SourceReading
+sources_reading wanted scan file project = if nat_le (length project.files) FILE_LIMIT then files_reading wanted scan file project else Over limit.Files FILE_LIMIT
 
--- the reading of a tree of these files, which lists these names, over a scanner
-unfoldable pub project_reading : (List ℕ → Finding) → (List ℕ → Option (List ℕ)) → List (List ℕ) → SourceReading
-project_reading scan file listed = then_read (sources_reading scan file) (project_in file listed)
+-- the reading of a tree of these files, which lists these names, over a scanner, with tests where they are wanted
+unfoldable pub project_reading : (List ℕ → Finding) → (List ℕ → Option (List ℕ)) → List (List ℕ) → (wanted : Bool) → SourceReading
+project_reading scan file listed wanted = then_read (sources_reading wanted scan file) (project_in file listed)

@@ -1,5 +1,5 @@
 -- What the steps of reading give, and what each answer comes of.
-use Rattle.std.specs.Prelude.{◌≡◌, ℕ, ◌≤◌, List, length, Result, Ok, Err}
+use Rattle.std.specs.Prelude.{◌≡◌, ℕ, ◌≤◌, Bool, List, length, Result, Ok, Err}
 use Rattle.vr_base.specs.Projects.{IsProject}
 use Rattle.vr_outside.specs.Counts.{Counted}
 use Rattle.order_spec.specs.LinkedGraph.{FitTexts}
@@ -42,12 +42,12 @@ IsPlain (Err (stop.Over limit number)) = ⊥
 IsPlain (Err stop.Failed) = Unit {0}
 IsPlain (Err stop.NoMemory) = Unit {0}
 
--- What was read is a project, some text for each of its files, the scans of these texts, and what they give, whatever the
--- tree tells.
-pub record IsReadProject (read : ReadProject) : Type 0 where
+-- What was read is a project, some text for each of its files, the scans of these texts, and what they give, with tests or
+-- without, whatever the tree tells.
+pub record IsReadProject (wanted : Bool) (read : ReadProject) : Type 0 where
   pub project : IsProject read.project
   pub few : length read.project.files ≤ FILE_LIMIT
   pub texts : List (List ℕ)
   pub fit : FitTexts read.project.files texts
   pub scans : AreScansOf texts read.scans
-  pub whole : scanned_reading read.project texts read.scans ≡ Found read
+  pub whole : scanned_reading wanted read.project texts read.scans ≡ Found read

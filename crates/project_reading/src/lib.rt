@@ -14,4 +14,6 @@ pub use reading::read_project;
 pub use stops::ReadStop;
 
 #[cfg(test)]
+mod random_tests;
+#[cfg(test)]
 mod tests;

@@ -1,26 +1,35 @@
 //! The graph of a project whose texts and scans are there.
 
-ghost use Rattle.std.specs.Prelude.{◌≡◌, ◌≤◌, ℕ, true, false, ◌∷◌, ◌++◌, [], length, Result, Err, IfOk, OnOk};
+ghost use Rattle.std.specs.Prelude.{◌≡◌, ◌≤◌, ℕ, List, nat_lt, true, false, ◌∷◌, ◌++◌, [], length, Result, Err, IfOk, OnOk};
 ghost use Rattle.vr_base.specs.declared.linking.Linked.{Linked as Links};
 ghost use Rattle.vr_base.specs.declared.linking.LinkFault.{LinkFault as Fault};
 ghost use Rattle.vr_base.specs.Projects.{IsProject};
+ghost use Rattle.vr_base.specs.declared.bench.Bench.{Bench};
 ghost use Rattle.scan_spec.specs.Scans.{AreScansOf};
+ghost use Rattle.test_select.specs.Selection.{count_of_tests};
+ghost use Rattle.test_scan.specs.Benches.{GivesTests, sources_of, tests_of};
 ghost use Rattle.order_spec.specs.BuildOrder.{AreEdges, IsBuildOrder, file_order};
 ghost use Rattle.order_spec.specs.LinkedGraph.{FitTexts};
+ghost use Rattle.name_scope.specs.Scopes.{AreRolesOf};
 ghost use Rattle.file_graph.specs.Results.{GivesLinks};
-ghost use Rattle.project_reading.specs.Reading.{linked_or, links_of, names_at, order_or, listed_reading, linked_reading, then_read, scanned_reading};
+ghost use Rattle.project_reading.specs.Reading.{linked_or, links_of, names_at, order_or, wanted_tests, tests_or, listed_reading, order_reading, linked_reading, then_read, scanned_reading};
 ghost use Rattle.project_reading.specs.Sources.{Gives, LeadsTo, ReadCounts};
 
 use crate::stops::ReadStop;
 use build_order::order;
-use file_graph::link;
+use file_graph::link_by_roles;
 use present_graph::graph_of;
 use source_view::listed_graph;
 use std::alloc::Global;
+use test_scan::benches;
 use vr_base::{
-    Edges, FILE_LIMIT, FileList, Graph, LinkFault, Linked, NoMemory, Order, OrderFault, Project,
-    ProjectFile, Refusal, Scans, TextList, WarningList,
+    CASE_LIMIT, Edges, FILE_LIMIT, FileList, Graph, Items, Limit, LinkFault, Linked, NoMemory,
+    Order, OrderFault, Project, ProjectFile, Refusal, RoleList, Scans, TestFault, Tests, TextList,
+    WarningList,
 };
+
+/// The most cases of all benches.
+const MOST_CASES: u64 = CASE_LIMIT as u64;
 
 /// What is read of a project.
 #[derive(Drop)]
@@ -32,6 +41,8 @@ pub struct ReadProject {
     pub scans: Scans,
     /// The uses of whole libraries that give no dependency, in project order.
     pub warnings: WarningList,
+    /// Its tests, where they were wanted, in project order; else none.
+    pub tests: Tests,
 }
 
 /// Why a project whose names of units are wrong isn't compiled.
@@ -80,16 +91,18 @@ fn links_of(
     project: &Project,
     texts: &TextList,
     scans: &Scans,
+    roles: &Items<RoleList>,
 ) -> Result<Linked, ReadStop>
     requires few { length project.now.files ≤ FILE_LIMIT }
     requires texts { FitTexts project.now.files texts.now }
     requires scans { AreScansOf texts.now scans.now }
+    requires roles { AreRolesOf texts.now scans.now roles.now }
     ensures links { Gives (links_of project.now texts.now scans.now) result }
     ensures edges { IfOk result (λ links. AreEdges links.edges) }
     ensures count { IfOk result (λ links. length links.edges ≡ length project.now.files) }
     ensures cause { (count : ℕ) → ReadCounts result count count }
 {
-    match link(alloc, project, texts, scans) {
+    match link_by_roles(alloc, project, texts, scans, roles) {
         Ok(links) => Ok(links),
         Err(fault) => Err(link_stop(fault)),
     }
@@ -138,60 +151,90 @@ fn order_of(alloc: Global, files: &[ProjectFile], edges: &Edges) -> Result<Order
     }
 }
 
+/// Why a project whose benches are wrong isn't run.
+fn test_stop(fault: TestFault) -> ReadStop
+    ensures stop { (said : Result (List Bench) TestFault) → GivesTests said (Err fault) →
+        Gives {T = List Bench} (tests_or said) (Err result) }
+    ensures cause { (count : ℕ) → ReadCounts {T = List Bench} (Err result) count count }
+{
+    match fault {
+        TestFault::NoMemory => ReadStop::NoMemory,
+        fault => ReadStop::Refused(Refusal::Tests { fault }),
+    }
+}
+
+/// Whether benches have more cases than there may be.
+fn are_many(tests: &Tests) -> bool
+    ensures { result ≡ nat_lt CASE_LIMIT (count_of_tests tests.now) }
+{
+    let tests = tests.as_slice();
+    let mut left = MOST_CASES;
+    for i in 0..tests.len() {
+        let count = tests[i].cases.len();
+        if count > left {
+            return true;
+        }
+        left -= count;
+    }
+    false
+}
+
+/// Tests of no more cases than there may be.
+fn few_tests(tests: Tests) -> Result<Tests, ReadStop>
+    ensures tests { Gives (tests_or (Ok tests)) result }
+    ensures cause { (count : ℕ) → ReadCounts result count count }
+{
+    if are_many(&tests) {
+        return Err(ReadStop::Over(Limit::Tests, MOST_CASES));
+    }
+    Ok(tests)
+}
+
+/// The tests of a project, or what is wrong with them.
+fn found_tests(
+    alloc: Global,
+    project: &Project,
+    texts: &TextList,
+    scans: &Scans,
+) -> Result<Tests, ReadStop>
+    requires few { length project.now.files ≤ FILE_LIMIT }
+    requires texts { FitTexts project.now.files texts.now }
+    requires scans { AreScansOf texts.now scans.now }
+    ensures tests { Gives
+        (tests_or (tests_of (sources_of project.now texts.now scans.now))) result }
+    ensures cause { (count : ℕ) → ReadCounts result count count }
+{
+    match benches(alloc, project, texts, scans) {
+        Ok(tests) => few_tests(tests),
+        Err(fault) => Err(test_stop(fault)),
+    }
+}
+
+/// The tests of a project where they are wanted, or what is wrong with them; else none.
+#[tactic(auto, unfolding(crate::specs::Reading::wanted_tests))]
+fn wanted_tests(
+    alloc: Global,
+    wanted: bool,
+    project: &Project,
+    texts: &TextList,
+    scans: &Scans,
+) -> Result<Tests, ReadStop>
+    requires few { length project.now.files ≤ FILE_LIMIT }
+    requires texts { FitTexts project.now.files texts.now }
+    requires scans { AreScansOf texts.now scans.now }
+    ensures tests { Gives (wanted_tests wanted project.now texts.now scans.now) result }
+    ensures cause { (count : ℕ) → ReadCounts result count count }
+{
+    if !wanted {
+        return Ok(Tests::new(alloc));
+    }
+    found_tests(alloc, project, texts, scans)
+}
+
 /// A listed project, its graph in listed order.
 fn listed_project(
     alloc: Global,
-    project: Project,
-    texts: TextList,
-    scans: Scans,
-) -> Result<ReadProject, ReadStop>
-    requires project { IsProject project }
-    requires few { length project.files ≤ FILE_LIMIT }
-    requires texts { FitTexts project.files texts }
-    ensures reading { LeadsTo (listed_reading project texts scans) result }
-    ensures cause { (count : ℕ) → ReadCounts result count count }
-{
-    let graph = listed_graph(alloc, &project, texts)?;
-    let warnings = WarningList::new(alloc);
-    Ok(ReadProject {
-        project,
-        graph,
-        scans,
-        warnings,
-    })
-}
-
-/// A project with what depends on what in it, its graph in compile order.
-fn linked_project(
-    alloc: Global,
-    project: Project,
-    texts: TextList,
-    scans: Scans,
-    links: Linked,
-) -> Result<ReadProject, ReadStop>
-    requires project { IsProject project }
-    requires texts { FitTexts project.files texts }
-    requires edges { AreEdges links.edges }
-    requires count { length links.edges ≡ length project.files }
-    ensures reading { LeadsTo (linked_reading project texts scans links) result }
-    ensures cause { (count : ℕ) → ReadCounts result count count }
-{
-    let Linked { edges, warnings } = links;
-    let order = order_of(alloc, project.files.as_slice(), &edges)?;
-    let graph = graph_of(alloc, &project, texts, &edges, &order)?;
-    Ok(ReadProject {
-        project,
-        graph,
-        scans,
-        warnings,
-    })
-}
-
-/// A project of these texts and scans. Texts exist once: they are lent until it is known what depends on what, and then
-/// moved into the graph.
-#[tactic(auto, unfolding(crate::specs::Reading::scanned_reading))]
-pub(crate) fn scanned_project(
-    alloc: Global,
+    wanted: bool,
     project: Project,
     texts: TextList,
     scans: Scans,
@@ -200,12 +243,97 @@ pub(crate) fn scanned_project(
     requires few { length project.files ≤ FILE_LIMIT }
     requires texts { FitTexts project.files texts }
     requires scans { AreScansOf texts scans }
-    ensures reading { LeadsTo (scanned_reading project texts scans) result }
+    ensures reading { LeadsTo (listed_reading wanted project texts scans) result }
+    ensures cause { (count : ℕ) → ReadCounts result count count }
+{
+    let tests = wanted_tests(alloc, wanted, &project, &texts, &scans)?;
+    let graph = listed_graph(alloc, &project, texts)?;
+    let warnings = WarningList::new(alloc);
+    Ok(ReadProject {
+        project,
+        graph,
+        scans,
+        warnings,
+        tests,
+    })
+}
+
+/// A project with its files in order, its graph in compile order.
+fn ordered_project(
+    alloc: Global,
+    wanted: bool,
+    project: Project,
+    texts: TextList,
+    scans: Scans,
+    links: Linked,
+    order: &Order,
+) -> Result<ReadProject, ReadStop>
+    requires project { IsProject project }
+    requires few { length project.files ≤ FILE_LIMIT }
+    requires texts { FitTexts project.files texts }
+    requires scans { AreScansOf texts scans }
+    requires edges { AreEdges links.edges }
+    requires count { length links.edges ≡ length project.files }
+    requires sorted { IsBuildOrder links.edges order.now }
+    ensures reading { LeadsTo (order_reading wanted project texts scans links order.now) result }
+    ensures cause { (count : ℕ) → ReadCounts result count count }
+{
+    let tests = wanted_tests(alloc, wanted, &project, &texts, &scans)?;
+    let Linked { edges, warnings } = links;
+    let graph = graph_of(alloc, &project, texts, &edges, order)?;
+    Ok(ReadProject {
+        project,
+        graph,
+        scans,
+        warnings,
+        tests,
+    })
+}
+
+/// A project with what depends on what in it, its graph in compile order.
+fn linked_project(
+    alloc: Global,
+    wanted: bool,
+    project: Project,
+    texts: TextList,
+    scans: Scans,
+    links: Linked,
+) -> Result<ReadProject, ReadStop>
+    requires project { IsProject project }
+    requires few { length project.files ≤ FILE_LIMIT }
+    requires texts { FitTexts project.files texts }
+    requires scans { AreScansOf texts scans }
+    requires edges { AreEdges links.edges }
+    requires count { length links.edges ≡ length project.files }
+    ensures reading { LeadsTo (linked_reading wanted project texts scans links) result }
+    ensures cause { (count : ℕ) → ReadCounts result count count }
+{
+    let order = order_of(alloc, project.files.as_slice(), &links.edges)?;
+    ordered_project(alloc, wanted, project, texts, scans, links, &order)
+}
+
+/// A project of these texts and scans, with the roles of their tokens. Texts exist once: they are lent until it is known
+/// what depends on what and which tests there are, and then moved into the graph.
+#[tactic(auto, unfolding(crate::specs::Reading::scanned_reading))]
+pub(crate) fn scanned_project(
+    alloc: Global,
+    wanted: bool,
+    project: Project,
+    texts: TextList,
+    scans: Scans,
+    roles: &Items<RoleList>,
+) -> Result<ReadProject, ReadStop>
+    requires project { IsProject project }
+    requires few { length project.files ≤ FILE_LIMIT }
+    requires texts { FitTexts project.files texts }
+    requires scans { AreScansOf texts scans }
+    requires roles { AreRolesOf texts scans roles.now }
+    ensures reading { LeadsTo (scanned_reading wanted project texts scans) result }
     ensures cause { (count : ℕ) → ReadCounts result count count }
 {
     if project.listed {
-        return listed_project(alloc, project, texts, scans);
+        return listed_project(alloc, wanted, project, texts, scans);
     }
-    let links = links_of(alloc, &project, &texts, &scans)?;
-    linked_project(alloc, project, texts, scans, links)
+    let links = links_of(alloc, &project, &texts, &scans, roles)?;
+    linked_project(alloc, wanted, project, texts, scans, links)
 }

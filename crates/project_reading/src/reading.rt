@@ -14,37 +14,49 @@ use crate::scanning::scans_of;
 use crate::stops::ReadStop;
 use crate::texts::texts_of;
 use std::alloc::Global;
-use vr_base::{FILE_LIMIT, Limit, Project, TextList};
+use vr_base::{FILE_LIMIT, Items, Limit, Project, TextList};
 use vr_outside::Tree;
 
 /// The most files of a project.
 const MOST_FILES: u64 = FILE_LIMIT as u64;
 
 /// What is read of a project whose texts are there.
-fn scan_texts(alloc: Global, project: Project, texts: TextList) -> Result<ReadProject, ReadStop>
+fn scan_texts(
+    alloc: Global,
+    wanted: bool,
+    project: Project,
+    texts: TextList,
+) -> Result<ReadProject, ReadStop>
     requires project { IsProject project }
     requires few { length project.files ≤ FILE_LIMIT }
     requires texts { FitTexts project.files texts }
     ensures reading { (scan : List ℕ → Finding) → IsScanner scan →
-        LeadsTo (texts_reading scan project texts) result }
-    ensures form { IfOk result IsReadProject }
+        LeadsTo (texts_reading wanted scan project texts) result }
+    ensures form { IfOk result (IsReadProject wanted) }
     ensures cause { (count : ℕ) → ReadCounts result count count }
 {
-    let scans = scans_of(alloc, project.files.as_slice(), texts.as_slice())?;
-    scanned_project(alloc, project, texts, scans)
+    let mut roles = Items::new(alloc);
+    let scans = scans_of(
+        alloc,
+        project.files.as_slice(),
+        texts.as_slice(),
+        &mut roles,
+    )?;
+    scanned_project(alloc, wanted, project, texts, scans, &roles)
 }
 
 /// What is read of a project of few files over the files of a tree.
 fn read_files<T: Tree>(
     alloc: Global,
     tree: &mut T,
+    wanted: bool,
     project: Project,
 ) -> Result<ReadProject, ReadStop>
     requires project { IsProject project }
     requires few { length project.files ≤ FILE_LIMIT }
     ensures reading { (scan : List ℕ → Finding) → IsScanner scan → T.tells →
-        LeadsTo (files_reading scan (T.file tree.old) project) result }
-    ensures form { IfOk result IsReadProject }
+        LeadsTo (files_reading wanted scan (T.file tree.old) project) result }
+    ensures form { IfOk result (IsReadProject wanted) }
     ensures same { T.file tree.new ≡ T.file tree.old }
     ensures same_list { T.listed tree.new ≡ T.listed tree.old }
     ensures asked { AsksInOrder result (file_paths project.files)
@@ -52,19 +64,20 @@ fn read_files<T: Tree>(
     ensures cause { ReadCounts result (T.failed_reads tree.old) (T.failed_reads tree.new) }
 {
     let texts = texts_of(alloc, tree, project.files.as_slice())?;
-    scan_texts(alloc, project, texts)
+    scan_texts(alloc, wanted, project, texts)
 }
 
 /// What is read of a project over the files of a tree.
 fn read_sources<T: Tree>(
     alloc: Global,
     tree: &mut T,
+    wanted: bool,
     project: Project,
 ) -> Result<ReadProject, ReadStop>
     requires { IsProject project }
     ensures reading { (scan : List ℕ → Finding) → IsScanner scan → T.tells →
-        LeadsTo (sources_reading scan (T.file tree.old) project) result }
-    ensures form { IfOk result IsReadProject }
+        LeadsTo (sources_reading wanted scan (T.file tree.old) project) result }
+    ensures form { IfOk result (IsReadProject wanted) }
     ensures same { T.file tree.new ≡ T.file tree.old }
     ensures same_list { T.listed tree.new ≡ T.listed tree.old }
     ensures asked { AsksInOrder result (source_paths project)
@@ -74,15 +87,19 @@ fn read_sources<T: Tree>(
     if project.files.len() > MOST_FILES {
         return Err(ReadStop::Over(Limit::Files, MOST_FILES));
     }
-    read_files(alloc, tree, project)
+    read_files(alloc, tree, wanted, project)
 }
 
-/// The project in a tree with its graph, or what is wrong with its sources. Each file is read once, and no call changes
+/// The project in a tree with its graph, and with its tests where they are wanted; or what is wrong with its sources. Each file is read once, and no call changes
 /// what the tree holds and lists.
-pub fn read_project<T: Tree>(alloc: Global, tree: &mut T) -> Result<ReadProject, ReadStop>
+pub fn read_project<T: Tree>(
+    alloc: Global,
+    tree: &mut T,
+    wanted: bool,
+) -> Result<ReadProject, ReadStop>
     ensures reading { (scan : List ℕ → Finding) → IsScanner scan → T.tells →
-        LeadsTo (project_reading scan (T.file tree.old) (T.listed tree.old)) result }
-    ensures form { IfOk result IsReadProject }
+        LeadsTo (project_reading scan (T.file tree.old) (T.listed tree.old) wanted) result }
+    ensures form { IfOk result (IsReadProject wanted) }
     ensures same { T.file tree.new ≡ T.file tree.old }
     ensures same_list { T.listed tree.new ≡ T.listed tree.old }
     ensures asked { T.tells →
@@ -91,5 +108,5 @@ pub fn read_project<T: Tree>(alloc: Global, tree: &mut T) -> Result<ReadProject,
     ensures cause { ReadCounts result (T.failed_reads tree.old) (T.failed_reads tree.new) }
 {
     let project = find_project(alloc, tree)?;
-    read_sources(alloc, tree, project)
+    read_sources(alloc, tree, wanted, project)
 }

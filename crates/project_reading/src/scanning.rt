@@ -1,9 +1,10 @@
 //! The scans of the files of a project, or the refusal of the first file that has a fault.
 
-ghost use Rattle.std.specs.Prelude.{◌≡◌, ◌≤◌, ℕ, List, length, IfOk};
-ghost use Rattle.scan_spec.specs.Units.{AreTokensOf};
+ghost use Rattle.std.specs.Prelude.{◌≡◌, ◌≤◌, ℕ, List, [], ◌∷◌, ◌++◌, length, IfOk};
+ghost use Rattle.scan_spec.specs.Units.{AreTokensOf, roles_of};
 ghost use Rattle.scan_spec.specs.Scans.{Finding, IsScanner, AreScansOf};
 ghost use Rattle.order_spec.specs.LinkedGraph.{FitTexts};
+ghost use Rattle.name_scope.specs.Scopes.{AreRolesOf};
 ghost use Rattle.project_reading.specs.Reading.{scan_of, scans_of};
 ghost use Rattle.project_reading.specs.Sources.{Gives, ReadCounts};
 ghost use Rattle.project_reading.specs.Scanning.{GivesScan};
@@ -11,10 +12,10 @@ ghost use Rattle.project_reading.specs.Scanning.{GivesScan};
 use crate::stops::ReadStop;
 use std::alloc::Global;
 use vhdl_lex::scan_tokens;
-use vhdl_units::outline;
+use vhdl_units::{outline_by_roles, roles_of};
 use vr_base::{
-    FileName, LexFault, NoMemory, ProjectFile, Refusal, Scan, Scans, TEXT_LIMIT, Text, TokenList,
-    Tokens, UnitFault,
+    FileName, Items, LexFault, NoMemory, ProjectFile, Refusal, RoleList, Scan, Scans, TEXT_LIMIT,
+    Text, TokenList, Tokens, UnitFault,
 };
 
 /// A refusal of a file for a lexical fault.
@@ -50,14 +51,22 @@ fn without_spare_room(tokens: Tokens) -> Tokens
     }
 }
 
-/// The scan of a file whose tokens are known, or its refusal for a fault of the unit grammar.
-fn scan_units(alloc: Global, file: &FileName, text: &[u8], tokens: Tokens) -> Result<Scan, ReadStop>
+/// The scan of a file whose tokens are known with their roles, or its refusal for a fault of the unit grammar.
+fn scan_units(
+    alloc: Global,
+    file: &FileName,
+    text: &[u8],
+    tokens: Tokens,
+    roles: &RoleList,
+) -> Result<Scan, ReadStop>
     requires tokens { AreTokensOf text.now tokens }
     requires small { length text.now ≤ TEXT_LIMIT }
+    requires roles { roles.now ≡ roles_of text.now tokens.list }
     ensures scan { GivesScan file.now text.now result }
+    ensures tokens { IfOk result (λ scan. scan.tokens ≡ tokens) }
     ensures cause { (count : ℕ) → ReadCounts result count count }
 {
-    match outline(alloc, text, &tokens) {
+    match outline_by_roles(alloc, text, &tokens, roles) {
         Ok(units) => Ok(Scan { tokens, units }),
         Err(UnitFault::NoMemory) => Err(ReadStop::NoMemory),
         Err(UnitFault::NotUnit { at }) => Err(ReadStop::Refused(grammatical(
@@ -73,14 +82,43 @@ fn scan_units(alloc: Global, file: &FileName, text: &[u8], tokens: Tokens) -> Re
     }
 }
 
-/// The scan of a file, or its refusal for its lexical fault or its fault of the unit grammar.
-fn scan_file(alloc: Global, file: &FileName, text: &[u8]) -> Result<Scan, ReadStop>
+/// The same, where the roles are made first and added to those of the files before.
+fn scan_cut(
+    alloc: Global,
+    file: &FileName,
+    text: &[u8],
+    tokens: Tokens,
+    roles: &mut Items<RoleList>,
+) -> Result<Scan, ReadStop>
+    requires tokens { AreTokensOf text.now tokens }
+    requires small { length text.now ≤ TEXT_LIMIT }
+    ensures scan { GivesScan file.now text.now result }
+    ensures roles { IfOk result (λ scan.
+        roles.new ≡ roles.old ++ roles_of text.now scan.tokens.list ∷ []) }
+    ensures cause { (count : ℕ) → ReadCounts result count count }
+{
+    let own = roles_of(alloc, text, &tokens)?;
+    let scan = scan_units(alloc, file, text, tokens, &own)?;
+    roles.push(own)?;
+    Ok(scan)
+}
+
+/// The scan of a file, and the roles of its tokens after those of the files before; or its refusal for its lexical fault
+/// or its fault of the unit grammar.
+fn scan_file(
+    alloc: Global,
+    file: &FileName,
+    text: &[u8],
+    roles: &mut Items<RoleList>,
+) -> Result<Scan, ReadStop>
     requires { length text.now ≤ TEXT_LIMIT }
     ensures scan { GivesScan file.now text.now result }
+    ensures roles { IfOk result (λ scan.
+        roles.new ≡ roles.old ++ roles_of text.now scan.tokens.list ∷ []) }
     ensures cause { (count : ℕ) → ReadCounts result count count }
 {
     match scan_tokens(alloc, text) {
-        Ok(tokens) => scan_units(alloc, file, text, without_spare_room(tokens)),
+        Ok(tokens) => scan_cut(alloc, file, text, without_spare_room(tokens), roles),
         Err(LexFault::NoMemory) => Err(ReadStop::NoMemory),
         Err(LexFault::UnclosedString { at }) => Err(ReadStop::Refused(lexical(
             alloc,
@@ -100,21 +138,25 @@ fn scan_file(alloc: Global, file: &FileName, text: &[u8]) -> Result<Scan, ReadSt
     }
 }
 
-/// The scans of the files, one a file, in project order; or the refusal of the first file that has a fault.
+/// The scans of the files, one a file, in project order, and the roles of the tokens of each; or the refusal of the first
+/// file that has a fault.
 pub(crate) fn scans_of(
     alloc: Global,
     files: &[ProjectFile],
     texts: &[Text],
+    roles: &mut Items<RoleList>,
 ) -> Result<Scans, ReadStop>
-    requires { FitTexts files.now texts.now }
+    requires fit { FitTexts files.now texts.now }
+    requires none { roles.old ≡ [] }
     ensures are { IfOk result (AreScansOf texts.now) }
+    ensures roles { IfOk result (λ scans. AreRolesOf texts.now scans roles.new) }
     ensures scans { (scan : List ℕ → Finding) → IsScanner scan →
         Gives (scans_of scan files.now texts.now) result }
     ensures cause { (count : ℕ) → ReadCounts result count count }
 {
     let mut scans = Scans::new(alloc);
     for i in 0..files.len() {
-        let scan = scan_file(alloc, &files[i].name, texts[i].bytes())?;
+        let scan = scan_file(alloc, &files[i].name, texts[i].bytes(), roles)?;
         scans.push(scan)?;
     }
     Ok(scans)

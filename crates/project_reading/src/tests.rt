@@ -110,7 +110,7 @@ fn shown_stop(alloc: Global, stop: ReadStop) -> Result<Text, Fail> {
 }
 
 fn shown_tree(alloc: Global, tree: &mut MemTree) -> Result<Text, Fail> {
-    match read_project(alloc, tree) {
+    match read_project(alloc, tree, false) {
         Ok(read) => shown_project(alloc, &read),
         Err(stop) => shown_stop(alloc, stop),
     }
@@ -128,7 +128,7 @@ fn shown(rt: &impl Abort, alloc: Global, files: NamedTextList, failing: u64) -> 
 /// A call that isn't made.
 const NEVER: u64 = 9999;
 
-fn is_right(rt: &impl Abort, alloc: Global, row: &[u8]) -> Result<bool, Fail> {
+pub(crate) fn is_right(rt: &impl Abort, alloc: Global, row: &[u8]) -> Result<bool, Fail> {
     let mut parts = row.split(|b| *b == b'~');
     let files = files_of(alloc, parts.next().unwrap_or(b""))?;
     let wanted = unfolded(alloc, parts.next().unwrap_or(b""))?;
@@ -174,7 +174,7 @@ fn letter(stop: &ReadStop) -> u8 {
 }
 
 fn letter_over(alloc: Global, tree: &mut MemTree) -> u8 {
-    match read_project(alloc, tree) {
+    match read_project(alloc, tree, false) {
         Ok(_read) => b'k',
         Err(stop) => letter(&stop),
     }

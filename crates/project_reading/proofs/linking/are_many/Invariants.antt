@@ -1,0 +1,8 @@
+-- What the loop of `are_many` keeps: so many cases may still come.
+use Rattle.std.proofs.Common.{◌≡◌, ◌+◌, take}
+use Rattle.vr_base.specs.declared.limits.TheConstants.{CASE_LIMIT}
+use Rattle.test_select.specs.Selection.{count_of_tests}
+use Rattle.project_reading.proofs.linking.are_many.Given as goal
+
+abbrev pub invariant-loop-i : goal.invariant-loop-i
+invariant-loop-i l = l.left + count_of_tests (take l.i l.tests) ≡ CASE_LIMIT
