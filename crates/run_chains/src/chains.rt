@@ -8,6 +8,7 @@ ghost use Rattle.scan_spec.specs.Scans.{Finding, IsScanner};
 ghost use Rattle.vunit_top.specs.Runs.{has_risen};
 ghost use Rattle.run_chains.specs.Chains.{RanTwice, RanAfterStop};
 
+use report_files::Reports;
 use std::alloc::Global;
 use vr_base::{Outcome, TextList};
 use vr_outside::{Disk, Procs, Sink, Source, Tree};
@@ -21,7 +22,7 @@ pub struct Outcomes {
 }
 
 /// Runs the program twice with the same words over the same objects.
-pub fn run_twice<I: Source, T: Tree, D: Disk, P: Procs, O: Sink>(
+pub fn run_twice<I: Source, T: Tree, D: Disk, P: Procs, O: Sink, R: Reports>(
     alloc: Global,
     words: &TextList,
     input: &mut I,
@@ -29,6 +30,7 @@ pub fn run_twice<I: Source, T: Tree, D: Disk, P: Procs, O: Sink>(
     disk: &mut D,
     procs: &mut P,
     out: &mut O,
+    reports: &mut R,
 ) -> Outcomes
     requires { P.running procs.old ≡ [] }
     ensures running { P.running procs.new ≡ [] }
@@ -42,14 +44,14 @@ pub fn run_twice<I: Source, T: Tree, D: Disk, P: Procs, O: Sink>(
         (D.moments disk.old).now (D.moments disk.new).now
         (P.journal procs.old) (P.journal procs.new) }
 {
-    let first = run_vunit(alloc, words, input, tree, disk, procs, out);
-    let second = run_vunit(alloc, words, input, tree, disk, procs, out);
+    let first = run_vunit(alloc, words, input, tree, disk, procs, out, reports);
+    let second = run_vunit(alloc, words, input, tree, disk, procs, out, reports);
     Outcomes { first, second }
 }
 
 /// Runs the program over a disk, and then with the same words and sources over another disk, which may be what a stop of
 /// the first run has left.
-pub fn run_after_stop<I: Source, T: Tree, D: Disk, E: Disk, P: Procs, O: Sink>(
+pub fn run_after_stop<I: Source, T: Tree, D: Disk, E: Disk, P: Procs, O: Sink, R: Reports>(
     alloc: Global,
     words: &TextList,
     input: &mut I,
@@ -58,6 +60,7 @@ pub fn run_after_stop<I: Source, T: Tree, D: Disk, E: Disk, P: Procs, O: Sink>(
     left: &mut E,
     procs: &mut P,
     out: &mut O,
+    reports: &mut R,
 ) -> Outcomes
     requires { P.running procs.old ≡ [] }
     ensures running { P.running procs.new ≡ [] }
@@ -77,7 +80,7 @@ pub fn run_after_stop<I: Source, T: Tree, D: Disk, E: Disk, P: Procs, O: Sink>(
         (E.moments left.old).now (E.moments left.new).now
         (P.journal procs.old) (P.journal procs.new) }
 {
-    let first = run_vunit(alloc, words, input, tree, disk, procs, out);
-    let second = run_vunit(alloc, words, input, tree, left, procs, out);
+    let first = run_vunit(alloc, words, input, tree, disk, procs, out, reports);
+    let second = run_vunit(alloc, words, input, tree, left, procs, out, reports);
     Outcomes { first, second }
 }

@@ -1,6 +1,7 @@
 //! Two runs over a project of two packages, whose compiler refuses each file.
 
 use crate::{Outcomes, run_after_stop, run_twice};
+use memory_reports::MemReports;
 use std::alloc::Global;
 use std::process::Abort;
 use std::test::Fail;
@@ -61,14 +62,30 @@ fn run_both(rt: &impl Abort, alloc: Global, after_stop: bool) -> Result<TwoRuns,
     let mut left = MemDisk::new(alloc, Numbers::new(alloc));
     let mut input = MemSource::new(Text::new(alloc), Numbers::new(alloc));
     let mut out = MemSink::new(alloc, Numbers::new(alloc));
+    let mut reports = MemReports::new(alloc, Numbers::new(alloc));
     assert!(rt; procs.running().is_empty());
     let outcomes = if after_stop {
         run_after_stop(
-            alloc, &words, &mut input, &mut tree, &mut disk, &mut left, &mut procs, &mut out,
+            alloc,
+            &words,
+            &mut input,
+            &mut tree,
+            &mut disk,
+            &mut left,
+            &mut procs,
+            &mut out,
+            &mut reports,
         )
     } else {
         run_twice(
-            alloc, &words, &mut input, &mut tree, &mut disk, &mut procs, &mut out,
+            alloc,
+            &words,
+            &mut input,
+            &mut tree,
+            &mut disk,
+            &mut procs,
+            &mut out,
+            &mut reports,
         )
     };
     Ok(TwoRuns {

@@ -14,6 +14,7 @@ mod tests;
 
 use child_procs::ChildProcs;
 use file_disk::FileDisk;
+use file_reports::FileReports;
 use file_tree::FileTree;
 use listing::OUTPUT_FOLDER;
 use status::status_of;
@@ -73,6 +74,7 @@ fn run_words(rt: HostRuntime, words: &TextList) -> Outcome {
         return Outcome::NoMemory;
     };
     let mut out = StdSink::new(rt);
+    let mut reports = FileReports::new(rt);
     run_vunit(
         rt.alloc(),
         words,
@@ -81,6 +83,7 @@ fn run_words(rt: HostRuntime, words: &TextList) -> Outcome {
         &mut disk,
         &mut procs,
         &mut out,
+        &mut reports,
     )
 }
 

@@ -186,5 +186,5 @@ module _ (scan : List ℕ → Finding) (answer : Request → Exit) (r : Reading)
       }
 
 -- what a run did, where its words are said in two ways
-pub ran_by : (scan : List ℕ → Finding) (answer : Request → Exit) (j k : Result Job Reading) (s : SourceReading) (run : ProgramRun) (first last : DiskState) → j ≡ k → RunsAs scan answer (full_reading k s) run first last → RunsAs scan answer (full_reading j s) run first last
+pub ran_by : (scan : List ℕ → Finding) (answer : Request → Exit) (j k : Result Job Reading) (s : Bool → SourceReading) (run : ProgramRun) (first last : DiskState) → j ≡ k → RunsAs scan answer (full_reading k s) run first last → RunsAs scan answer (full_reading j s) run first last
 ran_by scan answer j k s run first last same did = subst (λ (i : Result Job Reading). RunsAs scan answer (full_reading i s) run first last) (sym same) did

@@ -1,5 +1,5 @@
 -- A run that starts no child, and a child whose input is too long.
-use Rattle.std.proofs.Common.{◌≡◌, ℕ, leb, List, [], ◌∷◌, ◌++◌, length, ◌<◌, ◌≤◌, Option, Some, None, Result, Ok, Err, true, false, sym, ap, subst, ◌∙◌, arith, inl, inr, refl}
+use Rattle.std.proofs.Common.{◌≡◌, ℕ, Bool, leb, List, [], ◌∷◌, ◌++◌, length, ◌<◌, ◌≤◌, Option, Some, None, Result, Ok, Err, true, false, sym, ap, subst, ◌∙◌, arith, inl, inr, refl}
 use Rattle.std.specs.Prelude.{if◌then◌else◌, codes, unwrap_or}
 use Rattle.std.proofs.Math.Dec.{ltb}
 use Rattle.std.proofs.lemmas.Bool.{cases_Bool, cond-true, cond-false, lt-ltb, le-ltb}
@@ -19,8 +19,8 @@ use Rattle.command_line.specs.declared.setting.Setting.{Setting}
 use Rattle.command_line.specs.declared.setting.WordsFault.TheVariants as words
 use Rattle.command_line.specs.Words.{setting_of, ReadsWords}
 use Rattle.vunit_top.specs.declared.words.Job.{Job}
-use Rattle.vunit_top.specs.Reading.{Reading, Bad, Child, Stops, Over, Builds, begins_with, begins_as_child, job_of, built_job, setting_job, maybe_job, words_job, job_reading, full_reading}
-use Rattle.vunit_top.specs.Said.{Said, no_order, order_of, order_in, plain_said, child_said, input_bytes}
+use Rattle.vunit_top.specs.Reading.{Reading, Bad, Child, Stops, Over, Exports, Builds, begins_with, begins_as_child, job_of, built_job, setting_job, maybe_job, words_job, job_reading, full_reading}
+use Rattle.vunit_top.specs.Said.{Said, no_order, order_of, order_in, report_of, plain_said, child_said, input_bytes}
 
 -- nothing was added
 pub since_itself : (journal : List Event) → since journal journal ≡ []
@@ -49,7 +49,7 @@ pub said_at : (j : Job) (r known : SourceReading) (mine what : Said) → r ≡ k
 said_at j r known mine what is known_said said = some_said mine what (sym known_said ∙ ap (λ (s : SourceReading). plain_said (job_reading j s)) (sym is) ∙ said)
 
 -- words that alone say what is done give nothing to build
-pub nothing_by : (j : Result Job Reading) (r : Reading) (s : SourceReading) → j ≡ Err r → order_of r ≡ None → (order_in (full_reading j s)).graph ≡ []
+pub nothing_by : (j : Result Job Reading) (r : Reading) (s : Bool → SourceReading) → j ≡ Err r → order_of r ≡ None → (order_in (full_reading j s)).graph ≡ []
 nothing_by j r s is none = ap (λ (i : Result Job Reading). (order_in (full_reading i s)).graph) is ∙ ap (λ (o : Option Order). (unwrap_or o no_order).graph) none
 
 module _ (setting : Setting) where
@@ -88,9 +88,15 @@ module _ (all : List (List ℕ)) where
       bad_read read = read_job None read
 
 -- two ways to say what words say
-module _ (j k : Result Job Reading) (s : SourceReading) (same : j ≡ k) where
+module _ (j k : Result Job Reading) (s : Bool → SourceReading) (same : j ≡ k) where
   pub plain_by : (what : Said) → plain_said (full_reading j s) ≡ Some what → plain_said (full_reading k s) ≡ Some what
   plain_by what said = subst (λ (i : Result Job Reading). plain_said (full_reading i s) ≡ Some what) same said
 
   pub builds_by : (order : Order) (warnings : List ℕ) → full_reading j s ≡ Builds order warnings → full_reading k s ≡ Builds order warnings
   builds_by order warnings is = subst (λ (i : Result Job Reading). full_reading i s ≡ Builds order warnings) same is
+
+  pub exports_by : (path text : List ℕ) → full_reading j s ≡ Exports path text → full_reading k s ≡ Exports path text
+  exports_by path text is = subst (λ (i : Result Job Reading). full_reading i s ≡ Exports path text) same is
+
+  pub reports_by : report_of (full_reading j s) ≡ None → report_of (full_reading k s) ≡ None
+  reports_by is = subst (λ (i : Result Job Reading). report_of (full_reading i s) ≡ None) same is

@@ -1,9 +1,10 @@
 -- What the parts of a run put and answer.
-use Rattle.std.specs.Prelude.{◌≡◌, ℕ, Err}
+use Rattle.std.specs.Prelude.{◌≡◌, ℕ, List, Option, Err}
 use Rattle.vr_base.specs.declared.outcome.Which.TheVariants as which
 use Rattle.vr_base.specs.declared.outcome.Outcome.{Outcome}
 use Rattle.vr_base.specs.declared.outcome.Outcome.TheVariants as outcome
 use Rattle.vr_outside.specs.Counts.{Rose}
+use Rattle.report_files.specs.Reports.{HasWritten, IsSameBut}
 use Rattle.project_reading.specs.declared.stops.ReadStop.{ReadStop}
 use Rattle.project_reading.specs.Sources.{ReadCounts}
 
@@ -17,6 +18,25 @@ OutCauses (outcome.OutsideFault which.Out) old new = Rose old new
 OutCauses (outcome.OutsideFault which.Report) old new = ⊥
 OutCauses (outcome.OutsideFault which.Input) old new = ⊥
 OutCauses answer old new = new ≡ old
+
+-- After each answer of a part that only writes a report: a fault of the report was counted, and else its count is
+-- unchanged.
+abbrev pub ReportCauses : Outcome → ℕ → ℕ → Type 0
+ReportCauses (outcome.OutsideFault which.Tree) old new = ⊥
+ReportCauses (outcome.OutsideFault which.Disk) old new = ⊥
+ReportCauses (outcome.OutsideFault which.Start) old new = ⊥
+ReportCauses (outcome.OutsideFault which.Child) old new = ⊥
+ReportCauses (outcome.OutsideFault which.Out) old new = ⊥
+ReportCauses (outcome.OutsideFault which.Report) old new = Rose old new
+ReportCauses (outcome.OutsideFault which.Input) old new = ⊥
+ReportCauses answer old new = new ≡ old
+
+-- What an answer of a part that only writes a report leaves of the files of reports: after `Done` the file of the path has
+-- exactly the text, and no other is changed; after a fault of the report no other is changed; else none is.
+abbrev pub Writes : Outcome → (path text : List ℕ) → (old new : List ℕ → Option (List ℕ)) → Type 0
+Writes outcome.Done path text old new = HasWritten path text old new
+Writes (outcome.OutsideFault which.Report) path text old new = IsSameBut path old new
+Writes answer path text old new = new ≡ old
 
 -- After a reading that stopped: a fault of the tree was counted, and else its count is unchanged.
 abbrev pub StopCounts : ReadStop → ℕ → ℕ → Type 0

@@ -1,15 +1,20 @@
 -- What words and sources say is to be done: a function of both.
-use Rattle.std.specs.Prelude.{ℕ, ◌≤◌, nat_lt, Bool, false, if◌then◌else◌, List, [], ◌∷◌, codes, Option, Some, None, Result, Ok, Err}
+use Rattle.std.specs.Prelude.{ℕ, ◌≤◌, nat_lt, Bool, true, false, if◌then◌else◌, List, [], ◌∷◌, map, codes, Option, Some, None, Result, Ok, Err}
 use Rattle.std.specs.Str.{bytes_eq}
 use Rattle.vr_base.specs.declared.graph.Entry.{Entry}
 use Rattle.vr_base.specs.declared.outcome.Refusal.{Refusal}
 use Rattle.vr_base.specs.declared.outcome.Refusal.TheVariants as refusal
 use Rattle.vr_base.specs.declared.outcome.Limit.{Limit}
 use Rattle.vr_base.specs.declared.outcome.Limit.TheVariants as limit
+use Rattle.vr_base.specs.declared.bench.Bench.{Bench}
+use Rattle.vr_base.specs.declared.child.MaybeText.{MaybeText}
+use Rattle.vr_base.specs.declared.child.MaybeText.TheVariants.{Given, Nothing}
 use Rattle.vr_base.specs.declared.limits.TheConstants.{SLOT_LIMIT}
 use Rattle.run_spec.specs.Histories.{Sources, Order}
-use Rattle.run_spec.specs.JournalParts.{is_given}
 use Rattle.run_report.specs.Texts.{warning_text}
+use Rattle.test_report.specs.Export.{export_text}
+use Rattle.test_select.specs.Patterns.{pieces_of}
+use Rattle.test_select.specs.Selection.{selection}
 use Rattle.scan_spec.specs.Scans.{Finding}
 use Rattle.command_line.specs.declared.setting.Setting.{Setting}
 use Rattle.command_line.specs.Words.{setting_of}
@@ -20,13 +25,16 @@ use Rattle.vunit_top.specs.declared.words.Job.{Job}
 use Rattle.vunit_top.specs.declared.words.Job.TheVariants as job
 
 -- The words are no command line; the program is a child; words or sources are refused; a quantity is over its limit, which is
--- this number; these files are to be listed, in compile order; or this is to be built, with this text of warnings.
+-- this number; these files are to be listed, in compile order; these tests are to be listed; this text is to be written to
+-- the file of this path; or this is to be built, with this text of warnings.
 pub data Reading : Type 0 where
   Bad : Reading
   Child : Reading
   Stops : Refusal → Reading
   Over : Limit → ℕ → Reading
   Lists : List Entry → Reading
+  ListsTests : List Bench → Reading
+  Exports : (path : List ℕ) → (text : List ℕ) → Reading
   Builds : Order → (warnings : List ℕ) → Reading
 
 abbrev pub begins_with : List ℕ → List (List ℕ) → Bool
@@ -40,16 +48,47 @@ begins_as_child words = begins_with (codes "child-analyse") words
 abbrev pub options_of : Setting → BuildOptions
 options_of setting = record { slots = setting.num_threads; keep_going = setting.keep_compiling; clean = setting.clean }
 
+-- what is done by the first of the modes list, files and compile that is named
+abbrev pub job_but_export : Setting → Option Job
+job_but_export setting =
+    if setting.list then Some (job.ListTests setting.patterns) else if setting.files then Some job.ListFiles
+    else if setting.compile then Some (job.Build (options_of setting)) else None
+
+abbrev pub job_but_generate : MaybeText → Setting → Option Job
+job_but_generate (Given path) setting = Some (job.Export path setting.patterns)
+job_but_generate Nothing setting = job_but_export setting
+
 -- What is done with the sources by the first of the modes generate, export, list, files and compile that is named. Generate,
--- export, list, and a run, which is what is done where none is named, aren't built yet.
+-- and a run, which is what is done where none is named, aren't built yet.
 abbrev pub job_of : Setting → Option Job
-job_of setting =
-    if nat_lt 0 setting.generate then None else if is_given setting.export_json then None else if setting.list then None
-    else if setting.files then Some job.ListFiles else if setting.compile then Some (job.Build (options_of setting)) else None
+job_of setting = if nat_lt 0 setting.generate then None else job_but_generate setting.export_json setting
+
+-- whether a job looks for tests in the sources
+abbrev pub reads_tests : Job → Bool
+reads_tests job.ListFiles = false
+reads_tests (job.ListTests patterns) = true
+reads_tests (job.Export path patterns) = true
+reads_tests (job.Build options) = false
+
+-- whether a job may build, and so touch the disk and children
+abbrev pub is_build : Job → Bool
+is_build job.ListFiles = false
+is_build (job.ListTests patterns) = false
+is_build (job.Export path patterns) = false
+is_build (job.Build options) = true
+
+-- whether a job may write a report
+abbrev pub is_export : Job → Bool
+is_export job.ListFiles = false
+is_export (job.ListTests patterns) = false
+is_export (job.Export path patterns) = true
+is_export (job.Build options) = false
 
 -- a build has from 1 to 64 children at once
 abbrev pub HasSlots : Job → Type 0
 HasSlots job.ListFiles = Unit {0}
+HasSlots (job.ListTests patterns) = Unit {0}
+HasSlots (job.Export path patterns) = Unit {0}
 HasSlots (job.Build options) = (1 ≤ options.slots) × (options.slots ≤ SLOT_LIMIT)
 
 abbrev pub built_job : Option Job → Result Job Reading
@@ -72,15 +111,22 @@ words_job words = if begins_as_child words then Err Child else if begins_with (c
 abbrev pub order_by : BuildOptions → List Entry → Order
 order_by options graph = record { graph = graph; slots = options.slots; keep_going = options.keep_going; clean = options.clean }
 
+-- the tests that some of these patterns match
+abbrev pub chosen : List (List ℕ) → List Bench → List Bench
+chosen patterns tests = selection (map pieces_of patterns) tests
+
 -- what is done with the sources that were read
 abbrev pub job_reading : Job → SourceReading → Reading
 job_reading job (sources.Stops reason) = Stops reason
 job_reading job (sources.Over limit number) = Over limit number
 job_reading job.ListFiles (sources.Found read) = Lists read.graph
+job_reading (job.ListTests patterns) (sources.Found read) = ListsTests (chosen patterns read.tests)
+job_reading (job.Export path patterns) (sources.Found read) = Exports path (export_text read.graph read.project.files (chosen patterns read.tests))
 job_reading (job.Build options) (sources.Found read) = Builds (order_by options read.graph) (warning_text read.project.files read.warnings)
 
-abbrev pub full_reading : Result Job Reading → SourceReading → Reading
-full_reading (Ok job) sources = job_reading job sources
+-- what is done with the sources, by whether tests are looked for in them
+abbrev pub full_reading : Result Job Reading → (Bool → SourceReading) → Reading
+full_reading (Ok job) sources = job_reading job (sources (reads_tests job))
 full_reading (Err reading) sources = reading
 
 -- the reading of words and sources, over a scanner

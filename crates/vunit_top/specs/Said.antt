@@ -12,9 +12,10 @@ use Rattle.run_spec.specs.ChildJournal.{Setting}
 use Rattle.run_spec.specs.Histories.{Order}
 use Rattle.run_report.specs.Outcomes.{build_outcome}
 use Rattle.run_report.specs.Texts.{shown_bytes, build_text, refusal_text, limit_text, usage_text, bad_request, files_list}
+use Rattle.test_report.specs.Listing.{tests_list}
 use Rattle.vunit_top.specs.Store.{records_in_image}
 use Rattle.vunit_top.specs.Orders.{setting_for}
-use Rattle.vunit_top.specs.Reading.{Reading, Bad, Child, Stops, Over, Lists, Builds}
+use Rattle.vunit_top.specs.Reading.{Reading, Bad, Child, Stops, Over, Lists, ListsTests, Exports, Builds}
 
 -- an answer, and the text that is put with it
 pub record Said : Type 0 where
@@ -32,7 +33,20 @@ order_of Child = None
 order_of (Stops reason) = None
 order_of (Over limit number) = None
 order_of (Lists graph) = None
+order_of (ListsTests tests) = None
+order_of (Exports path text) = None
 order_of (Builds order warnings) = Some order
+
+-- the report of a reading, if it gives one: the path of its file, and its text
+abbrev pub report_of : Reading → Option (List ℕ × List ℕ)
+report_of Bad = None
+report_of Child = None
+report_of (Stops reason) = None
+report_of (Over limit number) = None
+report_of (Lists graph) = None
+report_of (ListsTests tests) = None
+report_of (Exports path text) = Some (path, text)
+report_of (Builds order warnings) = None
 
 -- what is to be built: nothing, where there is no order
 abbrev pub order_in : Reading → Order
@@ -61,6 +75,8 @@ plain_said Child = None
 plain_said (Stops reason) = Some (record { outcome = outcome.Refused reason; text = refusal_text reason })
 plain_said (Over limit number) = Some (record { outcome = outcome.OverLimit limit; text = limit_text limit number })
 plain_said (Lists graph) = Some (record { outcome = outcome.Done; text = files_list graph })
+plain_said (ListsTests tests) = Some (record { outcome = outcome.Done; text = tests_list tests })
+plain_said (Exports path text) = Some (record { outcome = outcome.Done; text = [] })
 plain_said (Builds order warnings) = None
 
 -- At each answer but a fault and out of memory that is the answer, and its text was put. After out of memory
@@ -84,6 +100,7 @@ pub record Counts : Type 0 where
   pub start : ℕ
   pub child : ℕ
   pub out : ℕ
+  pub report : ℕ
   pub input : ℕ
 
 -- A fault of an object is answered only where its count rose. After any answer but a fault and out of memory
@@ -95,7 +112,7 @@ Causes (outcome.OutsideFault which.Disk) old new = Rose old.disk new.disk
 Causes (outcome.OutsideFault which.Start) old new = Rose old.start new.start
 Causes (outcome.OutsideFault which.Child) old new = Rose old.child new.child
 Causes (outcome.OutsideFault which.Out) old new = Rose old.out new.out
-Causes (outcome.OutsideFault which.Report) old new = ⊥
+Causes (outcome.OutsideFault which.Report) old new = Rose old.report new.report
 Causes (outcome.OutsideFault which.Input) old new = Rose old.input new.input
 Causes answer old new = new ≡ old
 
@@ -106,4 +123,14 @@ pub record CountsStand (old new : Counts) : Type 0 where
   pub start : old.start ≤ new.start
   pub child : old.child ≤ new.child
   pub out : old.out ≤ new.out
+  pub report : old.report ≤ new.report
   pub input : old.input ≤ new.input
+
+-- the counts of faults of these objects
+abbrev pub fault_counts : (tree disk start child out report input : ℕ) → Counts
+fault_counts tree disk start child out report input = record { tree = tree; disk = disk; start = start; child = child; out = out; report = report; input = input }
+
+-- Each answer has its cause in a count, and no count has fallen.
+pub record IsAccounted (result : Outcome) (old new : Counts) : Type 0 where
+  pub cause : Causes result old new
+  pub stand : CountsStand old new

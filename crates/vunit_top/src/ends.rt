@@ -1,14 +1,17 @@
 //! What a run puts, and what it then answers.
 
-ghost use Rattle.std.specs.Prelude.{◌≡◌, ◌≤◌, ◌++◌, length, IfOk};
+ghost use Rattle.std.specs.Prelude.{◌≡◌, ◌≤◌, ◌++◌, ℕ, List, [], length, IfOk};
 ghost use Rattle.run_report.specs.Outcomes.{build_outcome};
 ghost use Rattle.vunit_top.specs.Said.{Says, IsSaid, build_said};
 ghost use Rattle.run_report.specs.Texts.{shown_bytes, build_text, refusal_text, limit_text, files_list, usage_text};
-ghost use Rattle.vunit_top.specs.Ends.{OutCauses};
+ghost use Rattle.test_report.specs.Listing.{tests_list};
+ghost use Rattle.vunit_top.specs.Ends.{OutCauses, ReportCauses, Writes};
 
+use report_files::{ReportFault, Reports};
 use run_report::{build_outcome, build_text, limit_text, list_files, refusal_text};
 use std::alloc::Global;
-use vr_base::{Graph, Limit, MarkList, NoMemory, Outcome, Refusal, Text, Which};
+use test_report::list_tests;
+use vr_base::{Graph, Limit, MarkList, NoMemory, Outcome, Refusal, Tests, Text, Which};
 use vr_outside::{Sink, SinkFault};
 
 /// What is put where the words aren't a command line of the program.
@@ -82,6 +85,35 @@ pub fn say_files<O: Sink>(alloc: Global, graph: &Graph, out: &mut O) -> Outcome
     match list_files(alloc, graph) {
         Ok(text) => say(text.bytes(), Outcome::Done, out),
         Err(_) => Outcome::NoMemory,
+    }
+}
+
+/// Puts a list of tests.
+pub fn say_tests<O: Sink>(alloc: Global, tests: &Tests, out: &mut O) -> Outcome
+    ensures said { O.tells →
+        Says result (record { outcome = Outcome.Done; text = tests_list tests.now })
+        (O.contents out.old) (O.contents out.new) }
+    ensures cause { OutCauses result (O.failed_puts out.old) (O.failed_puts out.new) }
+    ensures stand { O.failed_puts out.old ≤ O.failed_puts out.new }
+{
+    match list_tests(alloc, tests) {
+        Ok(text) => say(text.bytes(), Outcome::Done, out),
+        Err(_) => Outcome::NoMemory,
+    }
+}
+
+/// Writes a report to the file of a path.
+pub fn write_report<R: Reports>(path: &Text, text: &[u8], reports: &mut R) -> Outcome
+    ensures said { (put : List ℕ) →
+        Says result (record { outcome = Outcome.Done; text = [] }) put put }
+    ensures writes { R.tells →
+        Writes result path.now text.now (R.report reports.old) (R.report reports.new) }
+    ensures cause { ReportCauses result (R.failed_reports reports.old) (R.failed_reports reports.new) }
+    ensures stand { R.failed_reports reports.old ≤ R.failed_reports reports.new }
+{
+    match reports.write(path, text) {
+        Ok(()) => Outcome::Done,
+        Err(ReportFault::Failed) => Outcome::OutsideFault(Which::Report),
     }
 }
 

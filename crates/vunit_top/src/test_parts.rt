@@ -1,6 +1,7 @@
 //! What the test modules share: texts, and objects in memory.
 
 use crate::run_vunit;
+use memory_reports::MemReports;
 use std::alloc::Global;
 use std::process::Abort;
 use vr_base::{
@@ -108,6 +109,32 @@ pub(crate) fn run_over(
     procs: &mut ScriptProcs,
     out: &mut MemSink,
 ) -> Outcome {
+    let mut reports = MemReports::new(alloc, Numbers::new(alloc));
+    run_with_reports(
+        rt,
+        alloc,
+        words,
+        input,
+        tree,
+        disk,
+        procs,
+        out,
+        &mut reports,
+    )
+}
+
+/// Runs the words over objects in memory, reports among them.
+pub(crate) fn run_with_reports(
+    rt: &impl Abort,
+    alloc: Global,
+    words: &TextList,
+    input: &mut MemSource,
+    tree: &mut MemTree,
+    disk: &mut MemDisk,
+    procs: &mut ScriptProcs,
+    out: &mut MemSink,
+    reports: &mut MemReports,
+) -> Outcome {
     assert!(rt; procs.running().is_empty());
-    run_vunit(alloc, words, input, tree, disk, procs, out)
+    run_vunit(alloc, words, input, tree, disk, procs, out, reports)
 }

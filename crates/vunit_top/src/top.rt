@@ -1,6 +1,6 @@
 //! The top call: reads words and sources, does what they say, and puts what became of it.
 
-ghost use Rattle.std.specs.Prelude.{◌≡◌, ◌≤◌, ◌⊎◌, ◌++◌, [], ℕ, List, codes, Some, None, Ok, Err, true, false};
+ghost use Rattle.std.specs.Prelude.{◌≡◌, ◌≤◌, ◌⊎◌, ◌++◌, [], ℕ, List, codes, Option, Some, None, Ok, Err, true, false, IfOk};
 ghost use Rattle.vr_outside.specs.Disks.{added_since};
 ghost use Rattle.run_spec.specs.ChildJournal.{since};
 ghost use Rattle.run_spec.specs.Histories.{Order};
@@ -11,21 +11,28 @@ ghost use Rattle.scan_spec.specs.Scans.{Finding, IsScanner};
 ghost use Rattle.project_reading.specs.Asked.{AsksFirst, project_paths};
 ghost use Rattle.project_reading.specs.Reading.{SourceReading, Found, project_reading};
 ghost use Rattle.project_reading.specs.Sources.{LeadsTo};
-ghost use Rattle.vunit_top.specs.Ends.{StopCounts};
-ghost use Rattle.vunit_top.specs.Reading.{Reading, Builds, HasSlots, reading, full_reading, job_reading, setting_job, words_job, order_by, begins_as_child};
+ghost use Rattle.test_report.specs.Listing.{tests_list};
+ghost use Rattle.test_report.specs.Export.{export_text};
+ghost use Rattle.vunit_top.specs.Ends.{StopCounts, OutCauses, ReportCauses, Writes};
+ghost use Rattle.vunit_top.specs.Reading.{Reading, Builds, Exports, HasSlots, reading, full_reading, job_reading, setting_job, words_job, order_by, begins_as_child, chosen, reads_tests, is_build, is_export};
 ghost use Rattle.vunit_top.specs.Runs.{RunsAs, run_of, has_risen};
-ghost use Rattle.vunit_top.specs.Said.{Said, Says, IsSaid, Causes, CountsStand, order_of, order_in, build_of, plain_said, build_said, child_said};
+ghost use Rattle.vunit_top.specs.Said.{Said, Says, IsSaid, Causes, IsAccounted, fault_counts, report_of, order_of, order_in, build_of, plain_said, build_said, child_said};
 
 use crate::building::{BuildOptions, build_over};
-use crate::ends::{say, say_build, say_files, say_limit, say_refusal, say_usage};
-use crate::words::{Job, begins_with, job_of};
+use crate::ends::{
+    say, say_build, say_files, say_limit, say_refusal, say_tests, say_usage, write_report,
+};
+use crate::words::{Job, begins_with, job_of, patterns_of, reads_tests};
 use command_line::{Setting, WordsFault, read_words};
 use compile_loop::BuildFault;
 use node_store::NodeStore;
 use project_reading::{ReadProject, ReadStop, read_project};
+use report_files::Reports;
 use run_report::warning_text;
 use std::alloc::Global;
-use vr_base::{Graph, Limit, Outcome, Refusal, SLOT_LIMIT, Text, TextList, Which};
+use test_report::export_json;
+use test_select::select;
+use vr_base::{Graph, Limit, NoMemory, Outcome, Refusal, SLOT_LIMIT, Tests, Text, TextList, Which};
 use vr_outside::{Disk, Procs, Sink, Source, SourceFault, TakeEnd, Tree};
 
 /// The most bytes that a child takes.
@@ -35,42 +42,11 @@ const INPUT_BYTES: u64 = 2147483648;
 fn run_as_child<I: Source, O: Sink>(alloc: Global, input: &mut I, out: &mut O) -> Outcome
     ensures said { I.tells → O.tells →
         Says result (child_said (I.left input.old)) (O.contents out.old) (O.contents out.new) }
-    ensures cause { (tree disk start child : ℕ) →
-        Causes result
-        (record {
-          tree = tree;
-          disk = disk;
-          start = start;
-          child = child;
-          out = O.failed_puts out.old;
-          input = I.failed_takes input.old;
-        })
-        (record {
-          tree = tree;
-          disk = disk;
-          start = start;
-          child = child;
-          out = O.failed_puts out.new;
-          input = I.failed_takes input.new;
-        }) }
-    ensures stand { (tree disk start child : ℕ) →
-        CountsStand
-        (record {
-          tree = tree;
-          disk = disk;
-          start = start;
-          child = child;
-          out = O.failed_puts out.old;
-          input = I.failed_takes input.old;
-        })
-        (record {
-          tree = tree;
-          disk = disk;
-          start = start;
-          child = child;
-          out = O.failed_puts out.new;
-          input = I.failed_takes input.new;
-        }) }
+    ensures counted { (tree disk start child report : ℕ) → IsAccounted result
+        (fault_counts tree disk start child (O.failed_puts out.old) report
+        (I.failed_takes input.old))
+        (fault_counts tree disk start child (O.failed_puts out.new) report
+        (I.failed_takes input.new)) }
 {
     match input.take(alloc, INPUT_BYTES) {
         Ok(TakeEnd::Got(_)) => Outcome::Child(0),
@@ -110,40 +86,11 @@ fn build_graph<D: Disk, P: Procs, O: Sink>(
         let marks = marks_of (build_of (D.moments disk.old).now order) events in
         Says result (build_said warnings graph.now marks)
         (O.contents out.old) (O.contents out.new) }
-    ensures cause { (tree input : ℕ) → Causes result
-        (record {
-          tree = tree;
-          disk = D.failed_disk_calls disk.old;
-          start = P.failed_starts procs.old;
-          child = P.lost_children procs.old;
-          out = O.failed_puts out.old;
-          input = input;
-        })
-        (record {
-          tree = tree;
-          disk = D.failed_disk_calls disk.new;
-          start = P.failed_starts procs.new;
-          child = P.lost_children procs.new;
-          out = O.failed_puts out.new;
-          input = input;
-        }) }
-    ensures stand { (tree input : ℕ) → CountsStand
-        (record {
-          tree = tree;
-          disk = D.failed_disk_calls disk.old;
-          start = P.failed_starts procs.old;
-          child = P.lost_children procs.old;
-          out = O.failed_puts out.old;
-          input = input;
-        })
-        (record {
-          tree = tree;
-          disk = D.failed_disk_calls disk.new;
-          start = P.failed_starts procs.new;
-          child = P.lost_children procs.new;
-          out = O.failed_puts out.new;
-          input = input;
-        }) }
+    ensures counted { (tree report input : ℕ) → IsAccounted result
+        (fault_counts tree (D.failed_disk_calls disk.old) (P.failed_starts procs.old)
+        (P.lost_children procs.old) (O.failed_puts out.old) report input)
+        (fault_counts tree (D.failed_disk_calls disk.new) (P.failed_starts procs.new)
+        (P.lost_children procs.new) (O.failed_puts out.new) report input) }
 {
     match build_over::<NodeStore, D, P>(alloc, graph, options, disk, procs) {
         Ok(marks) => say_build(alloc, warnings, graph, &marks, out),
@@ -185,40 +132,11 @@ fn build_project<D: Disk, P: Procs, O: Sink>(
         let marks = marks_of (build_of (D.moments disk.old).now order) events in
         Says result (build_said warnings read.now.graph marks)
         (O.contents out.old) (O.contents out.new) }
-    ensures cause { (tree input : ℕ) → Causes result
-        (record {
-          tree = tree;
-          disk = D.failed_disk_calls disk.old;
-          start = P.failed_starts procs.old;
-          child = P.lost_children procs.old;
-          out = O.failed_puts out.old;
-          input = input;
-        })
-        (record {
-          tree = tree;
-          disk = D.failed_disk_calls disk.new;
-          start = P.failed_starts procs.new;
-          child = P.lost_children procs.new;
-          out = O.failed_puts out.new;
-          input = input;
-        }) }
-    ensures stand { (tree input : ℕ) → CountsStand
-        (record {
-          tree = tree;
-          disk = D.failed_disk_calls disk.old;
-          start = P.failed_starts procs.old;
-          child = P.lost_children procs.old;
-          out = O.failed_puts out.old;
-          input = input;
-        })
-        (record {
-          tree = tree;
-          disk = D.failed_disk_calls disk.new;
-          start = P.failed_starts procs.new;
-          child = P.lost_children procs.new;
-          out = O.failed_puts out.new;
-          input = input;
-        }) }
+    ensures counted { (tree report input : ℕ) → IsAccounted result
+        (fault_counts tree (D.failed_disk_calls disk.old) (P.failed_starts procs.old)
+        (P.lost_children procs.old) (O.failed_puts out.old) report input)
+        (fault_counts tree (D.failed_disk_calls disk.new) (P.failed_starts procs.new)
+        (P.lost_children procs.new) (O.failed_puts out.new) report input) }
 {
     match warning_text(alloc, &read.project, &read.warnings) {
         Ok(warnings) => build_graph(alloc, warnings, &read.graph, options, disk, procs, out),
@@ -226,14 +144,74 @@ fn build_project<D: Disk, P: Procs, O: Sink>(
     }
 }
 
+/// The tests of the sources that one of these patterns matches.
+fn chosen(alloc: Global, tests: &Tests, patterns: &TextList) -> Result<Tests, NoMemory>
+    ensures { IfOk result (λ some. some ≡ chosen patterns.now tests.now) }
+{
+    let patterns = patterns_of(alloc, patterns.as_slice())?;
+    select(alloc, tests, &patterns)
+}
+
+/// Puts the tests that one of these patterns matches.
+fn list_chosen<O: Sink>(
+    alloc: Global,
+    read: &ReadProject,
+    patterns: &TextList,
+    out: &mut O,
+) -> Outcome
+    ensures said { O.tells →
+        Says result
+        (record { outcome = Outcome.Done; text = tests_list (chosen patterns.now read.now.tests) })
+        (O.contents out.old) (O.contents out.new) }
+    ensures cause { OutCauses result (O.failed_puts out.old) (O.failed_puts out.new) }
+    ensures stand { O.failed_puts out.old ≤ O.failed_puts out.new }
+{
+    match chosen(alloc, &read.tests, patterns) {
+        Ok(tests) => say_tests(alloc, &tests, out),
+        Err(_) => Outcome::NoMemory,
+    }
+}
+
+/// The export of the sources with these tests.
+fn export_of(alloc: Global, read: &ReadProject, patterns: &TextList) -> Result<Text, NoMemory>
+    ensures { IfOk result (λ text. text ≡ export_text read.now.graph read.now.project.files
+        (chosen patterns.now read.now.tests)) }
+{
+    let tests = chosen(alloc, &read.tests, patterns)?;
+    export_json(alloc, &read.graph, &read.project, &tests)
+}
+
+/// Writes the files and the tests that one of these patterns matches to the file of a path.
+fn export_chosen<R: Reports>(
+    alloc: Global,
+    read: &ReadProject,
+    path: &Text,
+    patterns: &TextList,
+    reports: &mut R,
+) -> Outcome
+    ensures said { (put : List ℕ) →
+        Says result (record { outcome = Outcome.Done; text = [] }) put put }
+    ensures writes { R.tells →
+        Writes result path.now (export_text read.now.graph read.now.project.files
+        (chosen patterns.now read.now.tests)) (R.report reports.old) (R.report reports.new) }
+    ensures cause { ReportCauses result (R.failed_reports reports.old) (R.failed_reports reports.new) }
+    ensures stand { R.failed_reports reports.old ≤ R.failed_reports reports.new }
+{
+    match export_of(alloc, read, patterns) {
+        Ok(text) => write_report(path, text.bytes(), reports),
+        Err(_) => Outcome::NoMemory,
+    }
+}
+
 /// Does with the sources that were read what is to be done.
-fn run_job<D: Disk, P: Procs, O: Sink>(
+fn run_job<D: Disk, P: Procs, O: Sink, R: Reports>(
     alloc: Global,
     job: Job,
     read: &ReadProject,
     disk: &mut D,
     procs: &mut P,
     out: &mut O,
+    reports: &mut R,
 ) -> Outcome
     requires slots { HasSlots job }
     requires idle { P.running procs.old ≡ [] }
@@ -251,6 +229,13 @@ fn run_job<D: Disk, P: Procs, O: Sink>(
         (D.moments disk.old).now (D.moments disk.new).now }
     ensures untouched { order_of (job_reading job (Found read.now)) ≡ None →
         (disk.new ≡ disk.old) × (procs.new ≡ procs.old) }
+    ensures unbuilt { is_build job ≡ false → (disk.new ≡ disk.old) × (procs.new ≡ procs.old) }
+    ensures unwritten { is_export job ≡ false → reports.new ≡ reports.old }
+    ensures unreported { report_of (job_reading job (Found read.now)) ≡ None →
+        reports.new ≡ reports.old }
+    ensures writes { R.tells → (path text : List ℕ) →
+        job_reading job (Found read.now) ≡ Exports path text →
+        Writes result path text (R.report reports.old) (R.report reports.new) }
     ensures says_plain { O.tells →
         (what : Said) → plain_said (job_reading job (Found read.now)) ≡ Some what →
         Says result what (O.contents out.old) (O.contents out.new) }
@@ -261,43 +246,18 @@ fn run_job<D: Disk, P: Procs, O: Sink>(
         let marks = marks_of (build_of (D.moments disk.old).now order) events in
         Says result (build_said warnings order.graph marks)
         (O.contents out.old) (O.contents out.new) }
-    ensures cause { (tree input : ℕ) → Causes result
-        (record {
-          tree = tree;
-          disk = D.failed_disk_calls disk.old;
-          start = P.failed_starts procs.old;
-          child = P.lost_children procs.old;
-          out = O.failed_puts out.old;
-          input = input;
-        })
-        (record {
-          tree = tree;
-          disk = D.failed_disk_calls disk.new;
-          start = P.failed_starts procs.new;
-          child = P.lost_children procs.new;
-          out = O.failed_puts out.new;
-          input = input;
-        }) }
-    ensures stand { (tree input : ℕ) → CountsStand
-        (record {
-          tree = tree;
-          disk = D.failed_disk_calls disk.old;
-          start = P.failed_starts procs.old;
-          child = P.lost_children procs.old;
-          out = O.failed_puts out.old;
-          input = input;
-        })
-        (record {
-          tree = tree;
-          disk = D.failed_disk_calls disk.new;
-          start = P.failed_starts procs.new;
-          child = P.lost_children procs.new;
-          out = O.failed_puts out.new;
-          input = input;
-        }) }
+    ensures counted { (tree input : ℕ) → IsAccounted result
+        (fault_counts tree (D.failed_disk_calls disk.old) (P.failed_starts procs.old)
+        (P.lost_children procs.old) (O.failed_puts out.old)
+        (R.failed_reports reports.old) input)
+        (fault_counts tree (D.failed_disk_calls disk.new) (P.failed_starts procs.new)
+        (P.lost_children procs.new) (O.failed_puts out.new)
+        (R.failed_reports reports.new) input) }
 {
     match job {
         Job::ListFiles => say_files(alloc, &read.graph, out),
+        Job::ListTests(patterns) => list_chosen(alloc, read, &patterns, out),
+        Job::Export(path, patterns) => export_chosen(alloc, read, &path, &patterns, reports),
         Job::Build(options) => build_project(alloc, read, options, disk, procs, out),
     }
 }
@@ -313,24 +273,13 @@ fn say_stop<O: Sink>(alloc: Global, stop: ReadStop, out: &mut O) -> Outcome
         LeadsTo found (Err stop) → (order : Order) (warnings : List ℕ) →
         job_reading job found ≡ Builds order warnings → (what : Said) →
         Says result what (O.contents out.old) (O.contents out.new) }
-    ensures cause { (before now disk start child input : ℕ) → StopCounts stop before now →
+    ensures writes { (job : Job) (found : SourceReading) → LeadsTo found (Err stop) →
+        (path text : List ℕ) → job_reading job found ≡ Exports path text →
+        (reports : List ℕ → Option (List ℕ)) → Writes result path text reports reports }
+    ensures cause { (before now disk start child report input : ℕ) → StopCounts stop before now →
         Causes result
-        (record {
-          tree = before;
-          disk = disk;
-          start = start;
-          child = child;
-          out = O.failed_puts out.old;
-          input = input;
-        })
-        (record {
-          tree = now;
-          disk = disk;
-          start = start;
-          child = child;
-          out = O.failed_puts out.new;
-          input = input;
-        }) }
+        (fault_counts before disk start child (O.failed_puts out.old) report input)
+        (fault_counts now disk start child (O.failed_puts out.new) report input) }
     ensures stand { O.failed_puts out.old ≤ O.failed_puts out.new }
 {
     match stop {
@@ -342,13 +291,14 @@ fn say_stop<O: Sink>(alloc: Global, stop: ReadStop, out: &mut O) -> Outcome
 }
 
 /// Reads the project in a tree, and does with it what is to be done.
-fn run_sources<T: Tree, D: Disk, P: Procs, O: Sink>(
+fn run_sources<T: Tree, D: Disk, P: Procs, O: Sink, R: Reports>(
     alloc: Global,
     job: Job,
     tree: &mut T,
     disk: &mut D,
     procs: &mut P,
     out: &mut O,
+    reports: &mut R,
 ) -> Outcome
     requires slots { HasSlots job }
     requires idle { P.running procs.old ≡ [] }
@@ -366,83 +316,68 @@ fn run_sources<T: Tree, D: Disk, P: Procs, O: Sink>(
         ≡ P.journal procs.old ++ since (P.journal procs.old) (P.journal procs.new)) }
     ensures ran { (scan : List ℕ → Finding) → IsScanner scan → (words : List (List ℕ)) →
         T.tells → D.tells → P.tells →
-        let found = project_reading scan (T.file tree.old) (T.listed tree.old) in
-        RunsAs scan (P.answer procs.old) (job_reading job found)
+        let sources = project_reading scan (T.file tree.old) (T.listed tree.old) in
+        RunsAs scan (P.answer procs.old) (job_reading job (sources (reads_tests job)))
         (run_of words result
         (has_risen (D.failed_disk_calls disk.old) (D.failed_disk_calls disk.new))
         (since (P.journal procs.old) (P.journal procs.new))
         (added_since (D.moments disk.old) (D.moments disk.new)))
         (D.moments disk.old).now (D.moments disk.new).now }
-    ensures files_alone { job ≡ Job.ListFiles → (disk.new ≡ disk.old) × (procs.new ≡ procs.old) }
+    ensures unbuilt { is_build job ≡ false → (disk.new ≡ disk.old) × (procs.new ≡ procs.old) }
+    ensures unwritten { is_export job ≡ false → reports.new ≡ reports.old }
+    ensures unreported { (scan : List ℕ → Finding) → IsScanner scan → T.tells →
+        let sources = project_reading scan (T.file tree.old) (T.listed tree.old) in
+        report_of (job_reading job (sources (reads_tests job))) ≡ None →
+        reports.new ≡ reports.old }
+    ensures writes { (scan : List ℕ → Finding) → IsScanner scan → T.tells → R.tells →
+        let sources = project_reading scan (T.file tree.old) (T.listed tree.old) in
+        (path text : List ℕ) →
+        job_reading job (sources (reads_tests job)) ≡ Exports path text →
+        Writes result path text (R.report reports.old) (R.report reports.new) }
     ensures untouched { (scan : List ℕ → Finding) → IsScanner scan → T.tells →
-        let found = project_reading scan (T.file tree.old) (T.listed tree.old) in
-        order_of (job_reading job found) ≡ None →
+        let sources = project_reading scan (T.file tree.old) (T.listed tree.old) in
+        order_of (job_reading job (sources (reads_tests job))) ≡ None →
         (disk.new ≡ disk.old) × (procs.new ≡ procs.old) }
     ensures says_plain { (scan : List ℕ → Finding) → IsScanner scan → T.tells → O.tells →
+        let sources = project_reading scan (T.file tree.old) (T.listed tree.old) in
         (what : Said) →
-        plain_said (job_reading job
-        (project_reading scan (T.file tree.old) (T.listed tree.old))) ≡ Some what →
+        plain_said (job_reading job (sources (reads_tests job))) ≡ Some what →
         Says result what (O.contents out.old) (O.contents out.new) }
     ensures says_build { (scan : List ℕ → Finding) → IsScanner scan →
         T.tells → D.tells → P.tells → O.tells →
+        let sources = project_reading scan (T.file tree.old) (T.listed tree.old) in
         (order : Order) (warnings : List ℕ) →
-        job_reading job (project_reading scan (T.file tree.old) (T.listed tree.old))
-        ≡ Builds order warnings →
+        job_reading job (sources (reads_tests job)) ≡ Builds order warnings →
         let events = compile_part (since (P.journal procs.old) (P.journal procs.new)) in
         let marks = marks_of (build_of (D.moments disk.old).now order) events in
         Says result (build_said warnings order.graph marks)
         (O.contents out.old) (O.contents out.new) }
-    ensures cause { (input : ℕ) → Causes result
-        (record {
-          tree = T.failed_reads tree.old;
-          disk = D.failed_disk_calls disk.old;
-          start = P.failed_starts procs.old;
-          child = P.lost_children procs.old;
-          out = O.failed_puts out.old;
-          input = input;
-        })
-        (record {
-          tree = T.failed_reads tree.new;
-          disk = D.failed_disk_calls disk.new;
-          start = P.failed_starts procs.new;
-          child = P.lost_children procs.new;
-          out = O.failed_puts out.new;
-          input = input;
-        }) }
-    ensures stand { (input : ℕ) → CountsStand
-        (record {
-          tree = T.failed_reads tree.old;
-          disk = D.failed_disk_calls disk.old;
-          start = P.failed_starts procs.old;
-          child = P.lost_children procs.old;
-          out = O.failed_puts out.old;
-          input = input;
-        })
-        (record {
-          tree = T.failed_reads tree.new;
-          disk = D.failed_disk_calls disk.new;
-          start = P.failed_starts procs.new;
-          child = P.lost_children procs.new;
-          out = O.failed_puts out.new;
-          input = input;
-        }) }
+    ensures counted { (input : ℕ) → IsAccounted result
+        (fault_counts (T.failed_reads tree.old) (D.failed_disk_calls disk.old)
+        (P.failed_starts procs.old) (P.lost_children procs.old) (O.failed_puts out.old)
+        (R.failed_reports reports.old) input)
+        (fault_counts (T.failed_reads tree.new) (D.failed_disk_calls disk.new)
+        (P.failed_starts procs.new) (P.lost_children procs.new) (O.failed_puts out.new)
+        (R.failed_reports reports.new) input) }
 {
-    match read_project(alloc, tree) {
-        Ok(read) => run_job(alloc, job, &read, disk, procs, out),
+    let with_tests = reads_tests(&job);
+    match read_project(alloc, tree, with_tests) {
+        Ok(read) => run_job(alloc, job, &read, disk, procs, out, reports),
         Err(stop) => say_stop(alloc, stop, out),
     }
 }
 
 /// Does what a setting says.
-fn run_setting<T: Tree, D: Disk, P: Procs, O: Sink>(
+fn run_setting<T: Tree, D: Disk, P: Procs, O: Sink, R: Reports>(
     alloc: Global,
-    setting: &Setting,
+    setting: Setting,
     tree: &mut T,
     disk: &mut D,
     procs: &mut P,
     out: &mut O,
+    reports: &mut R,
 ) -> Outcome
-    requires some { 1 ≤ setting.now.num_threads }
+    requires some { 1 ≤ setting.num_threads }
     requires idle { P.running procs.old ≡ [] }
     ensures running { P.running procs.new ≡ [] }
     ensures same { P.answer procs.new ≡ P.answer procs.old }
@@ -458,77 +393,62 @@ fn run_setting<T: Tree, D: Disk, P: Procs, O: Sink>(
         ≡ P.journal procs.old ++ since (P.journal procs.old) (P.journal procs.new)) }
     ensures ran { (scan : List ℕ → Finding) → IsScanner scan → (words : List (List ℕ)) →
         T.tells → D.tells → P.tells →
-        let found = project_reading scan (T.file tree.old) (T.listed tree.old) in
-        RunsAs scan (P.answer procs.old) (full_reading (setting_job setting.now) found)
+        let sources = project_reading scan (T.file tree.old) (T.listed tree.old) in
+        RunsAs scan (P.answer procs.old) (full_reading (setting_job setting) sources)
         (run_of words result
         (has_risen (D.failed_disk_calls disk.old) (D.failed_disk_calls disk.new))
         (since (P.journal procs.old) (P.journal procs.new))
         (added_since (D.moments disk.old) (D.moments disk.new)))
         (D.moments disk.old).now (D.moments disk.new).now }
-    ensures words_alone { (r : Reading) → setting_job setting.now ≡ Err r →
-        (tree.new ≡ tree.old) × (disk.new ≡ disk.old) × (procs.new ≡ procs.old) }
-    ensures files_alone { setting_job setting.now ≡ Ok Job.ListFiles →
+    ensures words_alone { (r : Reading) → setting_job setting ≡ Err r →
+        (tree.new ≡ tree.old) × (disk.new ≡ disk.old) × (procs.new ≡ procs.old)
+        × (reports.new ≡ reports.old) }
+    ensures unbuilt { (job : Job) → setting_job setting ≡ Ok job → is_build job ≡ false →
         (disk.new ≡ disk.old) × (procs.new ≡ procs.old) }
+    ensures unwritten { (job : Job) → setting_job setting ≡ Ok job → is_export job ≡ false →
+        reports.new ≡ reports.old }
+    ensures unreported { (scan : List ℕ → Finding) → IsScanner scan → T.tells →
+        let sources = project_reading scan (T.file tree.old) (T.listed tree.old) in
+        report_of (full_reading (setting_job setting) sources) ≡ None →
+        reports.new ≡ reports.old }
+    ensures writes { (scan : List ℕ → Finding) → IsScanner scan → T.tells → R.tells →
+        let sources = project_reading scan (T.file tree.old) (T.listed tree.old) in
+        (path text : List ℕ) →
+        full_reading (setting_job setting) sources ≡ Exports path text →
+        Writes result path text (R.report reports.old) (R.report reports.new) }
     ensures untouched { (scan : List ℕ → Finding) → IsScanner scan → T.tells →
         let sources = project_reading scan (T.file tree.old) (T.listed tree.old) in
-        order_of (full_reading (setting_job setting.now) sources) ≡ None →
+        order_of (full_reading (setting_job setting) sources) ≡ None →
         (disk.new ≡ disk.old) × (procs.new ≡ procs.old) }
-    ensures says_words { O.tells → (r : Reading) → setting_job setting.now ≡ Err r →
+    ensures says_words { O.tells → (r : Reading) → setting_job setting ≡ Err r →
         (what : Said) → plain_said r ≡ Some what →
         Says result what (O.contents out.old) (O.contents out.new) }
     ensures says_plain { (scan : List ℕ → Finding) → IsScanner scan → T.tells → O.tells →
         let sources = project_reading scan (T.file tree.old) (T.listed tree.old) in (what : Said) →
-        plain_said (full_reading (setting_job setting.now) sources) ≡ Some what →
+        plain_said (full_reading (setting_job setting) sources) ≡ Some what →
         Says result what (O.contents out.old) (O.contents out.new) }
     ensures says_build { (scan : List ℕ → Finding) → IsScanner scan →
         T.tells → D.tells → P.tells → O.tells →
         (order : Order) (warnings : List ℕ) →
-        full_reading (setting_job setting.now)
+        full_reading (setting_job setting)
         (project_reading scan (T.file tree.old) (T.listed tree.old)) ≡ Builds order warnings →
         let events = compile_part (since (P.journal procs.old) (P.journal procs.new)) in
         let marks = marks_of (build_of (D.moments disk.old).now order) events in
         Says result (build_said warnings order.graph marks)
         (O.contents out.old) (O.contents out.new) }
-    ensures cause { (input : ℕ) → Causes result
-        (record {
-          tree = T.failed_reads tree.old;
-          disk = D.failed_disk_calls disk.old;
-          start = P.failed_starts procs.old;
-          child = P.lost_children procs.old;
-          out = O.failed_puts out.old;
-          input = input;
-        })
-        (record {
-          tree = T.failed_reads tree.new;
-          disk = D.failed_disk_calls disk.new;
-          start = P.failed_starts procs.new;
-          child = P.lost_children procs.new;
-          out = O.failed_puts out.new;
-          input = input;
-        }) }
-    ensures stand { (input : ℕ) → CountsStand
-        (record {
-          tree = T.failed_reads tree.old;
-          disk = D.failed_disk_calls disk.old;
-          start = P.failed_starts procs.old;
-          child = P.lost_children procs.old;
-          out = O.failed_puts out.old;
-          input = input;
-        })
-        (record {
-          tree = T.failed_reads tree.new;
-          disk = D.failed_disk_calls disk.new;
-          start = P.failed_starts procs.new;
-          child = P.lost_children procs.new;
-          out = O.failed_puts out.new;
-          input = input;
-        }) }
+    ensures counted { (input : ℕ) → IsAccounted result
+        (fault_counts (T.failed_reads tree.old) (D.failed_disk_calls disk.old)
+        (P.failed_starts procs.old) (P.lost_children procs.old) (O.failed_puts out.old)
+        (R.failed_reports reports.old) input)
+        (fault_counts (T.failed_reads tree.new) (D.failed_disk_calls disk.new)
+        (P.failed_starts procs.new) (P.lost_children procs.new) (O.failed_puts out.new)
+        (R.failed_reports reports.new) input) }
 {
     if setting.num_threads > SLOT_LIMIT as u64 {
         return say_limit(alloc, Limit::Slots, SLOT_LIMIT as u64, out);
     }
     match job_of(setting) {
-        Some(job) => run_sources(alloc, job, tree, disk, procs, out),
+        Some(job) => run_sources(alloc, job, tree, disk, procs, out, reports),
         None => say_refusal(alloc, Refusal::NotBuilt, out),
     }
 }
@@ -536,7 +456,8 @@ fn run_setting<T: Tree, D: Disk, P: Procs, O: Sink>(
 /// Runs the program: reads the words, and does what they and the sources say.
 ///
 /// The words are those of the command line without the program's name. Where the first is `child-analyse` the program is a
-/// child. With `--files` the files of the project in the tree are put, in compile order. With `--compile` they are built in
+/// child. With `--files` the files of the project in the tree are put, in compile order; with `--list` the tests that
+/// one of the patterns matches; with `--export-json` both are written to a file as JSON. With `--compile` they are built in
 /// that order: of a file whose text, name, command and dependencies are those of its record on the disk nothing is
 /// started, and each other file is compiled, once, with as many children at once as `-p` says, until one is refused, or
 /// with `-k` also after it, but for the files that depend on a refused one; what a compiler gives is committed before
@@ -544,7 +465,7 @@ fn run_setting<T: Tree, D: Disk, P: Procs, O: Sink>(
 ///
 /// From every object's answers the call answers what the clauses below say; where an object tells nothing, it is
 /// still safe, its answer still has its cause, and no child runs when it returns.
-pub fn run_vunit<I: Source, T: Tree, D: Disk, P: Procs, O: Sink>(
+pub fn run_vunit<I: Source, T: Tree, D: Disk, P: Procs, O: Sink, R: Reports>(
     alloc: Global,
     words: &TextList,
     input: &mut I,
@@ -552,6 +473,7 @@ pub fn run_vunit<I: Source, T: Tree, D: Disk, P: Procs, O: Sink>(
     disk: &mut D,
     procs: &mut P,
     out: &mut O,
+    reports: &mut R,
 ) -> Outcome
     requires { P.running procs.old ≡ [] }
 
@@ -583,14 +505,21 @@ pub fn run_vunit<I: Source, T: Tree, D: Disk, P: Procs, O: Sink>(
         ⊎ (AsksFirst paths (T.asked tree.old) (T.asked tree.new)
         × (disk.new ≡ disk.old) × (procs.new ≡ procs.old)) }
 
-    // What isn't needed isn't touched: input but by a child of the program; tree, disk and children where the words alone
-    // say what is done; disk and children where the files are listed, and where the sources give nothing to build. All this
-    // on every answer.
+    // What isn't needed isn't touched: input but by a child of the program; tree, disk, children and reports where the words
+    // alone say what is done; disk and children where nothing is to be built, by the words, and where the sources give
+    // nothing to build; reports where none is to be written, and where the sources give none. All this on every answer.
     ensures no_input { begins_as_child words.now ≡ false → input.new ≡ input.old }
     ensures words_alone { (r : Reading) → words_job words.now ≡ Err r →
-        (tree.new ≡ tree.old) × (disk.new ≡ disk.old) × (procs.new ≡ procs.old) }
-    ensures files_alone { words_job words.now ≡ Ok Job.ListFiles →
+        (tree.new ≡ tree.old) × (disk.new ≡ disk.old) × (procs.new ≡ procs.old)
+        × (reports.new ≡ reports.old) }
+    ensures unbuilt { (job : Job) → words_job words.now ≡ Ok job → is_build job ≡ false →
         (disk.new ≡ disk.old) × (procs.new ≡ procs.old) }
+    ensures unwritten { (job : Job) → words_job words.now ≡ Ok job → is_export job ≡ false →
+        reports.new ≡ reports.old }
+    ensures unreported { (scan : List ℕ → Finding) → IsScanner scan → T.tells →
+        report_of (reading scan words.now
+        (record { file = T.file tree.old; listed = T.listed tree.old })) ≡ None →
+        reports.new ≡ reports.old }
     ensures untouched { (scan : List ℕ → Finding) → IsScanner scan → T.tells →
         order_of (reading scan words.now
         (record { file = T.file tree.old; listed = T.listed tree.old })) ≡ None →
@@ -618,42 +547,22 @@ pub fn run_vunit<I: Source, T: Tree, D: Disk, P: Procs, O: Sink>(
         Says result (build_said warnings order.graph marks)
         (O.contents out.old) (O.contents out.new) }
 
+    // The report that is written: the file of its path has exactly the text after `Done`, and no other file is changed.
+    ensures writes { (scan : List ℕ → Finding) → IsScanner scan → T.tells → R.tells →
+        (path text : List ℕ) →
+        reading scan words.now (record { file = T.file tree.old; listed = T.listed tree.old })
+        ≡ Exports path text →
+        Writes result path text (R.report reports.old) (R.report reports.new) }
+
     // A fault is answered only where its count rose; after any other answer but out of memory all counts are unchanged.
     // No count falls.
-    ensures cause { Causes result
-        (record {
-          tree = T.failed_reads tree.old;
-          disk = D.failed_disk_calls disk.old;
-          start = P.failed_starts procs.old;
-          child = P.lost_children procs.old;
-          out = O.failed_puts out.old;
-          input = I.failed_takes input.old;
-        })
-        (record {
-          tree = T.failed_reads tree.new;
-          disk = D.failed_disk_calls disk.new;
-          start = P.failed_starts procs.new;
-          child = P.lost_children procs.new;
-          out = O.failed_puts out.new;
-          input = I.failed_takes input.new;
-        }) }
-    ensures stand { CountsStand
-        (record {
-          tree = T.failed_reads tree.old;
-          disk = D.failed_disk_calls disk.old;
-          start = P.failed_starts procs.old;
-          child = P.lost_children procs.old;
-          out = O.failed_puts out.old;
-          input = I.failed_takes input.old;
-        })
-        (record {
-          tree = T.failed_reads tree.new;
-          disk = D.failed_disk_calls disk.new;
-          start = P.failed_starts procs.new;
-          child = P.lost_children procs.new;
-          out = O.failed_puts out.new;
-          input = I.failed_takes input.new;
-        }) }
+    ensures counted { IsAccounted result
+        (fault_counts (T.failed_reads tree.old) (D.failed_disk_calls disk.old)
+        (P.failed_starts procs.old) (P.lost_children procs.old) (O.failed_puts out.old)
+        (R.failed_reports reports.old) (I.failed_takes input.old))
+        (fault_counts (T.failed_reads tree.new) (D.failed_disk_calls disk.new)
+        (P.failed_starts procs.new) (P.lost_children procs.new) (O.failed_puts out.new)
+        (R.failed_reports reports.new) (I.failed_takes input.new)) }
 {
     if begins_with(b"child-analyse", words) {
         return run_as_child(alloc, input, out);
@@ -662,7 +571,7 @@ pub fn run_vunit<I: Source, T: Tree, D: Disk, P: Procs, O: Sink>(
         return say_usage(out);
     }
     match read_words(alloc, words) {
-        Ok(setting) => run_setting(alloc, &setting, tree, disk, procs, out),
+        Ok(setting) => run_setting(alloc, setting, tree, disk, procs, out, reports),
         Err(WordsFault::Bad) => say_usage(out),
         Err(WordsFault::NoMemory) => Outcome::NoMemory,
     }

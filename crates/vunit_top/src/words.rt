@@ -1,20 +1,38 @@
 //! What the words of the command line say is to be done.
 
-ghost use Rattle.std.specs.Prelude.{◌≡◌, ◌≤◌, ◌<◌, ◌^◌, length, map, IfSome};
+ghost use Rattle.std.specs.Prelude.{◌≡◌, ◌≤◌, ◌<◌, ◌^◌, length, map, IfOk, IfSome};
 ghost use Rattle.std.specs.Str.{bytes_eq};
-ghost use Rattle.run_spec.specs.JournalParts.{is_given};
-ghost use Rattle.vunit_top.specs.Reading.{HasSlots, begins_with, job_of, options_of};
+ghost use Rattle.test_select.specs.Patterns.{pieces_of};
+ghost use Rattle.vunit_top.specs.Reading.{HasSlots, begins_with, job_of, reads_tests};
 
 use crate::building::BuildOptions;
 use command_line::Setting;
-use vr_base::{MaybeText, SLOT_LIMIT, TextList};
+use std::alloc::Global;
+use test_select::{PatternList, read_pattern};
+use vr_base::{MaybeText, NoMemory, SLOT_LIMIT, Text, TextList};
 
 /// What is done with the sources.
-#[derive(Clone, Copy, Debug, PartialEq, Eq)]
+#[derive(Drop)]
 pub enum Job {
     /// The files are listed, in compile order.
     ListFiles,
+    /// The tests that one of these patterns matches are listed.
+    ListTests(TextList),
+    /// The files, and the tests that one of these patterns matches, are written to the file of this path.
+    Export(Text, TextList),
     Build(BuildOptions),
+}
+
+/// Whether tests are looked for in the sources.
+pub fn reads_tests(job: &Job) -> bool
+    ensures { result ≡ reads_tests job.now }
+{
+    match job {
+        Job::ListFiles => false,
+        Job::ListTests(_) => true,
+        Job::Export(_, _) => true,
+        Job::Build(_) => false,
+    }
 }
 
 fn is_same(a: &[u8], b: &[u8]) -> bool
@@ -33,44 +51,54 @@ pub fn begins_with(first: &[u8], words: &TextList) -> bool
     }
 }
 
-fn is_given(text: &MaybeText) -> bool
-    ensures { result ≡ is_given text.now }
-{
-    matches!(text, MaybeText::Given(_))
-}
-
-fn options_of(setting: &Setting) -> BuildOptions
-    requires { setting.now.num_threads ≤ SLOT_LIMIT }
-    ensures { result ≡ options_of setting.now }
-{
-    BuildOptions {
-        slots: setting.num_threads as u32,
-        keep_going: setting.keep_compiling,
-        clean: setting.clean,
-    }
-}
-
 /// What a setting says is done with the sources; `None` where that isn't built yet.
-pub fn job_of(setting: &Setting) -> Option<Job>
-    requires some { 1 ≤ setting.now.num_threads }
-    requires few { setting.now.num_threads ≤ SLOT_LIMIT }
-    ensures job { result ≡ job_of setting.now }
+pub fn job_of(setting: Setting) -> Option<Job>
+    requires some { 1 ≤ setting.num_threads }
+    requires few { setting.num_threads ≤ SLOT_LIMIT }
+    ensures job { result ≡ job_of setting }
     ensures slots { IfSome result HasSlots }
 {
-    if setting.generate > 0 {
+    let Setting {
+        list,
+        files,
+        compile,
+        keep_compiling,
+        clean,
+        num_threads,
+        export_json,
+        generate,
+        patterns,
+        ..
+    } = setting;
+    if generate > 0 {
         return None;
     }
-    if is_given(&setting.export_json) {
-        return None;
+    if let MaybeText::Given(path) = export_json {
+        return Some(Job::Export(path, patterns));
     }
-    if setting.list {
-        return None;
+    if list {
+        return Some(Job::ListTests(patterns));
     }
-    if setting.files {
+    if files {
         return Some(Job::ListFiles);
     }
-    if setting.compile {
-        return Some(Job::Build(options_of(setting)));
+    if compile {
+        return Some(Job::Build(BuildOptions {
+            slots: num_threads as u32,
+            keep_going: keep_compiling,
+            clean,
+        }));
     }
     None
+}
+
+/// The patterns that these words are.
+pub fn patterns_of(alloc: Global, words: &[Text]) -> Result<PatternList, NoMemory>
+    ensures { IfOk result (λ patterns. patterns ≡ map pieces_of words.now) }
+{
+    let mut patterns = PatternList::new(alloc);
+    for i in 0..words.len() {
+        patterns.push(read_pattern(alloc, words[i].bytes())?)?;
+    }
+    Ok(patterns)
 }

@@ -3,7 +3,7 @@ use Rattle.command_line.specs.declared.setting.WordsFault.{WordsFault}
 use Rattle.command_line.specs.Words.{setting_of, ReadsWords}
 use Rattle.project_reading.specs.Reading.{project_reading}
 use Rattle.vunit_top.specs.Reading.{Bad, Child, setting_job, words_job, reading}
-use Rattle.vunit_top.proofs.Tops.{nothing_by, child_job, bench_job, setting_read, bad_read, plain_by, builds_by}
+use Rattle.vunit_top.proofs.Tops.{nothing_by, child_job, bench_job, setting_read, bad_read, plain_by, builds_by, exports_by, reports_by}
 use Rattle.vunit_top.proofs.RunTruths.{runs_idle, ran_by}
 use Rattle.vunit_top.proofs.top.run_vunit.Goals as goal
 
@@ -12,8 +12,8 @@ returns-then-begins_with-clause-ran g c = λ scan is t d p.
     runs_idle scan _ (reading scan c.args.words.now (record { file = g.T.Tree.file c.args.tree.now; listed = g.T.Tree.listed c.args.tree.now })) c.args.words.now c.run_as_child.result _ (g.P.Procs.journal c.args.procs.now) (g.D.Disk.moments c.args.disk.now) (g.met.D.Disk.sound c.args.disk.now)
     (λ said. nothing_by (words_job c.args.words.now) Child _ (child_job c.args.words.now (sym c.begins_with.ensures ∙ c.if-begins_with.true)) refl)
 
-pub returns-then-begins_with-clause-stand : goal.returns-then-begins_with-clause-stand
-returns-then-begins_with-clause-stand g c = c.run_as_child.ensures.stand _ _ _ _
+pub returns-then-begins_with-clause-counted : goal.returns-then-begins_with-clause-counted
+returns-then-begins_with-clause-counted g c = c.run_as_child.ensures.counted _ _ _ _ _
 
 pub returns-then-begins_with-2-clause-ran : goal.returns-then-begins_with-2-clause-ran
 returns-then-begins_with-2-clause-ran g c = λ scan is t d p.
@@ -37,8 +37,8 @@ pub returns-in-Ok-clause-says_build : goal.returns-in-Ok-clause-says_build
 returns-in-Ok-clause-says_build g c = λ scan is t d p puts order warnings builds.
     c.run_setting.ensures.says_build scan is t d p puts order warnings (builds_by (words_job c.args.words.now) (setting_job c.in-Ok.setting) (project_reading scan (g.T.Tree.file c.args.tree.now) (g.T.Tree.listed c.args.tree.now)) (setting_read c.args.words.now (sym c.begins_with.ensures ∙ c.if-begins_with.false) (sym c.begins_with-2.ensures ∙ c.if-begins_with-2.false) c.in-Ok.setting c.in-Ok.ensures.read) order warnings builds)
 
-pub returns-in-Ok-clause-stand : goal.returns-in-Ok-clause-stand
-returns-in-Ok-clause-stand g c = c.run_setting.ensures.stand _
+pub returns-in-Ok-clause-counted : goal.returns-in-Ok-clause-counted
+returns-in-Ok-clause-counted g c = c.run_setting.ensures.counted _
 
 pub returns-in-Err-Bad-clause-ran : goal.returns-in-Err-Bad-clause-ran
 returns-in-Err-Bad-clause-ran g c = λ scan is t d p.
@@ -50,3 +50,11 @@ pub returns-in-Err-NoMemory-clause-ran : goal.returns-in-Err-NoMemory-clause-ran
 returns-in-Err-NoMemory-clause-ran g c = λ scan is t d p.
     runs_idle scan _ (reading scan c.args.words.now (record { file = g.T.Tree.file c.args.tree.now; listed = g.T.Tree.listed c.args.tree.now })) c.args.words.now _ _ (g.P.Procs.journal c.args.procs.now) (g.D.Disk.moments c.args.disk.now) (g.met.D.Disk.sound c.args.disk.now)
     (λ said. absurd said)
+
+pub returns-in-Ok-clause-writes : goal.returns-in-Ok-clause-writes
+returns-in-Ok-clause-writes g c = λ scan is t r path text exports.
+    c.run_setting.ensures.writes scan is t r path text (exports_by (words_job c.args.words.now) (setting_job c.in-Ok.setting) (project_reading scan (g.T.Tree.file c.args.tree.now) (g.T.Tree.listed c.args.tree.now)) (setting_read c.args.words.now (sym c.begins_with.ensures ∙ c.if-begins_with.false) (sym c.begins_with-2.ensures ∙ c.if-begins_with-2.false) c.in-Ok.setting c.in-Ok.ensures.read) path text exports)
+
+pub returns-in-Ok-clause-unreported : goal.returns-in-Ok-clause-unreported
+returns-in-Ok-clause-unreported g c = λ scan is t none.
+    c.run_setting.ensures.unreported scan is t (reports_by (words_job c.args.words.now) (setting_job c.in-Ok.setting) (project_reading scan (g.T.Tree.file c.args.tree.now) (g.T.Tree.listed c.args.tree.now)) (setting_read c.args.words.now (sym c.begins_with.ensures ∙ c.if-begins_with.false) (sym c.begins_with-2.ensures ∙ c.if-begins_with-2.false) c.in-Ok.setting c.in-Ok.ensures.read) none)
