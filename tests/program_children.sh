@@ -15,7 +15,7 @@ date +%s%N >begin.$name
 mv begin.$name begun.$name
 ls begun.* | wc -l >others.$name
 for wanted in $(sed -n 's/^-- waits //p' request.$$); do
-    left=2000
+    left=${TRIES:-2000}
     until [ -e $wanted ]; do
         left=$((left - 1))
         [ $left -gt 0 ] || { echo "there is no $wanted"; exit 1; }
@@ -44,6 +44,9 @@ def passed(*paths):
 # Two compilers that wait for each other's file, and three of which each waits for the next: they run at the same time.
 make({"a.vhd": package("a") + "-- waits begun.b\n", "b.vhd": package("b") + "-- waits begun.a\n"}, {"lib": ["*.vhd"]})
 expect("two that wait for each other", "project", 0, passed("lib:a.vhd", "lib:b.vhd"), "--compile", "-p", "2")
+write("project", {"a.vhd": package("a") + "-- waits begun.b\n-- more\n"})
+os.remove("project/begun.b")
+expect("the first of them alone", "project", 1, "Compiling into lib: a.vhd failed\nthere is no begun.b\nCompile failed\n", "--compile", env=dict(os.environ, TRIES="50"))
 THREE = {"a.vhd": package("a") + "-- waits begun.b begun.c ended.b\n", "b.vhd": package("b") + "-- waits ended.c\n", "c.vhd": package("c")}
 make(THREE, {"lib": ["*.vhd"]})
 if expect("three of which the last ends first", "project", 0, passed("lib:a.vhd", "lib:b.vhd", "lib:c.vhd"), "--compile", "-p", "3"):

@@ -159,6 +159,9 @@ project p.vhd 'library ieee; use ieee.std_logic_1164.all;\npackage p is end;\n'
 libraries lib:p.vhd >vunit.toml
 expect "ieee" 0 "Compiling into lib: p.vhd passed
 Compile passed" --compile
+{ echo 'external = ["unisim"]'; libraries lib:p.vhd; } >vunit.toml
+expect "ieee beside an external library" 0 "lib, p.vhd
+Listed 1 files" -f
 project a.vhd 'package p is end;\n' b.vhd 'package P is end;\n'
 libraries lib:a.vhd,b.vhd >vunit.toml
 refuses "lib.p stands in lib, a.vhd and lib, b.vhd"

@@ -51,6 +51,8 @@ Compiling into lib: u.vhd passed
 Compiling into lib: w.vhd passed
 Compile passed" --compile -k
 started 3
+expect "mended, and once more" 0 "Re-compile not needed" --compile
+started 0
 printf -- '-- child: refuse no\npackage w is end;\n' >w.vhd
 printf -- '-- child: refuse neither\npackage v is end;\n' >v.vhd
 expect "two that are refused" 1 "Compiling into lib: v.vhd failed

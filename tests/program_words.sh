@@ -51,13 +51,10 @@ while IFS= read -r words; do
     expect "a mode that comes later: $words" 1 "vunit_run: not built yet" $words
 done <<'ROWS'
 
--l
---list --compile
--lf
 a.b.* c
 -p 64 -k -v -q --fail-fast --clean --exit-0 -x out.xml
---export-json e.json --compile
 --generate 3 -f
+--generate 3 --export-json e.json -l
 ROWS
 
 while IFS= read -r words; do
@@ -67,6 +64,11 @@ done <<'ROWS'
 --compile
 --compile -p 64
 --compile -p +3
+-l
+--list --compile
+-lf
+--export-json e.json --compile
+--export-json=e.json -l a.b.* c
 -f
 --files --compile
 -fkvq -p4
@@ -75,8 +77,8 @@ done <<'ROWS'
 -k --compile --num-threads=8 --clean --exit-0 --fail-fast --xunit-xml=out.xml
 --compile -- -l --frob
 ROWS
-if [ -e vunit_out ]; then
-    echo "there is a vunit_out"
+if [ -e vunit_out ] || [ -e e.json ]; then
+    echo "there is a vunit_out, or a report"
     failures=$((failures + 1))
 fi
 

@@ -1,0 +1,85 @@
+#!/bin/sh
+# The export is one compact JSON text with sorted keys, of the files in compile order and of the tests that patterns
+# match. Its folder is made, a file that is there is replaced as a whole or not at all, and a device is written in place.
+command -v python3 >/dev/null || { echo "python3 is missing"; exit 77; }
+exec python3 - "$VUNIT_RUN" <<'EOF'
+import json, os, subprocess, sys
+
+program = sys.argv[1]
+TEXT = 'entity t is generic (runner_cfg : string); end;\narchitecture a of t is begin\nx <= run("one");\nend;\n'
+WANTED = '{"export_format_version":{"major":1,"minor":0,"patch":0},"files":[{"file_name":"tb.vhd","library_name":"lib"}],"tests":[{"attributes":{},"location":{"file_name":"tb.vhd","length":3,"offset":87},"name":"lib.t.one"}]}\n'
+
+
+def write(path, text):
+    if os.path.dirname(path):
+        os.makedirs(os.path.dirname(path), exist_ok=True)
+    with open(path, "w") as file:
+        file.write(text)
+
+
+def export(path, *patterns, status=0, out="", err=""):
+    ran = subprocess.run([program, "--export-json", path, *patterns], stdin=subprocess.DEVNULL, capture_output=True, text=True)
+    if (ran.returncode, ran.stdout, ran.stderr) != (status, out, err):
+        sys.exit(f"--export-json {path}: {ran.returncode, ran.stdout[:500], ran.stderr[:500]} and not {status, out, err}")
+    if os.path.exists("vunit_out"):
+        sys.exit("an export opened the store")
+
+
+def holds(path, wanted):
+    with open(path) as file:
+        if (found := file.read()) != wanted:
+            sys.exit(f"{path} holds {found[:600]!r} and not {wanted[:600]!r}")
+
+
+os.mkdir("one")
+os.chdir("one")
+write("vunit.csv", "lib,tb.vhd")
+write("tb.vhd", TEXT)
+export("e.json")
+holds("e.json", WANTED)
+export("new/folders/e.json")
+holds("new/folders/e.json", WANTED)
+write("e.json", "something longer than what is written, " * 100)
+export("e.json", "no such test")
+holds("e.json", WANTED.replace(WANTED[WANTED.index('"tests":['):], '"tests":[]}\n'))
+
+# What can't be written is a fault, leaves what was there, and leaves nothing beside it.
+os.mkdir("folder")
+for path in "folder", "tb.vhd/e.json", "/dev/full":
+    export(path, status=3, err="vunit_run: fault of report\n")
+holds("tb.vhd", TEXT)
+found = sorted(os.listdir("."))
+if found != ["e.json", "folder", "new", "tb.vhd", "vunit.csv"] or os.listdir("folder"):
+    sys.exit(f"after faults there are {found}")
+export("/dev/stdout", out=WANTED)
+
+# Patterns choose tests and never files; files are in compile order, tests in project order; names are escaped.
+os.mkdir("../two")
+os.chdir("../two")
+write("vunit.toml", '[[library]]\nname = "Lib"\nfiles = ["z.vhd", "src/*.vhd"]\n')
+write("z.vhd", "use work.p.all;\n" + TEXT.replace(" t ", " z ").replace('"one"', '"\\/ ""q"" é") & run("two"'))
+write("src/a.vhd", "package p is end;\n" + TEXT.replace('x <= run("one");', ""))
+export("e.json")
+with open("e.json") as file:
+    found = json.load(file)
+wanted = {
+    "export_format_version": {"major": 1, "minor": 0, "patch": 0},
+    "files": [{"file_name": "src/a.vhd", "library_name": "lib"}, {"file_name": "z.vhd", "library_name": "lib"}],
+    "tests": [],
+}
+for name, path, text in ('lib.z.\\/ "q" é', "z.vhd", '\\/ ""q"" é'), ("lib.z.two", "z.vhd", "two"), ("lib.t.all", "src/a.vhd", "t"):
+    with open(path, "rb") as file:
+        place = file.read().index(f"entity {text}".encode() if text == "t" else f'"{text}"'.encode())
+    place += len("entity ") if text == "t" else 1
+    wanted["tests"].append({"attributes": {}, "location": {"file_name": path, "length": len(text.encode()), "offset": place}, "name": name})
+if found != wanted:
+    sys.exit(f"the export is {found} and not {wanted}")
+with open("e.json") as file:
+    if file.read() != json.dumps(wanted, sort_keys=True, separators=(",", ":"), ensure_ascii=False) + "\n":
+        sys.exit("the export isn't compact, sorted and in UTF-8")
+export("e.json", "*two")
+with open("e.json") as file:
+    found = json.load(file)
+if found["files"] != wanted["files"] or found["tests"] != wanted["tests"][1:2]:
+    sys.exit(f"the export of one test is {found}")
+EOF
