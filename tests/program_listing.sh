@@ -75,6 +75,16 @@ for text, vhdl in [
         sys.exit("a report of refused benches is written")
     check(0, b"lib, t.vhd\nListed 1 files\n", ["-f"], files)
 
+# Such a bench is compiled all the same.
+shutil.rmtree("project")
+os.mkdir("project")
+for path, text in ("vunit.csv", b"lib,t.vhd\n"), ("t.vhd", PLAIN + ARCHITECTURE % b"a" + ARCHITECTURE % b"b"):
+    with open(os.path.join("project", path), "wb") as file:
+        file.write(text)
+ran = subprocess.run([program, "--compile"], cwd="project", stdin=subprocess.DEVNULL, capture_output=True)
+if (ran.returncode, ran.stdout) != (0, b"Compiling into lib: t.vhd passed\nCompile passed\n"):
+    sys.exit(f"a bench with two architectures is compiled so: {ran}")
+
 # Many cases, one too many, and many calls of one name; many patterns over many cases.
 many = [b"%d" % at for at in range(65537)]
 files = {"vunit.csv": b"lib,t.vhd\n"}
