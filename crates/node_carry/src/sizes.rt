@@ -91,7 +91,8 @@ fn artefact_size(pieces: &Pieces, shelf: &ShelfPlaces, number: usize) -> u64
 /// The bytes of the payload of a step, behind its gate and its length.
 pub fn step_size(pieces: &Pieces, shelf: &ShelfPlaces, step: Step) -> u64
     requires shelf { IsShelfOf pieces.now.payloads shelf.now }
-    requires step { (numbers : List ℕ) × IsPlanStep (shelf_in pieces.now.payloads shelf.now) numbers step }
+    requires step { (numbers : List ℕ) ×
+        IsPlanStep (shelf_in pieces.now.payloads shelf.now) numbers step }
     ensures { let there = shelf_in pieces.now.payloads shelf.now in
         (numbers : List ℕ) →
         result ≡ length (block (node_payload_bytes (step_payload there numbers step))) }

@@ -25,7 +25,8 @@ fn is_latest(pieces: &Pieces, shelf: &ShelfPlaces, number: usize) -> bool
     requires number { number < length shelf.now.records.places.items }
     ensures { let records = (shelf_in pieces.now.payloads shelf.now).records in
         result
-        ≡ not (is_replaced (drop (number + 1) records) (slice_index_or records number blank_record)) }
+        ≡ not (is_replaced (drop (number + 1) records)
+        (slice_index_or records number blank_record)) }
 {
     let node = shelf.records.places[number].node;
     let name = shelf.table.row(node).name;
@@ -55,7 +56,8 @@ fn add_step(
 ) -> Result<(), NoMemory>
     requires shelf { IsShelfOf pieces.now.payloads shelf.now }
     requires plan { IsPlanIn (shelf_in pieces.now.payloads shelf.now) plan.old }
-    requires step { IsPlanStep (shelf_in pieces.now.payloads shelf.now) plan.old.nodes.numbers step }
+    requires step { IsPlanStep (shelf_in pieces.now.payloads shelf.now)
+        plan.old.nodes.numbers step }
     ensures plan { OnOk result (IsPlanIn (shelf_in pieces.now.payloads shelf.now) plan.new) }
     ensures nodes { plan.new.nodes ≡ plan.old.nodes }
     ensures carried { let there = shelf_in pieces.now.payloads shelf.now in

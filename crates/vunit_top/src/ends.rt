@@ -108,7 +108,8 @@ pub fn write_report<R: Reports>(path: &Text, text: &[u8], reports: &mut R) -> Ou
         Says result (record { outcome = Outcome.Done; text = [] }) put put }
     ensures writes { R.tells →
         Writes result path.now text.now (R.report reports.old) (R.report reports.new) }
-    ensures cause { ReportCauses result (R.failed_reports reports.old) (R.failed_reports reports.new) }
+    ensures cause { ReportCauses result
+        (R.failed_reports reports.old) (R.failed_reports reports.new) }
     ensures stand { R.failed_reports reports.old ≤ R.failed_reports reports.new }
 {
     match reports.write(path, text) {

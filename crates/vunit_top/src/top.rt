@@ -194,7 +194,8 @@ fn export_chosen<R: Reports>(
     ensures writes { R.tells →
         Writes result path.now (export_text read.now.graph read.now.project.files
         (chosen patterns.now read.now.tests)) (R.report reports.old) (R.report reports.new) }
-    ensures cause { ReportCauses result (R.failed_reports reports.old) (R.failed_reports reports.new) }
+    ensures cause { ReportCauses result
+        (R.failed_reports reports.old) (R.failed_reports reports.new) }
     ensures stand { R.failed_reports reports.old ≤ R.failed_reports reports.new }
 {
     match export_of(alloc, read, patterns) {
