@@ -109,32 +109,7 @@ pub(crate) fn run_over(
     procs: &mut ScriptProcs,
     out: &mut MemSink,
 ) -> Outcome {
-    let mut reports = MemReports::new(alloc, Numbers::new(alloc));
-    run_with_reports(
-        rt,
-        alloc,
-        words,
-        input,
-        tree,
-        disk,
-        procs,
-        out,
-        &mut reports,
-    )
-}
-
-/// Runs the words over objects in memory, reports among them.
-pub(crate) fn run_with_reports(
-    rt: &impl Abort,
-    alloc: Global,
-    words: &TextList,
-    input: &mut MemSource,
-    tree: &mut MemTree,
-    disk: &mut MemDisk,
-    procs: &mut ScriptProcs,
-    out: &mut MemSink,
-    reports: &mut MemReports,
-) -> Outcome {
     assert!(rt; procs.running().is_empty());
-    run_vunit(alloc, words, input, tree, disk, procs, out, reports)
+    let mut reports = MemReports::new(alloc, Numbers::new(alloc));
+    run_vunit(alloc, words, input, tree, disk, procs, out, &mut reports)
 }

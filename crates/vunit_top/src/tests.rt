@@ -1,10 +1,7 @@
-//! Faults of the tree, the input, the output and reports are named, and no call is made that isn't asked for. What is
-//! refused is tested over the real program.
+//! Faults of the tree, the input and the output are named, and no call is made that isn't asked for. What is refused, listed
+//! and exported is tested over the real program.
 
-use crate::test_parts::{
-    add_file, is, numbers, run_over, run_with_reports, script_of, texts, tree_of,
-};
-use memory_reports::MemReports;
+use crate::test_parts::{add_file, numbers, run_over, script_of, texts, tree_of};
 use std::alloc::Global;
 use std::process::Abort;
 use std::test::Fail;
@@ -130,67 +127,5 @@ fn faults_of_the_streams_are_named(rt: HostRuntime) -> Result<(), Fail> {
 fn only_a_child_takes_the_input(rt: HostRuntime) -> Result<(), Fail> {
     let unasked = run(&rt, rt.alloc(), b"--compile", NEVER, 0, NEVER)?;
     assert!(rt; ends_so(&unasked, None, 2));
-    Ok(())
-}
-
-static BENCH: &[u8] =
-    b"entity t is generic (runner_cfg : string); end;\narchitecture a of t is begin\nx <= run(\"one\");\nend;\n";
-
-static EXPORT: &[u8] =
-    b"{\"export_format_version\":{\"major\":1,\"minor\":0,\"patch\":0},\"files\":[{\"file_name\":\"tb.vhd\",\"library_name\":\"lib\"}],\"tests\":[{\"attributes\":{},\"location\":{\"file_name\":\"tb.vhd\",\"length\":3,\"offset\":87},\"name\":\"lib.t.one\"}]}\n";
-
-/// A project of one bench.
-fn bench(rt: &impl Abort, alloc: Global) -> Result<MemTree, NoMemory> {
-    let mut files: NamedTextList = Items::new(alloc);
-    add_file(alloc, &mut files, b"vunit.csv", b"lib,tb.vhd\n")?;
-    add_file(alloc, &mut files, b"tb.vhd", BENCH)?;
-    tree_of(rt, alloc, files, &[])
-}
-
-/// Whether an export of the tests of the bench to `e.json` is answered so.
-fn exports(
-    rt: &impl Abort,
-    alloc: Global,
-    reports: &mut MemReports,
-    which: Option<Which>,
-) -> Result<bool, NoMemory> {
-    let words = texts(alloc, &[b"--export-json", b"e.json"])?;
-    let mut tree = bench(rt, alloc)?;
-    let mut procs = script_of(rt, alloc, Items::new(alloc), &[])?;
-    let mut disk = MemDisk::new(alloc, Numbers::new(alloc));
-    let mut input = MemSource::new(Text::new(alloc), Numbers::new(alloc));
-    let mut out = MemSink::new(alloc, Numbers::new(alloc));
-    let outcome = run_with_reports(
-        rt, alloc, &words, &mut input, &mut tree, &mut disk, &mut procs, &mut out, reports,
-    );
-    Ok(match outcome {
-        Outcome::Done => which.is_none(),
-        Outcome::OutsideFault(named) => matches!(which, Some(wanted) if wanted == named),
-        _ => false,
-    })
-}
-
-/// Whether the report of `e.json` is this one.
-fn has_report(alloc: Global, reports: &MemReports, wanted: &[u8]) -> Result<bool, NoMemory> {
-    let path = Text::from_slice(alloc, b"e.json")?;
-    match reports.file(&path) {
-        Some(bytes) => Ok(is(bytes, wanted)),
-        None => Ok(false),
-    }
-}
-
-#[test]
-fn an_export_is_written(rt: HostRuntime) -> Result<(), Fail> {
-    let mut reports = MemReports::new(rt.alloc(), Numbers::new(rt.alloc()));
-    assert!(rt; exports(&rt, rt.alloc(), &mut reports, None)?);
-    assert!(rt; has_report(rt.alloc(), &reports, EXPORT)?);
-    Ok(())
-}
-
-#[test]
-fn a_fault_of_reports_is_named(rt: HostRuntime) -> Result<(), Fail> {
-    let mut reports = MemReports::new(rt.alloc(), one(rt.alloc(), 0)?);
-    assert!(rt; exports(&rt, rt.alloc(), &mut reports, Some(Which::Report))?);
-    assert!(rt; !has_report(rt.alloc(), &reports, EXPORT)?);
     Ok(())
 }
