@@ -11,8 +11,4 @@ pub use top::run_vunit;
 pub use words::Job;
 
 #[cfg(test)]
-mod edit_tests;
-#[cfg(test)]
-mod test_parts;
-#[cfg(test)]
 mod tests;

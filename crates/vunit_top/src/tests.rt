@@ -1,12 +1,74 @@
-//! Faults of the tree, the input and the output are named, and no call is made that isn't asked for. What is refused, listed
-//! and exported is tested over the real program.
+//! Faults of the tree, the input and the output are named, and no call is made that isn't asked for. What is compiled, refused,
+//! listed and exported is tested over the real program.
 
-use crate::test_parts::{add_file, numbers, run_over, script_of, texts, tree_of};
+use crate::run_vunit;
+use memory_reports::MemReports;
 use std::alloc::Global;
 use std::process::Abort;
 use std::test::Fail;
-use vr_base::{Items, NamedTextList, NoMemory, Numbers, Outcome, Text, TextList, Which};
-use vr_memory::{MemDisk, MemSink, MemSource, MemTree};
+use vr_base::{
+    Items, NamedText, NamedTextList, NoMemory, Numbers, Outcome, Positions, Text, TextList, Which,
+};
+use vr_memory::{MemDisk, MemSink, MemSource, MemTree, ScriptProcs, can_answer, have_paths};
+
+fn texts(alloc: Global, words: &[&[u8]]) -> Result<TextList, NoMemory> {
+    let mut list = Items::new(alloc);
+    for word in words {
+        list.push(Text::from_slice(alloc, word)?)?;
+    }
+    Ok(list)
+}
+
+fn numbers(alloc: Global, calls: &[u64]) -> Result<Numbers, NoMemory> {
+    Ok(Items::from_vec(Vec::from_slice(alloc, calls)?))
+}
+
+/// Adds a file to those of a tree.
+fn add_file(
+    alloc: Global,
+    files: &mut NamedTextList,
+    path: &[u8],
+    bytes: &[u8],
+) -> Result<(), NoMemory> {
+    files.push(NamedText {
+        path: Text::from_slice(alloc, path)?,
+        bytes: Text::from_slice(alloc, bytes)?,
+    })
+}
+
+/// A tree of these files, whose calls of these numbers are to fail.
+fn tree_of(
+    rt: &impl Abort,
+    alloc: Global,
+    files: NamedTextList,
+    failing: &[u64],
+) -> Result<MemTree, NoMemory> {
+    assert!(rt; have_paths(&files));
+    Ok(MemTree::new(alloc, files, numbers(alloc, failing)?))
+}
+
+/// Children of whom none gives an artefact.
+fn no_children(rt: &impl Abort, alloc: Global) -> ScriptProcs {
+    let answers = Items::new(alloc);
+    assert!(rt; can_answer(&answers));
+    ScriptProcs::new(alloc, answers, Positions::new(alloc), Numbers::new(alloc))
+}
+
+/// Runs the words over objects in memory.
+fn run_over(
+    rt: &impl Abort,
+    alloc: Global,
+    words: &TextList,
+    input: &mut MemSource,
+    tree: &mut MemTree,
+    disk: &mut MemDisk,
+    procs: &mut ScriptProcs,
+    out: &mut MemSink,
+) -> Outcome {
+    assert!(rt; procs.running().is_empty());
+    let mut reports = MemReports::new(alloc, Numbers::new(alloc));
+    run_vunit(alloc, words, input, tree, disk, procs, out, &mut reports)
+}
 
 /// A call that no run makes.
 const NEVER: u64 = 99;
@@ -53,7 +115,7 @@ fn run_with(
     output_calls: Numbers,
 ) -> Result<Ran, NoMemory> {
     let mut tree = project(rt, alloc, tree_call)?;
-    let mut procs = script_of(rt, alloc, Items::new(alloc), &[])?;
+    let mut procs = no_children(rt, alloc);
     let mut disk = MemDisk::new(alloc, Numbers::new(alloc));
     let mut input = MemSource::new(Text::new(alloc), input_calls);
     let mut out = MemSink::new(alloc, output_calls);
