@@ -2,6 +2,8 @@
 pub mod Classes
 pub mod Marked
 pub mod WordTable
+pub mod WordRoles
+pub mod DelimiterRoles
 pub mod Rows
 pub mod Longest
 pub mod Steps

@@ -1,16 +1,18 @@
 -- A piece more.
 use Rattle.std.proofs.Common.{◌≡◌, ℕ, zero, suc, ◌+◌, ◌-◌, ◌<◌, ◌≤◌, ◌==◌, true, List, [], ◌∷◌, ◌++◌, length, slice_index, slice_get, Option, Some, refl, sym, ◌∙◌, ap, subst, arith}
 use Rattle.std.proofs.Math.Seq.{get_or-append_seam}
-use Rattle.std.proofs.lemmas.List.{append-nil, length-append}
+use Rattle.std.proofs.lemmas.List.{append-nil, length-append, map-append}
 use Rattle.std.proofs.lemmas.Option.{slice_get-get_or}
 use Rattle.std.proofs.lemmas.Grind.{flat_map-append}
 use Rattle.vr_base.specs.declared.lexical.Token.{Token}
+use Rattle.vr_base.specs.declared.design.Role.{Role}
 use Rattle.vr_base.specs.declared.lexical.TokenKind.{TokenKind}
 use Rattle.vr_base.specs.declared.lexical.Span.{Span}
 use Rattle.vr_base.specs.declared.lexical.Tokens.{Tokens}
 use Rattle.vr_base.specs.declared.lexical.LexFault.{LexFault}
 use Rattle.vr_base.specs.declared.lexical.LexFault.TheVariants.{NoMemory, UnclosedString, UnclosedExtended, UnclosedComment}
 use Rattle.std.specs.Prelude.{Ok, Err}
+use Rattle.scan_spec.specs.Units.{role_of, roles_of}
 use Rattle.scan_spec.specs.Tokens.{Row, line_comment, block_comment, token, Piece, Place, text_start, place_after, EachByte, IsRight, Leads, Opens, is_blank, is_tick_at, tokens_of, comments_of, Scans}
 use Rattle.vr_base.specs.declared.lexical.TokenKind.TheVariants.{Str, Extended}
 use Rattle.vhdl_lex.specs.declared.piece.Found.TheVariants as found
@@ -104,3 +106,6 @@ module _ (text : List ℕ) (list : List Token) (comments : List Span) where
   read_blanks at end read is =
       let back : at + (end - at) ≡ end = omega (arith, is.reaches) in
       subst (λ (k : ℕ). Read text list comments k) back (blanks_from (end - at) at read (λ place from below. is.each place from (omega (arith, is.reaches))) (omega (arith, is.reaches, is.within)))
+
+pub roles_more : (text : List ℕ) (list : List Token) (here : Token) (roles : List Role) → roles ≡ roles_of text list → roles ++ role_of text here ∷ [] ≡ roles_of text (list ++ here ∷ [])
+roles_more text list here roles are = ap (λ (before : List Role). before ++ role_of text here ∷ []) are ∙ sym (map-append (role_of text) list (here ∷ []))

@@ -14,10 +14,13 @@ is_plain byte = nat_le 40 byte && nat_le byte 44 || byte == 46 || nat_le 58 byte
 abbrev pub last_of : List Token → Option Token
 last_of tokens = slice_get tokens (length tokens - 1)
 
+abbrev pub LiesIn : List ℕ → Token → Type 0
+LiesIn text here = (here.start < here.end) × (here.end ≤ length text)
+
 -- the token before an offset lies in the text
 abbrev pub LastIsIn : List ℕ → Option Token → Type 0
 LastIsIn text None = Unit {0}
-LastIsIn text (Some last) = (last.start < last.end) × (last.end ≤ length text)
+LastIsIn text (Some last) = LiesIn text last
 
 -- gaps that are no line comments are from one offset up to another
 pub record Skips (text : List ℕ) (last : Option Token) (at end : ℕ) : Type 0 where

@@ -5,11 +5,13 @@ mod class;
 mod ends;
 mod piece;
 mod reserved;
+mod roles;
 mod scan;
 mod stops;
 
 pub use reserved::{is_reserved, reserved_number};
-pub use scan::scan_tokens;
+pub use roles::role_of;
+pub use scan::{scan_tokens, scan_with_roles};
 
 #[cfg(test)]
 mod tests;

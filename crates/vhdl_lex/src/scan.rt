@@ -1,16 +1,19 @@
 //! The cut of a whole text, in one pass.
 
-ghost use Rattle.std.specs.Prelude.{◌≡◌, ◌<◌, ◌≤◌, ℕ, List, length, IfOk, OnErr};
+ghost use Rattle.std.specs.Prelude.{◌≡◌, ◌<◌, ◌≤◌, ℕ, List, [], ◌∷◌, ◌++◌, length, true, IfOk};
 ghost use Rattle.vr_base.specs.declared.lexical.LexFault.{LexFault};
 ghost use Rattle.scan_spec.specs.Tokens.{Piece, IsCut, HasFault, AreOf, Scans};
+ghost use Rattle.scan_spec.specs.Units.{role_of, roles_of};
+ghost use Rattle.vhdl_lex.specs.Pieces.{LiesIn};
 ghost use Rattle.vhdl_lex.specs.Reading.{Read, ReadsOn};
 ghost use Rattle.vhdl_lex.specs.Scanning.{GivesTokens, GivesFault};
 
 use crate::ends::gap_end_by;
 use crate::piece::{Found, next_piece};
+use crate::roles::role_of;
 use crate::stops::{gap_stops, word_stops};
 use std::alloc::Global;
-use vr_base::{Items, LexFault, Span, TEXT_LIMIT, Token, Tokens};
+use vr_base::{Items, LexFault, NoMemory, Role, RoleList, Span, TEXT_LIMIT, Token, Tokens};
 
 /// The tokens and the line comments of a text of at most 4,194,304 bytes, or its lexical fault, in time in
 /// proportion to its length (IEEE Std 1076-2008, clause 15).
@@ -23,23 +26,56 @@ pub fn scan_tokens(alloc: Global, text: &[u8]) -> Result<Tokens, LexFault>
     // Where there is a fault it is given, unless memory runs out.
     ensures fault { (fault : LexFault) → HasFault text.now fault → GivesFault fault result }
 {
-    scan(alloc, text)
+    cut::<false>(alloc, text, &mut Vec::new(alloc))
+}
+
+/// `scan_tokens`, and in the same pass the roles of the tokens, in order: one byte a token, for all who read the file.
+pub fn scan_with_roles(alloc: Global, text: &[u8], roles: &mut RoleList) -> Result<Tokens, LexFault>
+    requires { length text.now ≤ TEXT_LIMIT }
+    ensures right { Scans text.now result }
+    ensures cut { (pieces : List Piece) → IsCut text.now pieces → GivesTokens pieces result }
+    ensures fault { (fault : LexFault) → HasFault text.now fault → GivesFault fault result }
+    ensures roles { IfOk result (λ tokens. roles.new ≡ roles_of text.now tokens.list) }
+{
+    cut_with_roles(alloc, text, roles)
 }
 
 /// How many bytes are gone over with one look at 64 of them: a word that begins before there mostly ends within the 64.
 const STRIDE: usize = 48;
 
-/// Goes on with a cut for some bytes or, where a piece begins within them, to its end, and adds tokens and comments.
-fn scan_on(
+/// Adds the role of a token, where roles are kept.
+#[inline(always)]
+fn keep_role<const ROLES: bool>(
+    text: &[u8],
+    roles: &mut Vec<Role>,
+    token: Token,
+) -> Result<(), NoMemory>
+    requires { LiesIn text.now token }
+    ensures { IfOk result (λ done.
+        ROLES ≡ true → roles.new.items ≡ roles.old.items ++ role_of text.now token ∷ []) }
+{
+    if ROLES {
+        roles.push(role_of(text, token))?;
+    }
+    Ok(())
+}
+
+/// Goes on with a cut for some bytes or, where a piece begins within them, to its end, and adds tokens and comments; and
+/// the roles of the tokens, where these are kept.
+fn cut_on<const ROLES: bool>(
     text: &[u8],
     list: &mut Vec<Token>,
+    roles: &mut Vec<Role>,
     comments: &mut Vec<Span>,
     from: usize,
 ) -> Result<usize, LexFault>
     requires within { from < length text.now }
     requires small { length text.now ≤ TEXT_LIMIT }
     requires read { Read text.now list.old.items comments.old.items from }
-    ensures { ReadsOn text.now from list.new.items comments.new.items result }
+    requires roles { ROLES ≡ true → roles.old.items ≡ roles_of text.now list.old.items }
+    ensures read { ReadsOn text.now from list.new.items comments.new.items result }
+    ensures roles { IfOk result (λ at.
+        ROLES ≡ true → roles.new.items ≡ roles_of text.now list.new.items) }
 {
     let words = word_stops(text, from);
     let gaps = gap_stops(text, from);
@@ -59,11 +95,13 @@ fn scan_on(
                 end
             }
             Found::Lexeme(kind, end) => {
-                list.push(Token {
+                let token = Token {
                     kind,
                     start: at as u32,
                     end: end as u32,
-                })?;
+                };
+                keep_role::<ROLES>(text, roles, token)?;
+                list.push(token)?;
                 end
             }
             Found::Unclosed(fault) => return Err(fault),
@@ -72,15 +110,23 @@ fn scan_on(
     Ok(at)
 }
 
-fn scan(alloc: Global, text: &[u8]) -> Result<Tokens, LexFault>
-    requires { length text.now ≤ TEXT_LIMIT }
-    ensures { Scans text.now result }
+/// The cut of a text, and the roles of its tokens, where these are kept.
+fn cut<const ROLES: bool>(
+    alloc: Global,
+    text: &[u8],
+    roles: &mut Vec<Role>,
+) -> Result<Tokens, LexFault>
+    requires small { length text.now ≤ TEXT_LIMIT }
+    requires none { roles.old.items ≡ [] }
+    ensures right { Scans text.now result }
+    ensures roles { IfOk result (λ tokens.
+        ROLES ≡ true → roles.new.items ≡ roles_of text.now tokens.list) }
 {
     let mut list = Vec::with_capacity(alloc, text.len() / 4 + 1)?;
     let mut comments = Vec::new(alloc);
     let mut at = 0;
     while at < text.len() {
-        at = scan_on(text, &mut list, &mut comments, at)?;
+        at = cut_on::<ROLES>(text, &mut list, roles, &mut comments, at)?;
     }
     // Scans are kept while a project is read, so the room that was reserved and not used goes back.
     list.shrink_to_fit();
@@ -88,4 +134,17 @@ fn scan(alloc: Global, text: &[u8]) -> Result<Tokens, LexFault>
         list: Items::from_vec(list),
         comments: Items::from_vec(comments),
     })
+}
+
+/// The cut of a text with the roles of its tokens, which take the place of those that were there.
+fn cut_with_roles(alloc: Global, text: &[u8], roles: &mut RoleList) -> Result<Tokens, LexFault>
+    requires { length text.now ≤ TEXT_LIMIT }
+    ensures right { Scans text.now result }
+    ensures roles { IfOk result (λ tokens. roles.new ≡ roles_of text.now tokens.list) }
+{
+    let mut list = Vec::with_capacity(alloc, text.len() / 4 + 1)?;
+    let tokens = cut::<true>(alloc, text, &mut list)?;
+    list.shrink_to_fit();
+    *roles = Items::from_vec(list);
+    Ok(tokens)
 }

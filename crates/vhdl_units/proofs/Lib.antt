@@ -3,8 +3,6 @@ pub mod Counting
 pub mod Levels
 pub mod MarkTable
 pub mod Walks
-pub mod WordRoles
-pub mod DelimiterRoles
 pub mod Reaching
 pub mod Adding
 pub mod Exact

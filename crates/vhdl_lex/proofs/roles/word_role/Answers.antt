@@ -4,9 +4,9 @@ use Rattle.scan_spec.specs.Words.{lower_case}
 use Rattle.scan_spec.specs.Units.{word_role}
 use Rattle.vr_base.specs.declared.design.Role.TheVariants.{Library}
 use Rattle.vhdl_lex.specs.Places.{IsNumberOf}
-use Rattle.vhdl_units.specs.declared.roles.TheConstants.{ROLES}
-use Rattle.vhdl_units.proofs.WordRoles.{role_of_number, role_of_other}
-use Rattle.vhdl_units.proofs.roles.word_role.Goals as goal
+use Rattle.vhdl_lex.specs.declared.roles.TheConstants.{ROLES}
+use Rattle.vhdl_lex.proofs.WordRoles.{role_of_number, role_of_other}
+use Rattle.vhdl_lex.proofs.roles.word_role.Goals as goal
 
 by_number : (word : List ℕ) (number : ℕ) → IsNumberOf word number → number ≢ 0 → slice_index_or ROLES (number - 1) Library ≡ word_role (lower_case word)
 by_number word zero is some = absurd (some refl)

@@ -6,7 +6,7 @@ use Rattle.vr_base.specs.declared.design.Role.TheVariants.{Library}
 use Rattle.vr_base.specs.PresentGraph.{below}
 use Rattle.vr_base.proofs.Below.{get_or-below, length-below}
 use Rattle.scan_spec.specs.Units.{symbol_role}
-use Rattle.vhdl_units.specs.declared.roles.TheConstants.{DELIMITERS}
+use Rattle.vhdl_lex.specs.declared.roles.TheConstants.{DELIMITERS}
 
 delimiters_are : map symbol_role (below 64) ≡ DELIMITERS
 unfolding below

@@ -9,7 +9,7 @@ use Rattle.vr_base.specs.declared.design.Role.{Role}
 use Rattle.vr_base.specs.declared.design.Role.TheVariants.{Library, Use, Context, Entity, Architecture, Configuration, Package, Body, Is, Of, New, Function, Procedure, Generate, End, If, For, Case, Elsif, Else, Component, Inner, All, Generic, Name, Other}
 use Rattle.scan_spec.specs.Words.{is_reserved, lower_case, reserved_words}
 use Rattle.scan_spec.specs.Units.{word_role}
-use Rattle.vhdl_units.specs.declared.roles.TheConstants.{ROLES}
+use Rattle.vhdl_lex.specs.declared.roles.TheConstants.{ROLES}
 
 roles_are : map word_role reserved_words ≡ ROLES
 unfolding reserved_words word_role
