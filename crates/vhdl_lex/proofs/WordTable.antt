@@ -12,7 +12,7 @@ use Rattle.std.proofs.lemmas.Bool.{eqb-true}
 use Rattle.std.proofs.lemmas.Slice.Eq.{bytes_eq-Decides}
 use Rattle.scan_spec.specs.Words.{is_reserved, lower_case, reserved_words}
 use Rattle.vhdl_lex.specs.Places.{IsNumberOf, without_case, place_of}
-use Rattle.vhdl_lex.specs.declared.reserved.TheConstants.{LETTERS, STARTS, NUMBERS}
+use Rattle.vhdl_lex.specs.declared.reserved.TheConstants.{LETTERS, LOWER, STARTS, NUMBERS}
 use Rattle.vhdl_lex.proofs.Classes.{tests_below, each_below, and_parts, or_parts}
 
 abbrev word_number : ℕ → List ℕ
@@ -49,7 +49,14 @@ case_tried : tests_below (λ byte. nat_eq (bit_or (to_ascii_lowercase byte) 32) 
 unfolding tests_below
 case_tried = refl
 
+lowered_tried : tests_below (λ byte. nat_eq (slice_index_or LOWER byte 0) (to_ascii_lowercase byte)) 256 ≡ true
+unfolding tests_below
+lowered_tried = refl
+
 -- ## What it means
+
+pub lowered_is : (byte : ℕ) → byte < 256 → slice_index_or LOWER byte 0 ≡ to_ascii_lowercase byte
+lowered_is byte small = eqb-true _ _ (each_below (λ byte. nat_eq (slice_index_or LOWER byte 0) (to_ascii_lowercase byte)) 256 lowered_tried byte small)
 
 module _ (number : ℕ) (small : number < 115) where
   pub starts_ordered : slice_index STARTS number ≤ slice_index STARTS (number + 1)
