@@ -1,7 +1,8 @@
 /* Compares the way from texts to a graph (scan, outline, references, links, order, graph) with the plain tokenizer, which
  * does the first alone, over projects of files of at most 16,384 bytes: 1,024 of them, each of which refers to up to 4
  * files before it in its group of 64, and 1,024 of which each refers to 4 earlier ones anywhere. So many rounds of each in
- * turn, and the least seconds. Then how the first grows to 4,096 files; and hostile projects: a cycle of 4,096 files, a
+ * turn, and the least seconds. The library is handed one text, and copies its files first: the seconds of that, with those
+ * of the project file, are measured by a call that does no more, and taken off. Then how the first grows to 4,096 files; and hostile projects: a cycle of 4,096 files, a
  * file with 100,000 references to one unit, and 4,096 files that each refer to all before them by loose references of a
  * few bytes, which is 8.4 million.
  *
@@ -18,6 +19,14 @@ struct graphed {
     bool whole, cyclic;
     uint64_t files, deps;
 };
+
+struct sourced {
+    bool whole;
+    uint64_t files;
+};
+
+void bench_sources(const uint8_t *csv, size_t csv_length, const uint8_t *text, size_t length, const size_t *ends,
+                   size_t count, struct sourced *out);
 
 void bench_graph(const uint8_t *csv, size_t csv_length, const uint8_t *text, size_t length, const size_t *ends, size_t count,
                  struct graphed *out);
@@ -156,18 +165,28 @@ static double graph(struct graphed *out) {
     return out->whole || out->cyclic ? now() - from : -1;
 }
 
-/* The least seconds of a graph in so many rounds, beside the tokenizer's. */
+/* The seconds that the project and its texts take before there is a way to go, or less than 0. */
+static double sources(void) {
+    struct sourced out;
+    double from = now();
+    bench_sources((uint8_t *)csv, csv_length, (uint8_t *)text, length, ends, count, &out);
+    return out.whole ? now() - from : -1;
+}
+
+/* The least seconds from texts to a graph in so many rounds, beside the tokenizer's. */
 static double measure(const char *name, long rounds, bool beside) {
-    double least = 1e9, plain = 1e9;
+    double least = 1e9, plain = 1e9, copy = 1e9;
     struct graphed found = {0};
     for (long i = 0; i < rounds; i++) {
-        double a = beside ? tokenize() : 0, b = graph(&found);
-        if (a < 0 || b < 0) return -1;
+        double a = beside ? tokenize() : 0, b = sources(), c = graph(&found);
+        if (a < 0 || b < 0 || c < 0) return -1;
         plain = a < plain ? a : plain;
-        least = b < least ? b : least;
+        copy = b < copy ? b : copy;
+        least = c < least ? c : least;
     }
-    printf("%s: %zu bytes, %llu files, %llu dependencies, %.3f seconds", name, length, (unsigned long long)found.files,
-           (unsigned long long)found.deps, least);
+    least -= copy;
+    printf("%s: %zu bytes, %llu files, %llu dependencies, %.3f seconds after %.3f for the texts", name, length,
+           (unsigned long long)found.files, (unsigned long long)found.deps, least, copy);
     if (beside) printf(", ratio of the plain tokenizer's bytes per second %.2f", plain / least);
     puts(found.cyclic ? ", a cycle" : "");
     fflush(stdout);

@@ -48,3 +48,9 @@ pub record IsTold (csv text ends : List ℕ) (told : Graphed) : Type 0 where
   pub project : Project
   pub said : csv_project csv ≡ Ok project
   pub links : TellsLinks project (parts_at text 0 ends) told
+
+-- a project file says a project, whose files are the parts of a text, and there are so many of these
+pub record HasSources (csv text ends : List ℕ) (count : ℕ) : Type 0 where
+  pub project : Project
+  pub said : csv_project csv ≡ Ok project
+  pub counted : count ≡ length (parts_at text 0 ends)

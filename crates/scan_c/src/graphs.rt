@@ -1,9 +1,11 @@
 //! The graph of a project that is handed over as a project file, and as one text with the places where its files end.
 
-ghost use Rattle.std.specs.Prelude.{◌≡◌, ◌≤◌, IfOk, length};
+ghost use Rattle.std.specs.Prelude.{◌≡◌, ◌≤◌, IfOk, Ok, length};
 ghost use Rattle.vr_base.specs.Projects.{IsProject};
 ghost use Rattle.order_spec.specs.BuildOrder.{AreEdges};
 ghost use Rattle.order_spec.specs.LinkedGraph.{FitTexts};
+ghost use Rattle.project_file.specs.Csv.{csv_project};
+ghost use Rattle.scan_c.specs.Projects.{parts_at};
 ghost use Rattle.scan_c.specs.Graphs.{IsGraphed, IsTold, TellsLinks, last_deps};
 
 use crate::scopes::{NothingTold, parts_of, scans_of};
@@ -101,14 +103,24 @@ fn told_of_texts(alloc: Global, project: &Project, texts: TextList) -> Result<Gr
     told_in_order(alloc, project, texts, &linked.edges)
 }
 
-/// What is told of a project.
-pub fn told_of(
+/// A project with the texts of its files.
+#[derive(Drop)]
+pub struct Sources {
+    pub project: Project,
+    pub texts: TextList,
+}
+
+/// The project that a project file says, whose files are the parts of a text.
+pub fn sources_of(
     alloc: Global,
     csv: &[u8],
     text: &[u8],
     ends: &[usize],
-) -> Result<Graphed, NothingTold>
-    ensures { IfOk result (IsTold csv.now text.now ends.now) }
+) -> Result<Sources, NothingTold>
+    ensures said { IfOk result (λ sources. csv_project csv.now ≡ Ok sources.project) }
+    ensures project { IfOk result (λ sources. IsProject sources.project) }
+    ensures texts { IfOk result (λ sources. sources.texts ≡ parts_at text.now 0 ends.now) }
+    ensures fit { IfOk result (λ sources. FitTexts sources.project.files sources.texts) }
 {
     if csv.len() >= 2_147_483_648 {
         return Err(NothingTold);
@@ -118,5 +130,18 @@ pub fn told_of(
     if !fit_texts(&project, &texts) {
         return Err(NothingTold);
     }
+    Ok(Sources { project, texts })
+}
+
+/// What is told of a project.
+pub fn told_of(
+    alloc: Global,
+    csv: &[u8],
+    text: &[u8],
+    ends: &[usize],
+) -> Result<Graphed, NothingTold>
+    ensures { IfOk result (IsTold csv.now text.now ends.now) }
+{
+    let Sources { project, texts } = sources_of(alloc, csv, text, ends)?;
     told_of_texts(alloc, &project, texts)
 }

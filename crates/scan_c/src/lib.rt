@@ -9,16 +9,16 @@ ghost use Rattle.std.specs.Prelude.{◌≡◌, ◌≤◌, ◌%◌, ◌^◌, IfOk
 ghost use Rattle.vr_base.specs.declared.lexical.LexFault.{LexFault};
 ghost use Rattle.scan_spec.specs.Scans.{IsScanOf};
 ghost use Rattle.scan_spec.specs.Units.{AreTokensOf, roles_of};
-ghost use Rattle.scan_c.specs.Graphs.{IsTold};
+ghost use Rattle.scan_c.specs.Graphs.{HasSources, IsTold};
 ghost use Rattle.scan_c.specs.Projects.{HasLibraries, HasScans};
 ghost use Rattle.scan_c.specs.Counts.{HasTokens, HasUnits, HasLexicalFault, IsFaulty, IsReferred, ref_count};
 
-use crate::graphs::{Graphed, told_of};
+use crate::graphs::{Graphed, sources_of, told_of};
 use crate::scopes::{library_count, scan_files};
 use std::alloc::Global;
-use vhdl_lex::scan_tokens;
+use vhdl_lex::{scan_tokens, scan_with_roles};
 use vhdl_refs::find_refs;
-use vhdl_units::{outline, outline_by_roles, roles_of};
+use vhdl_units::{outline, outline_by_roles};
 use vr_base::{LexFault, NoMemory, RoleList, Scan, TEXT_LIMIT, Tokens, UnitFault};
 
 /// What a scan found: whether the text has a cut, and then how many tokens and line comments it has; or whether it has
@@ -166,25 +166,14 @@ fn refer_tokens(alloc: Global, text: &[u8], tokens: Tokens, roles: &RoleList) ->
     }
 }
 
-/// The references of a text whose tokens are known.
-fn refer_cut(alloc: Global, text: &[u8], tokens: Tokens) -> Referred
-    requires tokens { AreTokensOf text.now tokens }
-    requires small { length text.now ≤ TEXT_LIMIT }
-    ensures { IsReferred text.now result }
-{
-    match roles_of(alloc, text, &tokens) {
-        Ok(roles) => refer_tokens(alloc, text, tokens, &roles),
-        Err(_none) => unknown(),
-    }
-}
-
 /// The references of a text.
 fn refer_text(alloc: Global, text: &[u8]) -> Referred
     requires { length text.now ≤ TEXT_LIMIT }
     ensures { IsReferred text.now result }
 {
-    match scan_tokens(alloc, text) {
-        Ok(tokens) => refer_cut(alloc, text, tokens),
+    let mut roles = RoleList::new(alloc);
+    match scan_with_roles(alloc, text, &mut roles) {
+        Ok(tokens) => refer_tokens(alloc, text, tokens, &roles),
         Err(LexFault::NoMemory) => unknown(),
         Err(_fault) => fault_found(),
     }
@@ -237,6 +226,34 @@ pub extern "C" fn bench_scopes(alloc: Global, text: &[u8], ends: &[usize], out: 
         Err(_nothing) => (false, 0),
     };
     *out = Seen { whole, libraries };
+}
+
+/// What was told of a project's sources: whether there are some, and then how many files.
+#[derive(Clone, Copy)]
+#[repr(C)]
+pub struct Sourced {
+    pub whole: bool,
+    pub files: u64,
+}
+
+/// Reads a project file and makes the texts of its files, which is what `bench_graph` does first, and no more. C declares
+/// it as `void bench_sources(const uint8_t *csv, size_t csv_length, const uint8_t *text, size_t length,
+/// const size_t *ends, size_t count, struct sourced *out)`.
+#[unsafe(no_mangle)]
+pub extern "C" fn bench_sources(
+    alloc: Global,
+    csv: &[u8],
+    text: &[u8],
+    ends: &[usize],
+    out: &mut Sourced,
+)
+    ensures { out.new.whole ≡ true → HasSources csv.now text.now ends.now out.new.files }
+{
+    let (whole, files) = match sources_of(alloc, csv, text, ends) {
+        Ok(sources) => (true, sources.texts.len()),
+        Err(_nothing) => (false, 0),
+    };
+    *out = Sourced { whole, files };
 }
 
 /// Scans and outlines the files of a project, and puts them into a graph by their references. The project is a project file

@@ -9,8 +9,8 @@ ghost use Rattle.scan_c.specs.Projects.{HasLibraries, HasScans, parts_at};
 
 use name_scope::visible_libraries_by_roles;
 use std::alloc::Global;
-use vhdl_lex::scan_tokens;
-use vhdl_units::{outline_by_roles, roles_of};
+use vhdl_lex::scan_with_roles;
+use vhdl_units::outline_by_roles;
 use vr_base::{
     FileName, Items, LexFault, NoMemory, Project, ProjectFile, RoleList, Scan, Scans, TEXT_LIMIT,
     Text, TextList, UnitFault, UnitId,
@@ -80,8 +80,8 @@ fn scan_of(alloc: Global, text: &[u8], roles: &mut Items<RoleList>) -> Result<Sc
     ensures roles { IfOk result (λ scan.
         roles.new ≡ roles.old ++ roles_of text.now scan.tokens.list ∷ []) }
 {
-    let tokens = scan_tokens(alloc, text)?;
-    let own = roles_of(alloc, text, &tokens)?;
+    let mut own = RoleList::new(alloc);
+    let tokens = scan_with_roles(alloc, text, &mut own)?;
     let units = outline_by_roles(alloc, text, &tokens, &own)?;
     roles.push(own)?;
     Ok(Scan { tokens, units })
