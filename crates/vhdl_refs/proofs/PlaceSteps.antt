@@ -5,7 +5,10 @@ use Rattle.std.proofs.lemmas.List.{map-append}
 use Rattle.std.proofs.lemmas.List.Elements.{filter-append}
 use Rattle.std.proofs.lemmas.List.Folds.{find-append}
 use Rattle.std.specs.Option.{option_or}
-use Rattle.scan_spec.specs.References.{places}
+use Rattle.vr_base.specs.declared.design.Role.{Role}
+use Rattle.scan_spec.specs.References.{is_reference, places}
+use Rattle.vhdl_refs.specs.declared.places.RefPlace.{RefPlace}
+use Rattle.vhdl_refs.specs.Places.{ref_place, refs_between}
 
 range_more : (start n at : ℕ) → start + n ≡ at → range_with_len start (suc n) ≡ range_with_len start n ++ at ∷ []
 range_more start zero at is = let same : start ≡ at = omega arith in ap (λ (k : ℕ). k ∷ []) same
@@ -38,6 +41,14 @@ walk_more {X} f test start at done items more ordered so_far adds =
 pub places_all_more : (test : ℕ → Bool) (start at : ℕ) (done items more : List ℕ) → start ≤ at → items ≡ done ++ places test start at → more ≡ items ++ cond (test at) (at ∷ []) [] → more ≡ done ++ places test start (at + 1)
 places_all_more test start at done items more ordered so_far adds =
     adds ∙ ap (λ (xs : List ℕ). xs ++ cond (test at) (at ∷ []) []) so_far ∙ append_assoc done (places test start at) (cond (test at) (at ∷ []) []) ∙ ap (λ (xs : List ℕ). done ++ xs) (sym (places_more test start at ordered))
+
+-- what is made of the place of each reference is made of its token number
+made_at : {X : Type 0} (f : ℕ → X) (roles : List Role) (found : List ℕ) → map (λ (place : RefPlace). f place.at) (map (ref_place roles) found) ≡ map f found
+made_at f roles [] = refl
+made_at {X} f roles (at ∷ found) = ap (λ (rest : List X). f at ∷ rest) (made_at f roles found)
+
+pub refs_at_places : {X : Type 0} (f : ℕ → X) (roles : List Role) (start end : ℕ) → map (λ (place : RefPlace). f place.at) (refs_between roles start end) ≡ map f (places (is_reference roles) start end)
+refs_at_places f roles start end = made_at f roles (places (is_reference roles) start end)
 
 -- ## The first place
 

@@ -2,3 +2,4 @@
 pub mod Clauses
 pub mod Dots
 pub mod Contexts
+pub mod Places

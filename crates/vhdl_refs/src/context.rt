@@ -9,8 +9,8 @@ ghost use Rattle.vhdl_refs.specs.Clauses.{IsClauseAt};
 ghost use Rattle.vhdl_refs.specs.Contexts.{AreContextPlaces, context_places};
 
 use crate::clause::{Clause, clause_after};
-use crate::named::ref_at;
-use crate::places::is_reference;
+use crate::places::{RefPlace, is_reference, is_strict};
+use crate::refs::{no_ref, ref_at};
 use crate::unit::unit_at;
 use crate::words::{is_comma, is_context_word, is_library_word, is_name, role_before};
 use std::alloc::Global;
@@ -63,7 +63,11 @@ fn push_context_ref(
         (if is_context_ref roles.now at then ref_at text.now tokens.now.list at ∷ [] else [])) }
 {
     if is_context_ref(roles, at, clause) {
-        refs.push(ref_at(alloc, text, tokens, roles, at, clause.lists_names)?)?;
+        let place = RefPlace {
+            at: at as u32,
+            strict: is_strict(roles, at, clause.lists_names),
+        };
+        refs.push(ref_at(alloc, text, tokens, roles, place, no_ref(alloc))?)?;
     }
     Ok(())
 }

@@ -1,16 +1,40 @@
 //! The references of one design unit.
 
-ghost use Rattle.std.specs.Prelude.{◌≡◌, ◌<◌, ◌≤◌, IfOk, Some, length, slice_get};
+ghost use Rattle.std.specs.Prelude.{◌≡◌, ◌<◌, ◌≤◌, ◌++◌, IfOk, OnOk, Some, length, slice_get};
 ghost use Rattle.std.specs.Option.{option_map};
-ghost use Rattle.scan_spec.specs.Units.{roles_of};
+ghost use Rattle.scan_spec.specs.Units.{AreTokensOf, roles_of};
 ghost use Rattle.scan_spec.specs.Scans.{IsScanOf};
-ghost use Rattle.scan_spec.specs.References.{refs_of};
+ghost use Rattle.scan_spec.specs.References.{refs_of, structural_by};
 
-use crate::named::push_named;
-use crate::structural::structural_refs;
+use crate::named::push_places;
+use crate::refs::{no_ref, push_refs};
+use crate::structural::structural_by;
 use crate::unit::unit_at;
 use std::alloc::Global;
-use vr_base::{Items, NoMemory, RefList, RoleList, Scan, TEXT_LIMIT};
+use vr_base::{Items, NoMemory, Ref, RefList, Role, RoleList, Scan, TEXT_LIMIT, Tokens, Unit};
+
+/// Adds the structural reference of a unit, if it has one.
+fn push_structural(
+    alloc: Global,
+    text: &[u8],
+    tokens: &Tokens,
+    roles: &[Role],
+    unit: &Unit,
+    refs: &mut Vec<Ref>,
+) -> Result<(), NoMemory>
+    requires tokens { AreTokensOf text.now tokens.now }
+    requires roles { roles.now ≡ roles_of text.now tokens.now.list }
+    requires ordered { unit.now.first ≤ unit.now.last }
+    requires within { unit.now.last < length roles.now }
+    ensures { OnOk result (refs.new.items ≡
+        refs.old.items ++ structural_by text.now tokens.now.list unit.now unit.now.kind) }
+{
+    let (is_there, found) = structural_by(alloc, text, tokens, roles, unit, no_ref(alloc))?;
+    if is_there {
+        refs.push(found)?;
+    }
+    Ok(())
+}
 
 /// The references of the unit of a number in a scan, in time in proportion to the number of its tokens (IEEE Std
 /// 1076-2008, clauses 3.3, 3.4, 4.8 and 13): first the structural one, and then those by name, in order. `roles` are
@@ -32,14 +56,16 @@ pub fn find_refs(
 {
     let roles = roles.as_slice();
     let (found, clause) = unit_at(text, scan, roles, unit);
-    let mut refs = structural_refs(alloc, text, &scan.tokens, roles, found)?;
-    push_named(
+    let mut places = Vec::new(alloc);
+    push_places(roles, clause, found.last as usize, &mut places)?;
+    let mut refs = Vec::new(alloc);
+    push_structural(alloc, text, &scan.tokens, roles, found, &mut refs)?;
+    push_refs(
         alloc,
         text,
         &scan.tokens,
         roles,
-        clause,
-        found.last as usize,
+        places.as_slice(),
         &mut refs,
     )?;
     Ok(Items::from_vec(refs))

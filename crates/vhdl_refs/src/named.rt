@@ -1,108 +1,77 @@
-//! The references by name, `L.U`, of some tokens.
+//! Where the references by name, `L.U`, of some tokens are.
 
-ghost use Rattle.std.specs.Prelude.{◌≡◌, ◌+◌, ◌<◌, ◌≤◌, [], ◌∷◌, ◌++◌, if◌then◌else◌, length, IfOk, OnOk};
-ghost use Rattle.scan_spec.specs.Units.{AreTokensOf, roles_of};
-ghost use Rattle.scan_spec.specs.References.{architecture_at, is_in_name_list, is_reference, named_refs, ref_at};
+ghost use Rattle.std.specs.Prelude.{◌≡◌, ◌<◌, ◌≤◌, [], ◌∷◌, ◌++◌, true, if◌then◌else◌, length, IfOk, OnOk, Some, slice_get};
+ghost use Rattle.std.specs.Option.{option_map};
+ghost use Rattle.scan_spec.specs.Units.{roles_of};
+ghost use Rattle.scan_spec.specs.Scans.{IsScanOf};
+ghost use Rattle.scan_spec.specs.References.{is_comma, is_in_name_list, is_reference, role_before};
 ghost use Rattle.vhdl_refs.specs.Clauses.{HasReached, IsClauseAt};
+ghost use Rattle.vhdl_refs.specs.Places.{AreRefPlaces, ref_place, ref_places, refs_between};
 
 use crate::clause::{Clause, Reached, clause_at};
 use crate::dots::next_dotted;
-use crate::places::{has_architecture, is_reference, is_strict};
-use std::alloc::Global;
-use vhdl_units::name_of;
-use vr_base::{MaybeText, NoMemory, Ref, Role, TEXT_LIMIT, Tokens};
+use crate::places::{RefPlace, is_reference, is_strict};
+use crate::unit::unit_at;
+use crate::words::{is_comma, role_before};
+use vr_base::{Items, NoMemory, Role, RoleList, Scan, TEXT_LIMIT};
 
-/// The architecture that is named with the entity at a token, if it is one.
-fn architecture_at(
-    alloc: Global,
-    text: &[u8],
-    tokens: &Tokens,
-    roles: &[Role],
-    at: usize,
-) -> Result<MaybeText, NoMemory>
-    requires tokens { AreTokensOf text.now tokens.now }
-    requires roles { roles.now ≡ roles_of text.now tokens.now.list }
-    requires within { at + 2 < length roles.now }
-    ensures { IfOk result (λ named. named ≡ architecture_at text.now tokens.now.list at) }
+/// Follows clauses up to a token that a comma is before, and to no other: only there it matters what began the clause.
+fn follow(roles: &[Role], at: usize, reached: &mut Reached)
+    requires within { at ≤ length roles.now }
+    requires reached { HasReached roles.now at reached.old }
+    ensures reached { HasReached roles.now at reached.new }
+    ensures listed { is_comma (role_before roles.now at) ≡ true →
+        reached.new.clause.lists_names ≡ is_in_name_list roles.now at }
 {
-    if has_architecture(roles, at) {
-        Ok(MaybeText::Given(name_of(alloc, text, tokens, at + 4)?))
-    } else {
-        Ok(MaybeText::Nothing)
+    if is_comma(role_before(roles, at)) {
+        let clause = clause_at(reached.clause, roles, reached.at, at);
+        *reached = Reached { clause, at };
     }
 }
 
-/// The reference at a token.
-pub fn ref_at(
-    alloc: Global,
-    text: &[u8],
-    tokens: &Tokens,
-    roles: &[Role],
-    at: usize,
-    in_name_list: bool,
-) -> Result<Ref, NoMemory>
-    requires tokens { AreTokensOf text.now tokens.now }
-    requires roles { roles.now ≡ roles_of text.now tokens.now.list }
-    requires within { at + 2 < length roles.now }
-    requires small { length roles.now ≤ TEXT_LIMIT }
-    requires listed { in_name_list ≡ is_in_name_list roles.now at }
-    ensures { IfOk result (λ found. found ≡ ref_at text.now tokens.now.list at) }
-{
-    Ok(Ref {
-        library: name_of(alloc, text, tokens, at)?,
-        name: name_of(alloc, text, tokens, at + 2)?,
-        architecture: architecture_at(alloc, text, tokens, roles, at)?,
-        strict: is_strict(roles, at, in_name_list),
-        at: at as u32,
-    })
-}
-
-/// Adds the reference at a token, where one is. Clauses are followed up to there, and to no other token.
+/// Adds the place of the reference at a token, where one is.
 #[inline(always)]
 fn push_at(
-    alloc: Global,
-    text: &[u8],
-    tokens: &Tokens,
     roles: &[Role],
     at: usize,
     reached: &mut Reached,
-    refs: &mut Vec<Ref>,
+    found: &mut Vec<RefPlace>,
 ) -> Result<(), NoMemory>
-    requires tokens { AreTokensOf text.now tokens.now }
-    requires roles { roles.now ≡ roles_of text.now tokens.now.list }
     requires within { at < length roles.now }
     requires small { length roles.now ≤ TEXT_LIMIT }
     requires reached { HasReached roles.now at reached.old }
+    requires before { AreRefPlaces roles.now found.old.items }
     ensures reached { HasReached roles.now at reached.new }
-    ensures found { OnOk result (refs.new.items ≡ refs.old.items ++
-        (if is_reference roles.now at then ref_at text.now tokens.now.list at ∷ [] else [])) }
+    ensures found { OnOk result (found.new.items ≡ found.old.items ++
+        (if is_reference roles.now at then ref_place roles.now at ∷ [] else [])) }
+    ensures after { OnOk result (AreRefPlaces roles.now found.new.items) }
 {
     if is_reference(roles, at) {
-        let clause = clause_at(reached.clause, roles, reached.at, at);
-        *reached = Reached { clause, at };
-        refs.push(ref_at(alloc, text, tokens, roles, at, clause.lists_names)?)?;
+        follow(roles, at, reached);
+        let strict = is_strict(roles, at, reached.clause.lists_names);
+        found.push(RefPlace {
+            at: at as u32,
+            strict,
+        })?;
     }
     Ok(())
 }
 
-/// Adds the references by name from the start of a clause up to another token, in order.
-pub fn push_named(
-    alloc: Global,
-    text: &[u8],
-    tokens: &Tokens,
+/// Adds those from the start of a clause up to another token, in order.
+pub fn push_places(
     roles: &[Role],
     clause: Clause,
     end: usize,
-    refs: &mut Vec<Ref>,
+    found: &mut Vec<RefPlace>,
 ) -> Result<(), NoMemory>
-    requires tokens { AreTokensOf text.now tokens.now }
-    requires roles { roles.now ≡ roles_of text.now tokens.now.list }
     requires ordered { clause.start ≤ end }
     requires within { end ≤ length roles.now }
     requires small { length roles.now ≤ TEXT_LIMIT }
     requires clause { IsClauseAt roles.now clause.start clause }
-    ensures { OnOk result (refs.new.items ≡
-        refs.old.items ++ named_refs text.now tokens.now.list clause.start end) }
+    requires before { AreRefPlaces roles.now found.old.items }
+    ensures found { OnOk result (found.new.items ≡
+        found.old.items ++ refs_between roles.now clause.start end) }
+    ensures after { OnOk result (AreRefPlaces roles.now found.new.items) }
 {
     let mut reached = Reached {
         clause,
@@ -110,8 +79,33 @@ pub fn push_named(
     };
     let mut at = next_dotted(roles, clause.start, end);
     while at < end {
-        push_at(alloc, text, tokens, roles, at, &mut reached, refs)?;
+        push_at(roles, at, &mut reached, found)?;
         at = next_dotted(roles, at + 1, end);
     }
     Ok(())
+}
+
+/// The places of the references by name of the unit of a number in a scan, in order, in the memory of places that aren't
+/// used any more (IEEE Std 1076-2008, clauses 12.4 and 13). `roles` are those of the scan's tokens.
+pub fn ref_places(
+    text: &[u8],
+    scan: &Scan,
+    roles: &RoleList,
+    unit: u32,
+    used: Items<RefPlace>,
+) -> Result<Items<RefPlace>, NoMemory>
+    requires scan { IsScanOf text.now scan.now }
+    requires small { length text.now ≤ TEXT_LIMIT }
+    requires roles { roles.now ≡ roles_of text.now scan.now.tokens.list }
+    requires unit { unit < length scan.now.units }
+    ensures found { IfOk result (λ found.
+        option_map (ref_places roles.now) (slice_get scan.now.units unit) ≡ Some found) }
+    ensures named { IfOk result (AreRefPlaces roles.now) }
+{
+    let roles = roles.as_slice();
+    let (unit, clause) = unit_at(text, scan, roles, unit);
+    let mut found = used.into_vec();
+    found.clear();
+    push_places(roles, clause, unit.last as usize, &mut found)?;
+    Ok(Items::from_vec(found))
 }

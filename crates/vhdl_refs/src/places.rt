@@ -1,13 +1,20 @@
 //! Where a reference is, and of what kind it is.
 
-ghost use Rattle.std.specs.Prelude.{◌≡◌, ◌+◌, ◌<◌, IsTrue, length};
-ghost use Rattle.scan_spec.specs.References.{has_architecture, is_in_name_list, is_reference, is_strict};
+ghost use Rattle.std.specs.Prelude.{◌≡◌, ◌+◌, ◌<◌, IsTrue, length, true};
+ghost use Rattle.scan_spec.specs.References.{has_architecture, is_comma, is_in_name_list, is_reference, is_strict, role_before};
 
 use crate::words::{
     is_closing, is_comma, is_dot, is_entity_word, is_name, is_opening, precedes_unit, role_before,
 };
 use vhdl_units::role_at;
 use vr_base::Role;
+
+/// Where a reference by name is, by the token number of its library, and whether it is strict.
+#[derive(Clone, Copy)]
+pub struct RefPlace {
+    pub at: u32,
+    pub strict: bool,
+}
 
 /// Whether a reference is at a token.
 #[inline(always)]
@@ -25,9 +32,10 @@ pub fn is_reference(roles: &[Role], at: usize) -> bool
 }
 
 /// Whether the reference at a token is strict; the caller knows whether the token is between a `use` or a `context` and
-/// its `;`.
+/// its `;`, where a comma is before it.
 pub fn is_strict(roles: &[Role], at: usize, in_name_list: bool) -> bool
-    requires { in_name_list ≡ is_in_name_list roles.now at }
+    requires { is_comma (role_before roles.now at) ≡ true →
+        in_name_list ≡ is_in_name_list roles.now at }
     ensures { result ≡ is_strict roles.now at }
 {
     let before = role_before(roles, at);

@@ -1,13 +1,23 @@
 //! The reference that a unit has by its structure: to its entity or its package.
 
-ghost use Rattle.std.specs.Prelude.{◌≡◌, ◌+◌, ◌<◌, ◌≤◌, IfOk, IfSome, length};
+ghost use Rattle.std.specs.Prelude.{◌≡◌, ◌+◌, ◌<◌, ◌≤◌, [], ◌∷◌, if◌then◌else◌, IfOk, IfSome, Some, length, slice_get};
+ghost use Rattle.std.specs.Option.{option_map};
 ghost use Rattle.scan_spec.specs.Units.{AreTokensOf, roles_of, role_at, name_of};
-ghost use Rattle.scan_spec.specs.References.{configured, first_for, name_if, owner_name, structural_by, structural_ref, work};
+ghost use Rattle.scan_spec.specs.Scans.{IsScanOf};
+ghost use Rattle.scan_spec.specs.References.{configured, first_for, name_if, owner_name, structural_by, structural_ref};
+ghost use Rattle.vhdl_refs.specs.Places.{structural_refs};
 
+use crate::unit::unit_at;
 use crate::words::is_for;
 use std::alloc::Global;
 use vhdl_units::{name_of, role_at};
-use vr_base::{MaybeText, NoMemory, Ref, Role, Text, Tokens, Unit, UnitKind};
+use vr_base::{
+    MaybeText, NoMemory, Ref, Role, RoleList, Scan, TEXT_LIMIT, Text, Tokens, Unit, UnitKind,
+};
+
+static WORK: [u8; 4] = *b"work";
+
+static NOTHING: [u8; 0] = *b"";
 
 /// The first `for` from one token up to another.
 fn first_for(roles: &[Role], start: usize, end: usize) -> Option<usize>
@@ -65,27 +75,39 @@ fn configured(
 }
 
 /// The name of an owner, and no letters where there is none.
-fn owner_name(alloc: Global, owner: &MaybeText) -> Result<Text, NoMemory>
-    ensures { IfOk result (λ name. name ≡ owner_name owner.now) }
+fn owner_name<'a>(owner: &'a MaybeText) -> &'a [u8]
+    ensures { result.now ≡ owner_name owner.entry.now }
 {
     match owner {
-        MaybeText::Nothing => Ok(Text::new(alloc)),
-        MaybeText::Given(name) => name.copy(alloc),
+        MaybeText::Nothing => NOTHING.as_slice(),
+        MaybeText::Given(name) => name.bytes(),
     }
 }
 
-/// A strict reference to a name in the library of the unit itself, at the unit's keyword.
-fn structural_ref(
-    alloc: Global,
-    unit: &Unit,
-    name: Text,
-    architecture: MaybeText,
-) -> Result<Ref, NoMemory>
-    ensures { IfOk result (λ found. found ≡ structural_ref unit.now name architecture) }
+/// A text of some bytes, in the memory of one that isn't used any more, where that has room.
+fn text_in(bytes: &[u8], used: Text) -> Result<Text, NoMemory>
+    ensures { IfOk result (λ text. text ≡ bytes.now) }
 {
+    let mut room = used.into_vec();
+    room.clear();
+    room.extend_from_slice(bytes)?;
+    Ok(Text::from_vec(room))
+}
+
+/// A strict reference to a name in the library of the unit itself, at the unit's keyword.
+fn own_ref(unit: &Unit, name: &[u8], architecture: MaybeText, used: Ref) -> Result<Ref, NoMemory>
+    ensures { IfOk result (λ found. found ≡ structural_ref unit.now name.now architecture) }
+{
+    let Ref {
+        library: first,
+        name: second,
+        architecture: _nothing,
+        strict: _,
+        at: _,
+    } = used;
     Ok(Ref {
-        library: Text::from_slice(alloc, b"work")?,
-        name,
+        library: text_in(WORK.as_slice(), first)?,
+        name: text_in(name, second)?,
         architecture,
         strict: true,
         at: unit.first,
@@ -93,37 +115,62 @@ fn structural_ref(
 }
 
 /// The structural reference of a unit, if it has one: an architecture and a configuration to their entity, a package body
-/// to its package.
-pub fn structural_refs(
+/// to its package. It is told with whether there is one.
+pub fn structural_by(
     alloc: Global,
     text: &[u8],
     tokens: &Tokens,
     roles: &[Role],
     unit: &Unit,
-) -> Result<Vec<Ref>, NoMemory>
+    used: Ref,
+) -> Result<(bool, Ref), NoMemory>
     requires tokens { AreTokensOf text.now tokens.now }
     requires roles { roles.now ≡ roles_of text.now tokens.now.list }
     requires ordered { unit.now.first ≤ unit.now.last }
     requires within { unit.now.last < length roles.now }
-    ensures { IfOk result (λ refs. refs.items ≡
+    ensures { IfOk result (λ found. (if found.0 then found.1 ∷ [] else []) ≡
         structural_by text.now tokens.now.list unit.now unit.now.kind) }
 {
-    let mut refs = Vec::new(alloc);
     match unit.kind {
         UnitKind::Architecture => {
-            let owner = owner_name(alloc, &unit.owner)?;
-            refs.push(structural_ref(alloc, unit, owner, MaybeText::Nothing)?)?;
+            let owner = owner_name(&unit.owner);
+            Ok((true, own_ref(unit, owner, MaybeText::Nothing, used)?))
         }
         UnitKind::Configuration => {
-            let owner = owner_name(alloc, &unit.owner)?;
+            let owner = owner_name(&unit.owner);
             let architecture = configured(alloc, text, tokens, roles, unit)?;
-            refs.push(structural_ref(alloc, unit, owner, architecture)?)?;
+            Ok((true, own_ref(unit, owner, architecture, used)?))
         }
         UnitKind::PackageBody => {
-            let package = unit.name.copy(alloc)?;
-            refs.push(structural_ref(alloc, unit, package, MaybeText::Nothing)?)?;
+            let package = unit.name.bytes();
+            Ok((true, own_ref(unit, package, MaybeText::Nothing, used)?))
         }
-        UnitKind::Entity | UnitKind::Package | UnitKind::PackageInstance | UnitKind::Context => {}
+        UnitKind::Entity | UnitKind::Package | UnitKind::PackageInstance | UnitKind::Context => {
+            Ok((false, used))
+        }
     }
-    Ok(refs)
+}
+
+/// The structural reference of the unit of a number in a scan, in the memory of one that isn't used any more, and whether
+/// there is one (IEEE Std 1076-2008, clauses 3.3, 3.4 and 4.8): else the reference says nothing. `roles` are those of the
+/// scan's tokens.
+pub fn structural_ref(
+    alloc: Global,
+    text: &[u8],
+    scan: &Scan,
+    roles: &RoleList,
+    unit: u32,
+    used: Ref,
+) -> Result<(bool, Ref), NoMemory>
+    requires scan { IsScanOf text.now scan.now }
+    requires small { length text.now ≤ TEXT_LIMIT }
+    requires roles { roles.now ≡ roles_of text.now scan.now.tokens.list }
+    requires unit { unit < length scan.now.units }
+    ensures { IfOk result (λ found.
+        option_map (structural_refs text.now scan.now.tokens.list) (slice_get scan.now.units unit)
+        ≡ Some (if found.0 then found.1 ∷ [] else [])) }
+{
+    let roles = roles.as_slice();
+    let (unit, _clause) = unit_at(text, scan, roles, unit);
+    structural_by(alloc, text, &scan.tokens, roles, unit, used)
 }

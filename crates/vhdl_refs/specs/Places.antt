@@ -1,0 +1,33 @@
+-- Where the references of a unit are.
+use Rattle.std.specs.Prelude.{◌≡◌, ℕ, ◌+◌, ◌<◌, List, length, map}
+use Rattle.std.specs.List.{All}
+use Rattle.vr_base.specs.declared.design.Role.{Role}
+use Rattle.vr_base.specs.declared.design.Unit.{Unit as DesignUnit}
+use Rattle.vr_base.specs.declared.lexical.Token.{Token}
+use Rattle.vr_base.specs.declared.refs.Ref.{Ref}
+use Rattle.scan_spec.specs.References.{is_reference, is_strict, places, structural_by}
+use Rattle.vhdl_refs.specs.declared.places.RefPlace.{RefPlace}
+
+-- the token number of its library, and whether it is strict
+abbrev pub ref_place : List Role → ℕ → RefPlace
+ref_place roles at = record { at = at; strict = is_strict roles at }
+
+-- those from one token up to another, in order
+abbrev pub refs_between : List Role → ℕ → ℕ → List RefPlace
+refs_between roles start end = map (ref_place roles) (places (is_reference roles) start end)
+
+-- those of a unit
+abbrev pub ref_places : List Role → DesignUnit → List RefPlace
+ref_places roles unit = refs_between roles unit.lead unit.last
+
+-- the name of the unit is two tokens further
+pub record IsRefPlace (roles : List Role) (place : RefPlace) : Type 0 where
+  pub within : place.at + 2 < length roles
+  pub strict : place.strict ≡ is_strict roles place.at
+
+abbrev pub AreRefPlaces : List Role → List RefPlace → Type 0
+AreRefPlaces roles found = All (IsRefPlace roles) found
+
+-- the one that a unit has by its structure, or none
+abbrev pub structural_refs : List ℕ → List Token → DesignUnit → List Ref
+structural_refs text tokens unit = structural_by text tokens unit unit.kind
