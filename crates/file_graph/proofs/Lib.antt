@@ -8,3 +8,4 @@ pub mod UnitLemmas
 pub mod FileLemmas
 pub mod EdgeLemmas
 mod ExternalLemmas
+pub mod InsideLemmas

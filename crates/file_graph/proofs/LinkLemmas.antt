@@ -83,7 +83,7 @@ none_append (one ∷ xs) ys is =
     let parts = none_first one (first_some xs) is in
     ap (λ (o : Option LinkFault). option_or o (first_some (xs ++ ys))) (parts.0) ∙ none_append xs ys (parts.1)
 
-or_nothing : (o : Option LinkFault) → option_or o None ≡ o
+pub or_nothing : (o : Option LinkFault) → option_or o None ≡ o
 or_nothing None = refl
 or_nothing (Some fault) = refl
 

@@ -1,5 +1,5 @@
 -- The libraries of a project: those that have files, and those that stand outside of it.
-use Rattle.std.specs.Prelude.{◌≡◌, ℕ, Bool, ◌||◌, List, [], ◌∷◌, Vec, codes}
+use Rattle.std.specs.Prelude.{◌≡◌, ℕ, Bool, ◌&&◌, ◌||◌, not, List, [], ◌∷◌, Vec, codes}
 use Rattle.std.specs.Global.{Global}
 use Rattle.std.specs.List.{list_any}
 use Rattle.std.specs.Str.{bytes_eq}
@@ -19,3 +19,7 @@ always_external = codes "std" ∷ codes "ieee" ∷ codes "vunit_lib" ∷ []
 pub record AreLibraries (project : Project) (libraries : Libraries) : Type 0 where
   pub own : (name : List ℕ) → knows libraries.own name ≡ has_files project name
   pub external : (name : List ℕ) → knows libraries.external name ≡ (is_one_of project.external name || is_one_of always_external name)
+
+-- a library isn't looked into
+abbrev pub stands_outside : Libraries → List ℕ → Bool
+stands_outside libraries library = not (knows libraries.own library) && knows libraries.external library

@@ -1,5 +1,5 @@
 -- The units of a project with what is known of their names, and what they refer to.
-use Rattle.std.specs.Prelude.{◌≡◌, ℕ, ◌<◌, Bool, if◌then◌else◌, Option, Some, None, Result, List, [], ◌∷◌, ◌++◌, length, map, slice_get}
+use Rattle.std.specs.Prelude.{◌≡◌, ℕ, ◌<◌, Bool, true, not, ◌&&◌, if◌then◌else◌, Option, Some, None, Result, List, [], ◌∷◌, ◌++◌, length, map, slice_get}
 use Rattle.std.specs.List.{flat_map, list_any}
 use Rattle.std.specs.Str.{bytes_eq}
 use Rattle.vr_base.specs.declared.design.Scan.{Scan}
@@ -19,9 +19,10 @@ use Rattle.scan_spec.specs.References.{uses_of_all, work}
 use Rattle.scan_spec.specs.Visibility.{sees}
 use Rattle.scan_spec.specs.Dependencies.{LinkUnit, edges_of, first_missing, first_some, link_unit, missing_of, names_unit, warnings_of}
 use Rattle.name_scope.specs.Tables.{table_sees}
+use Rattle.file_graph.specs.declared.seen.Looked.{Looked}
 use Rattle.file_graph.specs.declared.seen.Tables.{Tables}
 use Rattle.file_graph.specs.Indexes.{GivesOrFaults, IsIndex}
-use Rattle.file_graph.specs.Libraries.{AreLibraries, knows}
+use Rattle.file_graph.specs.Libraries.{AreLibraries, knows, stands_outside}
 use Rattle.file_graph.specs.Rows.{HasAdded, has_pair, is_in_row, stands_at}
 
 -- the library that a name means in a library
@@ -47,6 +48,14 @@ noted tables id own named = noted_where (table_sees tables.sets id named) tables
 abbrev pub whole_libraries : List ℕ → Scan → DesignUnit → List (List ℕ)
 whole_libraries text scan design = map (name_of text scan.tokens.list) (uses_of_all (roles_of text scan.tokens.list) design)
 
+-- a name means a library in a unit that is visible there and looked into
+abbrev pub is_inside : Tables → UnitId → List ℕ → List ℕ → Bool
+is_inside tables id own named = table_sees tables.sets id named && not (stands_outside tables.libraries (named_library own named))
+
+-- what was looked up last in a unit is so
+abbrev pub IsLooked : Tables → UnitId → List ℕ → Looked → Type 0
+IsLooked tables id own looked = looked.known ≡ true → looked.inside ≡ is_inside tables id own looked.name
+
 -- the tables are those of a project's units
 pub record Knows (project : Project) (units : List LinkUnit) (tables : Tables) : Type 0 where
   pub index : IsIndex project.files units tables.index
@@ -62,6 +71,10 @@ pub record Stands (units : List LinkUnit) (tables : Tables) (id : UnitId) (file 
 -- some reference of a unit names a unit of the file at a position
 abbrev pub refers_from : Project → List LinkUnit → LinkUnit → List Ref → ℕ → Bool
 refers_from project units unit refs at = list_any (λ ref. stands_at (names_unit project units unit ref) units at) refs
+
+-- of some references of a unit: the first that is missing, and else the files that they refer to are put in
+abbrev pub LinksRefs : {T : Type 0} → Project → List LinkUnit → LinkUnit → List Ref → PositionSet → PositionSet → Result T LinkFault → Type 0
+LinksRefs project units unit refs old new result = GivesOrFaults (first_some (map (missing_of project units unit) refs)) (λ value. HasAdded (refers_from project units unit refs) old new) result
 
 -- the first that is missing of a unit
 abbrev pub unit_lacks : Project → List LinkUnit → LinkUnit → Option LinkFault

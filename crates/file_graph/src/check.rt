@@ -1,50 +1,61 @@
 //! What is missing of a reference.
 
-ghost use Rattle.std.specs.Prelude.{◌≡◌, ⊤, List, IfOk, Some, None, if◌then◌else◌};
+ghost use Rattle.std.specs.Prelude.{◌≡◌, ⊤, List, IfOk, Some, None, false, if◌then◌else◌};
 ghost use Rattle.std.specs.List.{list_any};
+ghost use Rattle.indexmap.specs.IndexMap.{get};
 ghost use Rattle.vr_base.specs.declared.linking.LinkFault.TheVariants.{MissingUnit, MissingArchitecture};
 ghost use Rattle.scan_spec.specs.References.{owner_name};
 ghost use Rattle.scan_spec.specs.Dependencies.{LinkUnit, is_architecture, is_primary, lacks_given};
 ghost use Rattle.file_graph.specs.Indexes.{GivesOrFaults, HoldsUnits};
-ghost use Rattle.file_graph.specs.Libraries.{AreLibraries};
+ghost use Rattle.file_graph.specs.Libraries.{AreLibraries, stands_outside};
 ghost use Rattle.file_graph.specs.Keys.{is_same_key, key_of, primary_key};
 ghost use Rattle.file_graph.specs.Meanings.{missing_in, missing_units};
 
-use crate::index::{Index, place_of};
-use crate::key::{UnitKey, architecture_key};
-use crate::libraries::{Libraries, is_external};
+use crate::index::{Index, Place, place_of};
+use crate::key::{UnitKey, put_architecture_key};
+use crate::libraries::Libraries;
 use std::alloc::Global;
 use vr_base::{FileName, LinkFault, MaybeText, NoMemory, Project, Ref, Text};
 
-/// Whether there is a unit of a name.
-fn has_unit(index: &Index, key: &UnitKey) -> bool
-    ensures { (units : List LinkUnit) → HoldsUnits index.now units →
-        result ≡ list_any (λ unit. is_same_key key.now (key_of unit)) units }
+/// Whether there is a unit of a name, by its place.
+fn has_unit(_index: &Index, _key: &UnitKey, place: Option<Place>) -> bool
+    requires { place ≡ get is_same_key _index.now _key.now }
+    ensures { (units : List LinkUnit) → HoldsUnits _index.now units →
+        result ≡ list_any (λ unit. is_same_key _key.now (key_of unit)) units }
 {
-    place_of(index, key).is_some()
+    place.is_some()
 }
 
-/// Whether there is a primary unit of a name in a library, which its key names.
-fn has_primary(index: &Index, _library: &Text, _name: &Text, key: &UnitKey) -> bool
-    requires { key.now ≡ primary_key _library.now _name.now }
+/// Whether there is a primary unit of a name in a library, which its key names, by its place.
+fn has_primary(
+    index: &Index,
+    _library: &Text,
+    _name: &Text,
+    key: &UnitKey,
+    place: Option<Place>,
+) -> bool
+    requires key { key.now ≡ primary_key _library.now _name.now }
+    requires place { place ≡ get is_same_key index.now key.now }
     ensures { (units : List LinkUnit) → HoldsUnits index.now units →
         result ≡ list_any (is_primary _library.now _name.now) units }
 {
-    has_unit(index, key)
+    has_unit(index, key, place)
 }
 
+/// Whether there is an architecture of an entity. Its name is put in the place of another.
 fn has_architecture(
     alloc: Global,
     index: &Index,
     library: &Text,
     entity: &Text,
     name: &Text,
+    other: &mut UnitKey,
 ) -> Result<bool, NoMemory>
     ensures { IfOk result (λ found. (units : List LinkUnit) → HoldsUnits index.now units →
         found ≡ list_any (is_architecture library.now entity.now name.now) units) }
 {
-    let key = architecture_key(alloc, library, entity, name)?;
-    Ok(has_unit(index, &key))
+    put_architecture_key(alloc, other, library, entity, name)?;
+    Ok(has_unit(index, other, place_of(index, other)))
 }
 
 fn missing_unit(
@@ -88,6 +99,7 @@ fn check_architecture(
     library: &Text,
     entity: &Text,
     architecture: &MaybeText,
+    other: &mut UnitKey,
 ) -> Result<(), LinkFault>
     ensures { (units : List LinkUnit) → HoldsUnits index.now units →
         GivesOrFaults (if lacks_given units library.now entity.now architecture.now
@@ -97,7 +109,7 @@ fn check_architecture(
     match architecture {
         MaybeText::Nothing => Ok(()),
         MaybeText::Given(name) => {
-            if has_architecture(alloc, index, library, entity, name)? {
+            if has_architecture(alloc, index, library, entity, name, other)? {
                 Ok(())
             } else {
                 Err(missing_architecture(alloc, file, library, entity, name)?)
@@ -106,7 +118,7 @@ fn check_architecture(
     }
 }
 
-/// Finds the unit that a reference names. `key` is that of the primary unit.
+/// Finds the unit that a reference names. `key` is that of the primary unit, and `place` its place.
 fn check_units(
     alloc: Global,
     index: &Index,
@@ -114,12 +126,15 @@ fn check_units(
     library: &Text,
     reference: &Ref,
     key: &UnitKey,
+    place: Option<Place>,
+    other: &mut UnitKey,
 ) -> Result<(), LinkFault>
-    requires { key.now ≡ primary_key library.now reference.now.name }
+    requires key { key.now ≡ primary_key library.now reference.now.name }
+    requires place { place ≡ get is_same_key index.now key.now }
     ensures { (units : List LinkUnit) → HoldsUnits index.now units →
         GivesOrFaults (missing_units units file.now library.now reference.now) (λ value. ⊤) result }
 {
-    if has_primary(index, library, &reference.name, key) {
+    if has_primary(index, library, &reference.name, key, place) {
         check_architecture(
             alloc,
             index,
@@ -127,35 +142,37 @@ fn check_units(
             library,
             &reference.name,
             &reference.architecture,
+            other,
         )
     } else {
         Err(missing_unit(alloc, file, library, &reference.name)?)
     }
 }
 
-/// Finds what a reference of a file names in a library, where it can't mean anything but a unit and the library is
-/// looked into. `key` is that of the primary unit.
+/// Finds what a reference of a file names in a library that is looked into, where it can't mean anything but a unit. `key`
+/// is that of the primary unit, and `place` its place. Another name is put in the place of `other`.
 pub fn check_ref(
     alloc: Global,
-    project: &Project,
-    libraries: &Libraries,
+    _project: &Project,
+    _libraries: &Libraries,
     index: &Index,
     file: &FileName,
     library: &Text,
     reference: &Ref,
     key: &UnitKey,
+    place: Option<Place>,
+    other: &mut UnitKey,
 ) -> Result<(), LinkFault>
-    requires { key.now ≡ primary_key library.now reference.now.name }
+    requires inside { stands_outside _libraries.now library.now ≡ false }
+    requires key { key.now ≡ primary_key library.now reference.now.name }
+    requires place { place ≡ get is_same_key index.now key.now }
     ensures { (units : List LinkUnit) → HoldsUnits index.now units →
-        AreLibraries project.now libraries.now →
-        GivesOrFaults (missing_in project.now units file.now library.now reference.now)
+        AreLibraries _project.now _libraries.now →
+        GivesOrFaults (missing_in _project.now units file.now library.now reference.now)
         (λ value. ⊤) result }
 {
     if !reference.strict {
         return Ok(());
     }
-    if is_external(libraries, library.bytes()) {
-        return Ok(());
-    }
-    check_units(alloc, index, file, library, reference, key)
+    check_units(alloc, index, file, library, reference, key, place, other)
 }

@@ -1,6 +1,6 @@
 //! The names of design units, by which they are found.
 
-ghost use Rattle.std.specs.Prelude.{◌≡◌, [], ◌∷◌, IfOk};
+ghost use Rattle.std.specs.Prelude.{◌≡◌, [], ◌∷◌, IfOk, OnOk};
 ghost use Rattle.std.specs.Cmp.Rules.{comparing, hashing};
 ghost use Rattle.std.proofs.Common.{rules};
 ghost use Rattle.scan_spec.specs.References.{owner_name};
@@ -8,7 +8,10 @@ ghost use Rattle.file_graph.specs.Keys.{is_same_key, primary_key, architecture_k
 
 use std::alloc::Global;
 use std::hash::{Hash, Hasher};
+use std::mem::replace;
 use vr_base::{MaybeText, NoMemory, Text, Unit, UnitKind};
+
+static NOTHING: [u8; 0] = *b"";
 
 /// What names a design unit of a project (IEEE Std 1076-2008, clause 13.1): a primary unit of any kind by its library and
 /// name, an architecture by its entity too, and the body of a package by the name of the package.
@@ -52,57 +55,148 @@ impl Hash for UnitKey {
     }
 }
 
-/// The name of a primary unit of a library.
-pub fn primary_key(alloc: Global, library: &Text, name: &Text) -> Result<UnitKey, NoMemory>
-    ensures { IfOk result (λ key. key ≡ primary_key library.now name.now) }
-{
-    Ok(UnitKey {
-        primary: true,
+/// No name of a unit, which takes no memory: others are put in its place.
+pub fn no_key(alloc: Global) -> UnitKey {
+    UnitKey {
+        primary: false,
         body: false,
-        library: library.copy(alloc)?,
+        library: Text::new(alloc),
         entity: Text::new(alloc),
-        name: name.copy(alloc)?,
-    })
+        name: Text::new(alloc),
+    }
 }
 
-/// The name of an architecture of an entity.
-pub fn architecture_key(
+/// Puts bytes in the place of those of a text, in its memory where that has room.
+pub fn fill(alloc: Global, text: &mut Text, bytes: &[u8]) -> Result<(), NoMemory>
+    ensures { OnOk result (text.new ≡ bytes.now) }
+{
+    let mut room = replace(text, Text::new(alloc)).into_vec();
+    room.clear();
+    room.extend_from_slice(bytes)?;
+    *text = Text::from_vec(room);
+    Ok(())
+}
+
+/// Puts a name in the place of another, in its memory.
+fn put_key(
     alloc: Global,
+    key: &mut UnitKey,
+    primary: bool,
+    body: bool,
+    library: &[u8],
+    entity: &[u8],
+    name: &[u8],
+) -> Result<(), NoMemory>
+    ensures { OnOk result (key.new ≡ record {
+      primary = primary;
+      body = body;
+      library = library.now;
+      entity = entity.now;
+      name = name.now;
+    }) }
+{
+    key.primary = primary;
+    key.body = body;
+    fill(alloc, &mut key.library, library)?;
+    fill(alloc, &mut key.entity, entity)?;
+    fill(alloc, &mut key.name, name)
+}
+
+/// Puts the name of a primary unit of a library in the place of another.
+pub fn put_primary_key(
+    alloc: Global,
+    key: &mut UnitKey,
+    library: &Text,
+    name: &Text,
+) -> Result<(), NoMemory>
+    ensures { OnOk result (key.new ≡ primary_key library.now name.now) }
+{
+    put_key(
+        alloc,
+        key,
+        true,
+        false,
+        library.bytes(),
+        NOTHING.as_slice(),
+        name.bytes(),
+    )
+}
+
+/// The same of an architecture of an entity.
+pub fn put_architecture_key(
+    alloc: Global,
+    key: &mut UnitKey,
     library: &Text,
     entity: &Text,
     name: &Text,
-) -> Result<UnitKey, NoMemory>
-    ensures { IfOk result (λ key. key ≡ architecture_key library.now entity.now name.now) }
+) -> Result<(), NoMemory>
+    ensures { OnOk result (key.new ≡ architecture_key library.now entity.now name.now) }
 {
-    Ok(UnitKey {
-        primary: false,
-        body: false,
-        library: library.copy(alloc)?,
-        entity: entity.copy(alloc)?,
-        name: name.copy(alloc)?,
-    })
+    put_key(
+        alloc,
+        key,
+        false,
+        false,
+        library.bytes(),
+        entity.bytes(),
+        name.bytes(),
+    )
 }
 
-/// The name of the body of a package.
-pub fn body_key(alloc: Global, library: &Text, name: &Text) -> Result<UnitKey, NoMemory>
-    ensures { IfOk result (λ key. key ≡ body_key library.now name.now) }
+/// The same of the body of a package.
+pub fn put_body_key(
+    alloc: Global,
+    key: &mut UnitKey,
+    library: &Text,
+    name: &Text,
+) -> Result<(), NoMemory>
+    ensures { OnOk result (key.new ≡ body_key library.now name.now) }
 {
-    Ok(UnitKey {
-        primary: false,
-        body: true,
-        library: library.copy(alloc)?,
-        entity: Text::new(alloc),
-        name: name.copy(alloc)?,
-    })
+    put_key(
+        alloc,
+        key,
+        false,
+        true,
+        library.bytes(),
+        NOTHING.as_slice(),
+        name.bytes(),
+    )
 }
 
 /// The name of an owner, which is empty where there is none.
-pub fn owner_text(alloc: Global, owner: &MaybeText) -> Result<Text, NoMemory>
-    ensures { IfOk result (λ name. name ≡ owner_name owner.now) }
+pub fn owner_name<'a>(owner: &'a MaybeText) -> &'a [u8]
+    ensures { result.now ≡ owner_name owner.entry.now }
 {
     match owner {
-        MaybeText::Nothing => Ok(Text::new(alloc)),
-        MaybeText::Given(name) => name.copy(alloc),
+        MaybeText::Nothing => NOTHING.as_slice(),
+        MaybeText::Given(name) => name.bytes(),
+    }
+}
+
+/// Puts the name of a unit of a library in the place of another.
+fn put_unit_key(
+    alloc: Global,
+    key: &mut UnitKey,
+    library: &Text,
+    unit: &Unit,
+) -> Result<(), NoMemory>
+    ensures { OnOk result (key.new ≡ unit_key library.now unit.now unit.now.kind) }
+{
+    match unit.kind {
+        UnitKind::Architecture => {
+            let entity = owner_name(&unit.owner);
+            put_key(
+                alloc,
+                key,
+                false,
+                false,
+                library.bytes(),
+                entity,
+                unit.name.bytes(),
+            )
+        }
+        UnitKind::PackageBody => put_body_key(alloc, key, library, &unit.name),
+        _ => put_primary_key(alloc, key, library, &unit.name),
     }
 }
 
@@ -110,12 +204,7 @@ pub fn owner_text(alloc: Global, owner: &MaybeText) -> Result<Text, NoMemory>
 pub fn unit_key(alloc: Global, library: &Text, unit: &Unit) -> Result<UnitKey, NoMemory>
     ensures { IfOk result (λ key. key ≡ unit_key library.now unit.now unit.now.kind) }
 {
-    match unit.kind {
-        UnitKind::Architecture => {
-            let entity = owner_text(alloc, &unit.owner)?;
-            architecture_key(alloc, library, &entity, &unit.name)
-        }
-        UnitKind::PackageBody => body_key(alloc, library, &unit.name),
-        _ => primary_key(alloc, library, &unit.name),
-    }
+    let mut key = no_key(alloc);
+    put_unit_key(alloc, &mut key, library, unit)?;
+    Ok(key)
 }

@@ -1,9 +1,9 @@
 //! The libraries of a project: those that have files, and those that stand outside of it.
 
-ghost use Rattle.std.specs.Prelude.{◌≡◌, ℕ, List, ◌||◌, ◌&&◌, not, IfOk, OnOk};
+ghost use Rattle.std.specs.Prelude.{◌≡◌, ℕ, List, ◌||◌, IfOk, OnOk};
 ghost use Rattle.std.specs.List.{list_any};
 ghost use Rattle.std.specs.Str.{bytes_eq};
-ghost use Rattle.file_graph.specs.Libraries.{AreLibraries, always_external, knows};
+ghost use Rattle.file_graph.specs.Libraries.{AreLibraries, always_external, knows, stands_outside};
 ghost use Rattle.scan_spec.specs.Dependencies.{is_one_of};
 
 use indexmap::IndexSet;
@@ -91,9 +91,9 @@ pub fn libraries_of(alloc: Global, project: &Project) -> Result<Libraries, NoMem
 }
 
 /// Whether a library isn't looked into.
-pub fn is_external(libraries: &Libraries, library: &[u8]) -> bool
-    ensures { result ≡ (not (knows libraries.now.own library.now)
-        && knows libraries.now.external library.now) }
+pub fn is_external(libraries: &Libraries, library: &Text) -> bool
+    ensures { result ≡ stands_outside libraries.now library.now }
 {
+    let library = library.bytes();
     !has_name(&libraries.own, library) && has_name(&libraries.external, library)
 }

@@ -14,7 +14,7 @@ ghost use Rattle.file_graph.specs.Results.{GivesLinks};
 use crate::index::index_of;
 use crate::libraries::libraries_of;
 use crate::pairs::rows_of_pairs;
-use crate::seen::Tables;
+use crate::seen::{Tables, no_scratch};
 use crate::units::link_file;
 use name_scope::{roles_of_files, visible_sets_by_roles};
 use position_set::PositionSet;
@@ -48,6 +48,7 @@ fn link_files(
     let count = project.files.len();
     let mut edges = Edges::new(alloc);
     let mut warnings = WarningList::new(alloc);
+    let mut scratch = no_scratch(alloc);
     for file in 0..count {
         let mut row = PositionSet::new();
         row.add_all(&rows[file as usize]);
@@ -60,6 +61,7 @@ fn link_files(
             text,
             scans.get(file),
             roles.get(file),
+            &mut scratch,
             &mut row,
             &mut warnings,
         )?;

@@ -2,16 +2,17 @@
 
 ghost use Rattle.std.specs.Prelude.{◌≡◌, ◌&&◌, ◌≤◌, Bool, true, List, OnOk};
 ghost use Rattle.std.specs.List.{list_any};
+ghost use Rattle.indexmap.specs.IndexMap.{get};
 ghost use Rattle.vr_base.specs.declared.project.ProjectFile.{ProjectFile};
 ghost use Rattle.scan_spec.specs.Dependencies.{LinkUnit, is_body, is_given_architecture, is_package_kind, is_primary};
 ghost use Rattle.file_graph.specs.Indexes.{ArePlacesOfFiles, IsIndex, HoldsUnits};
-ghost use Rattle.file_graph.specs.Keys.{primary_key};
+ghost use Rattle.file_graph.specs.Keys.{is_same_key, primary_key};
 ghost use Rattle.file_graph.specs.Meanings.{names_in};
 ghost use Rattle.file_graph.specs.Rows.{HasAdded, has_package, stands_at};
 
-use crate::index::{Index, place_of};
-use crate::key::{UnitKey, architecture_key, body_key};
-use crate::rows::put_named;
+use crate::index::{Index, Place, place_of};
+use crate::key::{UnitKey, put_architecture_key, put_body_key};
+use crate::rows::{put_found, put_named};
 use position_set::PositionSet;
 use std::alloc::Global;
 use vr_base::{FILE_LIMIT, MaybeText, NoMemory, Ref, Text};
@@ -35,6 +36,7 @@ fn put_architecture(
     library: &Text,
     entity: &Text,
     architecture: &MaybeText,
+    other: &mut UnitKey,
 ) -> Result<(), NoMemory>
     requires { ArePlacesOfFiles FILE_LIMIT index.now }
     ensures { OnOk result ((files : List ProjectFile) (units : List LinkUnit) →
@@ -44,8 +46,8 @@ fn put_architecture(
     match architecture {
         MaybeText::Nothing => Ok(()),
         MaybeText::Given(name) => {
-            let key = architecture_key(alloc, library, entity, name)?;
-            put_named(row, index, &key);
+            put_architecture_key(alloc, other, library, entity, name)?;
+            put_named(row, index, other);
             Ok(())
         }
     }
@@ -58,14 +60,15 @@ fn put_body(
     index: &Index,
     library: &Text,
     name: &Text,
+    other: &mut UnitKey,
 ) -> Result<(), NoMemory>
     requires { ArePlacesOfFiles FILE_LIMIT index.now }
     ensures { OnOk result ((files : List ProjectFile) (units : List LinkUnit) →
         IsIndex files units index.now →
         HasAdded (stands_at (is_body library.now name.now) units) row.old row.new) }
 {
-    let key = body_key(alloc, library, name)?;
-    put_named(row, index, &key);
+    put_body_key(alloc, other, library, name)?;
+    put_named(row, index, other);
     Ok(())
 }
 
@@ -77,6 +80,7 @@ fn put_package_body(
     key: &UnitKey,
     library: &Text,
     name: &Text,
+    other: &mut UnitKey,
 ) -> Result<(), NoMemory>
     requires { ArePlacesOfFiles FILE_LIMIT index.now }
     ensures { OnOk result ((files : List ProjectFile) (units : List LinkUnit) →
@@ -85,13 +89,14 @@ fn put_package_body(
         && has_package units key.now) row.old row.new) }
 {
     if is_package(index, key) {
-        put_body(alloc, row, index, library, name)
+        put_body(alloc, row, index, library, name, other)
     } else {
         Ok(())
     }
 }
 
-/// Puts the files in that have what a reference names in a library. `key` is that of the primary unit.
+/// Puts the files in that have what a reference names in a library. `key` is that of the primary unit, and `place` its
+/// place. Other names are put in the place of `other`.
 pub fn put_ref(
     alloc: Global,
     row: &mut PositionSet,
@@ -100,14 +105,17 @@ pub fn put_ref(
     library: &Text,
     reference: &Ref,
     key: &UnitKey,
+    place: Option<Place>,
+    other: &mut UnitKey,
 ) -> Result<(), NoMemory>
     requires places { ArePlacesOfFiles FILE_LIMIT index.now }
     requires key { key.now ≡ primary_key library.now reference.now.name }
+    requires place { place ≡ get is_same_key index.now key.now }
     ensures { OnOk result ((files : List ProjectFile) (units : List LinkUnit) →
         IsIndex files units index.now → HasAdded (stands_at
         (names_in bodies units library.now reference.now) units) row.old row.new) }
 {
-    put_named(row, index, key);
+    put_found(row, index, key, place);
     put_architecture(
         alloc,
         row,
@@ -115,9 +123,10 @@ pub fn put_ref(
         library,
         &reference.name,
         &reference.architecture,
+        other,
     )?;
     if !bodies {
         return Ok(());
     }
-    put_package_body(alloc, row, index, key, library, &reference.name)
+    put_package_body(alloc, row, index, key, library, &reference.name, other)
 }

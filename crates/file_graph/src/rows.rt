@@ -2,9 +2,11 @@
 
 ghost use Rattle.std.specs.Prelude.{◌≡◌, ◌<◌, ◌≤◌, ◌==◌, false, List, IfSome};
 ghost use Rattle.std.specs.Option.{option_map_or};
+ghost use Rattle.indexmap.specs.IndexMap.{get};
 ghost use Rattle.vr_base.specs.declared.project.ProjectFile.{ProjectFile};
 ghost use Rattle.scan_spec.specs.Dependencies.{LinkUnit};
 ghost use Rattle.file_graph.specs.Indexes.{ArePlacesOfFiles, IsIndex};
+ghost use Rattle.file_graph.specs.Keys.{is_same_key};
 ghost use Rattle.file_graph.specs.Rows.{HasAdded, is_named_at};
 
 use crate::index::{Index, Place, place_of};
@@ -23,11 +25,21 @@ fn put_place(row: &mut PositionSet, place: Option<Place>)
     }
 }
 
+/// Puts the file of the unit of a name in, if there is one, by its place.
+pub fn put_found(row: &mut PositionSet, _index: &Index, _key: &UnitKey, place: Option<Place>)
+    requires places { ArePlacesOfFiles FILE_LIMIT _index.now }
+    requires place { place ≡ get is_same_key _index.now _key.now }
+    ensures { (files : List ProjectFile) (units : List LinkUnit) → IsIndex files units _index.now →
+        HasAdded (is_named_at units _key.now) row.old row.new }
+{
+    put_place(row, place);
+}
+
 /// Puts the file of the unit of a name in, if there is one.
 pub fn put_named(row: &mut PositionSet, index: &Index, key: &UnitKey)
     requires { ArePlacesOfFiles FILE_LIMIT index.now }
     ensures { (files : List ProjectFile) (units : List LinkUnit) → IsIndex files units index.now →
         HasAdded (is_named_at units key.now) row.old row.new }
 {
-    put_place(row, place_of(index, key));
+    put_found(row, index, key, place_of(index, key));
 }

@@ -1,28 +1,36 @@
 //! The references of a design unit to visible libraries.
 
-ghost use Rattle.std.specs.Prelude.{◌≡◌, ◌<◌, ◌≤◌, Bool, List, if◌then◌else◌, length, map};
-ghost use Rattle.std.specs.List.{list_any};
+ghost use Rattle.std.specs.Prelude.{◌≡◌, ◌<◌, ◌≤◌, List, IfOk, OnOk, Some, false, length, map, slice_get, true};
 ghost use Rattle.std.specs.Option.{option_map};
 ghost use Rattle.std.specs.Str.{bytes_eq};
-ghost use Rattle.vr_base.specs.declared.project.ProjectFile.{ProjectFile};
-ghost use Rattle.scan_spec.specs.References.{work};
-ghost use Rattle.scan_spec.specs.Dependencies.{LinkUnit, first_some, missing_of, names_unit};
+ghost use Rattle.vr_base.specs.declared.design.Unit.{Unit as DesignUnit};
+ghost use Rattle.scan_spec.specs.References.{ref_at, work};
+ghost use Rattle.scan_spec.specs.Scans.{IsScanOf};
+ghost use Rattle.scan_spec.specs.Units.{AreTokensOf, name_of, roles_of};
+ghost use Rattle.scan_spec.specs.Dependencies.{LinkUnit, missing_of, names_unit};
 ghost use Rattle.name_scope.specs.Tables.{table_sees};
-ghost use Rattle.file_graph.specs.Indexes.{ArePlacesOfFiles, GivesOrFaults, IsIndex};
-ghost use Rattle.file_graph.specs.Libraries.{AreLibraries};
-ghost use Rattle.file_graph.specs.Linking.{Knows, Stands, refers_from, seen_library};
+ghost use Rattle.vhdl_refs.specs.Places.{AreRefPlaces, IsRefPlace, structural_refs};
+ghost use Rattle.file_graph.specs.Indexes.{ArePlacesOfFiles, GivesOrFaults};
+ghost use Rattle.file_graph.specs.Libraries.{stands_outside};
+ghost use Rattle.file_graph.specs.Linking.{IsLooked, Knows, LinksRefs, Stands, is_inside, named_library, seen_library};
 ghost use Rattle.file_graph.specs.Meanings.{missing_in, names_in};
 ghost use Rattle.file_graph.specs.Rows.{HasAdded, stands_at};
 
 use crate::check::check_ref;
-use crate::index::Index;
-use crate::key::primary_key;
+use crate::index::{Index, place_of};
+use crate::key::{UnitKey, fill, no_key, put_primary_key};
 use crate::libraries::{Libraries, is_external};
 use crate::refs::put_ref;
 use name_scope::VisibleLibraries;
 use position_set::PositionSet;
 use std::alloc::Global;
-use vr_base::{FILE_LIMIT, FileName, LinkFault, Project, Ref, Text, UnitId};
+use std::mem::replace;
+use vhdl_refs::{RefPlace, no_ref, ref_at, structural_ref};
+use vhdl_units::{is_named, name_in};
+use vr_base::{
+    FILE_LIMIT, FileName, Items, LinkFault, NoMemory, Project, Ref, Role, RoleList, Scan,
+    TEXT_LIMIT, Text, Tokens, UnitId,
+};
 
 static WORK: [u8; 4] = *b"work";
 
@@ -40,6 +48,13 @@ fn is_work(name: &[u8]) -> bool
     name == WORK.as_slice()
 }
 
+/// The library that a name means in a unit of a file of a library.
+fn library_of<'a>(own: &'a Text, named: &'a Text) -> &'a Text
+    ensures { result.now ≡ named_library own.entry.now named.entry.now }
+{
+    if is_work(named.bytes()) { own } else { named }
+}
+
 /// The library that a name means in a unit of a file of a library, if it is visible.
 pub fn seen_library<'a>(
     sets: &VisibleLibraries,
@@ -52,13 +67,123 @@ pub fn seen_library<'a>(
         ≡ seen_library (table_sees sets.now id named.entry.now) own.entry.now named.entry.now }
 {
     if sets.sees_library(id, named.bytes()) {
-        Some(if is_work(named.bytes()) { own } else { named })
+        Some(library_of(own, named))
     } else {
         None
     }
 }
 
-/// Takes up a reference of a file to a library: puts in what it names, or finds what is missing.
+/// Whether a name means a library in a unit that is visible there and looked into.
+fn is_inside(tables: &Tables, id: UnitId, own: &Text, named: &Text) -> bool
+    requires { id.file < length tables.now.sets.starts }
+    ensures { result ≡ is_inside tables.now id own.now named.now }
+{
+    tables.sets.sees_library(id, named.bytes())
+        && !is_external(&tables.libraries, library_of(own, named))
+}
+
+/// What was looked up last in a unit, if anything was: a name, and whether it means a library that is visible there and
+/// looked into. Most references of a unit name one of a few libraries, and many the same one as the reference before.
+#[derive(Drop)]
+pub struct Looked {
+    pub known: bool,
+    pub inside: bool,
+    pub name: Text,
+}
+
+/// Looks a name up.
+fn look_up(tables: &Tables, id: UnitId, own: &Text, name: Text) -> Looked
+    requires { id.file < length tables.now.sets.starts }
+    ensures known { IsLooked tables.now id own.now result }
+    ensures inside { result.inside ≡ is_inside tables.now id own.now name }
+{
+    let inside = is_inside(tables, id, own, &name);
+    Looked {
+        known: true,
+        inside,
+        name,
+    }
+}
+
+/// Looks the name at a token up, unless it was the last one.
+fn look_at(
+    alloc: Global,
+    tables: &Tables,
+    id: UnitId,
+    own: &Text,
+    text: &[u8],
+    tokens: &Tokens,
+    at: usize,
+    looked: &mut Looked,
+) -> Result<bool, NoMemory>
+    requires file { id.file < length tables.now.sets.starts }
+    requires tokens { AreTokensOf text.now tokens.now }
+    requires within { at < length tokens.now.list }
+    requires known { IsLooked tables.now id own.now looked.old }
+    ensures known { OnOk result (IsLooked tables.now id own.now looked.new) }
+    ensures inside { IfOk result (λ inside. inside ≡
+        is_inside tables.now id own.now (name_of text.now tokens.now.list at)) }
+{
+    if looked.known {
+        if is_named(text, tokens, at, looked.name.bytes()) {
+            return Ok(looked.inside);
+        }
+    }
+    let used = replace(&mut looked.name, Text::new(alloc));
+    *looked = look_up(tables, id, own, name_in(text, tokens, at, used)?);
+    Ok(looked.inside)
+}
+
+/// Looks a name up.
+fn look_named(
+    alloc: Global,
+    tables: &Tables,
+    id: UnitId,
+    own: &Text,
+    named: &Text,
+    looked: &mut Looked,
+) -> Result<bool, NoMemory>
+    requires file { id.file < length tables.now.sets.starts }
+    ensures known { OnOk result (IsLooked tables.now id own.now looked.new) }
+    ensures inside { IfOk result (λ inside. inside ≡ is_inside tables.now id own.now named.now) }
+{
+    let mut name = replace(&mut looked.name, Text::new(alloc));
+    fill(alloc, &mut name, named.bytes())?;
+    *looked = look_up(tables, id, own, name);
+    Ok(looked.inside)
+}
+
+/// What references leave behind: memory that the next ones use, and what was looked up last.
+#[derive(Drop)]
+pub struct Scratch {
+    pub places: Items<RefPlace>,
+    pub reference: Ref,
+    pub key: UnitKey,
+    pub other: UnitKey,
+    pub looked: Looked,
+}
+
+/// Nothing, which takes no memory.
+pub fn no_scratch(alloc: Global) -> Scratch {
+    Scratch {
+        places: Items::new(alloc),
+        reference: no_ref(alloc),
+        key: no_key(alloc),
+        other: no_key(alloc),
+        looked: Looked {
+            known: false,
+            inside: false,
+            name: Text::new(alloc),
+        },
+    }
+}
+
+/// Puts what isn't used any more where the next one finds its memory.
+pub fn hand_back<T: Drop>(room: &mut T, used: T) {
+    *room = used;
+}
+
+/// Takes up a reference of a file to a library that is looked into: puts in what it names, or finds what is missing.
 fn link_inside(
     alloc: Global,
     project: &Project,
@@ -66,16 +191,20 @@ fn link_inside(
     file: &FileName,
     library: &Text,
     reference: &Ref,
+    key: &mut UnitKey,
+    other: &mut UnitKey,
     row: &mut PositionSet,
 ) -> Result<(), LinkFault>
-    requires { ArePlacesOfFiles FILE_LIMIT tables.now.index }
+    requires places { ArePlacesOfFiles FILE_LIMIT tables.now.index }
+    requires inside { stands_outside tables.now.libraries library.now ≡ false }
     ensures { (units : List LinkUnit) → Knows project.now units tables.now →
         GivesOrFaults (missing_in project.now units file.now library.now reference.now)
         (λ value. HasAdded (stands_at
         (names_in project.now.bodies units library.now reference.now) units)
         row.old row.new) result }
 {
-    let key = primary_key(alloc, library, &reference.name)?;
+    put_primary_key(alloc, key, library, &reference.name)?;
+    let place = place_of(&tables.index, key);
     check_ref(
         alloc,
         project,
@@ -84,7 +213,9 @@ fn link_inside(
         file,
         library,
         reference,
-        &key,
+        key,
+        place,
+        other,
     )?;
     put_ref(
         alloc,
@@ -93,77 +224,199 @@ fn link_inside(
         project.bodies,
         library,
         reference,
-        &key,
+        key,
+        place,
+        other,
     )?;
     Ok(())
 }
 
-/// The same, where nothing is looked for in a library that isn't looked into.
-fn link_seen(
+/// Takes up a reference of a unit to a library that is visible and looked into.
+fn link_ref(
     alloc: Global,
     project: &Project,
     tables: &Tables,
+    _id: UnitId,
     file: &FileName,
-    library: &Text,
     reference: &Ref,
+    key: &mut UnitKey,
+    other: &mut UnitKey,
     row: &mut PositionSet,
 ) -> Result<(), LinkFault>
-    requires { ArePlacesOfFiles FILE_LIMIT tables.now.index }
-    ensures { (units : List LinkUnit) → Knows project.now units tables.now →
-        GivesOrFaults (missing_in project.now units file.now library.now reference.now)
+    requires places { ArePlacesOfFiles FILE_LIMIT tables.now.index }
+    requires inside { is_inside tables.now _id file.now.library reference.now.library ≡ true }
+    ensures { (units : List LinkUnit) (unit : LinkUnit) → Knows project.now units tables.now →
+        Stands units tables.now _id file.now unit →
+        GivesOrFaults (missing_of project.now units unit reference.now)
         (λ value. HasAdded (stands_at
-        (names_in project.now.bodies units library.now reference.now) units)
-        row.old row.new) result }
+        (names_unit project.now units unit reference.now) units) row.old row.new) result }
 {
-    if is_external(&tables.libraries, library.bytes()) {
-        return Ok(());
-    }
-    link_inside(alloc, project, tables, file, library, reference, row)
+    let library = library_of(&file.library, &reference.library);
+    link_inside(
+        alloc, project, tables, file, library, reference, key, other, row,
+    )
 }
 
-/// Takes up a reference of a unit.
-fn link_ref(
+/// Takes up the reference of a unit by its structure.
+fn link_own(
     alloc: Global,
     project: &Project,
     tables: &Tables,
     id: UnitId,
     file: &FileName,
     reference: &Ref,
+    scratch: &mut Scratch,
     row: &mut PositionSet,
 ) -> Result<(), LinkFault>
     requires places { ArePlacesOfFiles FILE_LIMIT tables.now.index }
     requires file { id.file < length tables.now.sets.starts }
-    ensures { (units : List LinkUnit) (unit : LinkUnit) → Knows project.now units tables.now →
+    ensures known { OnOk result (IsLooked tables.now id file.now.library scratch.new.looked) }
+    ensures linked { (units : List LinkUnit) (unit : LinkUnit) → Knows project.now units tables.now →
         Stands units tables.now id file.now unit →
         GivesOrFaults (missing_of project.now units unit reference.now)
         (λ value. HasAdded (stands_at
         (names_unit project.now units unit reference.now) units) row.old row.new) result }
 {
-    match seen_library(&tables.sets, id, &file.library, &reference.library) {
-        Some(library) => link_seen(alloc, project, tables, file, library, reference, row),
-        None => Ok(()),
+    if !look_named(
+        alloc,
+        tables,
+        id,
+        &file.library,
+        &reference.library,
+        &mut scratch.looked,
+    )? {
+        return Ok(());
     }
+    link_ref(
+        alloc,
+        project,
+        tables,
+        id,
+        file,
+        reference,
+        &mut scratch.key,
+        &mut scratch.other,
+        row,
+    )
 }
 
-/// Takes up references of a unit.
-pub fn link_refs(
+/// Takes up the reference of a unit by its structure, if it has one.
+pub fn link_structural(
     alloc: Global,
     project: &Project,
     tables: &Tables,
     id: UnitId,
     file: &FileName,
-    refs: &[Ref],
+    text: &[u8],
+    scan: &Scan,
+    roles: &RoleList,
+    scratch: &mut Scratch,
     row: &mut PositionSet,
 ) -> Result<(), LinkFault>
     requires places { ArePlacesOfFiles FILE_LIMIT tables.now.index }
     requires file { id.file < length tables.now.sets.starts }
+    requires scan { IsScanOf text.now scan.now }
+    requires small { length text.now ≤ TEXT_LIMIT }
+    requires roles { roles.now ≡ roles_of text.now scan.now.tokens.list }
+    requires unit { id.unit < length scan.now.units }
+    ensures known { OnOk result (IsLooked tables.now id file.now.library scratch.new.looked) }
+    ensures linked { (units : List LinkUnit) (unit : LinkUnit) (design : DesignUnit) →
+        Knows project.now units tables.now → Stands units tables.now id file.now unit →
+        slice_get scan.now.units id.unit ≡ Some design →
+        LinksRefs project.now units unit (structural_refs text.now scan.now.tokens.list design)
+        row.old row.new result }
+{
+    scratch.looked.known = false;
+    let used = replace(&mut scratch.reference, no_ref(alloc));
+    let (is_there, reference) = structural_ref(alloc, text, scan, roles, id.unit, used)?;
+    if !is_there {
+        hand_back(&mut scratch.reference, reference);
+        return Ok(());
+    }
+    let linked = link_own(alloc, project, tables, id, file, &reference, scratch, row);
+    hand_back(&mut scratch.reference, reference);
+    linked
+}
+
+/// Takes up the reference by name at a place. Its library alone is named first, and no more where nothing is looked for there.
+fn link_place(
+    alloc: Global,
+    project: &Project,
+    tables: &Tables,
+    id: UnitId,
+    file: &FileName,
+    text: &[u8],
+    tokens: &Tokens,
+    roles: &[Role],
+    place: RefPlace,
+    scratch: &mut Scratch,
+    row: &mut PositionSet,
+) -> Result<(), LinkFault>
+    requires places { ArePlacesOfFiles FILE_LIMIT tables.now.index }
+    requires file { id.file < length tables.now.sets.starts }
+    requires tokens { AreTokensOf text.now tokens.now }
+    requires roles { roles.now ≡ roles_of text.now tokens.now.list }
+    requires place { IsRefPlace roles.now place }
+    requires known { IsLooked tables.now id file.now.library scratch.old.looked }
+    ensures known { OnOk result (IsLooked tables.now id file.now.library scratch.new.looked) }
+    ensures linked { (units : List LinkUnit) (unit : LinkUnit) → Knows project.now units tables.now →
+        Stands units tables.now id file.now unit →
+        GivesOrFaults (missing_of project.now units unit (ref_at text.now tokens.now.list place.at))
+        (λ value. HasAdded (stands_at (names_unit project.now units unit
+        (ref_at text.now tokens.now.list place.at)) units) row.old row.new) result }
+{
+    let at = place.at as usize;
+    let looked = &mut scratch.looked;
+    if !look_at(alloc, tables, id, &file.library, text, tokens, at, looked)? {
+        return Ok(());
+    }
+    let used = replace(&mut scratch.reference, no_ref(alloc));
+    let reference = ref_at(alloc, text, tokens, roles, place, used)?;
+    let linked = link_ref(
+        alloc,
+        project,
+        tables,
+        id,
+        file,
+        &reference,
+        &mut scratch.key,
+        &mut scratch.other,
+        row,
+    );
+    hand_back(&mut scratch.reference, reference);
+    linked
+}
+
+/// Takes up the references by name at places of a unit.
+pub fn link_places(
+    alloc: Global,
+    project: &Project,
+    tables: &Tables,
+    id: UnitId,
+    file: &FileName,
+    text: &[u8],
+    tokens: &Tokens,
+    roles: &[Role],
+    places: &[RefPlace],
+    scratch: &mut Scratch,
+    row: &mut PositionSet,
+) -> Result<(), LinkFault>
+    requires places { ArePlacesOfFiles FILE_LIMIT tables.now.index }
+    requires file { id.file < length tables.now.sets.starts }
+    requires tokens { AreTokensOf text.now tokens.now }
+    requires roles { roles.now ≡ roles_of text.now tokens.now.list }
+    requires found { AreRefPlaces roles.now places.now }
+    requires known { IsLooked tables.now id file.now.library scratch.old.looked }
     ensures { (units : List LinkUnit) (unit : LinkUnit) → Knows project.now units tables.now →
         Stands units tables.now id file.now unit →
-        GivesOrFaults (first_some (map (missing_of project.now units unit) refs.now))
-        (λ value. HasAdded (refers_from project.now units unit refs.now) row.old row.new) result }
+        LinksRefs project.now units unit
+        (map (λ place. ref_at text.now tokens.now.list place.at) places.now)
+        row.old row.new result }
 {
-    for reference in refs {
-        link_ref(alloc, project, tables, id, file, reference, row)?;
+    for place in places {
+        link_place(
+            alloc, project, tables, id, file, text, tokens, roles, *place, scratch, row,
+        )?;
     }
     Ok(())
 }

@@ -4,7 +4,7 @@ ghost use Rattle.std.specs.Prelude.{◌≡◌, ◌++◌, IfOk, OnOk};
 ghost use Rattle.scan_spec.specs.References.{owner_name};
 ghost use Rattle.scan_spec.specs.Dependencies.{spelled_by};
 
-use crate::key::owner_text;
+use crate::key::owner_name;
 use std::alloc::Global;
 use vr_base::{NoMemory, Text, Unit, UnitKind};
 
@@ -42,10 +42,9 @@ pub fn spelled(alloc: Global, library: &Text, unit: &Unit) -> Result<Text, NoMem
     let name = unit.name.bytes();
     match unit.kind {
         UnitKind::Architecture => {
-            let entity = owner_text(alloc, &unit.owner)?;
             let inner = joined(
                 alloc,
-                entity.bytes(),
+                owner_name(&unit.owner),
                 OPENING.as_slice(),
                 name,
                 CLOSING.as_slice(),

@@ -11,13 +11,15 @@ ghost use Rattle.file_graph.specs.Indexes.{ArePlacesOfFiles, GivesOrFaults};
 ghost use Rattle.file_graph.specs.Linking.{FileGives, Knows, StandAll, Stands, unit_lacks, refers_from};
 ghost use Rattle.file_graph.specs.Rows.{HasAdded};
 
-use crate::seen::{Tables, link_refs};
+use crate::seen::{Scratch, Tables, hand_back, link_places, link_structural};
 use crate::warnings::note_unit;
 use position_set::PositionSet;
 use std::alloc::Global;
-use vhdl_refs::find_refs;
+use std::mem::replace;
+use vhdl_refs::ref_places;
 use vr_base::{
-    FILE_LIMIT, FileName, LinkFault, Project, RoleList, Scan, TEXT_LIMIT, UnitId, WarningList,
+    FILE_LIMIT, FileName, Items, LinkFault, Project, RoleList, Scan, TEXT_LIMIT, UnitId,
+    WarningList,
 };
 
 /// Takes up the references of a unit.
@@ -30,6 +32,7 @@ fn link_unit(
     text: &[u8],
     scan: &Scan,
     roles: &RoleList,
+    scratch: &mut Scratch,
     row: &mut PositionSet,
 ) -> Result<(), LinkFault>
     requires places { ArePlacesOfFiles FILE_LIMIT tables.now.index }
@@ -45,8 +48,26 @@ fn link_unit(
         GivesOrFaults (unit_lacks project.now units unit)
         (λ value. HasAdded (refers_from project.now units unit unit.refs) row.old row.new) result }
 {
-    let refs = find_refs(alloc, text, scan, roles, id.unit)?;
-    link_refs(alloc, project, tables, id, file, refs.as_slice(), row)
+    link_structural(
+        alloc, project, tables, id, file, text, scan, roles, scratch, row,
+    )?;
+    let used = replace(&mut scratch.places, Items::new(alloc));
+    let places = ref_places(text, scan, roles, id.unit, used)?;
+    let linked = link_places(
+        alloc,
+        project,
+        tables,
+        id,
+        file,
+        text,
+        &scan.tokens,
+        roles.as_slice(),
+        places.as_slice(),
+        scratch,
+        row,
+    );
+    hand_back(&mut scratch.places, places);
+    linked
 }
 
 /// Takes up the references of a file's units, and notes their uses of whole libraries.
@@ -58,6 +79,7 @@ pub fn link_file(
     text: &[u8],
     scan: &Scan,
     roles: &RoleList,
+    scratch: &mut Scratch,
     row: &mut PositionSet,
     warnings: &mut WarningList,
 ) -> Result<(), LinkFault>
@@ -79,7 +101,9 @@ pub fn link_file(
             file,
             unit: number as u32,
         };
-        link_unit(alloc, project, tables, id, name, text, scan, roles, row)?;
+        link_unit(
+            alloc, project, tables, id, name, text, scan, roles, scratch, row,
+        )?;
         note_unit(alloc, tables, id, name, text, scan, roles, warnings)?;
     }
     Ok(())

@@ -7,4 +7,4 @@ use Rattle.file_graph.proofs.MeaningLemmas.{primary_any}
 use Rattle.file_graph.proofs.check.has_primary.Goals as goal
 
 pub returns : goal.returns
-returns c units holds = c.has_unit.ensures units holds ∙ (ap (λ (k : UnitKey). list_any (λ u. is_same_key k (key_of u)) units) c.requires ∙ primary_any c.args._library.now c.args._name.now units)
+returns c units holds = c.has_unit.ensures units holds ∙ (ap (λ (k : UnitKey). list_any (λ u. is_same_key k (key_of u)) units) c.requires.key ∙ primary_any c.args._library.now c.args._name.now units)

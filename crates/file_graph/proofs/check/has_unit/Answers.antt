@@ -6,4 +6,4 @@ use Rattle.file_graph.proofs.RowLemmas.{any_named}
 use Rattle.file_graph.proofs.check.has_unit.Goals as goal
 
 pub returns : goal.returns
-returns c units holds = c.is_some.ensures ∙ (ap (λ (o : Option Place). is_some o) (c.place_of.ensures ∙ holds c.args.key.now) ∙ any_named units c.args.key.now)
+returns c units holds = c.is_some.ensures ∙ (ap (λ (o : Option Place). is_some o) (c.requires ∙ holds c.args._key.now) ∙ any_named units c.args._key.now)

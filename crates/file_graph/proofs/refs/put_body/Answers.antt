@@ -9,5 +9,5 @@ use Rattle.file_graph.proofs.refs.put_body.Goals as goal
 
 pub returns : goal.returns
 returns c files units is =
-    added_same (is_named_at units c.in_ok-key.key) (stands_at (is_body c.args.library.now c.args.name.now) units) c.args.row.now c.put_named.new.row (c.put_named.ensures files units is)
-    (λ at. ap (λ (k : UnitKey). is_named_at units k at) c.in_ok-key.ensures ∙ body_at c.args.library.now c.args.name.now units at)
+    added_same (is_named_at units c.put_body_key.new.key) (stands_at (is_body c.args.library.now c.args.name.now) units) c.args.row.now c.put_named.new.row (c.put_named.ensures files units is)
+    (λ at. ap (λ (k : UnitKey). is_named_at units k at) c.in_ok-put_body_key.ensures ∙ body_at c.args.library.now c.args.name.now units at)

@@ -1,13 +1,15 @@
--- A reference counts where its library is seen.
-use Rattle.name_scope.specs.Tables.{table_sees}
-use Rattle.file_graph.proofs.LinkLemmas.{found_seen, found_unseen, linked_seen, linked_unseen}
+-- The library is seen, and looked into.
+use Rattle.std.proofs.Common.{◌≡◌, ◌∙◌, ℕ, false, List, sym, ap}
+use Rattle.file_graph.specs.Libraries.{stands_outside}
+use Rattle.file_graph.proofs.InsideLemmas.{inside_looked, inside_seen}
+use Rattle.file_graph.proofs.LinkLemmas.{linked_seen}
 use Rattle.file_graph.proofs.seen.link_ref.Goals as goal
 
-pub returns-in-Some : goal.returns-in-Some
-returns-in-Some c units unit known stands =
-    let found = found_seen (table_sees c.args.tables.now.sets c.args.id c.args.reference.now.library) c.args.file.now.library c.args.reference.now.library c.in-Some.library.now c.in-Some.ensures in
-    linked_seen c.args.project.now units unit c.args.reference.now c.args.tables.now c.args.id c.args.file.now stands c.in-Some.library.now c.args.row.now c.link_seen.new.row c.link_seen.result (found.0) (found.1) (c.link_seen.ensures units known)
+pub link_inside-requires-clause-inside : goal.link_inside-requires-clause-inside
+link_inside-requires-clause-inside c =
+    ap (λ (library : List ℕ). stands_outside c.args.tables.now.libraries library) c.library_of-library.ensures ∙ inside_looked c.args.tables.now c.args._id c.args.file.now.library c.args.reference.now.library c.requires.inside
 
-pub returns-in-None : goal.returns-in-None
-returns-in-None c units unit known stands =
-    linked_unseen c.args.project.now units unit c.args.reference.now c.args.tables.now c.args.id c.args.file.now stands c.args.row.now (found_unseen (table_sees c.args.tables.now.sets c.args.id c.args.reference.now.library) c.args.file.now.library c.args.reference.now.library c.in-None.ensures)
+pub returns : goal.returns
+returns c units unit known stands =
+    linked_seen c.args.project.now units unit c.args.reference.now c.args.tables.now c.args._id c.args.file.now stands c.library_of-library.result.now c.args.row.now c.link_inside.new.row c.link_inside.result
+    (inside_seen c.args.tables.now c.args._id c.args.file.now.library c.args.reference.now.library c.requires.inside) (sym c.library_of-library.ensures) (c.link_inside.ensures units known)
