@@ -4,6 +4,7 @@ use Rattle.std.specs.Option.{IfNone}
 use Rattle.std.specs.List.{flat_map, list_any, position, position_or_len}
 use borrow.Author.Tests.{ltb-false}
 use Rattle.std.proofs.lemmas.List.{take_more}
+use Rattle.std.proofs.lemmas.List.Sums.{position_or_len_is}
 use Rattle.std.proofs.lemmas.Grind.{flat_map-append}
 use Rattle.std.proofs.lemmas.List.Elements.{Contains-append_cases}
 use Rattle.scan_spec.proofs.SomeTests.{some_of, Contains-later}
@@ -69,3 +70,14 @@ pub all_more : {X Y : Type 0} (before : List Y) (f : X → List Y) (xs : List X)
 all_more {X} {Y} before f xs i d old mid new within one two =
     subst (λ (all : List Y). HasAll all old new) (append_assoc before (flat_map f (take i xs)) (f (get_or xs i d)) ∙ ap (λ (rest : List Y). before ++ rest) (sym (part_more f xs i d within)))
     (all_both (before ++ flat_map f (take i xs)) (f (get_or xs i d)) old mid new one two)
+
+-- the first key that is a key is at an index, or none is
+module _ {K : Type 0} (eq : K → K → Bool) (same : (a b : K) → eq a b ≡ true → a ≡ b) (told : (a b : K) → a ≡ b → eq a b ≡ true) where
+  pub first_at : (keys : List K) (key : K) (i : ℕ) (d : K) → i < length keys → ((k : ℕ) → k < i → eq key (get_or keys k d) ≡ false) → eq key (get_or keys i d) ≡ true → i ≡ position_or_len (eq key) keys
+  first_at keys key i d within before here = sym (position_or_len_is (eq key) keys i d (omega arith) before (λ _. here))
+
+  pub first_none : (keys : List K) (key : K) (d : K) → ((k : ℕ) → k < length keys → eq key (get_or keys k d) ≡ false) → Contains keys key → ⊥
+  first_none keys key d before there =
+      let is : position_or_len (eq key) keys ≡ length keys = position_or_len_is (eq key) keys (length keys) d (omega arith) before (λ within. absurd (omega (arith, within))) in
+      let within : position_or_len (eq key) keys < length keys = (numbered eq same told keys key d there).0 in
+      omega arith

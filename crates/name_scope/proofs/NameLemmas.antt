@@ -15,7 +15,7 @@ use Rattle.name_scope.specs.Groups.{is_same_bool, is_same_group}
 use Rattle.name_scope.specs.Wants.{group_of}
 use Rattle.name_scope.specs.Names.{HasAll, number_of}
 use Rattle.name_scope.proofs.LookLemmas.{one_of}
-use Rattle.name_scope.proofs.KeyLemmas.{numbered}
+use Rattle.name_scope.proofs.KeyLemmas.{numbered, there_by}
 
 pub Contains-map : {X Y : Type 0} (f : X → Y) (xs : List X) (x : X) → Contains xs x → Contains (map f xs) (f x)
 Contains-map f [] x (k, within, is) = absurd (omega arith)
@@ -85,6 +85,12 @@ pub named_already : (keys : List (Vec ℕ Global)) (name : List ℕ) → list_an
 named_already keys name told = record {
   added = λ (other : List ℕ) (there : Contains (name ∷ []) other). subst (Contains (map (λ key. key.items) keys)) (one_of name other there) (among_names keys name told);
   unchanged = λ (other : List ℕ) (there : Contains (map (λ key. key.items) keys) other). there;
+}
+
+pub known_already : (names : List (List ℕ)) (name : List ℕ) (number : ℕ) → number ≡ number_of names name → number < length names → HasAll (name ∷ []) names names
+known_already names name number is within = record {
+  added = λ (other : List ℕ) (there : Contains (name ∷ []) other). subst (Contains names) (one_of name other there) (there_by bytes_eq same_bytes told_same names name (subst (λ (n : ℕ). n < length names) is within));
+  unchanged = λ (other : List ℕ) (there : Contains names other). there;
 }
 
 pub inserted : (keys : List (Vec ℕ Global)) (key : Vec ℕ Global) (name : List ℕ) → key.items ≡ name → HasAll (name ∷ []) (map (λ key. key.items) keys) (map (λ key. key.items) (insert_key (λ x y. bytes_eq x.items y.items) keys key))

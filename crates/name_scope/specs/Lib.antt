@@ -1,5 +1,6 @@
 -- Rows of bits, and what hands their numbers on.
 pub mod Bits
+pub mod Rows
 pub mod Links
 pub mod Work
 pub mod Order
