@@ -17,10 +17,14 @@ group_of context library name = record { context = context; library = library; n
 abbrev pub own_groups : List ℕ → DesignUnit → List Group
 own_groups library unit = (if is_secondary unit.kind then [] else group_of false library unit.name ∷ []) ++ (if is_context_kind unit.kind then group_of true library unit.name ∷ [] else [])
 
+-- the primary units of a name in a library are wanted
+abbrev pub primary_want : List ℕ → List ℕ → Want
+primary_want library name = record { own = true; group = group_of false library name }
+
 -- a secondary unit wants the primary units that it belongs to
 abbrev pub primary_wants : List ℕ → MaybeText → List Want
 primary_wants library Nothing = []
-primary_wants library (Given name) = record { own = true; group = group_of false library name } ∷ []
+primary_wants library (Given name) = primary_want library name ∷ []
 
 -- a reference to a context declaration wants the context declarations of its name, where its library is visible
 abbrev pub context_want : List ℕ → Ref → Want

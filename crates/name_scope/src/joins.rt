@@ -2,7 +2,7 @@
 
 ghost use Rattle.std.specs.Prelude.{◌≡◌, ◌+◌, ◌<◌, ◌≤◌, ◌∷◌, [], IfOk, OnOk, length, replicate};
 ghost use Rattle.name_scope.specs.Names.{keys_of};
-ghost use Rattle.name_scope.specs.Joins.{AreMembers, HasLinked, HasMember, IsLinked};
+ghost use Rattle.name_scope.specs.Joins.{AreMembers, HasLinked, HasMember};
 
 use crate::groups::{self, Groups};
 use crate::links::Link;
@@ -35,24 +35,6 @@ pub fn add_link(
     let source = places + group;
     links.push(Link { gate, source })?;
     Ok(())
-}
-
-/// The links for what one unit wants.
-pub fn links_of(
-    alloc: Global,
-    names: &Names,
-    groups: &Groups,
-    places: usize,
-    wants: &[Want],
-) -> Result<Items<Link>, NoMemory>
-    requires { places + length groups.now.keys ≤ usize.MAX }
-    ensures { IfOk result (IsLinked (keys_of names.now) groups.now.keys places wants.now) }
-{
-    let mut links = Items::new(alloc);
-    for want in wants {
-        add_link(names, groups, places, want, &mut links)?;
-    }
-    Ok(links)
 }
 
 /// Adds a link to those of a group.

@@ -4,13 +4,13 @@ ghost use Rattle.std.specs.Prelude.{◌≡◌, ◌+◌, ◌<◌, IfOk, length};
 ghost use Rattle.std.specs.Str.{bytes_eq};
 ghost use Rattle.scan_spec.specs.References.{work, is_context_kind, ref_at};
 ghost use Rattle.scan_spec.specs.Units.{AreTokensOf};
-ghost use Rattle.scan_spec.specs.Visibility.{is_secondary, primary_name};
-ghost use Rattle.name_scope.specs.Wants.{context_want, gate_of, group_of, own_groups, primary_wants};
+ghost use Rattle.scan_spec.specs.Visibility.{is_secondary};
+ghost use Rattle.name_scope.specs.Wants.{context_want, gate_of, group_of, own_groups, primary_want};
 
 use crate::want::{Group, Want};
 use std::alloc::Global;
 use vhdl_units::name_in;
-use vr_base::{Items, MaybeText, NoMemory, Text, Tokens, Unit, UnitKind};
+use vr_base::{Items, NoMemory, Text, Tokens, Unit, UnitKind};
 
 /// The library of the unit itself.
 pub static WORK: [u8; 4] = *b"work";
@@ -63,32 +63,6 @@ pub fn own_groups(alloc: Global, library: &Text, unit: &Unit) -> Result<Items<Gr
     Ok(groups)
 }
 
-/// The name of the primary unit that a secondary unit belongs to.
-fn primary_name(alloc: Global, unit: &Unit) -> Result<MaybeText, NoMemory>
-    ensures { IfOk result (λ name. name ≡ primary_name unit.now.kind unit.now) }
-{
-    match unit.kind {
-        UnitKind::Architecture => unit.owner.copy(alloc),
-        UnitKind::PackageBody => Ok(MaybeText::Given(unit.name.copy(alloc)?)),
-        _ => Ok(MaybeText::Nothing),
-    }
-}
-
-/// What a secondary unit wants of its primary units.
-fn primary_wants(alloc: Global, library: &Text, name: MaybeText) -> Result<Items<Want>, NoMemory>
-    ensures { IfOk result (λ wants. wants ≡ primary_wants library.now name) }
-{
-    let mut wants = Items::new(alloc);
-    match name {
-        MaybeText::Nothing => {}
-        MaybeText::Given(name) => wants.push(Want {
-            own: true,
-            group: group_of(alloc, false, library, &name)?,
-        })?,
-    }
-    Ok(wants)
-}
-
 /// Nothing that is there.
 pub fn no_want(alloc: Global) -> Want {
     Want {
@@ -109,6 +83,26 @@ fn copy_in(text: &Text, used: Text) -> Result<Text, NoMemory>
     bytes.clear();
     bytes.extend_from_slice(text.bytes())?;
     Ok(Text::from_vec(bytes))
+}
+
+/// What a unit of a library wants of primary units of a name, in the memory of what isn't wanted any more.
+pub fn primary_want(library: &Text, name: &Text, used: Want) -> Result<Want, NoMemory>
+    ensures { IfOk result (λ want. want ≡ primary_want library.now name.now) }
+{
+    let Want { own: _, group } = used;
+    let Group {
+        context: _,
+        library: first,
+        name: second,
+    } = group;
+    Ok(Want {
+        own: true,
+        group: Group {
+            context: false,
+            library: copy_in(library, first)?,
+            name: copy_in(name, second)?,
+        },
+    })
 }
 
 /// What the reference at a token wants of context declarations, in the memory of what isn't wanted any more.
@@ -155,12 +149,4 @@ pub fn gate_of(want: &Want) -> &[u8]
     } else {
         want.group.library.bytes()
     }
-}
-
-/// What a unit of a library wants of the primary units that it belongs to.
-pub fn own_wants(alloc: Global, library: &Text, unit: &Unit) -> Result<Items<Want>, NoMemory>
-    ensures { IfOk result (λ wants. wants ≡
-        primary_wants library.now (primary_name unit.now.kind unit.now)) }
-{
-    primary_wants(alloc, library, primary_name(alloc, unit)?)
 }

@@ -16,12 +16,12 @@ use Rattle.name_scope.specs.Names.{keys_of}
 use Rattle.name_scope.specs.Joins.{HasLinked}
 use Rattle.name_scope.specs.Wants.{context_want, primary_wants}
 use Rattle.name_scope.proofs.JoinLemmas.{linked_both}
-use Rattle.name_scope.proofs.linking.unit_links.Goals as goal
+use Rattle.name_scope.proofs.linking.add_unit_links.Goals as goal
 
 pub add_context_links-requires-clause-within : goal.add_context_links-requires-clause-within
 add_context_links-requires-clause-within c =
     let long : length c.args.roles.now ≡ length c.args.scan.now.tokens.list = ap length c.requires.roles ∙ length-map c.args.scan.now.tokens.list (role_of c.args.text.now) in
-    subst (λ (found : List ℕ). All (λ at. at + 2 < length c.args.scan.now.tokens.list) found) (sym c.as_slice-2.ensures)
+    subst (λ (found : List ℕ). All (λ at. at + 2 < length c.args.scan.now.tokens.list) found) (sym c.as_slice.ensures)
     (subst (λ (n : ℕ). All (λ at. at + 2 < n) c.in_ok-found.found) long c.in_ok-found.ensures.named)
 
 pub returns : goal.returns
@@ -33,8 +33,7 @@ returns c unit is =
     let wanted : ℕ → Want = λ at. context_want library (ref_at text tokens at) in
     let found : there ≡ c.in_ok-found.found = ap (λ (roles : List Role). context_places roles unit) (sym c.requires.roles) ∙ same_Some (context_places c.args.roles.now unit) c.in_ok-found.found (ap (option_map (context_places c.args.roles.now)) (sym is) ∙ c.in_ok-found.ensures.found) in
     let same_unit : c.get-unit.result.now ≡ unit = same_Some c.get-unit.result.now unit (sym c.get-unit.ensures ∙ is) in
-    let own : c.as_slice.result.now ≡ primary_wants library (primary_name unit.kind unit) = c.as_slice.ensures ∙ (c.in_ok-own.ensures ∙ ap (λ (u : DesignUnit). primary_wants library (primary_name u.kind u)) same_unit) in
-    let one = subst (λ (wants : List Want). HasLinked (keys_of c.args.names.now) c.args.groups.now.keys c.args.places wants [] c.in_ok-links.links) own c.in_ok-links.ensures in
-    let wants : map wanted c.as_slice-2.result.now ≡ map (context_want library) (map (ref_at text tokens) there) = ap (map wanted) (c.as_slice-2.ensures ∙ sym found) ∙ sym (map-map (context_want library) (ref_at text tokens) there) in
-    let two = subst (λ (wants : List Want). HasLinked (keys_of c.args.names.now) c.args.groups.now.keys c.args.places wants c.in_ok-links.links c.add_context_links.new.links) wants c.in_ok-add_context_links.ensures in
+    let one = subst (λ (u : DesignUnit). HasLinked (keys_of c.args.names.now) c.args.groups.now.keys c.args.places (primary_wants library (primary_name u.kind u)) c.args.links.now c.add_own_link.new.links) same_unit c.in_ok-want.ensures in
+    let wants : map wanted c.as_slice.result.now ≡ map (context_want library) (map (ref_at text tokens) there) = ap (map wanted) (c.as_slice.ensures ∙ sym found) ∙ sym (map-map (context_want library) (ref_at text tokens) there) in
+    let two = subst (λ (wants : List Want). HasLinked (keys_of c.args.names.now) c.args.groups.now.keys c.args.places wants c.add_own_link.new.links c.add_context_links.new.links) wants c.in_ok-add_context_links.ensures in
     linked_both _ _ _ _ _ _ _ _ one two
