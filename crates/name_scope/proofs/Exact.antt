@@ -23,10 +23,10 @@ use Rattle.name_scope.specs.Bits.{AreWithin, has, row_has}
 use Rattle.name_scope.specs.Groups.{is_same_group}
 use Rattle.name_scope.specs.Links.{AreTaken, links_at, place_row}
 use Rattle.name_scope.specs.Names.{group_number, implicit, name_of_number, number_of}
-use Rattle.name_scope.specs.Wants.{context_want, gate_of, group_of, own_groups, wants_of}
+use Rattle.name_scope.specs.Wants.{context_want, gate_of, group_of, own_groups, user_groups, wants_of}
 use Rattle.name_scope.specs.Scopes.{as_scope}
 use Rattle.name_scope.specs.Graph.{IsRowOf}
-use Rattle.name_scope.specs.Joins.{IsLinkFor, IsLinked, IsLinkedFor, IsOneOf, link_for, scope_at}
+use Rattle.name_scope.specs.Joins.{IsLinkFor, IsLinked, IsLinkedFor, IsOneOf, groups_at, link_for, no_user}
 use Rattle.name_scope.specs.Exact.{AreGrown}
 use Rattle.name_scope.proofs.BitLemmas.{past}
 use Rattle.name_scope.proofs.KeyLemmas.{numbered}
@@ -34,8 +34,8 @@ use Rattle.name_scope.proofs.NameLemmas.{Contains-map, same_bytes, same_group, t
 use Rattle.name_scope.proofs.ScopeLemmas.{as_long, at_place}
 use Rattle.name_scope.proofs.OwnGroups.{context_wanted, gate_is, is_context, is_primary, primary_wanted, want_cases, want_of_context, want_of_primary}
 
-pub no_unit : ScopeUnit
-no_unit = record { library = []; unit = record { kind = kinds.Entity; name = []; owner = Nothing; lead = 0; first = 0; last = 0 }; names = []; contexts = [] }
+abbrev pub no_unit : ScopeUnit
+no_unit = no_user
 
 -- an element of a part is one of all parts
 pub in_parts : {X Y : Type 0} (f : X → List Y) (xs : List X) (x : X) (y : Y) → Contains xs x → Contains (f x) y → Contains (flat_map f xs) y
@@ -90,9 +90,6 @@ module _ (units : List ScopeUnit) (names : List (List ℕ)) (rows : List (List �
 
   links_long : length is.of_units ≡ length units
   links_long = as_long (IsLinkedFor names is.groups (length (map as_scope units))) is.of_units units is.links_are
-
-  scope_is : (at : ℕ) → at < length units → scope_at (map as_scope units) at ≡ as_scope (unit_at units at)
-  scope_is at within = get_or-map as_scope units at no_unit _ within
 
   unit_links_at : (at : ℕ) → at < length units → links_at links at ≡ links_at is.of_units at
   unit_links_at at within = get_or-append is.of_units is.of_groups [] at (omega (arith, links_long))
@@ -247,12 +244,12 @@ module _ (units : List ScopeUnit) (names : List (List ℕ)) (rows : List (List �
   link_group : (group : ℕ) (link : Link) → Contains (links_at is.of_groups group) link → (number : ℕ) → IsTrue (sets link.source number) → IsTrue (sets (length units + group) number)
   link_group group link there number handed =
       let member = is.members_are.only group link there in
-      let source : link.source < length units = omega (arith, member.1, scopes_long) in
+      let source : link.source < length units = omega (arith, member.1) in
       by_member source (member.2) where
-        by_member : link.source < length units → IsOneOf is.groups (scope_at (map as_scope units) link.source).groups group → IsTrue (sets (length units + group) number)
+        by_member : link.source < length units → IsOneOf is.groups (groups_at units link.source) group → IsTrue (sets (length units + group) number)
         by_member source one =
             let v : ScopeUnit = unit_at units link.source in
-            let owned : Contains (own_groups v.library v.unit) one.group = subst (λ (scope : UnitScope). Contains scope.groups one.group) (scope_is link.source source) one.owned in
+            let owned : Contains (own_groups v.library v.unit) one.group = one.owned in
             let group_is : group_at group ≡ one.group = ap group_at one.is ∙ (numbered is_same_group same_group told_group is.groups one.group (group_of false [] []) one.there).1 in
             let in_it : is_in one.group v ≡ true = any_by (is_same_group one.group) (own_groups v.library v.unit) one.group owned (told_group one.group one.group refl) in
             let seen : sees units v (name_of_number names number) ≡ true = sym (set_unit link.source number source) ∙ handed in
@@ -304,11 +301,11 @@ module _ (units : List ScopeUnit) (names : List (List ℕ)) (rows : List (List �
   -- a row takes what the row of a unit has that it wants
   through : (at : ℕ) → at < length units → (from : ℕ) → from < length units → (want : Want) → Contains (wants_at units at) want → Contains (own_groups (unit_at units from).library (unit_at units from).unit) want.group → Contains names (gate_of want) × (has rows at (number_of names (gate_of want)) ≡ true) → (number : ℕ) → has rows from number ≡ true → has rows at number ≡ true
   through at within from from_within want wanted owned gate number told =
-      let group_known : Contains is.groups want.group = is.groups_are.added want.group (in_parts (λ (unit : UnitScope). unit.groups) (map as_scope units) (as_scope (unit_at units from)) want.group (scope_there (unit_at units from) (unit_there from from_within)) owned) in
+      let group_known : Contains is.groups want.group = is.groups_are.added want.group (in_parts user_groups units (unit_at units from) want.group (unit_there from from_within) owned) in
       let group : ℕ = group_number is.groups want.group in
       let group_within : group < length is.groups = (numbered is_same_group same_group told_group is.groups want.group (group_of false [] []) group_known).0 in
       let member : Contains (links_at is.of_groups group) (record { gate = number_of names work; source = from }) =
-      is.members_are.joined from (omega (arith, scopes_long)) want.group (subst (λ (scope : UnitScope). Contains scope.groups want.group) (sym (scope_is from from_within)) owned) group_known in
+      is.members_are.joined from from_within want.group owned group_known in
       let in_links : Contains (links_at links (length units + group)) (record { gate = number_of names work; source = from }) = subst (λ (some : List Link). Contains some (record { gate = number_of names work; source = from })) (sym (group_links_at group)) member in
       let group_gate : has rows (length units + group) (number_of names work) ≡ true = is.spread.larger (length units + group) (number_of names work) ((row_group group group_within).put work (Contains-first work (codes "std" ∷ []))) in
       let in_group_row : has rows (length units + group) number ≡ true = is.taken (length units + group) (record { gate = number_of names work; source = from }) in_links group_gate number told in

@@ -1,21 +1,21 @@
 -- The links that are added for what is wanted, and to those of groups.
-use Rattle.std.proofs.Common.{◌≡◌, ◌≢◌, ℕ, ◌+◌, ◌<◌, ◌≤◌, true, false, List, [], ◌∷◌, ◌++◌, Contains, length, nat_eq, replicate, ◌⊎◌, inl, inr, sym, ◌∙◌, ap, subst, arith}
+use Rattle.std.proofs.Common.{◌≡◌, ◌≢◌, ℕ, ◌+◌, ◌<◌, ◌≤◌, true, false, List, [], ◌∷◌, ◌++◌, Contains, length, nat_eq, replicate, ◌⊎◌, inl, inr, refl, sym, ◌∙◌, ap, subst, arith}
 use Rattle.std.specs.Str.{bytes_eq}
 use Rattle.std.proofs.Math.ListN.{set}
 use Rattle.std.proofs.lemmas.Bool.{cases_lt}
 use Rattle.std.proofs.lemmas.Bool.Decides.{eqb_tells}
 use Rattle.std.proofs.lemmas.List.{get_or_past, get_or-replicate, get_or-set_same, get_or-set_other, length-replicate, length-set}
 use Rattle.std.proofs.lemmas.List.Elements.{Contains-append_cases, Contains-append_left, Contains-append_right}
+use Rattle.scan_spec.specs.Visibility.{ScopeUnit}
 use Rattle.scan_spec.proofs.SomeTests.{Contains-first}
 use Rattle.name_scope.specs.declared.links.Link.{Link}
-use Rattle.name_scope.specs.declared.scope.UnitScope.{UnitScope}
 use Rattle.name_scope.specs.declared.want.Group.{Group}
 use Rattle.name_scope.specs.declared.want.Want.{Want}
 use Rattle.name_scope.specs.Groups.{is_same_group}
 use Rattle.name_scope.specs.Links.{links_at}
 use Rattle.name_scope.specs.Names.{group_number, number_of}
 use Rattle.name_scope.specs.Wants.{gate_of}
-use Rattle.name_scope.specs.Joins.{AreMembersTo, HasLinked, HasMember, IsLinkFor, IsOneOf, IsThere, link_for, scope_at}
+use Rattle.name_scope.specs.Joins.{AreMembersTo, HasLinked, HasMember, IsLinkFor, IsOneOf, IsThere, groups_at, link_for}
 use Rattle.name_scope.proofs.KeyLemmas.{there_by}
 use Rattle.name_scope.proofs.LookLemmas.{one_of}
 use Rattle.name_scope.proofs.NameLemmas.{same_bytes, same_group, told_group, told_same}
@@ -113,6 +113,14 @@ module _ (groups : List Group) (group : Group) (link : Link) (old : List (List L
 weaker_one : (groups some all : List Group) (at : ℕ) → ((group : Group) → Contains some group → Contains all group) → IsOneOf groups some at → IsOneOf groups all at
 weaker_one groups some all at within is = record { group = is.group; owned = within is.group is.owned; there = is.there; is = is.is }
 
+pub member_none : (groups : List Group) (link : Link) (members : List (List Link)) → HasMember groups [] link members members
+member_none groups link members = record {
+  each = refl;
+  unchanged = λ (at : ℕ) (other : Link) there. there;
+  joined = λ (group : Group) (owned : Contains [] group) known. absurd (omega (arith, owned.1));
+  only = λ (at : ℕ) (other : Link) there. inl there;
+}
+
 pub member_both : (groups first next : List Group) (link : Link) (old mid new : List (List Link)) → HasMember groups first link old mid → HasMember groups next link mid new → HasMember groups (first ++ next) link old new
 member_both groups first next link old mid new one two = record {
   each = two.each ∙ one.each;
@@ -133,27 +141,27 @@ member_both groups first next link old mid new one two = record {
   by_next at other (inr (same, is)) = inr (same, weaker_one groups next (first ++ next) at (λ (group : Group) there. Contains-append_right first next group there) is)
 
 -- the unit of one place more
-pub members_more : (groups : List Group) (units : List UnitScope) (gate end : ℕ) (own : List Group) (old new : List (List Link)) → own ≡ (scope_at units end).groups → AreMembersTo end groups units gate old → HasMember groups own (record { gate = gate; source = end }) old new → AreMembersTo (end + 1) groups units gate new
+pub members_more : (groups : List Group) (units : List ScopeUnit) (gate end : ℕ) (own : List Group) (old new : List (List Link)) → own ≡ groups_at units end → AreMembersTo end groups units gate old → HasMember groups own (record { gate = gate; source = end }) old new → AreMembersTo (end + 1) groups units gate new
 members_more groups units gate end own old new is before more = record {
   each = more.each ∙ before.each;
   joined = λ (at : ℕ) (below : at < end + 1) (group : Group) owned known. by_joined at below group owned known (eqb_tells at end);
   only = λ (place : ℕ) (link : Link) (there : Contains (links_at new place) link). by_only place link (more.only place link there);
 } where
-  by_joined : (at : ℕ) → at < end + 1 → (group : Group) → Contains (scope_at units at).groups group → Contains groups group → (((nat_eq at end ≡ true) × (at ≡ end)) ⊎ ((nat_eq at end ≡ false) × (at ≢ end))) → Contains (links_at new (group_number groups group)) (record { gate = gate; source = at })
+  by_joined : (at : ℕ) → at < end + 1 → (group : Group) → Contains (groups_at units at) group → Contains groups group → (((nat_eq at end ≡ true) × (at ≡ end)) ⊎ ((nat_eq at end ≡ false) × (at ≢ end))) → Contains (links_at new (group_number groups group)) (record { gate = gate; source = at })
   by_joined at below group owned known (inl (_, same)) =
       subst (λ (n : ℕ). Contains (links_at new (group_number groups group)) (record { gate = gate; source = n })) (sym same)
-      (more.joined group (subst (λ (some : List Group). Contains some group) (sym is) (subst (λ (n : ℕ). Contains (scope_at units n).groups group) same owned)) known)
+      (more.joined group (subst (λ (some : List Group). Contains some group) (sym is) (subst (λ (n : ℕ). Contains (groups_at units n) group) same owned)) known)
   by_joined at below group owned known (inr (_, differ)) = more.unchanged (group_number groups group) (record { gate = gate; source = at }) (before.joined at (omega arith) group owned known)
 
-  by_only : (place : ℕ) (link : Link) → Contains (links_at old place) link ⊎ ((link ≡ record { gate = gate; source = end }) × IsOneOf groups own place) → (link.gate ≡ gate) × (link.source < end + 1) × IsOneOf groups (scope_at units link.source).groups place
+  by_only : (place : ℕ) (link : Link) → Contains (links_at old place) link ⊎ ((link ≡ record { gate = gate; source = end }) × IsOneOf groups own place) → (link.gate ≡ gate) × (link.source < end + 1) × IsOneOf groups (groups_at units link.source) place
   by_only place link (inl there) = let h = before.only place link there in (h.0, omega (arith, h.1), h.2)
   by_only place link (inr (same, one)) = (
     ap (λ (l : Link). l.gate) same,
     (let source : link.source ≡ end = ap (λ (l : Link). l.source) same in omega arith),
-    subst (λ (n : ℕ). IsOneOf groups (scope_at units n).groups place) (sym (ap (λ (l : Link). l.source) same)) (subst (λ (some : List Group). IsOneOf groups some place) is one),
+    subst (λ (n : ℕ). IsOneOf groups (groups_at units n) place) (sym (ap (λ (l : Link). l.source) same)) (subst (λ (some : List Group). IsOneOf groups some place) is one),
   )
 
-pub members_none : (groups : List Group) (units : List UnitScope) (gate : ℕ) → AreMembersTo 0 groups units gate (replicate (length groups) [])
+pub members_none : (groups : List Group) (units : List ScopeUnit) (gate : ℕ) → AreMembersTo 0 groups units gate (replicate (length groups) [])
 members_none groups units gate = record {
   each = length-replicate (length groups) [];
   joined = λ (at : ℕ) below. absurd (omega arith);

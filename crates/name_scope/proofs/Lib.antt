@@ -10,6 +10,7 @@ pub mod ScopeLemmas
 pub mod OwnLemmas
 pub mod JoinLemmas
 pub mod OwnGroups
+pub mod OwnedLemmas
 pub mod Exact
 pub mod ReadyLemmas
 pub mod TableLemmas

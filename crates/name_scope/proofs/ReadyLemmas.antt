@@ -24,7 +24,7 @@ pub names_known : (units : List UnitScope) (names : List (List ℕ)) → HasAll 
 names_known units names are k d within name there =
     are.added name (Contains-append_right implicit (flat_map (λ (unit : UnitScope). unit.names) units) name (in_parts (λ (unit : UnitScope). unit.names) units (get_or units k d) name (Contains-get_or units k d within) there))
 
-module _ (units : List UnitScope) (names : List (List ℕ)) (groups : List Group) (words : ℕ) (rows : List (List ℕ)) (of_units of_groups : List (List Link)) (gate : ℕ) (rows_are : AllZip (IsRowOf names words) rows (map (λ unit. implicit ++ unit.names) units ++ replicate (length groups) (implicit ++ []))) (users : List ScopeUnit) (long : length users ≡ length units) (links_are : AllZip (IsLinkedFor names groups (length units)) of_units users) (members_are : AreMembers groups units gate of_groups) where
+module _ (units : List UnitScope) (names : List (List ℕ)) (groups : List Group) (words : ℕ) (rows : List (List ℕ)) (of_units of_groups : List (List Link)) (gate : ℕ) (rows_are : AllZip (IsRowOf names words) rows (map (λ unit. implicit ++ unit.names) units ++ replicate (length groups) (implicit ++ []))) (users : List ScopeUnit) (long : length users ≡ length units) (links_are : AllZip (IsLinkedFor names groups (length units)) of_units users) (members_are : AreMembers groups users gate of_groups) where
   abbrev lists : List (List (List ℕ))
   lists = map (λ (unit : UnitScope). implicit ++ unit.names) units ++ replicate (length groups) (implicit ++ [])
 
@@ -55,7 +55,7 @@ module _ (units : List UnitScope) (names : List (List ℕ)) (groups : List Group
         omega (arith, rows_long)
 
   group_below : (at : ℕ) (link : Link) → Contains (links_at of_groups at) link → link.source < length rows
-  group_below at link there = let one = members_are.only at link there in omega (arith, rows_long, one.1)
+  group_below at link there = let one = members_are.only at link there in omega (arith, rows_long, one.1, long)
 
   all_of : (links : List (List Link)) → ((at : ℕ) → at < length links → (link : Link) → Contains (links_at links at) link → link.source < length rows) → AreBelow (length rows) links
   all_of links below k d within i e inside =

@@ -10,6 +10,7 @@ use Rattle.name_scope.specs.Bits.{has}
 use Rattle.name_scope.specs.Links.{AreTaken, HasSpread}
 use Rattle.name_scope.specs.Names.{HasAll, implicit, number_of}
 use Rattle.name_scope.specs.Graph.{IsRowOf}
+use Rattle.name_scope.specs.Wants.{user_groups}
 use Rattle.name_scope.specs.Joins.{AreMembers, IsLinkedFor}
 
 -- rows that were grown from what units say, and from what they want
@@ -20,9 +21,9 @@ pub record AreGrown (units : List UnitScope) (users : List ScopeUnit) (names : L
   pub of_units : List (List Link)
   pub of_groups : List (List Link)
   pub names_are : HasAll (implicit ++ flat_map (λ unit. unit.names) units) [] names
-  pub groups_are : HasAll (flat_map (λ unit. unit.groups) units) [] groups
+  pub groups_are : HasAll (flat_map user_groups users) [] groups
   pub rows_are : AllZip (IsRowOf names words) first (map (λ unit. implicit ++ unit.names) units ++ replicate (length groups) (implicit ++ []))
   pub links_are : AllZip (IsLinkedFor names groups (length units)) of_units users
-  pub members_are : AreMembers groups units (number_of names work) of_groups
+  pub members_are : AreMembers groups users (number_of names work) of_groups
   pub spread : HasSpread (of_units ++ of_groups) first rows
   pub taken : AreTaken (of_units ++ of_groups) (has rows)

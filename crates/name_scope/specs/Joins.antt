@@ -1,13 +1,14 @@
 -- Links between units and groups, by what units want and are.
 use Rattle.std.specs.Prelude.{◌≡◌, ℕ, ◌+◌, ◌<◌, ◌⊎◌, List, [], Contains, length, slice_index_or}
+use Rattle.vr_base.specs.declared.child.MaybeText.TheVariants.{Nothing}
+use Rattle.vr_base.specs.declared.design.UnitKind.TheVariants.{Entity}
 use Rattle.scan_spec.specs.Visibility.{ScopeUnit}
 use Rattle.name_scope.specs.declared.links.Link.{Link}
-use Rattle.name_scope.specs.declared.scope.UnitScope.{UnitScope}
 use Rattle.name_scope.specs.declared.want.Group.{Group}
 use Rattle.name_scope.specs.declared.want.Want.{Want}
 use Rattle.name_scope.specs.Links.{links_at}
 use Rattle.name_scope.specs.Names.{group_number, number_of}
-use Rattle.name_scope.specs.Wants.{gate_of, unit_wants}
+use Rattle.name_scope.specs.Wants.{gate_of, unit_wants, user_groups}
 
 -- the link for what is wanted: to the place of the group, after those of the units
 abbrev pub link_for : List (List ℕ) → List Group → ℕ → Want → Link
@@ -53,15 +54,19 @@ pub record HasMember (groups own : List Group) (link : Link) (old new : List (Li
   pub joined : (group : Group) → Contains own group → Contains groups group → Contains (links_at new (group_number groups group)) link
   pub only : (at : ℕ) (other : Link) → Contains (links_at new at) other → Contains (links_at old at) other ⊎ ((other ≡ link) × IsOneOf groups own at)
 
--- the unit of a place
-abbrev pub scope_at : List UnitScope → ℕ → UnitScope
-scope_at units at = slice_index_or units at (record { groups = []; names = [] })
+-- a unit for places where there is none
+pub no_user : ScopeUnit
+no_user = record { library = []; unit = record { kind = Entity; name = []; owner = Nothing; lead = 0; first = 0; last = 0 }; names = []; contexts = [] }
+
+-- the groups of the unit of a place
+abbrev pub groups_at : List ScopeUnit → ℕ → List Group
+groups_at users at = user_groups (slice_index_or users at no_user)
 
 -- the links of groups lead to exactly the units in them, up to a place
-pub record AreMembersTo (end : ℕ) (groups : List Group) (units : List UnitScope) (gate : ℕ) (members : List (List Link)) : Type 0 where
+pub record AreMembersTo (end : ℕ) (groups : List Group) (users : List ScopeUnit) (gate : ℕ) (members : List (List Link)) : Type 0 where
   pub each : length members ≡ length groups
-  pub joined : (at : ℕ) → at < end → (group : Group) → Contains (scope_at units at).groups group → Contains groups group → Contains (links_at members (group_number groups group)) (record { gate = gate; source = at })
-  pub only : (place : ℕ) (link : Link) → Contains (links_at members place) link → (link.gate ≡ gate) × (link.source < end) × IsOneOf groups (scope_at units link.source).groups place
+  pub joined : (at : ℕ) → at < end → (group : Group) → Contains (groups_at users at) group → Contains groups group → Contains (links_at members (group_number groups group)) (record { gate = gate; source = at })
+  pub only : (place : ℕ) (link : Link) → Contains (links_at members place) link → (link.gate ≡ gate) × (link.source < end) × IsOneOf groups (groups_at users link.source) place
 
-abbrev pub AreMembers : List Group → List UnitScope → ℕ → List (List Link) → Type 0
-AreMembers groups units gate members = AreMembersTo (length units) groups units gate members
+abbrev pub AreMembers : List Group → List ScopeUnit → ℕ → List (List Link) → Type 0
+AreMembers groups users gate members = AreMembersTo (length users) groups users gate members

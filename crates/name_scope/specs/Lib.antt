@@ -6,6 +6,7 @@ pub mod Work
 pub mod Order
 pub mod Names
 pub mod Wants
+pub mod Owned
 pub mod Scopes
 pub mod Groups
 pub mod Graph

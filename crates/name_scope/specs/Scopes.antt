@@ -1,6 +1,6 @@
 -- The design units of a project, as the program keeps them.
-use Rattle.std.specs.Prelude.{◌≡◌, ℕ, ◌<◌, ◌≤◌, List, ◌++◌, length, map, take, slice_get, slice_index, Some}
-use Rattle.std.specs.List.{AllZip}
+use Rattle.std.specs.Prelude.{◌≡◌, ℕ, ◌<◌, ◌≤◌, List, ◌++◌, [], length, map, take, slice_get, slice_index, Some}
+use Rattle.std.specs.List.{AllZip, flat_map}
 use Rattle.vr_base.specs.declared.design.Role.{Role}
 use Rattle.vr_base.specs.declared.design.Scan.{Scan}
 use Rattle.vr_base.specs.declared.design.Unit.{Unit as DesignUnit}
@@ -11,7 +11,9 @@ use Rattle.scan_spec.specs.Visibility.{ScopeUnit, scope_unit, scope_units}
 use Rattle.name_scope.specs.declared.scope.UnitScope.{UnitScope}
 use Rattle.name_scope.specs.declared.links.Link.{Link}
 use Rattle.name_scope.specs.declared.want.Group.{Group}
-use Rattle.name_scope.specs.Wants.{own_groups}
+use Rattle.name_scope.specs.Names.{HasAll}
+use Rattle.name_scope.specs.Owned.{IsOwnedBy}
+use Rattle.name_scope.specs.Wants.{user_groups}
 use Rattle.name_scope.specs.Joins.{IsLinkedFor}
 use Rattle.name_scope.specs.declared.scope.Scopes.{Scopes}
 
@@ -25,7 +27,7 @@ pub record AreRolesOf (texts : List (List ℕ)) (scans : List Scan) (roles : Lis
 
 -- the program's record of a unit
 abbrev pub as_scope : ScopeUnit → UnitScope
-as_scope unit = record { groups = own_groups unit.library unit.unit; names = unit.names }
+as_scope unit = record { names = unit.names }
 
 abbrev pub IsScopeOf : UnitScope → ScopeUnit → Type 0
 IsScopeOf scope unit = scope ≡ as_scope unit
@@ -42,9 +44,11 @@ AddsScopes library text scan old new = (units : List ScopeUnit) → AllZip IsSco
 abbrev pub units_before : List ProjectFile → List (List ℕ) → List Scan → ℕ → ℕ
 units_before files texts scans file = length (scope_units (take file files) (take file texts) (take file scans))
 
--- the units of all files, and where those of each begin
+-- the units of all files with the groups that they are in, and where those of each begin
 pub record AreScopes (files : List ProjectFile) (texts : List (List ℕ)) (scans : List Scan) (scopes : Scopes) : Type 0 where
   pub units : AllZip IsScopeOf scopes.units.items (scope_units files texts scans)
+  pub groups : HasAll (flat_map user_groups (scope_units files texts scans)) [] scopes.groups.keys
+  pub owned : AllZip (IsOwnedBy scopes.groups.keys) scopes.owned.items (scope_units files texts scans)
   pub each : length scopes.starts.items ≡ length files
   pub starts : (file : ℕ) → file < length files → slice_index scopes.starts.items file ≡ units_before files texts scans file
 

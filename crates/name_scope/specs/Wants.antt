@@ -13,9 +13,20 @@ use Rattle.name_scope.specs.declared.want.Want.{Want}
 abbrev pub group_of : Bool → List ℕ → List ℕ → Group
 group_of context library name = record { context = context; library = library; name = name }
 
+-- the group of the primary units of a name that a unit of a library is in, if it is in one
+abbrev pub primary_group : List ℕ → DesignUnit → List Group
+primary_group library unit = if is_secondary unit.kind then [] else group_of false library unit.name ∷ []
+
+-- the group of the context declarations of a name, in the same way
+abbrev pub context_group : List ℕ → DesignUnit → List Group
+context_group library unit = if is_context_kind unit.kind then group_of true library unit.name ∷ [] else []
+
 -- the groups that a unit of a library is in
 abbrev pub own_groups : List ℕ → DesignUnit → List Group
-own_groups library unit = (if is_secondary unit.kind then [] else group_of false library unit.name ∷ []) ++ (if is_context_kind unit.kind then group_of true library unit.name ∷ [] else [])
+own_groups library unit = primary_group library unit ++ context_group library unit
+
+abbrev pub user_groups : ScopeUnit → List Group
+user_groups user = own_groups user.library user.unit
 
 -- the primary units of a name in a library are wanted
 abbrev pub primary_want : List ℕ → List ℕ → Want

@@ -1,26 +1,24 @@
-//! Groups of units, numbered.
+//! Groups of units, numbered, and the numbers of the groups that each unit is in.
 
 ghost use Rattle.std.specs.Prelude.{◌≡◌, ◌<◌, ◌∷◌, [], Contains, IfOk, IfSome, IfNone, OnOk, length};
-ghost use Rattle.std.specs.List.{flat_map};
 ghost use Rattle.name_scope.specs.Names.{HasAll, group_number};
+ghost use Rattle.name_scope.specs.Owned.{AddsOwned, HasGrown, IsNumbered, IsOwned};
+ghost use Rattle.name_scope.specs.Wants.{context_group, own_groups, primary_group};
 
-use crate::scope::UnitScope;
 use crate::want::Group;
+use crate::wants::{group_of, is_context_kind, is_secondary};
 use indexmap::IndexSet;
 use std::alloc::Global;
-use vr_base::NoMemory;
+use vr_base::{NoMemory, Scan, Text, Unit};
 
 /// Groups, in the order in which they were met.
 pub type Groups = IndexSet<Group>;
 
-fn copy_of(alloc: Global, group: &Group) -> Result<Group, NoMemory>
-    ensures { IfOk result (λ copy. copy ≡ group.now) }
-{
-    Ok(Group {
-        context: group.context,
-        library: group.library.copy(alloc)?,
-        name: group.name.copy(alloc)?,
-    })
+/// The numbers of the groups that a unit is in: that of primary units of its name, and that of context declarations.
+#[derive(Clone, Copy)]
+pub struct Owned {
+    pub primary: Option<usize>,
+    pub context: Option<usize>,
 }
 
 /// The number of a group, if it has one.
@@ -32,34 +30,87 @@ pub fn find(groups: &Groups, group: &Group) -> Option<usize>
     groups.get_index_of(group)
 }
 
-/// Gives a group a number, where it has none.
-fn add(alloc: Global, groups: &mut Groups, group: &Group) -> Result<(), NoMemory>
-    ensures { OnOk result (HasAll (group.now ∷ []) groups.old.keys groups.new.keys) }
+/// Gives a group a number, where it has none, and says which it has.
+fn add(groups: &mut Groups, group: Group) -> Result<usize, NoMemory>
+    ensures number { IfOk result (λ number. (number ≡ group_number groups.new.keys group)
+        × (number < length groups.new.keys)) }
+    ensures all { OnOk result (HasAll (group ∷ []) groups.old.keys groups.new.keys) }
+    ensures grown { OnOk result (HasGrown groups.old.keys groups.new.keys) }
 {
-    if !groups.contains(group) {
-        groups.insert(copy_of(alloc, group)?)?;
-    }
-    Ok(())
+    let (number, _new) = groups.insert_full(group)?;
+    Ok(number)
 }
 
-/// Gives groups numbers, where they have none.
-fn add_all(alloc: Global, groups: &mut Groups, more: &[Group]) -> Result<(), NoMemory>
-    ensures { OnOk result (HasAll more.now groups.old.keys groups.new.keys) }
+/// Gives the group of primary units that a unit is in a number, if it is in one.
+fn add_primary(
+    alloc: Global,
+    groups: &mut Groups,
+    library: &Text,
+    unit: &Unit,
+) -> Result<Option<usize>, NoMemory>
+    ensures number { IfOk result
+        (IsNumbered groups.new.keys (primary_group library.now unit.now)) }
+    ensures all { OnOk result
+        (HasAll (primary_group library.now unit.now) groups.old.keys groups.new.keys) }
+    ensures grown { OnOk result (HasGrown groups.old.keys groups.new.keys) }
 {
-    for group in more {
-        add(alloc, groups, group)?;
+    if is_secondary(unit.kind) {
+        return Ok(None);
     }
-    Ok(())
+    let group = group_of(alloc, false, library, &unit.name)?;
+    Ok(Some(add(groups, group)?))
 }
 
-/// Numbers the groups of all units.
-pub fn groups_of(alloc: Global, units: &[UnitScope]) -> Result<Groups, NoMemory>
-    ensures { IfOk result (λ groups.
-        HasAll (flat_map (λ unit. unit.groups) units.now) [] groups.keys) }
+/// Gives the group of context declarations that a unit is in a number, if it is in one.
+fn add_context(
+    alloc: Global,
+    groups: &mut Groups,
+    library: &Text,
+    unit: &Unit,
+) -> Result<Option<usize>, NoMemory>
+    ensures number { IfOk result
+        (IsNumbered groups.new.keys (context_group library.now unit.now)) }
+    ensures all { OnOk result
+        (HasAll (context_group library.now unit.now) groups.old.keys groups.new.keys) }
+    ensures grown { OnOk result (HasGrown groups.old.keys groups.new.keys) }
 {
-    let mut groups = Groups::new(alloc);
-    for unit in units {
-        add_all(alloc, &mut groups, unit.groups.as_slice())?;
+    if !is_context_kind(unit.kind) {
+        return Ok(None);
     }
-    Ok(groups)
+    let group = group_of(alloc, true, library, &unit.name)?;
+    Ok(Some(add(groups, group)?))
+}
+
+/// Gives the groups that a unit is in numbers, where they have none.
+fn add_own(
+    alloc: Global,
+    groups: &mut Groups,
+    library: &Text,
+    unit: &Unit,
+) -> Result<Owned, NoMemory>
+    ensures owned { IfOk result (IsOwned groups.new.keys library.now unit.now) }
+    ensures all { OnOk result
+        (HasAll (own_groups library.now unit.now) groups.old.keys groups.new.keys) }
+    ensures grown { OnOk result (HasGrown groups.old.keys groups.new.keys) }
+{
+    let primary = add_primary(alloc, groups, library, unit)?;
+    let context = add_context(alloc, groups, library, unit)?;
+    Ok(Owned { primary, context })
+}
+
+/// Gives the groups of the units of one file numbers, where they have none, and lists those of each unit.
+pub fn add_groups(
+    alloc: Global,
+    library: &Text,
+    scan: &Scan,
+    groups: &mut Groups,
+    owned: &mut Vec<Owned>,
+) -> Result<(), NoMemory>
+    ensures { OnOk result (AddsOwned library.now scan.now scan.now.units
+        groups.old.keys owned.old.items groups.new.keys owned.new.items) }
+{
+    for number in 0..scan.units.len() {
+        owned.push(add_own(alloc, groups, library, scan.units.get(number))?)?;
+    }
+    Ok(())
 }

@@ -1,14 +1,19 @@
 //! The links of units to groups, and of groups to the units in them.
 
-ghost use Rattle.std.specs.Prelude.{◌≡◌, ◌+◌, ◌<◌, ◌≤◌, ◌∷◌, [], IfOk, OnOk, length, replicate};
+ghost use Rattle.std.specs.Prelude.{◌≡◌, ℕ, ◌+◌, ◌<◌, ◌≤◌, ◌∷◌, List, [], IfOk, OnOk, length, replicate};
+ghost use Rattle.std.specs.List.{AllZip};
+ghost use Rattle.vr_base.specs.declared.design.Unit.{Unit};
+ghost use Rattle.scan_spec.specs.Visibility.{ScopeUnit};
+ghost use Rattle.name_scope.specs.declared.want.Group.{Group};
 ghost use Rattle.name_scope.specs.Names.{keys_of};
 ghost use Rattle.name_scope.specs.Joins.{AreMembers, HasLinked, HasMember};
+ghost use Rattle.name_scope.specs.Owned.{IsNumbered, IsOnly, IsOwned, IsOwnedBy};
+ghost use Rattle.name_scope.specs.Wants.{own_groups};
 
-use crate::groups::{self, Groups};
+use crate::groups::{self, Groups, Owned};
 use crate::links::Link;
 use crate::names::{self, Names};
-use crate::scope::UnitScope;
-use crate::want::{Group, Want};
+use crate::want::Want;
 use crate::wants::gate_of;
 use std::alloc::Global;
 use vr_base::{Items, NoMemory};
@@ -37,37 +42,43 @@ pub fn add_link(
     Ok(())
 }
 
-/// Adds a link to those of a group.
-fn join_group(
-    groups: &Groups,
-    group: &Group,
-    link: Link,
-    members: &mut Vec<Items<Link>>,
-) -> Result<(), NoMemory>
-    requires { length members.old.items ≡ length groups.now.keys }
-    ensures { OnOk result
-        (HasMember groups.now.keys (group.now ∷ []) link members.old.items members.new.items) }
+/// Adds a link to those of the group of a number.
+fn join_at(number: usize, link: Link, members: &mut Vec<Items<Link>>) -> Result<(), NoMemory>
+    ensures { OnOk result ((groups own : List Group) →
+        length members.old.items ≡ length groups → IsOnly groups own number →
+        HasMember groups own link members.old.items members.new.items) }
 {
-    if let Some(number) = groups::find(groups, group) {
-        members[number].push(link)?;
+    if number >= members.len() {
+        return Ok(());
     }
+    members[number].push(link)?;
     Ok(())
 }
 
-/// Adds a link to those of each of some groups.
-fn join_all(
-    groups: &Groups,
-    own: &[Group],
+/// Adds a link to those of a group, if there is one.
+fn join_group(
+    number: Option<usize>,
     link: Link,
     members: &mut Vec<Items<Link>>,
 ) -> Result<(), NoMemory>
-    requires { length members.old.items ≡ length groups.now.keys }
-    ensures { OnOk result
-        (HasMember groups.now.keys own.now link members.old.items members.new.items) }
+    ensures { OnOk result ((groups own : List Group) →
+        length members.old.items ≡ length groups → IsNumbered groups own number →
+        HasMember groups own link members.old.items members.new.items) }
 {
-    for group in own {
-        join_group(groups, group, link, members)?;
+    match number {
+        None => Ok(()),
+        Some(number) => join_at(number, link, members),
     }
+}
+
+/// Adds a link to those of the groups that a unit is in.
+fn join_own(owned: Owned, link: Link, members: &mut Vec<Items<Link>>) -> Result<(), NoMemory>
+    ensures { OnOk result ((groups : List Group) (library : List ℕ) (unit : Unit) →
+        length members.old.items ≡ length groups → IsOwned groups library unit owned →
+        HasMember groups (own_groups library unit) link members.old.items members.new.items) }
+{
+    join_group(owned.primary, link, members)?;
+    join_group(owned.context, link, members)?;
     Ok(())
 }
 
@@ -86,15 +97,17 @@ fn no_links(alloc: Global, places: usize) -> Result<Vec<Items<Link>>, NoMemory>
 pub fn group_links(
     alloc: Global,
     groups: &Groups,
-    units: &[UnitScope],
+    owned: &[Owned],
     gate: usize,
 ) -> Result<Vec<Items<Link>>, NoMemory>
-    ensures { IfOk result (λ members. AreMembers groups.now.keys units.now gate members.items) }
+    ensures { IfOk result (λ members. (users : List ScopeUnit) →
+        AllZip (IsOwnedBy groups.now.keys) owned.now users →
+        AreMembers groups.now.keys users gate members.items) }
 {
     let mut members = no_links(alloc, groups.len())?;
-    for at in 0..units.len() {
+    for at in 0..owned.len() {
         let link = Link { gate, source: at };
-        join_all(groups, units[at].groups.as_slice(), link, &mut members)?;
+        join_own(owned[at], link, &mut members)?;
     }
     Ok(members)
 }

@@ -1,35 +1,35 @@
 //! What a project's design units name: the units of all files in one list.
 
-ghost use Rattle.std.specs.Prelude.{◌≡◌, ◌<◌, ◌≤◌, IfOk, OnOk, length};
+ghost use Rattle.std.specs.Prelude.{◌≡◌, ℕ, ◌<◌, ◌≤◌, List, IfOk, OnOk, length};
 ghost use Rattle.std.specs.List.{All};
 ghost use Rattle.scan_spec.specs.Units.{roles_of};
 ghost use Rattle.scan_spec.specs.Scans.{AreScansOf, IsScanOf};
 ghost use Rattle.name_scope.specs.Scopes.{AddsScopes, AreRolesOf, AreScopes, IsScopeAt, IsTextSmall};
 
-use crate::want::Group;
-use crate::wants::own_groups;
+use crate::groups::{Groups, Owned, add_groups};
 use std::alloc::Global;
 use vhdl_refs::library_names;
-use vr_base::{Items, NoMemory, Project, RoleList, Scan, Scans, TEXT_LIMIT, Text, TextList};
+use vr_base::{Items, NoMemory, Project, RoleList, Scan, Scans, TEXT_LIMIT, TextList};
 
-/// What a design unit is to others: the groups that it is in, and the names of its library clauses.
+/// What a design unit names: the libraries of its library clauses.
 #[derive(Drop)]
 pub struct UnitScope {
-    pub groups: Items<Group>,
     pub names: TextList,
 }
 
-/// The units of a project, file by file, and for each file the number of its first unit.
+/// The units of a project, file by file, and for each file the number of its first unit; and the groups of units, with
+/// the numbers of those that each unit is in.
 #[derive(Drop)]
 pub struct Scopes {
     pub starts: Vec<usize>,
     pub units: Vec<UnitScope>,
+    pub groups: Groups,
+    pub owned: Vec<Owned>,
 }
 
 /// What the unit of a number in a scan names.
 fn scope_of(
     alloc: Global,
-    library: &Text,
     text: &[u8],
     scan: &Scan,
     roles: &RoleList,
@@ -39,11 +39,10 @@ fn scope_of(
     requires small { length text.now ≤ TEXT_LIMIT }
     requires roles { roles.now ≡ roles_of text.now scan.now.tokens.list }
     requires number { number < length scan.now.units }
-    ensures { IfOk result (IsScopeAt library.now text.now scan.now number) }
+    ensures { IfOk result (λ scope. (library : List ℕ) →
+        IsScopeAt library text.now scan.now number scope) }
 {
-    let unit = scan.units.get(number as u64);
     Ok(UnitScope {
-        groups: own_groups(alloc, library, unit)?,
         names: library_names(alloc, text, scan, roles, number)?,
     })
 }
@@ -51,7 +50,6 @@ fn scope_of(
 /// Adds the units of one file.
 fn add_scopes(
     alloc: Global,
-    library: &Text,
     text: &[u8],
     scan: &Scan,
     roles: &RoleList,
@@ -60,11 +58,11 @@ fn add_scopes(
     requires scan { IsScanOf text.now scan.now }
     requires small { length text.now ≤ TEXT_LIMIT }
     requires roles { roles.now ≡ roles_of text.now scan.now.tokens.list }
-    ensures { OnOk result
-        (AddsScopes library.now text.now scan.now units.old.items units.new.items) }
+    ensures { OnOk result ((library : List ℕ) →
+        AddsScopes library text.now scan.now units.old.items units.new.items) }
 {
     for number in 0..scan.units.len() {
-        units.push(scope_of(alloc, library, text, scan, roles, number as u32)?)?;
+        units.push(scope_of(alloc, text, scan, roles, number as u32)?)?;
     }
     Ok(())
 }
@@ -85,17 +83,25 @@ pub fn scopes_of(
 {
     let mut starts = Vec::new(alloc);
     let mut units = Vec::new(alloc);
+    let mut groups = Groups::new(alloc);
+    let mut owned = Vec::new(alloc);
     for file in 0..project.files.len() {
         starts.push(units.len())?;
-        let library = &project.files.get(file).name.library;
+        let scan = scans.get(file);
         add_scopes(
             alloc,
-            library,
             texts.get(file).bytes(),
-            scans.get(file),
+            scan,
             roles.get(file),
             &mut units,
         )?;
+        let library = &project.files.get(file).name.library;
+        add_groups(alloc, library, scan, &mut groups, &mut owned)?;
     }
-    Ok(Scopes { starts, units })
+    Ok(Scopes {
+        starts,
+        units,
+        groups,
+        owned,
+    })
 }

@@ -1,16 +1,18 @@
 //! The libraries that all units of a project see, worked out at once.
 
 ghost use Rattle.std.specs.Prelude.{◌≡◌, ◌+◌, ◌<◌, ◌++◌, [], IfOk, length, slice_get, slice_index};
-ghost use Rattle.std.specs.List.{All, flat_map};
+ghost use Rattle.std.specs.List.{All, AllZip, flat_map};
 ghost use Rattle.std.specs.Option.{option_map};
 ghost use Rattle.scan_spec.specs.Scans.{AreScansOf};
 ghost use Rattle.scan_spec.specs.Visibility.{ScopeUnit, scope_units};
 ghost use Rattle.name_scope.specs.Exact.{AreGrown};
 ghost use Rattle.name_scope.specs.Names.{HasAll, implicit, keys_of};
+ghost use Rattle.name_scope.specs.Owned.{IsOwnedBy};
+ghost use Rattle.name_scope.specs.Wants.{user_groups};
 ghost use Rattle.name_scope.specs.Scopes.{AreRolesOf, IsTextSmall};
 ghost use Rattle.name_scope.specs.Tables.{AreExactly, AreVisible, ListsNames, IsUnitAt, set_at, table_sees};
 
-use crate::groups::groups_of;
+use crate::groups::{Groups, Owned};
 use crate::joins::group_links;
 use crate::linking::links_of_units;
 use crate::listing::{rising_names, sees_name};
@@ -30,6 +32,8 @@ fn grown_rows(
     alloc: Global,
     names: &Names,
     units: &[UnitScope],
+    groups: &Groups,
+    owned: &[Owned],
     project: &Project,
     texts: &TextList,
     scans: &Scans,
@@ -39,6 +43,11 @@ fn grown_rows(
         [] (keys_of names.now) }
     requires units { length units.now
         ≡ length (scope_units project.now.files texts.now scans.now) }
+    requires groups { HasAll
+        (flat_map user_groups (scope_units project.now.files texts.now scans.now))
+        [] groups.now.keys }
+    requires owned { AllZip (IsOwnedBy groups.now.keys) owned.now
+        (scope_units project.now.files texts.now scans.now) }
     requires each { length texts.now ≡ length project.now.files }
     requires scans { AreScansOf texts.now scans.now }
     requires small { All IsTextSmall texts.now }
@@ -46,7 +55,6 @@ fn grown_rows(
     ensures { IfOk result (λ rows. AreGrown units.now
         (scope_units project.now.files texts.now scans.now) (keys_of names.now) rows.items) }
 {
-    let groups = groups_of(alloc, units)?;
     if units.len().checked_add(groups.len()).is_none() {
         return Err(NoMemory);
     }
@@ -59,14 +67,14 @@ fn grown_rows(
     let mut links = links_of_units(
         alloc,
         names,
-        &groups,
+        groups,
         units.len(),
         project,
         texts,
         scans,
         roles,
     )?;
-    let mut members = group_links(alloc, &groups, units, gate)?;
+    let mut members = group_links(alloc, groups, owned, gate)?;
     links.append(&mut members)?;
     spread(alloc, links.as_slice(), rows.as_mut_slice(), words)?;
     Ok(rows)
@@ -120,12 +128,19 @@ pub fn visible_sets_by_roles(
     requires roles { AreRolesOf texts.now scans.now roles.now }
     ensures { IfOk result (AreVisible project.now.files texts.now scans.now) }
 {
-    let Scopes { starts, units } = scopes_of(alloc, project, texts, scans, roles)?;
+    let Scopes {
+        starts,
+        units,
+        groups,
+        owned,
+    } = scopes_of(alloc, project, texts, scans, roles)?;
     let names = names_of(alloc, units.as_slice())?;
     let rows = grown_rows(
         alloc,
         &names,
         units.as_slice(),
+        &groups,
+        owned.as_slice(),
         project,
         texts,
         scans,

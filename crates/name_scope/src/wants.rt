@@ -5,12 +5,12 @@ ghost use Rattle.std.specs.Str.{bytes_eq};
 ghost use Rattle.scan_spec.specs.References.{work, is_context_kind, ref_at};
 ghost use Rattle.scan_spec.specs.Units.{AreTokensOf};
 ghost use Rattle.scan_spec.specs.Visibility.{is_secondary};
-ghost use Rattle.name_scope.specs.Wants.{context_want, gate_of, group_of, own_groups, primary_want};
+ghost use Rattle.name_scope.specs.Wants.{context_want, gate_of, group_of, primary_want};
 
 use crate::want::{Group, Want};
 use std::alloc::Global;
 use vhdl_units::name_in;
-use vr_base::{Items, NoMemory, Text, Tokens, Unit, UnitKind};
+use vr_base::{NoMemory, Text, Tokens, UnitKind};
 
 /// The library of the unit itself.
 pub static WORK: [u8; 4] = *b"work";
@@ -21,7 +21,8 @@ fn is_work(name: &[u8]) -> bool
     name == WORK.as_slice()
 }
 
-fn is_secondary(kind: UnitKind) -> bool
+/// Whether a unit belongs to a primary unit.
+pub fn is_secondary(kind: UnitKind) -> bool
     ensures { result ≡ is_secondary kind }
 {
     match kind {
@@ -30,7 +31,8 @@ fn is_secondary(kind: UnitKind) -> bool
     }
 }
 
-fn is_context_kind(kind: UnitKind) -> bool
+/// Whether a unit is a context declaration.
+pub fn is_context_kind(kind: UnitKind) -> bool
     ensures { result ≡ is_context_kind kind }
 {
     match kind {
@@ -39,7 +41,13 @@ fn is_context_kind(kind: UnitKind) -> bool
     }
 }
 
-fn group_of(alloc: Global, context: bool, library: &Text, name: &Text) -> Result<Group, NoMemory>
+/// The group of a name in a library.
+pub fn group_of(
+    alloc: Global,
+    context: bool,
+    library: &Text,
+    name: &Text,
+) -> Result<Group, NoMemory>
     ensures { IfOk result (λ group. group ≡ group_of context library.now name.now) }
 {
     Ok(Group {
@@ -47,20 +55,6 @@ fn group_of(alloc: Global, context: bool, library: &Text, name: &Text) -> Result
         library: library.copy(alloc)?,
         name: name.copy(alloc)?,
     })
-}
-
-/// The groups that a unit of a library is in.
-pub fn own_groups(alloc: Global, library: &Text, unit: &Unit) -> Result<Items<Group>, NoMemory>
-    ensures { IfOk result (λ groups. groups ≡ own_groups library.now unit.now) }
-{
-    let mut groups = Items::new(alloc);
-    if !is_secondary(unit.kind) {
-        groups.push(group_of(alloc, false, library, &unit.name)?)?;
-    }
-    if is_context_kind(unit.kind) {
-        groups.push(group_of(alloc, true, library, &unit.name)?)?;
-    }
-    Ok(groups)
 }
 
 /// Nothing that is there.

@@ -1,9 +1,18 @@
--- The group is there.
-use Rattle.std.proofs.Common.{sym, ◌∙◌}
-use Rattle.name_scope.specs.Groups.{is_same_group}
-use Rattle.name_scope.proofs.KeyLemmas.{already}
-use Rattle.name_scope.proofs.NameLemmas.{same_group, told_group}
+-- The group is there, and has a number.
+use Rattle.std.proofs.Common.{◌≡◌, List, ◌∷◌, ◌∙◌, [], ap, sym, subst}
+use Rattle.name_scope.specs.declared.want.Group.{Group}
+use Rattle.name_scope.specs.Names.{HasAll, group_number}
+use Rattle.name_scope.specs.Owned.{HasGrown}
+use Rattle.name_scope.proofs.OwnedLemmas.{all_one, grown_one, number_within, same_number}
 use Rattle.name_scope.proofs.groups.add.Goals as goal
 
-pub returns-else-not-contains : goal.returns-else-not-contains
-returns-else-not-contains c = already is_same_group same_group told_group c.args.groups.now.keys c.args.group.now (sym c.contains.ensures ∙ c.if-not-contains.false)
+pub returns : goal.returns
+returns c =
+    let keys = c.in_ok-number.ensures.keys in
+    let all = subst (HasAll (c.args.group ∷ []) c.args.groups.now.keys) (sym keys) (all_one c.args.groups.now.keys c.args.group) in
+    let number : c.in_ok-number.number ≡ group_number c.insert_full.new.self.keys c.args.group = c.in_ok-number.ensures.index ∙ (sym (same_number c.args.groups.now.keys c.args.group) ∙ ap (λ (groups : List Group). group_number groups c.args.group) (sym keys)) in
+    record {
+      number = (number, number_within c.args.groups.now.keys c.insert_full.new.self.keys c.args.group c.in_ok-number.number all number);
+      all = all;
+      grown = subst (HasGrown c.args.groups.now.keys) (sym keys) (grown_one c.args.groups.now.keys c.args.group);
+    }

@@ -1,18 +1,24 @@
 -- One unit more.
-use Rattle.std.proofs.Common.{◌≡◌, ◌∙◌, ℕ, [], ap, subst, arith, length}
+use Rattle.std.proofs.Common.{◌≡◌, ◌∙◌, ℕ, List, [], replicate, ap, refl, subst, sym, arith, length}
 use Rattle.std.proofs.lemmas.List.{get_or_default}
-use Rattle.name_scope.specs.declared.scope.UnitScope.{UnitScope}
-use Rattle.name_scope.specs.Joins.{AreMembersTo}
-use Rattle.name_scope.proofs.JoinLemmas.{members_more}
+use Rattle.name_scope.specs.declared.links.Link.{Link}
+use Rattle.name_scope.specs.Owned.{IsOwnedBy}
+use Rattle.name_scope.specs.Joins.{AreMembersTo, groups_at, no_user}
+use Rattle.name_scope.proofs.JoinLemmas.{members_more, members_none}
+use Rattle.name_scope.proofs.ScopeLemmas.{as_long, at_place}
 use Rattle.name_scope.proofs.joins.group_links.Goals as goal
 
+pub loop-at-init : goal.loop-at-init
+loop-at-init c users zipped = subst (AreMembersTo 0 c.args.groups.now.keys users c.args.gate) (sym (c.in_ok-members.ensures ∙ ap (λ (n : ℕ). replicate {A = List Link} n []) c.len.ensures.len)) (members_none c.args.groups.now.keys users c.args.gate)
+
 pub loop-at-preserved : goal.loop-at-preserved
-loop-at-preserved c =
-    members_more c.args.groups.now.keys c.args.units.now c.args.gate c.loop-at.at c.as_slice.result.now c.loop-at.members.items c.join_all.new.members.items
-    (c.as_slice.ensures ∙ ap (λ (unit : UnitScope). unit.groups) (get_or_default c.args.units.now c.loop-at.at c.index-units-at.result (record { groups = []; names = [] }) c.loop-at-test.true))
-    c.loop-at.invariant c.in_ok-join_all.ensures
+loop-at-preserved c users zipped =
+    let so_far = c.loop-at.invariant users zipped in
+    let long = as_long _ _ _ zipped in
+    members_more c.args.groups.now.keys users c.args.gate c.loop-at.at (groups_at users c.loop-at.at) c.loop-at.members.items c.join_own.new.members.items
+    refl so_far (c.in_ok-join_own.ensures c.args.groups.now.keys _ _ so_far.each (at_place (IsOwnedBy c.args.groups.now.keys) c.args.owned.now users c.loop-at.at _ no_user zipped (omega (arith, long))))
 
 pub returns : goal.returns
-returns c =
-    let all : c.loop-at.at ≡ length c.args.units.now = omega arith in
-    subst (λ (end : ℕ). AreMembersTo end c.args.groups.now.keys c.args.units.now c.args.gate c.loop-at.members.items) all c.loop-at.invariant
+returns c users zipped =
+    let all : c.loop-at.at ≡ length users = omega (arith, as_long _ _ _ zipped) in
+    subst (λ (end : ℕ). AreMembersTo end c.args.groups.now.keys users c.args.gate c.loop-at.members.items) all (c.loop-at.invariant users zipped)

@@ -1,6 +1,10 @@
 -- So far the members up to the place.
+use Rattle.std.proofs.Common.{List}
+use Rattle.std.specs.List.{AllZip}
+use Rattle.scan_spec.specs.Visibility.{ScopeUnit}
 use Rattle.name_scope.specs.Joins.{AreMembersTo}
+use Rattle.name_scope.specs.Owned.{IsOwnedBy}
 use Rattle.name_scope.proofs.joins.group_links.Given as goal
 
 abbrev pub invariant-loop-at : goal.invariant-loop-at
-invariant-loop-at l = AreMembersTo l.at l.groups.keys l.units l.gate l.members.items
+invariant-loop-at l = (users : List ScopeUnit) → AllZip (IsOwnedBy l.groups.keys) l.owned users → AreMembersTo l.at l.groups.keys users l.gate l.members.items

@@ -1,13 +1,12 @@
--- The link is added.
-use Rattle.std.proofs.Common.{◌<◌, ◌∙◌, ◌∷◌, ◌++◌, List, [], ap, arith, length}
-use Rattle.std.proofs.lemmas.List.{get_or_default}
-use Rattle.name_scope.specs.declared.links.Link.{Link}
-use Rattle.name_scope.proofs.JoinLemmas.{member_one}
+-- There is no group, or one.
+use Rattle.std.proofs.Common.{List, [], sym, subst}
+use Rattle.std.proofs.lemmas.Option.{MatchOption-at_none}
+use Rattle.name_scope.specs.declared.want.Group.{Group}
+use Rattle.name_scope.specs.Joins.{HasMember}
+use Rattle.name_scope.proofs.JoinLemmas.{member_none}
 use Rattle.name_scope.proofs.joins.join_group.Goals as goal
 
-pub returns-in_ok-push : goal.returns-in_ok-push
-returns-in_ok-push c =
-    let known : c.in-Some.number < length c.args.groups.now.keys = c.in-Some.ensures.found.1 in
-    let within : c.in-Some.number < length c.args.members.now.items = omega (arith, c.requires) in
-    member_one c.args.groups.now.keys c.args.group.now c.args.link c.args.members.now.items c.in-Some.number c.push.new.self (c.in-Some.ensures.found.0) within known
-    (c.in_ok-push.ensures.ok ∙ ap (λ (some : List Link). some ++ c.args.link ∷ []) (c.index_mut.ensures.value ∙ get_or_default c.args.members.now.items c.in-Some.number _ [] within))
+pub returns-in-None : goal.returns-in-None
+returns-in-None c groups own each is =
+    subst (λ (some : List Group). HasMember groups some c.args.link c.args.members.now.items c.args.members.now.items) (sym (MatchOption-at_none _ _ c.in-None.is is))
+    (member_none groups c.args.link c.args.members.now.items)

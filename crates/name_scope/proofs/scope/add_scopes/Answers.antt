@@ -7,6 +7,6 @@ pub overflow_cast-number : goal.overflow_cast-number
 overflow_cast-number c = let few = few_units c.args.text.now c.args.scan.now c.requires.scan in omega (arith, c.requires.small)
 
 pub loop-number-preserved : goal.loop-number-preserved
-loop-number-preserved c units zipped =
+loop-number-preserved c library units zipped =
     rw c.in_ok-push.ensures.items
-    (scope_more c.args.library.now c.args.text.now c.args.scan.now c.loop-number.number c.loop-number.units.items c.in_ok-scope_of.field-0 units (omega (arith, c.len-number-end.ensures)) c.in_ok-scope_of.ensures (c.loop-number.invariant units zipped))
+    (scope_more library c.args.text.now c.args.scan.now c.loop-number.number c.loop-number.units.items c.in_ok-scope_of.field-0 units (omega (arith, c.len-number-end.ensures)) (c.in_ok-scope_of.ensures library) (c.loop-number.invariant library units zipped))

@@ -16,7 +16,7 @@ use Rattle.name_scope.proofs.table.grown_rows.Goals as goal
 pub rows_of-requires-clause-known : goal.rows_of-requires-clause-known
 rows_of-requires-clause-known c = names_known c.args.units.now (keys_of c.args.names.now) c.requires.named
 
-rows_are : (c : goal.After-as_mut_slice) → AllZip (IsRowOf (keys_of c.args.names.now) (c.len-2.result / 64 + 1)) c.in_ok-rows.rows.items (map (λ (unit : UnitScope). implicit ++ unit.names) c.args.units.now ++ replicate (length c.in_ok-groups.groups.keys) (implicit ++ []))
+rows_are : (c : goal.After-as_mut_slice) → AllZip (IsRowOf (keys_of c.args.names.now) (c.len-2.result / 64 + 1)) c.in_ok-rows.rows.items (map (λ (unit : UnitScope). implicit ++ unit.names) c.args.units.now ++ replicate (length c.args.groups.now.keys) (implicit ++ []))
 rows_are c = subst (λ (n : ℕ). AllZip (IsRowOf (keys_of c.args.names.now) (c.len-2.result / 64 + 1)) c.in_ok-rows.rows.items (map (λ (unit : UnitScope). implicit ++ unit.names) c.args.units.now ++ replicate n (implicit ++ []))) c.len-3.ensures.len c.in_ok-rows.ensures
 
 links_are : (c : goal.After-as_mut_slice) → c.as_slice-2.result.now ≡ c.in_ok-links.links.items ++ c.in_ok-members.members.items
@@ -24,17 +24,17 @@ links_are c = c.as_slice-2.ensures.value ∙ c.in_ok-append.ensures.items
 
 pub spread-requires-clause-each : goal.spread-requires-clause-each
 spread-requires-clause-each c =
-    ap length (links_are c) ∙ (ready_each c.args.units.now (keys_of c.args.names.now) c.in_ok-groups.groups.keys (c.len-2.result / 64 + 1) c.in_ok-rows.rows.items c.in_ok-links.links.items c.in_ok-members.members.items c.in-Some.gate (rows_are c) _ (sym c.requires.units) c.in_ok-links.ensures c.in_ok-members.ensures ∙ ap length (sym c.as_mut_slice.ensures.value))
+    ap length (links_are c) ∙ (ready_each c.args.units.now (keys_of c.args.names.now) c.args.groups.now.keys (c.len-2.result / 64 + 1) c.in_ok-rows.rows.items c.in_ok-links.links.items c.in_ok-members.members.items c.in-Some.gate (rows_are c) _ (sym c.requires.units) c.in_ok-links.ensures (c.in_ok-members.ensures _ c.requires.owned) ∙ ap length (sym c.as_mut_slice.ensures.value))
 
 pub spread-requires-clause-even : goal.spread-requires-clause-even
 spread-requires-clause-even c =
-    subst (AreEven (c.len-2.result / 64 + 1)) (sym c.as_mut_slice.ensures.value) (ready_even c.args.units.now (keys_of c.args.names.now) c.in_ok-groups.groups.keys (c.len-2.result / 64 + 1) c.in_ok-rows.rows.items c.in_ok-links.links.items c.in_ok-members.members.items c.in-Some.gate (rows_are c) _ (sym c.requires.units) c.in_ok-links.ensures c.in_ok-members.ensures)
+    subst (AreEven (c.len-2.result / 64 + 1)) (sym c.as_mut_slice.ensures.value) (ready_even c.args.units.now (keys_of c.args.names.now) c.args.groups.now.keys (c.len-2.result / 64 + 1) c.in_ok-rows.rows.items c.in_ok-links.links.items c.in_ok-members.members.items c.in-Some.gate (rows_are c) _ (sym c.requires.units) c.in_ok-links.ensures (c.in_ok-members.ensures _ c.requires.owned))
 
 pub spread-requires-clause-below : goal.spread-requires-clause-below
 spread-requires-clause-below c =
     subst (λ (rows : List (List ℕ)). AreBelow (length rows) c.as_slice-2.result.now) (sym c.as_mut_slice.ensures.value)
     (subst (λ (links : List (List Link)). AreBelow (length c.in_ok-rows.rows.items) links) (sym (links_are c))
-    (ready_below c.args.units.now (keys_of c.args.names.now) c.in_ok-groups.groups.keys (c.len-2.result / 64 + 1) c.in_ok-rows.rows.items c.in_ok-links.links.items c.in_ok-members.members.items c.in-Some.gate (rows_are c) _ (sym c.requires.units) c.in_ok-links.ensures c.in_ok-members.ensures))
+    (ready_below c.args.units.now (keys_of c.args.names.now) c.args.groups.now.keys (c.len-2.result / 64 + 1) c.in_ok-rows.rows.items c.in_ok-links.links.items c.in_ok-members.members.items c.in-Some.gate (rows_are c) _ (sym c.requires.units) c.in_ok-links.ensures (c.in_ok-members.ensures _ c.requires.owned)))
 
 pub returns : goal.returns
 returns c =
@@ -43,16 +43,16 @@ returns c =
     let same : c.in_ok-rows.rows.len ≡ length c.spread.new.rows = omega (arith, spread.each) in
     subst (AreGrown c.args.units.now (scope_units c.args.project.now.files c.args.texts.now c.args.scans.now) (keys_of c.args.names.now)) (sym (written c.in_ok-rows.rows.len c.spread.new.rows _ same))
     (record {
-      groups = c.in_ok-groups.groups.keys;
+      groups = c.args.groups.now.keys;
       words = c.len-2.result / 64 + 1;
       first = c.in_ok-rows.rows.items;
       of_units = c.in_ok-links.links.items;
       of_groups = c.in_ok-members.members.items;
       names_are = c.requires.named;
-      groups_are = c.in_ok-groups.ensures;
+      groups_are = c.requires.groups;
       rows_are = subst (λ (n : ℕ). AllZip (IsRowOf (keys_of c.args.names.now) (c.len-2.result / 64 + 1)) c.in_ok-rows.rows.items (map (λ (unit : UnitScope). implicit ++ unit.names) c.args.units.now ++ replicate n (implicit ++ []))) c.len-3.ensures.len c.in_ok-rows.ensures;
       links_are = c.in_ok-links.ensures;
-      members_are = subst (λ (gate : ℕ). AreMembers c.in_ok-groups.groups.keys c.args.units.now gate c.in_ok-members.members.items) (c.in-Some.ensures.found.0 ∙ ap (number_of (keys_of c.args.names.now)) c.as_slice.ensures) c.in_ok-members.ensures;
+      members_are = subst (λ (gate : ℕ). AreMembers c.args.groups.now.keys (scope_units c.args.project.now.files c.args.texts.now c.args.scans.now) gate c.in_ok-members.members.items) (c.in-Some.ensures.found.0 ∙ ap (number_of (keys_of c.args.names.now)) c.as_slice.ensures) (c.in_ok-members.ensures _ c.requires.owned);
       spread = subst (λ (links : List (List Link)). HasSpread links c.in_ok-rows.rows.items c.spread.new.rows) links spread;
       taken = subst (λ (links : List (List Link)). AreTaken links (has c.spread.new.rows)) links c.in_ok-spread.ensures.taken;
     })
