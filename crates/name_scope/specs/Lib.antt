@@ -1,6 +1,7 @@
 -- Rows of bits, and what hands their numbers on.
 pub mod Bits
 pub mod Rows
+pub mod LinkLists
 pub mod Links
 pub mod Work
 pub mod Order

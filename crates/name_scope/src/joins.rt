@@ -11,21 +11,22 @@ ghost use Rattle.name_scope.specs.Owned.{IsNumbered, IsOnly, IsOwned, IsOwnedBy}
 ghost use Rattle.name_scope.specs.Wants.{own_groups};
 
 use crate::groups::{self, Groups, Owned};
-use crate::links::Link;
+use crate::links::{Link, LinkList};
 use crate::names::{self, Names};
 use crate::want::Want;
 use crate::wants::gate_of;
 use std::alloc::Global;
-use vr_base::{Items, NoMemory};
+use vr_base::NoMemory;
 
 /// Adds the link for what a unit wants, where there is such a library and such a group. `places` is the number of units:
 /// the groups come after them.
 pub fn add_link(
+    alloc: Global,
     names: &Names,
     groups: &Groups,
     places: usize,
     want: &Want,
-    links: &mut Items<Link>,
+    links: &mut LinkList,
 ) -> Result<(), NoMemory>
     requires { places + length groups.now.keys ≤ usize.MAX }
     ensures { OnOk result
@@ -38,12 +39,17 @@ pub fn add_link(
         return Ok(());
     };
     let source = places + group;
-    links.push(Link { gate, source })?;
+    links.push(alloc, Link { gate, source })?;
     Ok(())
 }
 
 /// Adds a link to those of the group of a number.
-fn join_at(number: usize, link: Link, members: &mut Vec<Items<Link>>) -> Result<(), NoMemory>
+fn join_at(
+    alloc: Global,
+    number: usize,
+    link: Link,
+    members: &mut Vec<LinkList>,
+) -> Result<(), NoMemory>
     ensures { OnOk result ((groups own : List Group) →
         length members.old.items ≡ length groups → IsOnly groups own number →
         HasMember groups own link members.old.items members.new.items) }
@@ -51,15 +57,16 @@ fn join_at(number: usize, link: Link, members: &mut Vec<Items<Link>>) -> Result<
     if number >= members.len() {
         return Ok(());
     }
-    members[number].push(link)?;
+    members[number].push(alloc, link)?;
     Ok(())
 }
 
 /// Adds a link to those of a group, if there is one.
 fn join_group(
+    alloc: Global,
     number: Option<usize>,
     link: Link,
-    members: &mut Vec<Items<Link>>,
+    members: &mut Vec<LinkList>,
 ) -> Result<(), NoMemory>
     ensures { OnOk result ((groups own : List Group) →
         length members.old.items ≡ length groups → IsNumbered groups own number →
@@ -67,28 +74,33 @@ fn join_group(
 {
     match number {
         None => Ok(()),
-        Some(number) => join_at(number, link, members),
+        Some(number) => join_at(alloc, number, link, members),
     }
 }
 
 /// Adds a link to those of the groups that a unit is in.
-fn join_own(owned: Owned, link: Link, members: &mut Vec<Items<Link>>) -> Result<(), NoMemory>
+fn join_own(
+    alloc: Global,
+    owned: Owned,
+    link: Link,
+    members: &mut Vec<LinkList>,
+) -> Result<(), NoMemory>
     ensures { OnOk result ((groups : List Group) (library : List ℕ) (unit : Unit) →
         length members.old.items ≡ length groups → IsOwned groups library unit owned →
         HasMember groups (own_groups library unit) link members.old.items members.new.items) }
 {
-    join_group(owned.primary, link, members)?;
-    join_group(owned.context, link, members)?;
+    join_group(alloc, owned.primary, link, members)?;
+    join_group(alloc, owned.context, link, members)?;
     Ok(())
 }
 
 /// Lists of no link.
-fn no_links(alloc: Global, places: usize) -> Result<Vec<Items<Link>>, NoMemory>
+fn no_links(alloc: Global, places: usize) -> Result<Vec<LinkList>, NoMemory>
     ensures { IfOk result (λ links. links.items ≡ replicate places []) }
 {
-    let mut links: Vec<Items<Link>> = Vec::new(alloc);
+    let mut links: Vec<LinkList> = Vec::new(alloc);
     for _ in 0..places {
-        links.push(Items::new(alloc))?;
+        links.push(LinkList::new(alloc))?;
     }
     Ok(links)
 }
@@ -99,7 +111,7 @@ pub fn group_links(
     groups: &Groups,
     owned: &[Owned],
     gate: usize,
-) -> Result<Vec<Items<Link>>, NoMemory>
+) -> Result<Vec<LinkList>, NoMemory>
     ensures { IfOk result (λ members. (users : List ScopeUnit) →
         AllZip (IsOwnedBy groups.now.keys) owned.now users →
         AreMembers groups.now.keys users gate members.items) }
@@ -107,7 +119,7 @@ pub fn group_links(
     let mut members = no_links(alloc, groups.len())?;
     for at in 0..owned.len() {
         let link = Link { gate, source: at };
-        join_own(owned[at], link, &mut members)?;
+        join_own(alloc, owned[at], link, &mut members)?;
     }
     Ok(members)
 }

@@ -14,7 +14,7 @@ ghost use Rattle.name_scope.specs.Wants.{context_want, primary_want, primary_wan
 
 use crate::groups::Groups;
 use crate::joins::add_link;
-use crate::links::Link;
+use crate::links::LinkList;
 use crate::names::Names;
 use crate::want::Want;
 use crate::wants::{context_want, no_want, primary_want};
@@ -28,12 +28,13 @@ use vr_base::{
 /// Adds the link for what a unit wants of primary units of a name. What is wanted is made in the memory of what isn't
 /// wanted any more, and comes back.
 fn add_primary_link(
+    alloc: Global,
     names: &Names,
     groups: &Groups,
     places: usize,
     library: &Text,
     name: &Text,
-    links: &mut Items<Link>,
+    links: &mut LinkList,
     used: Want,
 ) -> Result<Want, NoMemory>
     requires room { places + length groups.now.keys ≤ usize.MAX }
@@ -41,18 +42,19 @@ fn add_primary_link(
         (primary_want library.now name.now ∷ []) links.old links.new) }
 {
     let want = primary_want(library, name, used)?;
-    add_link(names, groups, places, &want, links)?;
+    add_link(alloc, names, groups, places, &want, links)?;
     Ok(want)
 }
 
 /// Adds the link for what an architecture wants of its primary units.
 fn add_owner_link(
+    alloc: Global,
     names: &Names,
     groups: &Groups,
     places: usize,
     library: &Text,
     owner: &MaybeText,
-    links: &mut Items<Link>,
+    links: &mut LinkList,
     used: Want,
 ) -> Result<Want, NoMemory>
     requires room { places + length groups.now.keys ≤ usize.MAX }
@@ -62,19 +64,20 @@ fn add_owner_link(
     match owner {
         MaybeText::Nothing => Ok(used),
         MaybeText::Given(name) => {
-            add_primary_link(names, groups, places, library, name, links, used)
+            add_primary_link(alloc, names, groups, places, library, name, links, used)
         }
     }
 }
 
 /// Adds the link for what a secondary unit wants of its primary units.
 fn add_own_link(
+    alloc: Global,
     names: &Names,
     groups: &Groups,
     places: usize,
     library: &Text,
     unit: &Unit,
-    links: &mut Items<Link>,
+    links: &mut LinkList,
     used: Want,
 ) -> Result<Want, NoMemory>
     requires room { places + length groups.now.keys ≤ usize.MAX }
@@ -83,10 +86,21 @@ fn add_own_link(
 {
     match unit.kind {
         UnitKind::Architecture => {
-            add_owner_link(names, groups, places, library, &unit.owner, links, used)
+            add_owner_link(
+                alloc,
+                names,
+                groups,
+                places,
+                library,
+                &unit.owner,
+                links,
+                used,
+            )
         }
         UnitKind::PackageBody => {
-            add_primary_link(names, groups, places, library, &unit.name, links, used)
+            add_primary_link(
+                alloc, names, groups, places, library, &unit.name, links, used,
+            )
         }
         _ => Ok(used),
     }
@@ -94,6 +108,7 @@ fn add_own_link(
 
 /// Adds the links for what references to context declarations want, which are at tokens.
 fn add_context_links(
+    alloc: Global,
     names: &Names,
     groups: &Groups,
     places: usize,
@@ -101,7 +116,7 @@ fn add_context_links(
     text: &[u8],
     tokens: &Tokens,
     found: &[u32],
-    links: &mut Items<Link>,
+    links: &mut LinkList,
     used: Want,
 ) -> Result<Want, NoMemory>
     requires room { places + length groups.now.keys ≤ usize.MAX }
@@ -114,7 +129,7 @@ fn add_context_links(
     let mut want = used;
     for at in found {
         want = context_want(library, text, tokens, *at as usize, want)?;
-        add_link(names, groups, places, &want, links)?;
+        add_link(alloc, names, groups, places, &want, links)?;
     }
     Ok(want)
 }
@@ -130,7 +145,7 @@ fn add_unit_links(
     scan: &Scan,
     roles: &RoleList,
     number: u32,
-    links: &mut Items<Link>,
+    links: &mut LinkList,
     used: Want,
 ) -> Result<Want, NoMemory>
     requires room { places + length groups.now.keys ≤ usize.MAX }
@@ -143,9 +158,10 @@ fn add_unit_links(
         (unit_wants (scope_unit library.now text.now scan.now unit)) links.old links.new) }
 {
     let unit = scan.units.get(number as u64);
-    let want = add_own_link(names, groups, places, library, unit, links, used)?;
+    let want = add_own_link(alloc, names, groups, places, library, unit, links, used)?;
     let found = context_places(alloc, text, scan, roles, number)?;
     Ok(add_context_links(
+        alloc,
         names,
         groups,
         places,
@@ -168,7 +184,7 @@ fn add_links(
     text: &[u8],
     scan: &Scan,
     roles: &RoleList,
-    links: &mut Vec<Items<Link>>,
+    links: &mut Vec<LinkList>,
     used: Want,
 ) -> Result<Want, NoMemory>
     requires room { places + length groups.now.keys ≤ usize.MAX }
@@ -180,7 +196,7 @@ fn add_links(
 {
     let mut want = used;
     for number in 0..scan.units.len() {
-        let mut own = Items::new(alloc);
+        let mut own = LinkList::new(alloc);
         want = add_unit_links(
             alloc,
             names,
@@ -209,7 +225,7 @@ pub fn links_of_units(
     texts: &TextList,
     scans: &Scans,
     roles: &Items<RoleList>,
-) -> Result<Vec<Items<Link>>, NoMemory>
+) -> Result<Vec<LinkList>, NoMemory>
     requires room { places + length groups.now.keys ≤ usize.MAX }
     requires each { length texts.now ≡ length project.now.files }
     requires scans { AreScansOf texts.now scans.now }

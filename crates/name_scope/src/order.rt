@@ -5,9 +5,9 @@ ghost use Rattle.std.specs.List.{All};
 ghost use Rattle.name_scope.specs.Links.{AreBelow};
 ghost use Rattle.name_scope.specs.Order.{AreStepsBelow};
 
-use crate::links::Link;
+use crate::links::LinkList;
 use std::alloc::Global;
-use vr_base::{Items, NoMemory};
+use vr_base::NoMemory;
 
 /// A place that a walk along links stands at, and the number of the link that it follows next.
 #[derive(Clone, Copy)]
@@ -32,7 +32,7 @@ fn enter(steps: &mut Vec<Step>, marks: &mut [bool], at: usize) -> Result<(), NoM
 
 /// Follows the next link of a place; where there is none, the walk leaves the place.
 fn walk_on(
-    links: &[Items<Link>],
+    links: &[LinkList],
     steps: &mut Vec<Step>,
     marks: &mut [bool],
     order: &mut Vec<usize>,
@@ -64,7 +64,7 @@ fn walk_on(
 
 /// Walks on until all places that were gone to are left.
 fn walk_out(
-    links: &[Items<Link>],
+    links: &[LinkList],
     steps: &mut Vec<Step>,
     marks: &mut [bool],
     order: &mut Vec<usize>,
@@ -88,7 +88,7 @@ fn walk_out(
 
 /// Places, in the order in which a walk along links from all places leaves them. The walk goes to each place once, so a
 /// place comes after those that it takes from, but for the links that close a ring.
-pub fn order_of(alloc: Global, links: &[Items<Link>]) -> Result<Vec<usize>, NoMemory>
+pub fn order_of(alloc: Global, links: &[LinkList]) -> Result<Vec<usize>, NoMemory>
     requires below { AreBelow (length links.now) links.now }
     ensures { IfOk result (λ order. All (λ at. at < length links.now) order.items) }
 {

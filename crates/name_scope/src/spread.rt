@@ -6,7 +6,7 @@ ghost use Rattle.name_scope.specs.Bits.{AreWithin, has, row_has};
 ghost use Rattle.name_scope.specs.Links.{AreBelow, AreEven, AreTaken, HasLookedAt, HasSpread};
 ghost use Rattle.name_scope.specs.Work.{AreReaders, HasRevisited, IsSettling, IsWork, KnowReaders};
 
-use crate::links::Link;
+use crate::links::LinkList;
 use crate::look::{look, look_up_to};
 use crate::order::order_of;
 use crate::row::Row;
@@ -15,7 +15,7 @@ use std::alloc::Global;
 use vr_base::{Items, NoMemory};
 
 /// Looks at a place, and says whether its row has grown. What is in `room` is lost.
-fn look_at(links: &[Items<Link>], rows: &mut [Row], at: usize, room: &mut Row) -> bool
+fn look_at(links: &[LinkList], rows: &mut [Row], at: usize, room: &mut Row) -> bool
     requires at { at < length rows.old }
     requires each { length links.now ≡ length rows.old }
     requires even { AreEven (length room.old) rows.old }
@@ -44,7 +44,7 @@ fn top_of(alloc: Global, rows: &[Row], words: usize) -> Result<Row, NoMemory>
 }
 
 /// Looks at a place, unless its row is one that has all numbers of all rows: then there is nothing to take.
-fn look_below(links: &[Items<Link>], rows: &mut [Row], at: usize, room: &mut Row, top: &Row) -> bool
+fn look_below(links: &[LinkList], rows: &mut [Row], at: usize, room: &mut Row, top: &Row) -> bool
     requires at { at < length rows.old }
     requires each { length links.now ≡ length rows.old }
     requires even { AreEven (length room.old) rows.old }
@@ -65,7 +65,7 @@ fn look_below(links: &[Items<Link>], rows: &mut [Row], at: usize, room: &mut Row
 }
 
 /// Looks at places, in order. No row has a number that `top` doesn't have.
-fn sweep(links: &[Items<Link>], rows: &mut [Row], order: &[usize], room: &mut Row, top: &Row)
+fn sweep(links: &[LinkList], rows: &mut [Row], order: &[usize], room: &mut Row, top: &Row)
     requires each { length links.now ≡ length rows.old }
     requires even { AreEven (length room.old) rows.old }
     requires below { AreBelow (length rows.old) links.now }
@@ -80,7 +80,7 @@ fn sweep(links: &[Items<Link>], rows: &mut [Row], order: &[usize], room: &mut Ro
 }
 
 /// Looks at places, from the last on.
-fn sweep_back(links: &[Items<Link>], rows: &mut [Row], order: &[usize], room: &mut Row)
+fn sweep_back(links: &[LinkList], rows: &mut [Row], order: &[usize], room: &mut Row)
     requires each { length links.now ≡ length rows.old }
     requires even { AreEven (length room.old) rows.old }
     requires below { AreBelow (length rows.old) links.now }
@@ -94,7 +94,7 @@ fn sweep_back(links: &[Items<Link>], rows: &mut [Row], order: &[usize], room: &m
 }
 
 /// Looks at places twice, in order. No row has a number that `top` doesn't have.
-fn sweep_twice(links: &[Items<Link>], rows: &mut [Row], order: &[usize], room: &mut Row, top: &Row)
+fn sweep_twice(links: &[LinkList], rows: &mut [Row], order: &[usize], room: &mut Row, top: &Row)
     requires each { length links.now ≡ length rows.old }
     requires even { AreEven (length room.old) rows.old }
     requires below { AreBelow (length rows.old) links.now }
@@ -108,7 +108,7 @@ fn sweep_twice(links: &[Items<Link>], rows: &mut [Row], order: &[usize], room: &
 }
 
 /// Looks at each place once, and says whether a row has grown. No row has a number that `top` doesn't have.
-fn sweep_all(links: &[Items<Link>], rows: &mut [Row], room: &mut Row, top: &Row) -> bool
+fn sweep_all(links: &[LinkList], rows: &mut [Row], room: &mut Row, top: &Row) -> bool
     requires each { length links.now ≡ length rows.old }
     requires even { AreEven (length room.old) rows.old }
     requires below { AreBelow (length rows.old) links.now }
@@ -127,7 +127,7 @@ fn sweep_all(links: &[Items<Link>], rows: &mut [Row], room: &mut Row, top: &Row)
 
 /// Looks at a place that was taken from the list of work. Where its row has grown, the place and its readers are listed.
 fn revisit(
-    links: &[Items<Link>],
+    links: &[LinkList],
     readers: &[Items<usize>],
     rows: &mut [Row],
     room: &mut Row,
@@ -158,7 +158,7 @@ fn revisit(
 
 /// Looks at places on the list of work until none is on it.
 fn settle(
-    links: &[Items<Link>],
+    links: &[LinkList],
     readers: &[Items<usize>],
     rows: &mut [Row],
     room: &mut Row,
@@ -196,7 +196,7 @@ fn all_places(alloc: Global, places: usize) -> Result<Vec<usize>, NoMemory>
 /// Looks at places until each takes all that its links hand on: again where a set that it takes from has grown.
 fn settle_all(
     alloc: Global,
-    links: &[Items<Link>],
+    links: &[LinkList],
     rows: &mut [Row],
     room: &mut Row,
 ) -> Result<(), NoMemory>
@@ -224,7 +224,7 @@ fn settle_all(
 /// what has none; a sweep back and the list of work settle the rest. Sweeps pass over a place whose row has all there is.
 pub fn spread(
     alloc: Global,
-    links: &[Items<Link>],
+    links: &[LinkList],
     rows: &mut [Row],
     words: usize,
 ) -> Result<(), NoMemory>

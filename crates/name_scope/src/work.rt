@@ -5,7 +5,7 @@ ghost use Rattle.std.specs.List.{All};
 ghost use Rattle.name_scope.specs.Links.{AreBelow};
 ghost use Rattle.name_scope.specs.Work.{AreReaders, HasListed, HaveReader, IsWork, KnowReaders};
 
-use crate::links::Link;
+use crate::links::{Link, LinkList};
 use std::alloc::Global;
 use vr_base::{Items, NoMemory};
 
@@ -60,7 +60,7 @@ fn no_readers(alloc: Global, places: usize) -> Result<Vec<Items<usize>>, NoMemor
 }
 
 /// The places that read each place: those with a link from it.
-pub fn readers_of(alloc: Global, links: &[Items<Link>]) -> Result<Vec<Items<usize>>, NoMemory>
+pub fn readers_of(alloc: Global, links: &[LinkList]) -> Result<Vec<Items<usize>>, NoMemory>
     requires { AreBelow (length links.now) links.now }
     ensures each { IfOk result (λ readers. length readers.items ≡ length links.now) }
     ensures places { IfOk result (λ readers. AreReaders (length links.now) readers.items) }

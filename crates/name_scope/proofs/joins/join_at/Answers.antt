@@ -13,4 +13,4 @@ returns c groups own each is =
     let within : c.args.number < length c.args.members.now.items = omega (arith, each, is.within) in
     subst (λ (some : List Group). HasMember groups some c.args.link c.args.members.now.items (set c.args.members.now.items c.args.number c.push.new.self)) (sym is.only)
     (member_one groups is.group c.args.link c.args.members.now.items c.args.number c.push.new.self is.is within is.within
-    (c.in_ok-push.ensures.ok ∙ ap (λ (some : List Link). some ++ c.args.link ∷ []) (c.index_mut.ensures.value ∙ get_or_default c.args.members.now.items c.args.number _ [] within)))
+    (c.in_ok-push.ensures ∙ ap (λ (some : List Link). some ++ c.args.link ∷ []) (c.index_mut.ensures.value ∙ get_or_default c.args.members.now.items c.args.number _ [] within)))
