@@ -8,8 +8,7 @@ use Rattle.std.proofs.Math.ListN.{get_or-append}
 use Rattle.std.proofs.lemmas.Bool.{cases_lt}
 use Rattle.std.proofs.lemmas.List.{get_or_default, get_or-append-add, get_or-map, get_or-replicate, get_or_past, length-map, length-replicate}
 use Rattle.std.proofs.lemmas.List.Elements.{Contains-append_cases, Contains-append_left, Contains-append_right, Contains-get_or}
-use Rattle.vr_base.specs.declared.child.MaybeText.TheVariants.{Nothing, Given}
-use Rattle.vr_base.specs.declared.design.UnitKind.TheVariants as kinds
+use Rattle.vr_base.specs.declared.child.MaybeText.TheVariants.{Given}
 use Rattle.vr_base.specs.declared.refs.Ref.{Ref}
 use Rattle.scan_spec.specs.References.{work}
 use Rattle.scan_spec.specs.Visibility.{AreClosed, ScopeUnit, enough_steps, grown, has_by_context, has_by_primary, is_context_of, is_implicit, is_own, is_primary_of, primary_name, seen_after, sees}

@@ -17,7 +17,7 @@ use Rattle.name_scope.specs.declared.want.Group.{Group}
 use Rattle.name_scope.specs.Groups.{is_same_group}
 use Rattle.name_scope.specs.Names.{HasAll, group_number}
 use Rattle.name_scope.specs.Owned.{AddsOwned, HasGrown, IsNumbered, IsOnly, IsOwned, IsOwnedBy}
-use Rattle.name_scope.specs.Wants.{group_of, own_groups, user_groups}
+use Rattle.name_scope.specs.Wants.{own_groups, user_groups}
 use Rattle.name_scope.proofs.KeyLemmas.{all_both, all_more, all_none, already, numbered}
 use Rattle.name_scope.proofs.ScopeLemmas.{unit_more}
 use Rattle.name_scope.proofs.LookLemmas.{one_of}

@@ -1,6 +1,5 @@
 -- One unit more.
 use Rattle.std.proofs.Common.{◌≡◌, ◌∙◌, ℕ, List, [], replicate, ap, refl, subst, sym, arith, length}
-use Rattle.std.proofs.lemmas.List.{get_or_default}
 use Rattle.name_scope.specs.declared.links.Link.{Link}
 use Rattle.name_scope.specs.Owned.{IsOwnedBy}
 use Rattle.name_scope.specs.Joins.{AreMembersTo, groups_at, no_user}

@@ -1,5 +1,5 @@
 -- The link is added.
-use Rattle.std.proofs.Common.{◌≡◌, ◌<◌, ◌∙◌, ◌∷◌, ◌++◌, List, [], ap, arith, length, sym, subst}
+use Rattle.std.proofs.Common.{◌<◌, ◌∙◌, ◌∷◌, ◌++◌, List, [], ap, arith, length, sym, subst}
 use Rattle.std.proofs.Math.ListN.{set}
 use Rattle.std.proofs.lemmas.List.{get_or_default}
 use Rattle.name_scope.specs.declared.links.Link.{Link}

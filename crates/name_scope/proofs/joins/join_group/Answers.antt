@@ -1,5 +1,5 @@
 -- There is no group, or one.
-use Rattle.std.proofs.Common.{List, [], sym, subst}
+use Rattle.std.proofs.Common.{List, sym, subst}
 use Rattle.std.proofs.lemmas.Option.{MatchOption-at_none}
 use Rattle.name_scope.specs.declared.want.Group.{Group}
 use Rattle.name_scope.specs.Joins.{HasMember}

@@ -1,5 +1,5 @@
 -- The first that is the name, or none is.
-use Rattle.std.proofs.Common.{◌≡◌, ◌∙◌, ◌<◌, ◌+◌, ℕ, List, [], Vec, Global, Contains, false, true, get_or, length, map, below_more, sym, ap, arith}
+use Rattle.std.proofs.Common.{◌≡◌, ◌∙◌, ◌<◌, ℕ, List, [], Vec, Global, get_or, length, map, below_more, sym, ap, arith}
 use Rattle.std.specs.Str.{bytes_eq}
 use Rattle.std.proofs.lemmas.List.{get_or-map, length-map}
 use Rattle.name_scope.proofs.KeyLemmas.{first_at, first_none}
