@@ -1,10 +1,10 @@
 //! Tables of small texts, their tokens written out by hand from the grammar, and large hostile texts.
 
-use crate::scan_tokens;
+use crate::{scan_tokens, scan_with_roles};
 use std::alloc::Global;
 use std::process::Abort;
 use std::test::Fail;
-use vr_base::{LexFault, Token, TokenKind, Tokens};
+use vr_base::{LexFault, Role, RoleList, Token, TokenKind, Tokens};
 
 /// A letter for the kind of a token.
 fn letter(kind: TokenKind) -> u8 {
@@ -278,5 +278,49 @@ fn many_quotes(rt: HostRuntime) -> Result<(), Fail> {
             Err(LexFault::UnclosedString { at: 4_194_302 })
         )
     );
+    Ok(())
+}
+
+/// Tokens of all kinds.
+static ROLED: &[u8] = b"USE l.all, \\L\\; 'x' 1.0 \"use\" (Run'a) elsif -- use\n: signal < \xe9";
+
+static ROLES: &[Role] = &[
+    Role::Use,
+    Role::Name,
+    Role::Dot,
+    Role::All,
+    Role::Comma,
+    Role::Name,
+    Role::Semicolon,
+    Role::Other,
+    Role::Other,
+    Role::Other,
+    Role::Opening,
+    Role::Name,
+    Role::Other,
+    Role::Name,
+    Role::Closing,
+    Role::Elsif,
+    Role::Colon,
+    Role::Other,
+    Role::Other,
+    Role::Other,
+];
+
+/// The number of tokens, and their roles.
+fn roled(alloc: Global, text: &[u8]) -> Result<(u64, RoleList), Fail> {
+    if text.len() > 4_194_304 {
+        return Err(Fail::from("a small text"));
+    }
+    let mut roles = RoleList::new(alloc);
+    let tokens = scan_with_roles(alloc, text, &mut roles)?;
+    Ok((tokens.list.len(), roles))
+}
+
+#[test]
+fn roles(rt: HostRuntime) -> Result<(), Fail> {
+    let (tokens, roles) = roled(rt.alloc(), ROLED)?;
+    assert_eq!(rt; tokens, 20);
+    assert!(rt; roles.as_slice() == ROLES);
     Ok(())
 }
