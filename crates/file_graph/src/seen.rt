@@ -271,7 +271,7 @@ fn link_own(
     requires places { ArePlacesOfFiles FILE_LIMIT tables.now.index }
     requires file { id.file < length tables.now.sets.starts }
     ensures known { OnOk result (IsLooked tables.now id file.now.library scratch.new.looked) }
-    ensures linked { (units : List LinkUnit) (unit : LinkUnit) → Knows project.now units tables.now →
+    ensures links { (units : List LinkUnit) (unit : LinkUnit) → Knows project.now units tables.now →
         Stands units tables.now id file.now unit →
         GivesOrFaults (missing_of project.now units unit reference.now)
         (λ value. HasAdded (stands_at
@@ -320,7 +320,7 @@ pub fn link_structural(
     requires roles { roles.now ≡ roles_of text.now scan.now.tokens.list }
     requires unit { id.unit < length scan.now.units }
     ensures known { OnOk result (IsLooked tables.now id file.now.library scratch.new.looked) }
-    ensures linked { (units : List LinkUnit) (unit : LinkUnit) (design : DesignUnit) →
+    ensures links { (units : List LinkUnit) (unit : LinkUnit) (design : DesignUnit) →
         Knows project.now units tables.now → Stands units tables.now id file.now unit →
         slice_get scan.now.units id.unit ≡ Some design →
         LinksRefs project.now units unit (structural_refs text.now scan.now.tokens.list design)
@@ -359,7 +359,7 @@ fn link_place(
     requires place { IsRefPlace roles.now place }
     requires known { IsLooked tables.now id file.now.library scratch.old.looked }
     ensures known { OnOk result (IsLooked tables.now id file.now.library scratch.new.looked) }
-    ensures linked { (units : List LinkUnit) (unit : LinkUnit) → Knows project.now units tables.now →
+    ensures links { (units : List LinkUnit) (unit : LinkUnit) → Knows project.now units tables.now →
         Stands units tables.now id file.now unit →
         GivesOrFaults (missing_of project.now units unit (ref_at text.now tokens.now.list place.at))
         (λ value. HasAdded (stands_at (names_unit project.now units unit

@@ -8,10 +8,10 @@ use Rattle.file_graph.specs.Rows.{HasAdded, stands_at}
 use Rattle.file_graph.proofs.InsideLemmas.{linked_outside}
 use Rattle.file_graph.proofs.seen.link_place.Goals as goal
 
-pub returns-then-not-branch-clause-linked : goal.returns-then-not-branch-clause-linked
-returns-then-not-branch-clause-linked c units unit known stands =
+pub returns-then-not-branch-clause-links : goal.returns-then-not-branch-clause-links
+returns-then-not-branch-clause-links c units unit known stands =
     linked_outside c.args.project.now units unit (ref_at c.args.text.now c.args.tokens.now.list c.args.place.at) c.args.tables.now c.args.id c.args.file.now known stands c.args.row.now (sym c.in_ok-look_at.ensures.inside ∙ c.if-not-branch.true)
 
-pub returns-clause-linked : goal.returns-clause-linked
-returns-clause-linked c units unit known stands =
+pub returns-clause-links : goal.returns-clause-links
+returns-clause-links c units unit known stands =
     subst (λ (ref : Ref). GivesOrFaults (missing_of c.args.project.now units unit ref) (λ value. HasAdded (stands_at (names_unit c.args.project.now units unit ref) units) c.args.row.now c.link_ref-linked.new.row) c.link_ref-linked.result) c.in_ok-reference.ensures (c.link_ref-linked.ensures units unit known stands)

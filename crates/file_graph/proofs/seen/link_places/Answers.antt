@@ -27,7 +27,7 @@ returns-in_err-link_place c units unit known stands =
     let lacks : Ref → Option LinkFault = missing_of c.args.project.now units unit in
     let none = ap first_some (map_twice lacks made (take c.loop-place.place-index c.args.places.now)) ∙ (c.loop-place.invariant.linked units unit known stands).0 in
     rw (p.1, p.2) (subst (λ (all : List (Option LinkFault)). IsFaultOf (first_some all) c.in_err-link_place.field-0.0) (map_twice lacks made c.args.places.now)
-    (first_here (λ (place : RefPlace). lacks (made place)) c.args.places.now c.loop-place.place-index place c.in_err-link_place.field-0.0 c.loop-place-test.true is none (c.in_err-link_place.ensures.linked units unit known stands)))
+    (first_here (λ (place : RefPlace). lacks (made place)) c.args.places.now c.loop-place.place-index place c.in_err-link_place.field-0.0 c.loop-place-test.true is none (c.in_err-link_place.ensures.links units unit known stands)))
 
 pub loop-place-preserved : goal.loop-place-preserved
 loop-place-preserved c = record {
@@ -39,7 +39,7 @@ loop-place-preserved c = record {
       subst (λ (refs : List Ref). LinksRefs {T = ⊤} c.args.project.now units unit refs c.args.row.now c.link_place.new.row (Ok tt))
       (sym (mapped_more made c.args.places.now c.loop-place.place-index place c.loop-place-test.true is))
       (links_both c.args.project.now units unit {T = ⊤} (map made (take c.loop-place.place-index c.args.places.now)) _ c.args.row.now c.loop-place.row c.link_place.new.row (Ok tt) (c.loop-place.invariant.linked units unit known stands)
-      (links_one c.args.project.now units unit {T = ⊤} (made place) c.loop-place.row c.link_place.new.row (Ok tt) (c.in_ok-link_place.ensures.linked units unit known stands)));
+      (links_one c.args.project.now units unit {T = ⊤} (made place) c.loop-place.row c.link_place.new.row (Ok tt) (c.in_ok-link_place.ensures.links units unit known stands)));
 }
 
 pub returns : goal.returns

@@ -1,5 +1,5 @@
 -- The library is seen, and looked into.
-use Rattle.std.proofs.Common.{◌≡◌, ◌∙◌, ℕ, false, List, sym, ap}
+use Rattle.std.proofs.Common.{◌∙◌, ℕ, List, sym, ap}
 use Rattle.file_graph.specs.Libraries.{stands_outside}
 use Rattle.file_graph.proofs.InsideLemmas.{inside_looked, inside_seen}
 use Rattle.file_graph.proofs.LinkLemmas.{linked_seen}

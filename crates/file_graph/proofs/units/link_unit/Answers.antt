@@ -3,7 +3,7 @@ use Rattle.std.proofs.Common.{◌≡◌, ◌∙◌, ◌++◌, List, map, sym, ap
 use Rattle.std.proofs.lemmas.Result.{err_from_is_err_and}
 use Rattle.vr_base.specs.declared.design.Role.{Role}
 use Rattle.vr_base.specs.declared.refs.Ref.{Ref}
-use Rattle.scan_spec.specs.References.{is_reference, named_refs, places as tokens_between, ref_at, refs_of}
+use Rattle.scan_spec.specs.References.{is_reference, named_refs, places as tokens_between, ref_at}
 use Rattle.scan_spec.specs.Units.{roles_of}
 use Rattle.scan_spec.specs.Dependencies.{first_some, missing_of}
 use Rattle.vhdl_refs.specs.declared.places.RefPlace.{RefPlace}
@@ -20,7 +20,7 @@ returns-in_err-link_structural c units unit design known stands got is =
     let text = c.args.text.now in
     let tokens = c.args.scan.now.tokens.list in
     rw (p.1, p.2) (subst (λ (refs : List Ref). IsFaultOf (first_some (map (missing_of c.args.project.now units unit) refs)) c.in_err-link_structural.field-0.0) (sym is)
-    (lacks_first c.args.project.now units unit (structural_refs text tokens design) (named_refs text tokens design.lead design.last) c.in_err-link_structural.field-0.0 (c.in_err-link_structural.ensures.linked units unit design known stands got)))
+    (lacks_first c.args.project.now units unit (structural_refs text tokens design) (named_refs text tokens design.lead design.last) c.in_err-link_structural.field-0.0 (c.in_err-link_structural.ensures.links units unit design known stands got)))
 
 pub returns : goal.returns
 returns c units unit design known stands got is =
@@ -34,4 +34,4 @@ returns c units unit design known stands got is =
     subst (λ (refs : List Ref). LinksRefs c.args.project.now units unit refs c.args.row.now c.link_places-linked.new.row c.link_places-linked.result)
     (ap (λ (refs : List Ref). structural_refs text tokens design ++ refs) named ∙ sym is)
     (links_both c.args.project.now units unit (structural_refs text tokens design) (map made c.as_slice-2.result.now) c.args.row.now c.link_structural.new.row c.link_places-linked.new.row c.link_places-linked.result
-    (c.in_ok-link_structural.ensures.linked units unit design known stands got) (c.link_places-linked.ensures units unit known stands))
+    (c.in_ok-link_structural.ensures.links units unit design known stands got) (c.link_places-linked.ensures units unit known stands))
