@@ -1,6 +1,6 @@
 //! Links along which one set hands its numbers on to another.
 
-ghost use Rattle.std.specs.Prelude.{◌≡◌, ◌++◌, ◌∷◌, [], IfOk, OnOk};
+ghost use Rattle.std.specs.Prelude.{◌≡◌, ◌++◌, ◌∷◌, [], if◌then◌else◌, IfOk, OnOk};
 ghost use Rattle.name_scope.specs.LinkLists.{links_of};
 
 use std::alloc::Global;
@@ -62,6 +62,18 @@ fn one_more(links: Vec<Link>, link: Link) -> Result<Linked, NoMemory>
     Ok(Linked::Many(links))
 }
 
+/// Adds a link to a long list at the end, and says whether it is one: it isn't empty.
+fn push_long(links: &mut Vec<Link>, link: Link) -> Result<bool, NoMemory>
+    ensures { IfOk result (λ done. links.new.items
+        ≡ (if done then links.old.items ++ link ∷ [] else links.old.items)) }
+{
+    if links.is_empty() {
+        return Ok(false);
+    }
+    links.push(link)?;
+    Ok(true)
+}
+
 impl Linked {
     /// The links.
     #[tactic(auto, unfolding(crate::specs::LinkLists::links_of))]
@@ -71,6 +83,18 @@ impl Linked {
         match self {
             Linked::One(link) => link.as_slice(),
             Linked::Many(links) => links.as_slice(),
+        }
+    }
+
+    /// Adds a link at the end in place, where there is a list with room of its own, and says whether it has done so.
+    #[tactic(auto, unfolding(crate::specs::LinkLists::links_of))]
+    fn push(&mut self, link: Link) -> Result<bool, NoMemory>
+        ensures { IfOk result (λ done. links_of self.new
+            ≡ (if done then links_of self.old ++ link ∷ [] else links_of self.old)) }
+    {
+        match self {
+            Linked::One(_first) => Ok(false),
+            Linked::Many(links) => push_long(links, link),
         }
     }
 
@@ -108,6 +132,9 @@ impl LinkList {
     pub fn push(&mut self, alloc: Global, link: Link) -> Result<(), NoMemory>
         ensures { OnOk result (self.new ≡ self.old ++ link ∷ []) }
     {
+        if self.links.push(link)? {
+            return Ok(());
+        }
         let links = mem::replace(&mut self.links, Linked::Many(Vec::new(alloc)));
         self.links = links.with(alloc, link)?;
         Ok(())
