@@ -10,3 +10,4 @@ pub mod RecordNames
 pub mod Latest
 pub mod Planning
 pub mod Counting
+pub mod LatestAlone
