@@ -2,10 +2,11 @@
 use Rattle.std.proofs.Common.{◌≡◌, ℕ, ◌+◌, ◌-◌, ◌<◌, ◌≤◌, ◌^◌, min, List, Option, Some, None, sym, ap, subst, ◌∙◌, arith}
 use Rattle.vr_base.specs.declared.file.FileName.{FileName}
 use Rattle.vr_outside.specs.Disks.{AtAnyMoment, DiskState, Image, IsEither, Moments, NeverLoses, image_side, reads_of}
+use Rattle.vr_outside.specs.declared.records.Record.{Record}
 use Rattle.vr_outside.specs.Records.{IsAllOrLatest, latest, latest_alone}
 use Rattle.clean_laws.proofs.TrueRecords.{latest-latest_alone}
-use Rattle.gate_journal.specs.Payloads.{payloads}
-use Rattle.gate_journal.specs.Journals.{JournalState, OpensAt}
+use Rattle.gate_journal.specs.Payloads.{counting, payloads}
+use Rattle.gate_journal.specs.Journals.{IsHealthy, JournalState, OpensAt}
 use Rattle.node_carry.specs.Carrying.{CarriedSoFar, compacted, side_length}
 use Rattle.std.specs.Prelude.{Result, Err}
 use Rattle.std.specs.Option.{option_map_or}
@@ -16,14 +17,48 @@ use Rattle.vr_outside.specs.declared.disk.Side.{Side}
 use Rattle.gate_journal.specs.Payloads.{generation_of}
 use Rattle.node_codec.specs.Shelves.{shelf_of}
 use Rattle.node_carry.specs.declared.plan.Plan.{Plan}
+use Rattle.node_carry.proofs.LatestAlone.{compacted-latest_alone}
 use Rattle.node_carry.specs.Plans.{blocks_length, carried_by}
 use Rattle.node_holdings.specs.Held.{HoldingState, KeepsLatest}
-use Rattle.node_store.specs.Stored.{AsksAt, AsksCompaction, HasManyDead, IsNodeStoreInStep, capped_length, latest_among, live_bytes, node_records_among, node_records_in}
+use Rattle.node_store.specs.Stored.{AsksAt, AsksCompaction, HasCompacted, HasManyDead, ImageAsks, IsAtRest, IsNodeStoreInStep, capped_length, dead_limit, generation_in, latest_among, live_bytes, node_records_among, node_records_in}
 use Rattle.node_store.proofs.NodeMoments.{compact_leaves}
 
 -- the latest record of each name stays
 pub latest_still : (old made : List (List ℕ)) (name : FileName) → node_records_among made ≡ latest_alone (node_records_among old) → latest_among made name ≡ latest_among old name
 latest_still old made name records = ap (latest name) records ∙ latest-latest_alone name (node_records_among old)
+
+-- compaction would keep all of what it left
+all_live : (before : List Record) (side : List (List ℕ)) → side ≡ compacted before → node_records_among side ≡ latest_alone before → side ≡ compacted (node_records_among side)
+all_live before side is records = is ∙ sym (compacted-latest_alone before) ∙ ap compacted (sym records)
+
+-- and so it isn't asked for
+none_asked : (generation : ℕ) (side : List (List ℕ)) → side ≡ compacted (node_records_among side) → ¬ AsksCompaction generation side
+none_asked generation side live asks =
+    let same : side_length side ≡ live_bytes side = ap side_length live in
+    omega (arith, asks.dead.many, same)
+
+-- the generation of an image that a journal is in step with
+in_step_generation : (journal : JournalState) (held : HoldingState) (disk : DiskState) → IsNodeStoreInStep journal held disk → generation_in (reads_of disk) ≡ journal.generation
+in_step_generation journal held disk in_step =
+    let counts : counting 2 (reads_of disk) ≡ Some journal.live = subst (λ (f : ℕ). counting f (reads_of disk) ≡ Some journal.live) in_step.form in_step.journal_in_step.counts in
+    ap (λ (o : Option Side). option_map_or (λ side. generation_of (image_side side (reads_of disk))) o 1) counts ∙ in_step.journal_in_step.generation
+
+in_step_healthy : (journal : JournalState) (held : HoldingState) (disk : DiskState) → IsNodeStoreInStep journal held disk → IsHealthy 2 (reads_of disk)
+in_step_healthy journal held disk in_step = subst (λ (f : ℕ). IsHealthy f (reads_of disk)) in_step.form (record { live = journal.live; counts = in_step.journal_in_step.counts; count = journal.len; closed = in_step.journal_in_step.closed })
+
+-- a disk that a store is in step with, which doesn't ask for compaction
+pub unasked_rests : (journal : JournalState) (held : HoldingState) (disk : DiskState) → IsNodeStoreInStep journal held disk → ¬ AsksCompaction journal.generation held.payloads → IsAtRest (reads_of disk)
+unasked_rests journal held disk in_step unasked = record {
+  healthy = in_step_healthy journal held disk in_step;
+  unasked = λ asks. unasked (subst (λ (g : ℕ). AsksCompaction g held.payloads) (in_step_generation journal held disk in_step) (subst (λ (ps : List (List ℕ)). AsksCompaction (generation_in (reads_of disk)) ps) (sym in_step.payloads_are) asks));
+}
+
+-- a disk after compaction
+pub compacted_rests : (journal : JournalState) (held : HoldingState) (before : Image) (disk : DiskState) → IsNodeStoreInStep journal held disk → HasCompacted before (reads_of disk) → IsAtRest (reads_of disk)
+compacted_rests journal held before disk in_step done = record {
+  healthy = in_step_healthy journal held disk in_step;
+  unasked = none_asked (generation_in (reads_of disk)) (payloads 2 (reads_of disk)) done.live;
+}
 
 module _ (old new : Moments) (journal : JournalState) (held : HoldingState) (made side : List (List ℕ)) (in_step : IsNodeStoreInStep journal held old.now) (records : node_records_among made ≡ latest_alone (node_records_among held.payloads)) (is : made ≡ compacted (node_records_among held.payloads)) (written : side ≡ made) where
   abbrev reads : Image
@@ -49,8 +84,31 @@ module _ (old new : Moments) (journal : JournalState) (held : HoldingState) (mad
   pub compaction_records : payloads journal.form (reads_of new.now) ≡ side → node_records_in (reads_of new.now) ≡ latest_alone (node_records_in reads)
   compaction_records replaced = ap node_records_among (subst (λ (f : ℕ). payloads f (reads_of new.now) ≡ side) in_step.form replaced) ∙ records_now
 
+  -- what compaction has done
+  pub has_compacted : payloads journal.form (reads_of new.now) ≡ side → HasCompacted reads (reads_of new.now)
+  has_compacted replaced = record {
+    side = compaction_side replaced;
+    records = compaction_records replaced;
+    live = all_live (node_records_in reads) (payloads 2 (reads_of new.now)) (compaction_side replaced) (compaction_records replaced);
+  }
+
   pub compaction_held : payloads journal.form (reads_of new.now) ≡ side → made ≡ payloads 2 (reads_of new.now)
   compaction_held replaced = sym written ∙ sym (subst (λ (f : ℕ). payloads f (reads_of new.now) ≡ side) in_step.form replaced)
+
+-- what opening did first changed no payload
+pub compacted_from : (before middle after : Image) → payloads 2 middle ≡ payloads 2 before → HasCompacted middle after → HasCompacted before after
+compacted_from before middle after same done = record {
+  side = done.side ∙ ap (λ (ps : List (List ℕ)). compacted (node_records_among ps)) same;
+  records = done.records ∙ ap (λ (ps : List (List ℕ)). latest_alone (node_records_among ps)) same;
+  live = done.live;
+}
+
+-- an opened store asks where the image does
+pub store_asks : (image : Image) (generation : ℕ) (held : List (List ℕ)) → generation ≡ generation_in image → held ≡ payloads 2 image → ImageAsks image → AsksCompaction generation held
+store_asks image generation held is are asks = subst (λ (g : ℕ). AsksCompaction g held) (sym is) (subst (λ (ps : List (List ℕ)). AsksCompaction (generation_in image) ps) (sym are) asks)
+
+pub image_asks : (image : Image) (generation : ℕ) (held : List (List ℕ)) → generation ≡ generation_in image → held ≡ payloads 2 image → AsksCompaction generation held → ImageAsks image
+image_asks image generation held is are asks = subst (λ (ps : List (List ℕ)). AsksCompaction (generation_in image) ps) are (subst (λ (g : ℕ). AsksCompaction g held) is asks)
 
 -- the live bytes by a plan, as far as they can be counted
 live_is : (payloads : List (List ℕ)) (plan : Plan) → KeepsLatest payloads plan → live_bytes payloads ≡ 19 + blocks_length (carried_by (shelf_of payloads) plan).payloads
@@ -74,6 +132,10 @@ pub length_is : (journal : JournalState) (held : HoldingState) (disk : DiskState
 length_is journal held disk in_step =
     in_step.journal_in_step.closed.spelled.count_is
     ∙ ap (λ (f : ℕ). side_length (payloads f (reads_of disk))) in_step.form ∙ ap side_length (sym in_step.payloads_are)
+
+-- a side of no more bytes than the limit asks for nothing
+pub short_unasked : (payloads : List (List ℕ)) (generation len : ℕ) → len ≡ side_length payloads → len ≤ dead_limit → ¬ AsksCompaction generation payloads
+short_unasked payloads generation len is short asks = omega (arith, is, short, asks.dead.many)
 
 -- the generation of an opened journal
 pub generation_is : (image : Image) (journal : JournalState) (o : Option Side) → OpensAt image o journal → journal.generation ≡ option_map_or (λ side. generation_of (image_side side image)) o 1

@@ -5,11 +5,11 @@ use Rattle.vr_base.specs.declared.file.FileName.{FileName}
 use Rattle.vr_outside.specs.declared.records.Record.{Record}
 use Rattle.vr_outside.specs.declared.records.StoreFault.{StoreFault}
 use Rattle.vr_outside.specs.declared.records.StoreFault.TheVariants as fault
-use Rattle.vr_outside.specs.Records.{latest}
+use Rattle.vr_outside.specs.Records.{latest, latest_alone}
 use Rattle.vr_outside.specs.Disks.{DiskState, Image, image_side, reads_of}
 use Rattle.node_codec.specs.Shelves.{shelf_of}
 use Rattle.gate_journal.specs.Payloads.{counting, generation_of, payloads}
-use Rattle.gate_journal.specs.Journals.{IsInStep, JournalState}
+use Rattle.gate_journal.specs.Journals.{IsHealthy, IsInStep, JournalState}
 use Rattle.node_carry.specs.Carrying.{compacted, side_length}
 use Rattle.node_holdings.specs.declared.additions.Addition.{Addition}
 use Rattle.node_holdings.specs.Additions.{IsAddition}
@@ -76,6 +76,18 @@ generation_in image = option_map_or (λ side. generation_of (image_side side ima
 
 abbrev pub ImageAsks : Image → Type 0
 ImageAsks image = AsksCompaction (generation_in image) (payloads 2 image)
+
+-- An image that opening leaves as it is: a side counts, its last gate is closed, and what it holds asks for no compaction.
+pub record IsAtRest (image : Image) : Type 0 where
+  pub healthy : IsHealthy 2 image
+  pub unasked : ¬ ImageAsks image
+
+-- An image after compaction of another: its payloads are those that keep the latest records, which are its records; and
+-- none of its bytes is dead, since compaction would keep all of its payloads.
+pub record HasCompacted (before after : Image) : Type 0 where
+  pub side : payloads 2 after ≡ compacted (node_records_in before)
+  pub records : node_records_in after ≡ latest_alone (node_records_in before)
+  pub live : payloads 2 after ≡ compacted (node_records_in after)
 
 -- whether a call answered a fault of the disk
 abbrev pub has_disk_failed : {T : Type 0} → Result T StoreFault → Bool

@@ -8,7 +8,7 @@ ghost use Rattle.gate_journal.specs.Journals.{CountsAs, IsHealthy, Rests, other_
 ghost use Rattle.gate_journal.specs.Payloads.{payloads};
 ghost use Rattle.node_carry.specs.Carrying.{compacted, side_length};
 ghost use Rattle.node_holdings.specs.Held.{KeepsLatest};
-ghost use Rattle.node_store.specs.Stored.{AsksAt, AsksCompaction, HasManyDead, ImageAsks, LeavesAll, IsNodeReady, IsNodeStoreInStep, OnNoMemory, added_record, capped_length, generation_in, has_disk_failed, latest_among, node_records_among, node_records_in};
+ghost use Rattle.node_store.specs.Stored.{AsksAt, AsksCompaction, HasCompacted, HasManyDead, ImageAsks, IsAtRest, LeavesAll, IsNodeReady, IsNodeStoreInStep, OnNoMemory, added_record, capped_length, generation_in, has_disk_failed, latest_among, node_records_among, node_records_in};
 ghost use Rattle.node_store.specs.StoreLaws.{node_store_durable, node_store_held};
 
 use gate_journal::{Journal, Opened, Ready, ReadySide};
@@ -60,19 +60,20 @@ impl NodeStore {
             (λ image. IsAllOrLatest before (node_records_in image)) }
         // Where a side counts, its last gate is closed, and what it holds asks for no compaction, nothing is written.
         ensures rests { D.tells →
-            IsHealthy 2 (reads_of (D.moments disk.old).now) →
-            ¬ ImageAsks (reads_of (D.moments disk.old).now) →
+            IsAtRest (reads_of (D.moments disk.old).now) →
             Rests result (D.moments disk.old) (D.moments disk.new) }
+        // So it is of what opening leaves: a second one writes nothing.
+        ensures settled { D.tells → OnOk result (IsAtRest (reads_of (D.moments disk.new).now)) }
         ensures records { D.tells →
             let before = node_records_in (reads_of (D.moments disk.old).now) in
             OnOk result
             (IsAllOrLatest before (node_records_in (reads_of (D.moments disk.new).now))) }
-        // Where it asks for compaction, the latest records alone are left, in no more than their live bytes,
+        // Where it asks for compaction, the latest records alone are left, and no dead byte,
         ensures compacts { D.tells →
             ImageAsks (reads_of (D.moments disk.old).now) →
             OnOk result
-            (payloads 2 (reads_of (D.moments disk.new).now)
-            ≡ compacted (node_records_in (reads_of (D.moments disk.old).now))) }
+            (HasCompacted (reads_of (D.moments disk.old).now)
+            (reads_of (D.moments disk.new).now)) }
         // and where it doesn't, all payloads are.
         ensures keeps { D.tells →
             ¬ ImageAsks (reads_of (D.moments disk.old).now) →
@@ -138,14 +139,10 @@ impl NodeStore {
         ensures in_step { D.tells →
             OnOk result
             (IsNodeStoreInStep self.new.journal self.new.held (D.moments disk.new).now) }
-        ensures side { D.tells → self.old.journal.generation + 1 < 2 ^ 64 →
+        ensures compacts { D.tells → self.old.journal.generation + 1 < 2 ^ 64 →
             OnOk result
-            (payloads 2 (reads_of (D.moments disk.new).now)
-            ≡ compacted (node_records_in (reads_of (D.moments disk.old).now))) }
-        ensures records { D.tells → self.old.journal.generation + 1 < 2 ^ 64 →
-            OnOk result
-            (node_records_in (reads_of (D.moments disk.new).now)
-            ≡ latest_alone (node_records_in (reads_of (D.moments disk.old).now))) }
+            (HasCompacted (reads_of (D.moments disk.old).now)
+            (reads_of (D.moments disk.new).now)) }
         ensures counts { self.old.journal.generation + 1 < 2 ^ 64 →
             OnOk result
             (CountsAs (other_side self.old.journal.live) (self.old.journal.generation + 1)
@@ -194,14 +191,10 @@ impl NodeStore {
         ensures in_step { D.tells →
             OnOk result
             (IsNodeStoreInStep self.new.journal self.new.held (D.moments disk.new).now) }
-        ensures side { D.tells →
+        ensures compacts { D.tells →
             OnOk result
-            (payloads 2 (reads_of (D.moments disk.new).now)
-            ≡ compacted (node_records_in (reads_of (D.moments disk.old).now))) }
-        ensures records { D.tells →
-            OnOk result
-            (node_records_in (reads_of (D.moments disk.new).now)
-            ≡ latest_alone (node_records_in (reads_of (D.moments disk.old).now))) }
+            (HasCompacted (reads_of (D.moments disk.old).now)
+            (reads_of (D.moments disk.new).now)) }
         ensures counts { OnOk result
             (CountsAs (other_side self.old.journal.live) (self.old.journal.generation + 1)
             self.new.journal) }
@@ -286,11 +279,12 @@ impl NodeStore {
         ensures compacts { D.tells →
             AsksCompaction self.old.journal.generation self.old.held.payloads →
             OnOk result
-            (payloads 2 (reads_of (D.moments disk.new).now)
-            ≡ compacted (node_records_in (reads_of (D.moments disk.old).now))) }
+            (HasCompacted (reads_of (D.moments disk.old).now)
+            (reads_of (D.moments disk.new).now)) }
         ensures keeps { D.tells →
             ¬ AsksCompaction self.old.journal.generation self.old.held.payloads →
             disk.new ≡ disk.old }
+        ensures settled { D.tells → OnOk result (IsAtRest (reads_of (D.moments disk.new).now)) }
         ensures records { D.tells →
             OnOk result
             (IsAllOrLatest (node_records_in (reads_of (D.moments disk.old).now))

@@ -1,6 +1,7 @@
 use Rattle.std.proofs.Common.{◌≡◌, ◌<◌, ◌^◌, true, false, arith}
+use Rattle.vr_outside.specs.Disks.{reads_of}
 use Rattle.node_store.proofs.NodeMoments.{still_leaves}
-use Rattle.node_store.proofs.Compacting.{asked_by, asks_by, length_is}
+use Rattle.node_store.proofs.Compacting.{asked_by, asks_by, compacted_rests, length_is, short_unasked, unasked_rests}
 use Rattle.node_store.proofs.store.NodeStore.compact_where_asked.Goals as goal
 
 pub returns-then-length-le-DEAD_LIMIT-clause-any_moment : goal.returns-then-length-le-DEAD_LIMIT-clause-any_moment
@@ -34,3 +35,26 @@ returns-clause-keeps g c = λ told not_asks.
 
 pub returns-clause-any_moment : goal.returns-clause-any_moment
 returns-clause-any_moment g c = λ told. c.replace_by.ensures.any_moment told
+
+pub returns-then-length-le-DEAD_LIMIT-clause-settled : goal.returns-then-length-le-DEAD_LIMIT-clause-settled
+returns-then-length-le-DEAD_LIMIT-clause-settled g c = λ told.
+    let journal = c.args.self.now.journal in
+    let held = c.args.self.now.held in
+    let disk = (g.D.Disk.moments c.args.disk.now).now in
+    unasked_rests journal held disk (c.requires.in_step told)
+    (short_unasked held.payloads journal.generation journal.len (length_is journal held disk (c.requires.in_step told)) (omega (arith, c.length.ensures)))
+
+pub returns-then-not-is_asked-clause-settled : goal.returns-then-not-is_asked-clause-settled
+returns-then-not-is_asked-clause-settled g c = λ told.
+    let journal = c.args.self.now.journal in
+    let held = c.args.self.now.held in
+    let disk = (g.D.Disk.moments c.args.disk.now).now in
+    let fits : journal.len < 2 ^ 64 = omega (arith, c.length.ensures, c.length.type_inv) in
+    unasked_rests journal held disk (c.requires.in_step told) (λ asks.
+    let one : c.is_asked.result ≡ true = c.is_asked.ensures.1 (asks_by held.payloads c.in_ok-plan.plan journal.generation journal.len c.in_ok-plan.ensures fits (length_is journal held disk (c.requires.in_step told)) asks) in
+    let zero : c.is_asked.result ≡ false = c.if-not-is_asked.true in
+    absurd cc)
+
+pub returns-clause-settled : goal.returns-clause-settled
+returns-clause-settled g c = λ told.
+    compacted_rests c.replace_by.new.self.journal c.replace_by.new.self.held (reads_of (g.D.Disk.moments c.args.disk.now).now) (g.D.Disk.moments c.replace_by.new.disk).now (c.in_ok-replace_by.ensures.in_step told) (c.in_ok-replace_by.ensures.compacts told)

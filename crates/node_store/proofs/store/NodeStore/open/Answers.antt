@@ -1,11 +1,11 @@
 use Rattle.std.proofs.Common.{◌≡◌, ap, subst, sym, ◌∙◌}
 use Rattle.std.proofs.lemmas.Result.{err_from_is_err_and}
-use Rattle.vr_outside.specs.Disks.{reads_of}
+use Rattle.vr_outside.specs.Disks.{Goes, Moments, reads_of, settled_disk}
 use Rattle.vr_outside.specs.Records.{IsAllOrLatest}
-use Rattle.node_store.specs.Stored.{node_records_among, node_records_in}
+use Rattle.node_store.specs.Stored.{AsksCompaction, node_records_among, node_records_in}
 use Rattle.std.specs.Prelude.{Err}
 use Rattle.vr_outside.specs.declared.records.StoreFault.{StoreFault}
-use Rattle.node_store.proofs.Compacting.{counts_on}
+use Rattle.node_store.proofs.Compacting.{compacted_from, counts_on, image_asks, store_asks}
 use Rattle.node_store.proofs.NodeMoments.{reads_image, then_leaves, then_opens}
 use Rattle.node_store.proofs.store.NodeStore.open.Goals as goal
 
@@ -39,3 +39,27 @@ pub returns-clause-records : goal.returns-clause-records
 returns-clause-records g c = λ told.
     let new = g.D.Disk.moments c.compact_where_asked.new.disk in
     subst (λ ps. IsAllOrLatest (node_records_among ps) (node_records_in (reads_of new.now))) (c.in_ok-store.ensures.keeps told) (c.in_ok-compact_where_asked.ensures.records told)
+
+pub returns-clause-compacts : goal.returns-clause-compacts
+returns-clause-compacts g c = λ told asks.
+    let old = reads_of (g.D.Disk.moments c.args.disk.now).now in
+    let middle = reads_of (g.D.Disk.moments c.read.new.disk).now in
+    let new = reads_of (g.D.Disk.moments c.compact_where_asked.new.disk).now in
+    let store = c.in_ok-store.store in
+    let same = c.in_ok-store.ensures.keeps told in
+    let held = (c.in_ok-store.ensures.in_step told).payloads_are ∙ same in
+    compacted_from old middle new same (c.in_ok-compact_where_asked.ensures.compacts told (store_asks old store.journal.generation store.held.payloads (c.in_ok-store.ensures.generation told) held asks))
+
+pub returns-clause-rests : goal.returns-clause-rests
+returns-clause-rests g c = λ told rest.
+    let moments = g.D.Disk.moments in
+    let old = moments c.args.disk.now in
+    let store = c.in_ok-store.store in
+    let held = (c.in_ok-store.ensures.in_step told).payloads_are ∙ c.in_ok-store.ensures.keeps told in
+    let unasked : ¬ AsksCompaction store.journal.generation store.held.payloads = λ asks. rest.unasked (image_asks (reads_of old.now) store.journal.generation store.held.payloads (c.in_ok-store.ensures.generation told) held asks) in
+    let same : moments c.compact_where_asked.new.disk ≡ moments c.read.new.disk = ap moments (c.compact_where_asked.ensures.keeps told unasked) in
+    let one = c.in_ok-store.ensures.rests told rest.healthy in
+    record {
+      goes = subst (λ (m : Moments). Goes old.now old m) (sym same) one.goes;
+      same = subst (λ (m : Moments). m.now ≡ settled_disk (reads_of old.now)) (sym same) one.same;
+    }

@@ -8,7 +8,7 @@ use Rattle.node_store.specs.Stored.{IsNodeStoreInStep, latest_among, node_record
 use Rattle.vr_outside.specs.Records.{latest_alone}
 use Rattle.node_carry.specs.Carrying.{compacted}
 use Rattle.node_store.proofs.NodeMoments.{still_leaves}
-use Rattle.node_store.proofs.Compacting.{compaction_held, compaction_keeps, compaction_leaves, compaction_records, compaction_side, latest_still}
+use Rattle.node_store.proofs.Compacting.{compaction_held, compaction_keeps, compaction_leaves, has_compacted, latest_still}
 use Rattle.node_store.proofs.store.NodeStore.replace_by.Goals as goal
 
 pub returns-in_err-held-clause-any_moment : goal.returns-in_err-held-clause-any_moment
@@ -41,17 +41,11 @@ returns-in-Ok-clause-loses g c = λ told.
     let written = ap (λ (s : SideContent). s.payloads) made.side in
     compaction_keeps (g.D.Disk.moments c.args.disk.now) (g.D.Disk.moments c.replace.new.disk) c.args.self.now.journal c.args.self.now.held c.in_ok-held.field-0.held.payloads c.in_ok-held.field-0.side.payloads (c.requires.in_step told) made.records made.held written (c.replace.ensures.loses told)
 
-pub returns-in-Ok-clause-side : goal.returns-in-Ok-clause-side
-returns-in-Ok-clause-side g c = λ told.
+pub returns-in-Ok-clause-compacts : goal.returns-in-Ok-clause-compacts
+returns-in-Ok-clause-compacts g c = λ told.
     let made = c.in_ok-held.ensures in
     let written = ap (λ (s : SideContent). s.payloads) made.side in
-    compaction_side (g.D.Disk.moments c.args.disk.now) (g.D.Disk.moments c.replace.new.disk) c.args.self.now.journal c.args.self.now.held c.in_ok-held.field-0.held.payloads c.in_ok-held.field-0.side.payloads (c.requires.in_step told) made.records made.held written (c.in-Ok.ensures.replaced told)
-
-pub returns-in-Ok-clause-records : goal.returns-in-Ok-clause-records
-returns-in-Ok-clause-records g c = λ told.
-    let made = c.in_ok-held.ensures in
-    let written = ap (λ (s : SideContent). s.payloads) made.side in
-    compaction_records (g.D.Disk.moments c.args.disk.now) (g.D.Disk.moments c.replace.new.disk) c.args.self.now.journal c.args.self.now.held c.in_ok-held.field-0.held.payloads c.in_ok-held.field-0.side.payloads (c.requires.in_step told) made.records made.held written (c.in-Ok.ensures.replaced told)
+    has_compacted (g.D.Disk.moments c.args.disk.now) (g.D.Disk.moments c.replace.new.disk) c.args.self.now.journal c.args.self.now.held c.in_ok-held.field-0.held.payloads c.in_ok-held.field-0.side.payloads (c.requires.in_step told) made.records made.held written (c.in-Ok.ensures.replaced told)
 
 pub returns-in-Ok-clause-latest : goal.returns-in-Ok-clause-latest
 returns-in-Ok-clause-latest g c = λ name.
