@@ -1,6 +1,8 @@
 //! The scans of the files of a project, or the refusal of the first file that has a fault.
 
-ghost use Rattle.std.specs.Prelude.{◌≡◌, ◌≤◌, ℕ, List, [], ◌∷◌, ◌++◌, length, IfOk};
+ghost use Rattle.std.specs.Prelude.{◌≡◌, ◌≤◌, ℕ, List, [], ◌∷◌, ◌++◌, length, Err, IfOk};
+ghost use Rattle.vr_base.specs.declared.design.Scan.{Scan as Scanned};
+ghost use Rattle.scan_spec.specs.Tokens.{Scans};
 ghost use Rattle.scan_spec.specs.Units.{AreTokensOf, roles_of};
 ghost use Rattle.scan_spec.specs.Scans.{Finding, IsScanner, AreScansOf};
 ghost use Rattle.order_spec.specs.LinkedGraph.{FitTexts};
@@ -11,11 +13,12 @@ ghost use Rattle.project_reading.specs.Scanning.{GivesScan};
 
 use crate::stops::ReadStop;
 use std::alloc::Global;
-use vhdl_lex::scan_tokens;
-use vhdl_units::{outline_by_roles, roles_of};
+use std::mem::replace;
+use vhdl_lex::scan_with_roles;
+use vhdl_units::outline_by_roles;
 use vr_base::{
     FileName, Items, LexFault, NoMemory, ProjectFile, Refusal, RoleList, Scan, Scans, TEXT_LIMIT,
-    Text, TokenList, Tokens, UnitFault,
+    Text, Tokens, UnitFault,
 };
 
 /// A refusal of a file for a lexical fault.
@@ -36,19 +39,6 @@ fn grammatical(alloc: Global, file: &FileName, fault: UnitFault) -> Result<Refus
         file: file.copy(alloc)?,
         fault,
     })
-}
-
-/// The same tokens, in no more room than they need: the scanner reserves by the length of the text.
-fn without_spare_room(tokens: Tokens) -> Tokens
-    ensures { result ≡ tokens }
-{
-    let Tokens { list, comments } = tokens;
-    let mut list = list.into_vec();
-    list.shrink_to_fit();
-    Tokens {
-        list: TokenList::from_vec(list),
-        comments,
-    }
 }
 
 /// The scan of a file whose tokens are known with their roles, or its refusal for a fault of the unit grammar.
@@ -82,25 +72,52 @@ fn scan_units(
     }
 }
 
-/// The same, where the roles are made first and added to those of the files before.
+/// The same, where the roles are added to those of the files before.
 fn scan_cut(
     alloc: Global,
     file: &FileName,
     text: &[u8],
     tokens: Tokens,
+    own: &mut RoleList,
     roles: &mut Items<RoleList>,
 ) -> Result<Scan, ReadStop>
     requires tokens { AreTokensOf text.now tokens }
     requires small { length text.now ≤ TEXT_LIMIT }
+    requires own { own.old ≡ roles_of text.now tokens.list }
     ensures scan { GivesScan file.now text.now result }
     ensures roles { IfOk result (λ scan.
         roles.new ≡ roles.old ++ roles_of text.now scan.tokens.list ∷ []) }
     ensures cause { (count : ℕ) → ReadCounts result count count }
 {
-    let own = roles_of(alloc, text, &tokens)?;
-    let scan = scan_units(alloc, file, text, tokens, &own)?;
-    roles.push(own)?;
+    let scan = scan_units(alloc, file, text, tokens, own)?;
+    roles.push(replace(own, RoleList::new(alloc)))?;
     Ok(scan)
+}
+
+/// Why a text with a lexical fault has no scan.
+fn lexical_stop(alloc: Global, file: &FileName, fault: LexFault) -> Result<ReadStop, NoMemory>
+    ensures scan { IfOk result (λ stop. (text : List ℕ) →
+        Scans text (Err fault) → GivesScan file.now text (Err stop)) }
+    ensures cause { IfOk result (λ stop. (count : ℕ) → ReadCounts {T = Scanned} (Err stop) count count) }
+{
+    match fault {
+        LexFault::NoMemory => Ok(ReadStop::NoMemory),
+        LexFault::UnclosedString { at } => Ok(ReadStop::Refused(lexical(
+            alloc,
+            file,
+            LexFault::UnclosedString { at },
+        )?)),
+        LexFault::UnclosedExtended { at } => Ok(ReadStop::Refused(lexical(
+            alloc,
+            file,
+            LexFault::UnclosedExtended { at },
+        )?)),
+        LexFault::UnclosedComment { at } => Ok(ReadStop::Refused(lexical(
+            alloc,
+            file,
+            LexFault::UnclosedComment { at },
+        )?)),
+    }
 }
 
 /// The scan of a file, and the roles of its tokens after those of the files before; or its refusal for its lexical fault
@@ -117,24 +134,10 @@ fn scan_file(
         roles.new ≡ roles.old ++ roles_of text.now scan.tokens.list ∷ []) }
     ensures cause { (count : ℕ) → ReadCounts result count count }
 {
-    match scan_tokens(alloc, text) {
-        Ok(tokens) => scan_cut(alloc, file, text, without_spare_room(tokens), roles),
-        Err(LexFault::NoMemory) => Err(ReadStop::NoMemory),
-        Err(LexFault::UnclosedString { at }) => Err(ReadStop::Refused(lexical(
-            alloc,
-            file,
-            LexFault::UnclosedString { at },
-        )?)),
-        Err(LexFault::UnclosedExtended { at }) => Err(ReadStop::Refused(lexical(
-            alloc,
-            file,
-            LexFault::UnclosedExtended { at },
-        )?)),
-        Err(LexFault::UnclosedComment { at }) => Err(ReadStop::Refused(lexical(
-            alloc,
-            file,
-            LexFault::UnclosedComment { at },
-        )?)),
+    let mut own = RoleList::new(alloc);
+    match scan_with_roles(alloc, text, &mut own) {
+        Ok(tokens) => scan_cut(alloc, file, text, tokens, &mut own, roles),
+        Err(fault) => Err(lexical_stop(alloc, file, fault)?),
     }
 }
 
