@@ -2,3 +2,4 @@
 pub mod NodeRecords
 pub mod NodeMoments
 pub mod Compacting
+pub mod Following
