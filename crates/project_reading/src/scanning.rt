@@ -98,7 +98,8 @@ fn scan_cut(
 fn lexical_stop(alloc: Global, file: &FileName, fault: LexFault) -> Result<ReadStop, NoMemory>
     ensures scan { IfOk result (λ stop. (text : List ℕ) →
         Scans text (Err fault) → GivesScan file.now text (Err stop)) }
-    ensures cause { IfOk result (λ stop. (count : ℕ) → ReadCounts {T = Scanned} (Err stop) count count) }
+    ensures cause { IfOk result (λ stop. (count : ℕ) →
+        ReadCounts {T = Scanned} (Err stop) count count) }
 {
     match fault {
         LexFault::NoMemory => Ok(ReadStop::NoMemory),
