@@ -1,10 +1,11 @@
-# An output that can't be written is a fault with status 3, which standard error names; the input is left alone.
+# An output that can't be written is a fault with status 3, which standard error names, and so is a child's input that can't
+# be read; but for that the input is left alone.
 . "$TOP/tests/support/program.sh"
 project vunit.csv 'lib,a.vhd\n' a.vhd 'package a is end;\n'
 
-# Compares status and standard error of the last run with those of a fault of the output.
+# Compares status and standard error of the last run with those of a fault of the output, or of what is named.
 faulty() {
-    if [ "$(cat status)" != 3 ] || [ "$(cat err)" != "vunit_run: fault of out" ]; then
+    if [ "$(cat status)" != 3 ] || [ "$(cat err)" != "vunit_run: fault of ${2-out}" ]; then
         echo "$1: status $(cat status), and on standard error:"
         cat err
         failures=$((failures + 1))
@@ -29,6 +30,16 @@ fi
 "$VUNIT_RUN" --frob >&- 2>err
 echo $? >status
 faulty "a closed output for the usage text"
+
+for input in '<.' '<&-'; do
+    eval "\"\$VUNIT_RUN\" child-analyse $input" >said 2>err
+    echo $? >status
+    faulty "an input that is $input" input
+done
+if [ -s said ]; then
+    echo "after a fault of the input something is said"
+    failures=$((failures + 1))
+fi
 
 expect "the record is there whatever became of the output" 0 "Re-compile not needed" --compile
 for closed in '<&-' '>&-' '2>&-' '<&- >&- 2>&-'; do
