@@ -9,6 +9,3 @@ mod words;
 pub use building::BuildOptions;
 pub use top::run_vunit;
 pub use words::Job;
-
-#[cfg(test)]
-mod tests;
