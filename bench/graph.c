@@ -2,9 +2,9 @@
  * does the first alone, over projects of files of at most 16,384 bytes: 1,024 of them, each of which refers to up to 4
  * files before it in its group of 64, and 1,024 of which each refers to 4 earlier ones anywhere. So many rounds of each in
  * turn, and the least seconds. The library is handed one text, and copies its files first: the seconds of that, with those
- * of the project file, are measured by a call that does no more, and taken off. Then how the first grows to 4,096 files; and hostile projects: a cycle of 4,096 files, a
- * file with 100,000 references to one unit, and 4,096 files that each refer to all before them by loose references of a
- * few bytes, which is 8.4 million.
+ * of the project file, are measured by a call that does no more, and taken off. Then how the first grows to 4,096 files;
+ * and hostile projects: a cycle of 4,096 files, a file with 100,000 references to one unit, and 4,096 files that each refer
+ * to all before them by loose references of a few bytes, which is 8.4 million.
  *
  *   graph ROUNDS
  */
