@@ -1,6 +1,2 @@
--- The definitions.
-pub mod Prefixes
-pub mod Codes
-pub mod Commands
+-- The definitions of this crate.
 pub mod Status
-pub mod Untold

@@ -1,27 +1,17 @@
 //! The program: the real tree, children, input and output, handed to the top call.
 #![tactic(auto)]
 
-mod child;
-mod child_procs;
-mod file_tree;
-mod files;
-mod listing;
-mod reading;
 mod status;
-mod streams;
-#[cfg(test)]
-mod tests;
 
 use child_procs::ChildProcs;
 use file_disk::FileDisk;
 use file_reports::FileReports;
-use file_tree::FileTree;
-use listing::OUTPUT_FOLDER;
+use file_tree::{FileTree, OUTPUT_FOLDER};
 use status::status_of;
 use std::env;
 use std::io::ErrorKind;
 use std::process::ExitCode;
-use streams::{StdSink, StdSource};
+use std_streams::{StdSink, StdSource};
 use vr_base::{NoMemory, Outcome, Text, TextList, Which};
 use vunit_top::run_vunit;
 

@@ -1,0 +1,6 @@
+//! Standard input and standard output.
+#![tactic(auto)]
+
+mod streams;
+
+pub use streams::{StdSink, StdSource};

@@ -1,4 +1,0 @@
--- The lemmas.
-mod Prefixes
-mod Listings
-mod Tickets
