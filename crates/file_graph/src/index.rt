@@ -99,13 +99,10 @@ fn add_unit(
         AddsUnit project.now.files units other index.new result }
 {
     let key = unit_key(alloc, &project.files.get(file as u64).name.library, unit)?;
-    match place_of(index, &key) {
+    let is_package = is_package(unit.kind);
+    match index.insert(key, Place { file, is_package })? {
         Some(place) => refuse(alloc, project, place.file, file, unit),
-        None => {
-            let is_package = is_package(unit.kind);
-            index.insert(key, Place { file, is_package })?;
-            Ok(())
-        }
+        None => Ok(()),
     }
 }
 
