@@ -1,13 +1,11 @@
 //! The program: the real tree, children, input and output, handed to the top call.
 #![tactic(auto)]
 
-mod status;
-
 use child_procs::ChildProcs;
 use file_disk::FileDisk;
 use file_reports::FileReports;
 use file_tree::{FileTree, OUTPUT_FOLDER};
-use status::status_of;
+use run_report::status_of;
 use std::env;
 use std::io::ErrorKind;
 use std::process::ExitCode;

@@ -1,6 +1,7 @@
-// The status that the program ends with.
+//! The status that the program ends with.
+
 ghost use Rattle.std.specs.Prelude.{◌≡◌};
-ghost use Rattle.vunit_run.specs.Status.{status};
+ghost use Rattle.run_report.specs.Status.{status};
 
 use vr_base::Outcome;
 
