@@ -49,16 +49,42 @@ fn run(rt: HostRuntime) -> Outcome {
 }
 
 fn run_words(rt: HostRuntime, words: &TextList) -> Outcome {
-    let Ok(mut input) = StdSource::new(rt.alloc(), rt) else {
-        return Outcome::NoMemory;
-    };
-    let Ok(mut tree) = FileTree::new(rt.alloc(), rt) else {
-        return Outcome::NoMemory;
-    };
+    match StdSource::new(rt.alloc(), rt) {
+        Ok(mut input) => run_from(rt, words, &mut input),
+        Err(NoMemory) => Outcome::NoMemory,
+    }
+}
+
+/// Runs the words with an input.
+fn run_from(rt: HostRuntime, words: &TextList, input: &mut StdSource<HostRuntime>) -> Outcome {
+    match FileTree::new(rt.alloc(), rt) {
+        Ok(mut tree) => run_in(rt, words, input, &mut tree),
+        Err(NoMemory) => Outcome::NoMemory,
+    }
+}
+
+/// Runs the words with an input in a folder.
+fn run_in(
+    rt: HostRuntime,
+    words: &TextList,
+    input: &mut StdSource<HostRuntime>,
+    tree: &mut FileTree<HostRuntime>,
+) -> Outcome {
+    match FileDisk::new(rt.alloc(), rt, OUTPUT_FOLDER) {
+        Ok(mut disk) => run_over(rt, words, input, tree, &mut disk),
+        Err(NoMemory) => Outcome::NoMemory,
+    }
+}
+
+/// Runs the words with an input in a folder, over the records that are there.
+fn run_over(
+    rt: HostRuntime,
+    words: &TextList,
+    input: &mut StdSource<HostRuntime>,
+    tree: &mut FileTree<HostRuntime>,
+    disk: &mut FileDisk,
+) -> Outcome {
     let Ok(mut procs) = ChildProcs::new(rt.alloc(), rt) else {
-        return Outcome::NoMemory;
-    };
-    let Ok(mut disk) = FileDisk::new(rt.alloc(), rt, OUTPUT_FOLDER) else {
         return Outcome::NoMemory;
     };
     let mut out = StdSink::new(rt);
@@ -66,9 +92,9 @@ fn run_words(rt: HostRuntime, words: &TextList) -> Outcome {
     run_vunit(
         rt.alloc(),
         words,
-        &mut input,
-        &mut tree,
-        &mut disk,
+        input,
+        tree,
+        disk,
         &mut procs,
         &mut out,
         &mut reports,
