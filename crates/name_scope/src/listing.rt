@@ -73,7 +73,8 @@ fn drop_repeats(names: &mut Vec<Text>)
 
 /// The names of a row, strictly rising by bytes.
 pub fn rising_names(alloc: Global, names: &Names, row: &Row) -> Result<Vec<Text>, NoMemory>
-    ensures { IfOk result (λ found. ListsNames (row_names (keys_of names.now) row.now) found.items) }
+    ensures { IfOk result (λ found.
+        ListsNames (row_names (keys_of names.now) row.now) found.items) }
 {
     let mut found = names_in(alloc, names, row)?;
     sort_names(&mut found);

@@ -33,8 +33,10 @@ impl ShelfPlaces {
     /// Makes room for one more text, node and record. What they stand for is unchanged.
     #[tactic(auto, using(crate::proofs::Grown::still_parts, crate::proofs::Grown::same_parts))]
     pub fn reserve(&mut self) -> Result<(), NoMemory>
-        ensures are { (payloads : List (List ℕ)) → IsShelf payloads self.old → IsShelf payloads self.new }
-        ensures is { (payloads : List (List ℕ)) → shelf_in payloads self.new ≡ shelf_in payloads self.old }
+        ensures are { (payloads : List (List ℕ)) →
+            IsShelf payloads self.old → IsShelf payloads self.new }
+        ensures is { (payloads : List (List ℕ)) →
+            shelf_in payloads self.new ≡ shelf_in payloads self.old }
         ensures names { self.new.table.names ≡ self.old.table.names }
         ensures commands { self.new.table.commands ≡ self.old.table.commands }
         ensures texts { OnOk result (HasTextRoom self.new.texts) }

@@ -90,7 +90,8 @@ pub fn put_fault(alloc: Global, out: &mut Vec<u8>, fault: &ProjectFault) -> Resu
 
 /// Puts words, a name and words after it.
 fn put_around(out: &mut Vec<u8>, before: &[u8], name: &[u8], after: &[u8]) -> Result<(), NoMemory>
-    ensures { OnOk result (out.new.items ≡ out.old.items ++ (before.now ++ (name.now ++ after.now))) }
+    ensures { OnOk result (out.new.items
+        ≡ out.old.items ++ (before.now ++ (name.now ++ after.now))) }
 {
     put(out, before)?;
     put(out, name)?;
