@@ -8,5 +8,3 @@ mod setting;
 pub use reading::read_words;
 pub use setting::{Setting, WordsFault};
 
-#[cfg(test)]
-mod tests;

@@ -10,8 +10,6 @@ mod marks;
 mod notes;
 mod requests;
 mod starts;
-#[cfg(test)]
-mod tests;
 
 pub use builds::{BuildEnd, build, build_marks};
 pub use faults::BuildFault;

@@ -16,5 +16,3 @@ pub use opening::Opened;
 pub use payloads::Payloads;
 pub use ready::{Ready, ReadySide};
 
-#[cfg(test)]
-mod tests;

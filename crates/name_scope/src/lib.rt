@@ -16,8 +16,6 @@ mod row;
 mod scope;
 mod spread;
 mod table;
-#[cfg(test)]
-mod tests;
 mod want;
 mod wants;
 mod work;

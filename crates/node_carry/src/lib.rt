@@ -13,5 +13,3 @@ pub use plan::{NodeStep, Plan, Step};
 pub use walking::plan_latest;
 pub use writing::carried_payloads;
 
-#[cfg(test)]
-mod tests;

@@ -10,5 +10,3 @@ pub use additions::{Addition, KnownNode, NewNode, NextPiece};
 pub use holdings::Holdings;
 pub use node_carry::Plan;
 
-#[cfg(test)]
-mod tests;

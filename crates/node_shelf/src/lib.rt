@@ -17,5 +17,3 @@ pub use shelf::ShelfPlaces;
 pub use taking::shelf_of;
 pub use texts::{TextPlace, TextPlaces, find_text, text_at};
 
-#[cfg(test)]
-mod tests;

@@ -5,5 +5,3 @@ mod store;
 
 pub use store::{NodeStore, PreparedNode};
 
-#[cfg(test)]
-mod tests;

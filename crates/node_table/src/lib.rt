@@ -9,5 +9,3 @@ pub use commands::Command;
 pub use rows::Row;
 pub use table::NodeTable;
 
-#[cfg(test)]
-mod tests;

@@ -13,5 +13,3 @@ mod values;
 pub use csv::read_csv_project;
 pub use tables::read_toml_project;
 
-#[cfg(test)]
-mod tests;

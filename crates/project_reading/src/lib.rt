@@ -13,7 +13,3 @@ pub use linking::ReadProject;
 pub use reading::read_project;
 pub use stops::ReadStop;
 
-#[cfg(test)]
-mod random_tests;
-#[cfg(test)]
-mod tests;

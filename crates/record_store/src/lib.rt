@@ -9,5 +9,3 @@ mod store;
 pub use pairs::{keep, keep_both};
 pub use store::{PreparedRecord, RecordStore};
 
-#[cfg(test)]
-mod tests;

@@ -17,5 +17,3 @@ mod words;
 pub use laws::laws_of_benches;
 pub use scanning::benches;
 
-#[cfg(test)]
-mod tests;

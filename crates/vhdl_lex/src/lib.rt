@@ -13,5 +13,3 @@ pub use reserved::{is_reserved, reserved_number};
 pub use roles::role_of;
 pub use scan::{scan_tokens, scan_with_roles};
 
-#[cfg(test)]
-mod tests;

@@ -21,5 +21,3 @@ pub use refs::{no_ref, ref_at};
 pub use structural::structural_ref;
 pub use uses::uses_of_all;
 
-#[cfg(test)]
-mod tests;

@@ -31,7 +31,3 @@ pub use mem_source::MemSource;
 pub use mem_tree::MemTree;
 pub use script_procs::ScriptProcs;
 
-#[cfg(test)]
-mod disk_tests;
-#[cfg(test)]
-mod tests;

@@ -1,0 +1,21 @@
+//! Tests of builds over a disk and children in memory.
+#![tactic(auto)]
+
+#[cfg(test)]
+mod compare;
+#[cfg(test)]
+mod objects;
+#[cfg(test)]
+mod parts;
+#[cfg(test)]
+mod plain;
+#[cfg(test)]
+mod rows;
+#[cfg(test)]
+mod seeded;
+#[cfg(test)]
+mod sets;
+#[cfg(test)]
+mod shapes;
+#[cfg(test)]
+mod stops;

@@ -1,0 +1,302 @@
+//! Builds over a disk and children in memory, and what they tell.
+
+use crate::plain::{NEVER, Way, pick_of};
+use crate::sets::has;
+use crate::shapes::{Shape, file_of, graph_of, input_of, letter, text};
+use compile_loop::{BuildEnd, BuildFault, build, build_marks};
+use record_store::RecordStore;
+use run_report::build_text;
+use std::alloc::Global;
+use std::process::Abort;
+use std::test::Fail;
+use vr_base::{
+    Built, Event, Exit, Graph, Items, Mark, MarkList, MaybeText, NoMemory, Numbers, Positions,
+    Request, Text, TextList,
+};
+use vr_memory::{Answer, AnswerList, MemDisk, ScriptProcs, can_answer};
+use vr_outside::{Records, StoreFault};
+
+/// What a build did and answered, in letters.
+#[derive(Drop)]
+pub(super) struct Told {
+    /// `+0` is a start of file 0, `-0` its end with code 0, `!0` its refusal, `?0` its loss.
+    pub events: Vec<u8>,
+    /// One letter a mark: fresh, compiled, refused, skipped or left.
+    pub marks: Vec<u8>,
+    /// The letter and the text of each artefact of the whole, where there is one.
+    pub whole: Vec<u8>,
+    /// What is printed of the build.
+    pub text: Vec<u8>,
+    pub fault: Option<BuildFault>,
+}
+
+/// A list of the one call that is to fail, or of none.
+fn one(alloc: Global, call: u32) -> Result<Numbers, NoMemory> {
+    let mut calls = Numbers::new(alloc);
+    if call < NEVER {
+        calls.push(call as u64)?;
+    }
+    Ok(calls)
+}
+
+/// An empty disk, of which one call is to fail.
+pub(super) fn empty_disk(alloc: Global, failing: u32) -> Result<MemDisk, NoMemory> {
+    Ok(MemDisk::new(alloc, one(alloc, failing)?))
+}
+
+fn picks_of(alloc: Global, picks: u32) -> Result<Positions, NoMemory> {
+    let mut list = Positions::new(alloc);
+    for wait in 0..8u32 {
+        list.push(pick_of(picks, wait))?;
+    }
+    Ok(list)
+}
+
+fn words(alloc: Global) -> Result<TextList, NoMemory> {
+    let mut words = TextList::new(alloc);
+    words.push(Text::from_slice(alloc, b"cc")?)?;
+    Ok(words)
+}
+
+fn request(alloc: Global, shape: &Shape, changed: u8, at: u8) -> Result<Request, NoMemory> {
+    Ok(Request {
+        command: words(alloc)?,
+        input: Text::from_vec(input_of(alloc, shape, changed, at)?),
+        results: MaybeText::Nothing,
+    })
+}
+
+/// A compiler's exit: the letter and the text of the file, whether it is refused or not.
+fn exit(alloc: Global, changed: u8, at: u8, refused: bool) -> Result<Exit, NoMemory> {
+    Ok(Exit {
+        code: if refused { 1 } else { 0 },
+        output: Text::from_slice(alloc, &[letter(at), text(changed, at)])?,
+        results: MaybeText::Nothing,
+    })
+}
+
+fn answers(alloc: Global, shape: &Shape, changed: u8, refused: u8) -> Result<AnswerList, NoMemory> {
+    let mut answers: AnswerList = Items::new(alloc);
+    for at in 0..shape.count {
+        answers.push(Answer {
+            request: request(alloc, shape, changed, at)?,
+            exit: exit(alloc, changed, at, has(refused, at))?,
+        })?;
+    }
+    Ok(answers)
+}
+
+/// Children of a shape that go a way.
+fn script(
+    rt: &impl Abort,
+    alloc: Global,
+    shape: &Shape,
+    changed: u8,
+    way: &Way,
+) -> Result<ScriptProcs, NoMemory> {
+    let answers = answers(alloc, shape, changed, way.refused)?;
+    assert!(rt; can_answer(&answers));
+    let picks = picks_of(alloc, way.picks)?;
+    Ok(ScriptProcs::new(alloc, answers, picks, one(alloc, way.failing)?))
+}
+
+/// Builds over a store that is opened over the disk. A store that can't be opened is the fault of a build.
+fn build_over(
+    rt: &impl Abort,
+    alloc: Global,
+    graph: &Graph,
+    disk: &mut MemDisk,
+    procs: &mut ScriptProcs,
+    limit: u32,
+    keep_going: bool,
+) -> Result<BuildEnd, BuildFault> {
+    let mut store = match RecordStore::from_disk(alloc, disk) {
+        Ok(store) => store,
+        Err(StoreFault::NoMemory) => return Err(BuildFault::NoMemory),
+        Err(StoreFault::DiskFailed) => return Err(BuildFault::DiskFailed),
+    };
+    assert!(rt; procs.running().is_empty());
+    assert!(rt; limit >= 1);
+    assert!(rt; limit <= 64);
+    build(alloc, graph, &mut store, disk, procs, limit, keep_going)
+}
+
+/// The file that a ticket was started for; 8 where it is none.
+fn started_file(events: &[Event], ticket: u64) -> u8 {
+    for event in events {
+        match event {
+            Event::Started {
+                ticket: other,
+                request,
+            } => {
+                if *other == ticket {
+                    return file_of(request.input.bytes());
+                }
+            }
+            Event::Ended { ticket: _, exit: _ } | Event::Gone { ticket: _ } => {}
+        }
+    }
+    8
+}
+
+/// An event as two letters.
+fn letters(event: &Event, events: &[Event]) -> [u8; 2] {
+    match event {
+        Event::Started { ticket: _, request } => [b'+', file_of(request.input.bytes())],
+        Event::Ended { ticket, exit } => {
+            let kind = if exit.code == 0 { b'-' } else { b'!' };
+            [kind, started_file(events, *ticket)]
+        }
+        Event::Gone { ticket } => [b'?', started_file(events, *ticket)],
+    }
+}
+
+fn tell_events(alloc: Global, events: &[Event]) -> Result<Vec<u8>, NoMemory> {
+    let mut told = Vec::new(alloc);
+    for event in events {
+        let [kind, file] = letters(event, events);
+        told.push(kind)?;
+        told.push(b'0' + file % 16)?;
+    }
+    Ok(told)
+}
+
+fn letter_of(mark: &Mark) -> u8 {
+    match mark {
+        Mark::Fresh => b'f',
+        Mark::Compiled => b'c',
+        Mark::Refused { code, output: _ } => { if *code == 1 { b'r' } else { b'x' } }
+        Mark::Skipped => b's',
+        Mark::Left => b'l',
+    }
+}
+
+fn tell_marks(alloc: Global, marks: &MarkList) -> Result<Vec<u8>, NoMemory> {
+    let mut told = Vec::new(alloc);
+    for mark in marks.as_slice() {
+        told.push(letter_of(mark))?;
+    }
+    Ok(told)
+}
+
+fn tell_whole(alloc: Global, whole: &Option<Built>) -> Result<Vec<u8>, NoMemory> {
+    let mut told = Vec::new(alloc);
+    if let Some(built) = whole {
+        for file in built.as_slice() {
+            told.extend_from_slice(file.artefact.bytes())?;
+        }
+    }
+    Ok(told)
+}
+
+/// What is printed of a build with these marks; nothing where they aren't those of the graph.
+fn tell_text(alloc: Global, graph: &Graph, marks: &MarkList) -> Result<Vec<u8>, NoMemory> {
+    if marks.len() != graph.len() {
+        return Ok(Vec::new(alloc));
+    }
+    let text = build_text(alloc, graph, marks)?;
+    Ok(Vec::from_slice(alloc, text.bytes())?)
+}
+
+fn tell(
+    alloc: Global,
+    graph: &Graph,
+    events: &[Event],
+    end: &Result<BuildEnd, BuildFault>,
+) -> Result<Told, NoMemory> {
+    let events = tell_events(alloc, events)?;
+    match end {
+        Ok(end) => Ok(Told {
+            events,
+            marks: tell_marks(alloc, &end.marks)?,
+            whole: tell_whole(alloc, &end.whole)?,
+            text: tell_text(alloc, graph, &end.marks)?,
+            fault: None,
+        }),
+        Err(fault) => Ok(Told {
+            events,
+            marks: Vec::new(alloc),
+            whole: Vec::new(alloc),
+            text: Vec::new(alloc),
+            fault: Some(*fault),
+        }),
+    }
+}
+
+/// Builds a shape, of which some files have changed, over a disk.
+pub(super) fn told_build(
+    rt: &impl Abort,
+    alloc: Global,
+    shape: &Shape,
+    changed: u8,
+    way: &Way,
+    disk: &mut MemDisk,
+) -> Result<Told, Fail> {
+    let graph = graph_of(alloc, shape, changed)?;
+    let mut procs = script(rt, alloc, shape, changed, way)?;
+    let end = build_over(
+        rt,
+        alloc,
+        &graph,
+        disk,
+        &mut procs,
+        way.limit,
+        way.keep_going,
+    );
+    Ok(tell(alloc, &graph, procs.journal().as_slice(), &end)?)
+}
+
+/// The fault that ends such a build, if one does.
+pub(super) fn build_fault(
+    rt: &impl Abort,
+    alloc: Global,
+    shape: &Shape,
+    changed: u8,
+    way: &Way,
+    disk: &mut MemDisk,
+) -> Result<Option<BuildFault>, Fail> {
+    let graph = graph_of(alloc, shape, changed)?;
+    let mut procs = script(rt, alloc, shape, changed, way)?;
+    match build_over(
+        rt,
+        alloc,
+        &graph,
+        disk,
+        &mut procs,
+        way.limit,
+        way.keep_going,
+    ) {
+        Ok(_end) => Ok(None),
+        Err(fault) => Ok(Some(fault)),
+    }
+}
+
+/// Builds over a store that is opened over the disk, for the marks alone.
+fn build_marks_over(
+    rt: &impl Abort,
+    alloc: Global,
+    graph: &Graph,
+    disk: &mut MemDisk,
+    procs: &mut ScriptProcs,
+    limit: u32,
+) -> Result<MarkList, Fail> {
+    let mut store = RecordStore::from_disk(alloc, disk)?;
+    assert!(rt; procs.running().is_empty());
+    assert!(rt; limit >= 1);
+    assert!(rt; limit <= 64);
+    Ok(build_marks(alloc, graph, &mut store, disk, procs, limit, true)?)
+}
+
+/// The marks of a build of a shape over an empty disk.
+pub(super) fn told_marks(
+    rt: &impl Abort,
+    alloc: Global,
+    shape: &Shape,
+    way: &Way,
+) -> Result<Vec<u8>, Fail> {
+    let graph = graph_of(alloc, shape, 0)?;
+    let mut procs = script(rt, alloc, shape, 0, way)?;
+    let mut disk = empty_disk(alloc, NEVER)?;
+    let marks = build_marks_over(rt, alloc, &graph, &mut disk, &mut procs, way.limit)?;
+    Ok(tell_marks(alloc, &marks)?)
+}

@@ -1,0 +1,199 @@
+//! Builds of small projects, event by event, for each number of slots.
+
+use crate::objects::{Told, build_fault, empty_disk, told_build, told_marks};
+use crate::parts::{USERS, way};
+use crate::plain::{NEVER, Way};
+use crate::shapes::Shape;
+use compile_loop::BuildFault;
+use std::alloc::Global;
+use std::process::Abort;
+use std::test::Fail;
+use vr_memory::MemDisk;
+
+/// A package, its user, a file alone, a user of the user; and a file that depends on all of them.
+const REFUSED: Shape = Shape {
+    count: 5,
+    deps: [0, 0b1, 0, 0b11, 0b1111, 0, 0, 0],
+};
+
+/// Three files alone, and a file that depends on all of them.
+const ALONE: Shape = Shape {
+    count: 4,
+    deps: [0, 0, 0, 0b111, 0, 0, 0, 0],
+};
+
+/// Builds the users with one slot and no refusal.
+fn build_users(rt: &impl Abort, alloc: Global, disk: &mut MemDisk) -> Result<(), Fail> {
+    let fault = build_fault(rt, alloc, &USERS, 0, &way(1, false, 0, 0), disk)?;
+    assert!(rt; fault.is_none());
+    Ok(())
+}
+
+/// Builds the users from an empty disk, and then once more after the package has changed.
+fn told_again(rt: &impl Abort, alloc: Global, limit: u32) -> Result<Told, Fail> {
+    let mut disk = empty_disk(alloc, NEVER)?;
+    build_users(rt, alloc, &mut disk)?;
+    told_build(rt, alloc, &USERS, 0b1, &way(limit, false, 0, 0), &mut disk)
+}
+
+fn is(told: &Told, events: &[u8], marks: &[u8]) -> bool {
+    told.events.as_slice() == events && told.marks.as_slice() == marks
+}
+
+/// Builds again after the package has changed.
+fn users_go(rt: &impl Abort, alloc: Global, limit: u32, events: &[u8]) -> Result<(), Fail> {
+    let told = told_again(rt, alloc, limit)?;
+    assert!(rt; is(&told, events, b"ccfccc"));
+    assert!(rt; told.whole.as_slice() == b"a2b1c1d1e1f1".as_slice());
+    Ok(())
+}
+
+#[test]
+fn a_changed_package_and_its_users_are_compiled(rt: HostRuntime) -> Result<(), Fail> {
+    users_go(&rt, rt.alloc(), 1, b"+0-0+1-1+3-3+4-4+5-5")?;
+    for limit in [2, 3, 64] {
+        users_go(&rt, rt.alloc(), limit, b"+0-0+1+3-1+4-3-4+5-5")?;
+    }
+    Ok(())
+}
+
+/// Builds from an empty disk.
+fn first_goes(
+    rt: &impl Abort,
+    alloc: Global,
+    shape: &Shape,
+    way: &Way,
+    events: &[u8],
+    marks: &[u8],
+) -> Result<(), Fail> {
+    let mut disk = empty_disk(alloc, NEVER)?;
+    let told = told_build(rt, alloc, shape, 0, way, &mut disk)?;
+    assert!(rt; is(&told, events, marks));
+    Ok(())
+}
+
+#[test]
+fn a_free_slot_is_used_before_the_first_wait(rt: HostRuntime) -> Result<(), Fail> {
+    let events = b"+0+2-0+1+3-2-1+4-3-4+5-5";
+    first_goes(
+        &rt,
+        rt.alloc(),
+        &USERS,
+        &way(3, false, 0, 0),
+        events,
+        b"cccccc",
+    )
+}
+
+#[test]
+fn a_refusal_skips_what_depends_on_it(rt: HostRuntime) -> Result<(), Fail> {
+    let alloc = rt.alloc();
+    first_goes(
+        &rt,
+        alloc,
+        &REFUSED,
+        &way(1, true, 0b1, 0),
+        b"+0!0+2-2",
+        b"rscss",
+    )?;
+    for limit in [2, 3, 64] {
+        first_goes(
+            &rt,
+            alloc,
+            &REFUSED,
+            &way(limit, true, 0b1, 0),
+            b"+0+2!0-2",
+            b"rscss",
+        )?;
+    }
+    Ok(())
+}
+
+#[test]
+fn a_refusal_ends_a_build_that_does_not_keep_going(rt: HostRuntime) -> Result<(), Fail> {
+    let alloc = rt.alloc();
+    first_goes(
+        &rt,
+        alloc,
+        &REFUSED,
+        &way(1, false, 0b1, 0),
+        b"+0!0",
+        b"rllll",
+    )?;
+    for limit in [2, 3, 64] {
+        first_goes(
+            &rt,
+            alloc,
+            &REFUSED,
+            &way(limit, false, 0b1, 0),
+            b"+0+2!0-2",
+            b"rlcll",
+        )?;
+    }
+    Ok(())
+}
+
+#[test]
+fn ends_come_in_any_order(rt: HostRuntime) -> Result<(), Fail> {
+    let alloc = rt.alloc();
+    first_goes(
+        &rt,
+        alloc,
+        &ALONE,
+        &way(1, false, 0, 0x012),
+        b"+0-0+1-1+2-2+3-3",
+        b"cccc",
+    )?;
+    first_goes(
+        &rt,
+        alloc,
+        &ALONE,
+        &way(2, false, 0, 0),
+        b"+0+1-0+2-1-2+3-3",
+        b"cccc",
+    )?;
+    for limit in [3, 64] {
+        let way = way(limit, false, 0, 0x012);
+        first_goes(&rt, alloc, &ALONE, &way, b"+0+1+2-2-1-0+3-3", b"cccc")?;
+    }
+    Ok(())
+}
+
+/// Loses the third file.
+fn loses(rt: &impl Abort, alloc: Global, limit: u32, disk: &mut MemDisk) -> Result<(), Fail> {
+    let mut losing = way(limit, false, 0, 0x012);
+    losing.failing = 3;
+    let told = told_build(rt, alloc, &ALONE, 0, &losing, disk)?;
+    assert!(rt; is(&told, b"+0+1+2?2-1-0", b""));
+    assert!(rt; told.fault == Some(BuildFault::ChildLost));
+    Ok(())
+}
+
+/// Builds what is left after that.
+fn goes_on(rt: &impl Abort, alloc: Global, limit: u32, disk: &mut MemDisk) -> Result<(), Fail> {
+    let told = told_build(rt, alloc, &ALONE, 0, &way(limit, false, 0, 0), disk)?;
+    assert!(rt; is(&told, b"+2-2+3-3", b"ffcc"));
+    Ok(())
+}
+
+/// Loses the third file, and builds again.
+fn lost_goes(rt: &impl Abort, alloc: Global, limit: u32) -> Result<(), Fail> {
+    let mut disk = empty_disk(alloc, NEVER)?;
+    loses(rt, alloc, limit, &mut disk)?;
+    goes_on(rt, alloc, limit, &mut disk)
+}
+
+#[test]
+fn the_others_are_waited_for_and_recorded_after_a_loss(rt: HostRuntime) -> Result<(), Fail> {
+    for limit in [3, 64] {
+        lost_goes(&rt, rt.alloc(), limit)?;
+    }
+    Ok(())
+}
+
+#[test]
+fn marks_alone_are_those_of_the_build(rt: HostRuntime) -> Result<(), Fail> {
+    let marks = told_marks(&rt, rt.alloc(), &REFUSED, &way(2, true, 0b1, 0))?;
+    assert!(rt; marks.as_slice() == b"rscss".as_slice());
+    Ok(())
+}

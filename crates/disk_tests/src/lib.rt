@@ -1,0 +1,9 @@
+//! Tests of the objects in memory and of the journal over them.
+#![tactic(auto)]
+
+#[cfg(test)]
+mod disks;
+#[cfg(test)]
+mod journals;
+#[cfg(test)]
+mod objects;

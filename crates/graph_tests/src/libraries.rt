@@ -1,0 +1,277 @@
+//! Small projects, with the libraries that their units see, written out by hand.
+
+ghost use Rattle.std.specs.Prelude.{◌≡◌, ◌<◌, ◌≤◌, length, IfOk, IsTrue};
+ghost use Rattle.std.specs.List.{All};
+ghost use Rattle.scan_spec.specs.Scans.{AreScansOf};
+ghost use Rattle.name_scope.specs.Scopes.{IsTextSmall};
+
+use crate::projects::{are_small, file_of, scans_of};
+use name_scope::{VisibleLibraries, visible_libraries, visible_sets};
+use std::alloc::Global;
+use std::process::Abort;
+use std::test::Fail;
+use vr_base::{Items, Project, ProjectFile, Scans, Text, TextList, UnitId};
+
+fn project_with(alloc: Global, files: Items<ProjectFile>) -> Project {
+    Project {
+        files,
+        simulator: Items::new(alloc),
+        external: Items::new(alloc),
+        bodies: false,
+        depends: Items::new(alloc),
+        listed: false,
+    }
+}
+
+/// The project of files that are parted by `#`, each with its library before a `%`; and the texts of the files.
+fn project_of(alloc: Global, files: &[u8]) -> Result<(Project, TextList), Fail> {
+    let mut list = Items::new(alloc);
+    let mut texts = TextList::new(alloc);
+    for file in files.split(|b| *b == b'#') {
+        let mut parts = file.split(|b| *b == b'%');
+        let library = parts.next().unwrap_or(b"");
+        let text = parts.next().unwrap_or(b"");
+        list.push(file_of(alloc, library, b"")?)?;
+        texts.push(Text::from_slice(alloc, text)?)?;
+    }
+    Ok((project_with(alloc, list), texts))
+}
+
+/// Adds names, each with a comma, and a bar.
+fn push_names(names: &TextList, out: &mut Vec<u8>) -> Result<(), Fail> {
+    for name in names.as_slice() {
+        out.extend_from_slice(name.bytes())?;
+        out.push(b',')?;
+    }
+    out.push(b'|')?;
+    Ok(())
+}
+
+/// The libraries of each unit, with a bar after each.
+fn shown_of(
+    alloc: Global,
+    sets: &VisibleLibraries,
+    files: u32,
+    scans: &Scans,
+) -> Result<Vec<u8>, Fail>
+    requires { files ≤ length sets.now.starts }
+{
+    let mut out = Vec::new(alloc);
+    for file in 0..files {
+        if (file as u64) < scans.len() {
+            for unit in 0..8u32 {
+                if (unit as u64) < scans.get(file as u64).units.len() {
+                    push_names(&sets.libraries(alloc, UnitId { file, unit })?, &mut out)?;
+                }
+            }
+        }
+    }
+    Ok(out)
+}
+
+fn shown(alloc: Global, files: &[u8]) -> Result<Vec<u8>, Fail> {
+    let (project, texts) = project_of(alloc, files)?;
+    if !are_small(&texts) || texts.len() != project.files.len() || texts.len() > 8 {
+        return Err(Fail::from("few small files"));
+    }
+    let count = texts.len() as u32;
+    let scans = scans_of(alloc, &texts)?;
+    let sets = visible_sets(alloc, &project, &texts, &scans)?;
+    shown_of(alloc, &sets, count, &scans)
+}
+
+/// Projects, and for each unit the libraries that it sees.
+static PROJECTS: &[(&[u8], &[u8])] = &[
+    // a context hands on what it names, but not `work` and `std`
+    (
+        b"lib%context ctx is library other; use other.q.all; end context ctx;#lib%context work.ctx; package w is constant k : integer := other.q.c; end;#other%package q is end;",
+        b"other,std,work,|other,std,work,|std,work,|",
+    ),
+    // an architecture sees what its entity sees
+    (
+        b"lib%library other; entity e is end;#lib%architecture rtl of e is constant k : integer := other.q.c; begin end;#other%package q is end;",
+        b"other,std,work,|other,std,work,|std,work,|",
+    ),
+    (
+        b"lib%entity top is end; architecture a of top is begin u : entity work.missing; end;",
+        b"std,work,|std,work,|",
+    ),
+    // contexts that refer to each other
+    (
+        b"l%library a; context work.d; context c is library b; end;#l%context work.c; context d is library e; end;#l%context work.c; package p is end;",
+        b"a,b,e,std,work,|a,b,e,std,work,|a,b,e,std,work,|",
+    ),
+    // a context that refers to itself, and one to a unit that isn't there
+    (
+        b"l%context c is library a; context work.c; end;#l%context work.x; package p is end;",
+        b"a,std,work,|std,work,|",
+    ),
+    // the library of a context reference has to be visible
+    (
+        b"l%context m.c; package p is end;#m%context c is library a; end;#l%library m; context m.c; package q is end;",
+        b"std,work,|a,std,work,|a,m,std,work,|",
+    ),
+    // and may become so by another one
+    (
+        b"l%context m.c, work.n; package p is end;#l%context n is library m; end;#m%context c is library a; end;",
+        b"a,m,std,work,|m,std,work,|a,std,work,|",
+    ),
+    // several primary units of one name, a package body, and one without a package
+    (
+        b"l%library a; entity e is end;#l%library b; package e is end;#l%library c; package body e is end; package body q is end;#m%library d; entity e is end;",
+        b"a,std,work,|b,std,work,|a,b,c,std,work,|std,work,|d,std,work,|",
+    ),
+    // a package named as a context hands nothing on, and a secondary unit is no primary unit
+    (
+        b"l%library a; package c is end;#l%context work.c; package p is end;#l%library b; package body p is end; architecture z of p is begin end;",
+        b"a,std,work,|std,work,|b,std,work,|std,work,|",
+    ),
+    // words in other case, names that are no words, and names that repeat
+    (
+        b"l%library B, a, \\X\\, a; context C is end;#l%CONTEXT WORK.c; package p is end;",
+        b"\\X\\,a,b,std,work,|\\X\\,a,b,std,work,|",
+    ),
+];
+
+fn check(rt: &impl Abort, alloc: Global, table: &[(&[u8], &[u8])]) -> Result<(), Fail> {
+    for (files, want) in table {
+        let found = shown(alloc, files)?;
+        assert!(rt; found.as_slice() == *want, "at {files:?}: {found:?}");
+    }
+    Ok(())
+}
+
+#[test]
+fn projects(rt: HostRuntime) -> Result<(), Fail> {
+    check(&rt, rt.alloc(), PROJECTS)
+}
+
+/// What one call says of one unit, where there is such a file.
+fn one_unit(
+    alloc: Global,
+    project: &Project,
+    texts: &TextList,
+    scans: &Scans,
+) -> Result<Vec<u8>, Fail>
+    requires each { length texts.now ≡ length project.now.files }
+    requires scans { AreScansOf texts.now scans.now }
+    requires small { All IsTextSmall texts.now }
+{
+    let mut out = Vec::new(alloc);
+    if project.files.len() > 1 {
+        let unit = UnitId { file: 1, unit: 0 };
+        push_names(
+            &visible_libraries(alloc, project, texts, scans, unit)?,
+            &mut out,
+        )?;
+        let sets = visible_sets(alloc, project, texts, scans)?;
+        out.push(if sets.sees_library(unit, b"other") {
+            b'y'
+        } else {
+            b'n'
+        })?;
+        out.push(if sets.sees_library(unit, b"lib") {
+            b'y'
+        } else {
+            b'n'
+        })?;
+    }
+    Ok(out)
+}
+
+#[test]
+fn one_call(rt: HostRuntime) -> Result<(), Fail> {
+    let alloc = rt.alloc();
+    let (project, texts) = project_of(
+        alloc,
+        b"lib%context ctx is library other; end;#lib%context work.ctx; package w is end;",
+    )?;
+    if are_small(&texts) && texts.len() == project.files.len() {
+        let scans = scans_of(alloc, &texts)?;
+        let found = one_unit(alloc, &project, &texts, &scans)?;
+        assert!(rt;
+            found.as_slice() == b"other,std,work,|yn".as_slice(),
+            "{found:?}"
+        );
+    }
+    Ok(())
+}
+
+/// Contexts in a ring: each has a library of its own, and refers to the one so many places after it.
+fn ring_of(alloc: Global, count: u32, step: u32) -> Result<(Project, TextList), Fail>
+    requires { 0 < count }
+{
+    let mut list = Items::new(alloc);
+    let mut texts = TextList::new(alloc);
+    for i in 0..count {
+        let next = (u64::from(i) + u64::from(step)) % u64::from(count);
+        let text = format!(in alloc; "context c{i} is library l{i}; context work.c{next}; end;")?;
+        list.push(file_of(alloc, b"lib", b"")?)?;
+        texts.push(Text::from_slice(alloc, text.as_bytes())?)?;
+    }
+    Ok((project_with(alloc, list), texts))
+}
+
+/// Contexts that each have a library of their own, and refer to all.
+fn net_of(alloc: Global, count: u32) -> Result<(Project, TextList), Fail> {
+    let mut list = Items::new(alloc);
+    let mut texts = TextList::new(alloc);
+    for i in 0..count {
+        let mut text = Vec::new(alloc);
+        let begin = format!(in alloc; "context c{i} is library l{i}, lib; context lib.c0")?;
+        text.extend_from_slice(begin.as_bytes())?;
+        for j in 1..count {
+            let part = format!(in alloc; ",lib.c{j}")?;
+            text.extend_from_slice(part.as_bytes())?;
+        }
+        text.extend_from_slice(b"; end;")?;
+        list.push(file_of(alloc, b"lib", b"")?)?;
+        texts.push(Text::from_vec(text))?;
+    }
+    Ok((project_with(alloc, list), texts))
+}
+
+/// A ring, or contexts that each refer to all, where the step is 0.
+fn hostile_of(alloc: Global, count: u32, step: u32) -> Result<(Project, TextList), Fail> {
+    if count == 0 || step == 0 {
+        net_of(alloc, count)
+    } else {
+        ring_of(alloc, count, step)
+    }
+}
+
+/// How many libraries the first unit of the first file sees.
+fn first_sees(alloc: Global, project: &Project, texts: &TextList) -> Result<u64, Fail> {
+    if !are_small(texts) || texts.len() != project.files.len() || project.files.is_empty() {
+        return Err(Fail::from("small files"));
+    }
+    let scans = scans_of(alloc, texts)?;
+    let first = UnitId { file: 0, unit: 0 };
+    let names = visible_libraries(alloc, project, texts, &scans, first)?;
+    Ok(names.len())
+}
+
+/// Rings, by the number of their contexts and the step from each to the next, and contexts that each refer to all, which
+/// have the step 0; and how many libraries the first of them sees.
+static HOSTILE: &[(u32, u32, u64)] = &[
+    // each context's own library, `work` and `std`
+    (64, 1, 66),
+    (64, 63, 66),
+    (64, 27, 66),
+    // and the library of the files
+    (40, 0, 43),
+];
+
+fn check_hostile(rt: &impl Abort, alloc: Global, table: &[(u32, u32, u64)]) -> Result<(), Fail> {
+    for (count, step, want) in table {
+        let (project, texts) = hostile_of(alloc, *count, *step)?;
+        let seen = first_sees(alloc, &project, &texts)?;
+        assert!(rt; seen == *want, "{count} contexts, step {step}: {seen}");
+    }
+    Ok(())
+}
+
+#[test]
+fn hostile(rt: HostRuntime) -> Result<(), Fail> {
+    check_hostile(&rt, rt.alloc(), HOSTILE)
+}

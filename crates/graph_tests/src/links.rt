@@ -1,0 +1,245 @@
+//! Small projects, with what their files depend on, or what is wrong, written out by hand.
+
+ghost use Rattle.std.specs.Prelude.{◌≡◌, ◌≤◌, length, IfOk, IsTrue};
+ghost use Rattle.std.specs.List.{All};
+ghost use Rattle.scan_spec.specs.Scans.{AreScansOf};
+ghost use Rattle.name_scope.specs.Scopes.{IsTextSmall};
+
+use crate::projects::{are_small, file_of, scans_of};
+use file_graph::link;
+use std::alloc::Global;
+use std::process::Abort;
+use std::test::Fail;
+use vr_base::{
+    FILE_LIMIT, Items, LinkFault, Linked, Pair, PairList, Project, Scans, Text, TextList,
+};
+
+/// The library `unisim`, where it is outside.
+fn external_of(alloc: Global, options: &[u8]) -> Result<TextList, Fail> {
+    let mut external = TextList::new(alloc);
+    if options.contains(&b'x') {
+        external.push(Text::from_slice(alloc, b"unisim")?)?;
+    }
+    Ok(external)
+}
+
+/// The pairs of the first file with itself, with the third, and with a file that isn't there.
+fn pairs_of(alloc: Global, options: &[u8]) -> Result<PairList, Fail> {
+    let mut pairs = PairList::new(alloc);
+    if options.contains(&b'd') {
+        pairs.push(Pair { user: 0, used: 0 })?;
+        pairs.push(Pair { user: 0, used: 2 })?;
+        pairs.push(Pair {
+            user: 0,
+            used: 5000,
+        })?;
+    }
+    Ok(pairs)
+}
+
+/// The project of files that are parted by `#`, each with its library and its path before a `%`; and the texts.
+fn project_of(alloc: Global, options: &[u8], files: &[u8]) -> Result<(Project, TextList), Fail> {
+    let mut list = Items::new(alloc);
+    let mut texts = TextList::new(alloc);
+    for file in files.split(|b| *b == b'#') {
+        let mut parts = file.split(|b| *b == b'%');
+        let library = parts.next().unwrap_or(b"");
+        let path = parts.next().unwrap_or(b"");
+        let text = parts.next().unwrap_or(b"");
+        list.push(file_of(alloc, library, path)?)?;
+        texts.push(Text::from_slice(alloc, text)?)?;
+    }
+    let project = Project {
+        files: list,
+        simulator: Items::new(alloc),
+        external: external_of(alloc, options)?,
+        bodies: options.contains(&b'b'),
+        depends: pairs_of(alloc, options)?,
+        listed: false,
+    };
+    Ok((project, texts))
+}
+
+/// The positions of each file, one digit each, with a bar after each; and the warnings.
+fn shown_links(alloc: Global, linked: &Linked) -> Result<Vec<u8>, Fail> {
+    let mut out = Vec::new(alloc);
+    for deps in linked.edges.as_slice() {
+        for dep in deps.as_slice() {
+            out.push(b'0' + (*dep % 10) as u8)?;
+        }
+        out.push(b'|')?;
+    }
+    for warning in linked.warnings.as_slice() {
+        out.push(b'0' + (warning.file % 10) as u8)?;
+        out.extend_from_slice(warning.library.bytes())?;
+        out.push(b' ')?;
+    }
+    Ok(out)
+}
+
+/// A letter, and texts with a blank after each.
+fn shown_texts(alloc: Global, letter: u8, texts: &[&Text]) -> Result<Vec<u8>, Fail> {
+    let mut out = Vec::new(alloc);
+    out.push(letter)?;
+    for text in texts {
+        out.push(b' ')?;
+        out.extend_from_slice(text.bytes())?;
+    }
+    Ok(out)
+}
+
+fn shown_fault(alloc: Global, fault: &LinkFault) -> Result<Vec<u8>, Fail> {
+    match fault {
+        LinkFault::NoMemory => shown_texts(alloc, b'N', &[]),
+        LinkFault::DuplicateUnit {
+            unit,
+            first,
+            second,
+        } => shown_texts(alloc, b'D', &[unit, &first.path, &second.path]),
+        LinkFault::MissingUnit {
+            file,
+            library,
+            unit,
+        } => shown_texts(alloc, b'U', &[&file.path, library, unit]),
+        LinkFault::MissingArchitecture {
+            file,
+            library,
+            entity,
+            architecture,
+        } => shown_texts(alloc, b'A', &[&file.path, library, entity, architecture]),
+    }
+}
+
+fn shown_answer(
+    alloc: Global,
+    project: &Project,
+    texts: &TextList,
+    scans: &Scans,
+) -> Result<Vec<u8>, Fail>
+    requires few { length project.now.files ≤ FILE_LIMIT }
+    requires each { length texts.now ≡ length project.now.files }
+    requires scans { AreScansOf texts.now scans.now }
+    requires small { All IsTextSmall texts.now }
+{
+    match link(alloc, project, texts, scans) {
+        Ok(linked) => shown_links(alloc, &linked),
+        Err(fault) => shown_fault(alloc, &fault),
+    }
+}
+
+fn shown(alloc: Global, options: &[u8], files: &[u8]) -> Result<Vec<u8>, Fail> {
+    let (project, texts) = project_of(alloc, options, files)?;
+    if !are_small(&texts) || texts.len() != project.files.len() || texts.len() > 8 {
+        return Err(Fail::from("few small files"));
+    }
+    let scans = scans_of(alloc, &texts)?;
+    shown_answer(alloc, &project, &texts, &scans)
+}
+
+/// Options (`x` for an external library, `b` for bodies, `d` for pairs of the project), files, and the answer.
+static PROJECTS: &[(&[u8], &[u8], &[u8])] = &[
+    // by a context, and by a name in an expression
+    (
+        b"",
+        b"lib%c%context ctx is library other; use other.q.all; end context ctx;#lib%w%context work.ctx; package w is constant k : integer := other.q.c; end;#other%q%package q is end;",
+        b"2|02||",
+    ),
+    // an architecture on its entity, by whose library clause it sees another library
+    (
+        b"",
+        b"lib%e%library other; entity e is end;#lib%a%architecture rtl of e is constant k : integer := other.q.c; begin end;#other%q%package q is end;",
+        b"|02||",
+    ),
+    (
+        b"",
+        b"lib%top%entity top is end; architecture a of top is begin u : entity work.missing; end;",
+        b"U top lib missing",
+    ),
+    // a loose reference to what isn't there
+    (
+        b"",
+        b"lib%a%library rec; package a is constant k : integer := rec.field; end;#rec%b%package b is end;",
+        b"||",
+    ),
+    // external libraries, by the project and always
+    (
+        b"x",
+        b"l%a%library unisim, ieee; use unisim.vcomponents.all; use ieee.std_logic_1164.all; package a is end;",
+        b"|",
+    ),
+    (
+        b"",
+        b"l%a%library unisim, ieee; use ieee.std_logic_1164.all; use unisim.vcomponents.all; package a is end;",
+        b"U a unisim vcomponents",
+    ),
+    // a library that is said to be outside, but has files
+    (
+        b"x",
+        b"l%a%library unisim; use unisim.vcomponents.all; package a is end;#unisim%b%package c is end;",
+        b"U a unisim vcomponents",
+    ),
+    // bodies
+    (
+        b"",
+        b"l%u%use work.p.all; package u is end;#l%p%package p is end;#l%b%package body p is end;",
+        b"1||1|",
+    ),
+    (
+        b"b",
+        b"l%u%use work.p.all; package u is end;#l%p%package p is end;#l%b%package body p is end;",
+        b"12||1|",
+    ),
+    (
+        b"",
+        b"l%u%use work.p.all; package u is end;#l%b%package body p is end;",
+        b"U u l p",
+    ),
+    // architectures
+    (
+        b"",
+        b"l%u%entity t is end; architecture a of t is begin i : entity work.e(r); end;#l%e%entity e is end;#l%r%architecture r of e is begin end;#l%s%architecture s of e is begin end;",
+        b"12||1|1|",
+    ),
+    (
+        b"",
+        b"l%u%entity t is end; architecture a of t is begin i : entity work.e(q); end;#l%e%entity e is end;#l%r%architecture r of e is begin end;",
+        b"A u l e q",
+    ),
+    // the project's own pairs
+    (b"d", b"l%a%#l%b%package b is end;#l%c%", b"2|||"),
+    // duplicates come before what is missing
+    (
+        b"",
+        b"l%a%use work.x.all; package p is end;#l%b%entity p is end;#l%c%package p is end;",
+        b"D l.p a b",
+    ),
+    (
+        b"",
+        b"l%a%entity e is end;#l%b%architecture r of e is begin end;#l%c%architecture r of e is begin end;#m%d%entity e is end;",
+        b"D l.e(r) b c",
+    ),
+    (
+        b"",
+        b"l%a%package p is end; package body p is end;#l%b%package body p is end;",
+        b"D body l.p a b",
+    ),
+    // uses of whole libraries, in text order
+    (
+        b"",
+        b"l%a%library m, n; use m.all; use work.all; use n.all; package a is end;#m%b%package b is end;",
+        b"||0m 0l ",
+    ),
+];
+
+fn check(rt: &impl Abort, alloc: Global, table: &[(&[u8], &[u8], &[u8])]) -> Result<(), Fail> {
+    for (options, files, want) in table {
+        let found = shown(alloc, options, files)?;
+        assert!(rt; found.as_slice() == *want, "at {files:?}: {found:?}");
+    }
+    Ok(())
+}
+
+#[test]
+fn projects(rt: HostRuntime) -> Result<(), Fail> {
+    check(&rt, rt.alloc(), PROJECTS)
+}

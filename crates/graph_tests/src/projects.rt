@@ -1,0 +1,54 @@
+//! Files of a project, and the scans of their texts, as all tests here make them.
+
+ghost use Rattle.std.specs.Prelude.{◌≡◌, ◌≤◌, length, IfOk, IsTrue};
+ghost use Rattle.std.specs.List.{All};
+ghost use Rattle.scan_spec.specs.Scans.{AreScansOf, IsScanOf};
+ghost use Rattle.name_scope.specs.Scopes.{IsTextSmall};
+
+use std::alloc::Global;
+use std::test::Fail;
+use vhdl_lex::scan_tokens;
+use vhdl_units::outline;
+use vr_base::{FileName, Items, ProjectFile, Scan, Scans, TEXT_LIMIT, Text, TextList};
+
+fn scan_of(alloc: Global, text: &[u8]) -> Result<Scan, Fail>
+    requires { length text.now ≤ TEXT_LIMIT }
+    ensures { IfOk result (IsScanOf text.now) }
+{
+    let tokens = scan_tokens(alloc, text)?;
+    let units = outline(alloc, text, &tokens)?;
+    Ok(Scan { tokens, units })
+}
+
+/// The scans of texts, in order.
+pub fn scans_of(alloc: Global, texts: &TextList) -> Result<Scans, Fail>
+    requires { All IsTextSmall texts.now }
+    ensures { IfOk result (AreScansOf texts.now) }
+{
+    let mut scans = Scans::new(alloc);
+    for at in 0..texts.len() {
+        scans.push(scan_of(alloc, texts.get(at).bytes())?)?;
+    }
+    Ok(scans)
+}
+
+/// Whether each text has a length that can be scanned.
+pub fn are_small(texts: &TextList) -> bool
+    ensures { IsTrue result → All IsTextSmall texts.now }
+{
+    texts
+        .as_slice()
+        .iter()
+        .all(|text| text.bytes().len() <= TEXT_LIMIT)
+}
+
+/// A file of a library.
+pub fn file_of(alloc: Global, library: &[u8], path: &[u8]) -> Result<ProjectFile, Fail> {
+    Ok(ProjectFile {
+        name: FileName {
+            library: Text::from_slice(alloc, library)?,
+            path: Text::from_slice(alloc, path)?,
+        },
+        command: Items::new(alloc),
+    })
+}

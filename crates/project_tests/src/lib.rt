@@ -1,0 +1,11 @@
+//! Tests of what is read of a project: words, project files and sources.
+#![tactic(auto)]
+
+#[cfg(test)]
+mod lines;
+#[cfg(test)]
+mod projects;
+#[cfg(test)]
+mod random_projects;
+#[cfg(test)]
+mod words;

@@ -1,0 +1,5 @@
+//! Tests of the texts that are said of a run.
+#![tactic(auto)]
+
+#[cfg(test)]
+mod texts;

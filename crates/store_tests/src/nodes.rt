@@ -1,0 +1,653 @@
+//! Tests of a store over a disk in memory: its bytes, stops inside its calls, calls that fail, and when it is compacted.
+
+ghost use Rattle.std.specs.Prelude.{◌≡◌, ◌<◌, ◌≤◌, [], ◌∷◌, false, length, All, IfOk, IsTrue, OnOk, slice_index_or};
+ghost use Rattle.vr_base.specs.declared.limits.TheConstants.{ARTEFACT_LIMIT};
+ghost use Rattle.vr_outside.specs.Records.{IsRecorded, deps_at};
+ghost use Rattle.vr_outside.specs.declared.records.Need.TheVariants as need;
+ghost use Rattle.node_store.specs.Stored.{IsNodeStoreInStep, latest_among};
+
+use gate_journal::{Journal, Opened, Payloads};
+use node_store::NodeStore;
+use record_codec::read_record;
+use std::alloc::Global;
+use std::test::Fail;
+use vr_base::{ARTEFACT_LIMIT, FileName, Graph, Items, NoMemory, Numbers, Text};
+use vr_memory::MemDisk;
+use vr_outside::{Disk, Need, Record, Records, Side, StoreFault, write_durably};
+
+const LONG: u64 = (1 << 63) - 1;
+
+/// A side of form 2 and generation 1: file `a.vhd` of `lib`, compiled by `cc`, with the text `x` and the artefact `y`, and
+/// then with the text `w` and the artefact `v`.
+static SIDE: [u8; 113] = [
+    1, b'V', b'U', b'N', b'I', b'T', b'R', b'E', b'C', 2, 1, 0, 0, 0, 0, 0, 0, 0, //
+    1, 42, 0, 0, 0, // an open gate, and the length of the payload
+    1, 3, 0, 0, 0, b'l', b'i', b'b', 5, 0, 0, 0, b'a', b'.', b'v', b'h', b'd', //
+    1, 0, 0, 0, 2, 0, 0, 0, b'c', b'c', 1, 1, 0, 0, 0, b'x', 0, 0, 0, 0, 1, 0, 0, 0, b'y', //
+    1, 42, 0, 0, 0, //
+    1, 3, 0, 0, 0, b'l', b'i', b'b', 5, 0, 0, 0, b'a', b'.', b'v', b'h', b'd', //
+    1, 0, 0, 0, 2, 0, 0, 0, b'c', b'c', 1, 1, 0, 0, 0, b'w', 0, 0, 0, 0, 1, 0, 0, 0, b'v', //
+    0,
+];
+
+/// The side of generation 2 that keeps the second record alone.
+static KEPT: [u8; 66] = [
+    1, b'V', b'U', b'N', b'I', b'T', b'R', b'E', b'C', 2, 2, 0, 0, 0, 0, 0, 0, 0, //
+    1, 42, 0, 0, 0, //
+    1, 3, 0, 0, 0, b'l', b'i', b'b', 5, 0, 0, 0, b'a', b'.', b'v', b'h', b'd', //
+    1, 0, 0, 0, 2, 0, 0, 0, b'c', b'c', 1, 1, 0, 0, 0, b'w', 0, 0, 0, 0, 1, 0, 0, 0, b'v', //
+    0,
+];
+
+/// A disk of which these calls fail.
+fn empty_disk(alloc: Global, failing: &[u64]) -> Result<MemDisk, NoMemory> {
+    let failing: Numbers = Items::from_vec(Vec::from_slice(alloc, failing)?);
+    Ok(MemDisk::new(alloc, failing))
+}
+
+/// The same, and its side A has these bytes, which takes two calls.
+fn disk_of(alloc: Global, failing: &[u64], bytes: &[u8]) -> Result<MemDisk, StoreFault> {
+    let mut disk = empty_disk(alloc, failing)?;
+    write_durably(&mut disk, Side::A, 0, bytes)?;
+    Ok(disk)
+}
+
+/// Adds a record of a file.
+fn keep<D: Disk>(
+    alloc: Global,
+    store: &mut NodeStore,
+    disk: &mut D,
+    graph: &Graph,
+    at: u32,
+    artefact: &Text,
+) -> Result<(), StoreFault>
+    requires place { at < length graph.now }
+    requires artefact { length artefact.now ≤ ARTEFACT_LIMIT }
+    requires recorded { All (IsRecorded (latest_among store.old.held.payloads) graph.now)
+        (deps_at graph.now at) }
+    requires usable { store.old.journal.broken ≡ false }
+    requires in_step { D.tells →
+        IsNodeStoreInStep store.old.journal store.old.held (D.moments disk.old).now }
+    ensures usable { OnOk result (store.new.journal.broken ≡ false) }
+    ensures in_step { D.tells →
+        OnOk result
+        (IsNodeStoreInStep store.new.journal store.new.held (D.moments disk.new).now) }
+{
+    let prepared = store.prepare(alloc, graph, at, artefact)?;
+    store.commit(disk, prepared)?;
+    Ok(())
+}
+
+/// Adds a record of the first file of a graph, with the artefact `y`.
+fn keep_first<D: Disk>(
+    alloc: Global,
+    store: &mut NodeStore,
+    disk: &mut D,
+    graph: &Graph,
+) -> Result<(), StoreFault>
+    requires some { 0 < length graph.now }
+    requires usable { store.old.journal.broken ≡ false }
+    requires in_step { D.tells →
+        IsNodeStoreInStep store.old.journal store.old.held (D.moments disk.old).now }
+    ensures usable { OnOk result (store.new.journal.broken ≡ false) }
+    ensures in_step { D.tells →
+        OnOk result
+        (IsNodeStoreInStep store.new.journal store.new.held (D.moments disk.new).now) }
+{
+    if !graph.get(0).deps.is_empty() {
+        return Err(StoreFault::NoMemory);
+    }
+    let artefact = Text::from_slice(alloc, b"y")?;
+    keep(alloc, store, disk, graph, 0, &artefact)
+}
+
+/// The same, and then leaves no record.
+fn keep_none<D: Disk>(
+    alloc: Global,
+    store: &mut NodeStore,
+    disk: &mut D,
+    graph: &Graph,
+) -> Result<(), StoreFault>
+    requires some { 0 < length graph.now }
+    requires usable { store.old.journal.broken ≡ false }
+    requires in_step { D.tells →
+        IsNodeStoreInStep store.old.journal store.old.held (D.moments disk.old).now }
+{
+    keep_first(alloc, store, disk, graph)?;
+    store.reset(disk)?;
+    Ok(())
+}
+
+/// The artefact of the file, of which one byte is given, or `-` where it has no record.
+fn letter(store: &NodeStore, name: &FileName) -> u8 {
+    match store.artefact(name) {
+        Some([byte]) => *byte,
+        _ => b'-',
+    }
+}
+
+/// The letter of payloads: `y` for the first of `SIDE` alone, `v` for the second alone, `2` for both, `-` for none.
+fn letter_of(payloads: &Payloads) -> u8 {
+    let first = &SIDE[23..65];
+    let second = &SIDE[70..112];
+    match payloads.len() {
+        0 => b'-',
+        1 if payloads.get(0) == first => b'y',
+        1 if payloads.get(0) == second => b'v',
+        2 if payloads.get(0) == first && payloads.get(1) == second => b'2',
+        _ => b'?',
+    }
+}
+
+fn held<D: Disk>(alloc: Global, disk: &mut D) -> Result<u8, StoreFault> {
+    let Opened { payloads, .. } = Journal::from_disk(alloc, disk, 2)?;
+    Ok(letter_of(&payloads))
+}
+
+/// Whether a disk has the payloads of a letter, and its store lends the artefact of the last one.
+fn holds<D: Disk>(alloc: Global, disk: &mut D, letter: u8) -> Result<bool, StoreFault> {
+    let last = if letter == b'2' { b'v' } else { letter };
+    Ok(run(alloc, disk, Change::Opens)?[2] == last && held(alloc, disk)? == letter)
+}
+
+/// Whether an image of a moment holds that.
+fn leaves_image(
+    alloc: Global,
+    disk: &MemDisk,
+    moment: u64,
+    length: u64,
+    fill: u8,
+    letter: u8,
+) -> Result<bool, StoreFault> {
+    let mut image = disk.crash(alloc, moment, length, fill)?;
+    holds(alloc, &mut image, letter)
+}
+
+/// Whether the images of a moment whose free bytes are all one byte hold that.
+fn leaves_filled(
+    alloc: Global,
+    disk: &MemDisk,
+    moment: u64,
+    fill: u8,
+    letter: u8,
+) -> Result<bool, StoreFault> {
+    Ok(
+        leaves_image(alloc, disk, moment, 0, fill, letter)?
+            && leaves_image(alloc, disk, moment, LONG, fill, letter)?,
+    )
+}
+
+/// Whether each image of a moment holds one letter where its free bytes are 1, and another where they are others.
+fn leaves(
+    alloc: Global,
+    disk: &MemDisk,
+    moment: u64,
+    ones: u8,
+    others: u8,
+) -> Result<bool, StoreFault> {
+    Ok(
+        leaves_filled(alloc, disk, moment, 1, ones)?
+            && leaves_filled(alloc, disk, moment, 0, others)?
+            && leaves_filled(alloc, disk, moment, 255, others)?,
+    )
+}
+
+/// The same of moments from the first one on, with a letter for each in either list.
+fn leaves_each(
+    alloc: Global,
+    disk: &MemDisk,
+    first: u64,
+    ones: &[u8],
+    others: &[u8],
+) -> Result<bool, StoreFault> {
+    if ones.len() != others.len() {
+        return Ok(false);
+    }
+    for i in 0..ones.len() {
+        let moment = first.saturating_add(i as u64);
+        if !leaves(alloc, disk, moment, ones[i], others[i])? {
+            return Ok(false);
+        }
+    }
+    Ok(true)
+}
+
+/// The same of a table: a line of letters for images whose free bytes are 1, and a line for all others.
+fn leaves_all(alloc: Global, disk: &MemDisk, first: u64, table: &str) -> Result<bool, StoreFault> {
+    match table.split_once('\n') {
+        Some((ones, others)) => {
+            leaves_each(alloc, disk, first, ones.as_bytes(), others.as_bytes())
+        }
+        None => Ok(false),
+    }
+}
+
+/// From the first call on: opening an empty disk takes 14 calls, and a commit 4. After the third of these its gate may be
+/// open.
+static COMMITTING: &str = "----------------yyy\n------------------y";
+
+#[test]
+fn a_stop_inside_a_commit_leaves_its_record_or_none(rt: HostRuntime) -> Result<(), Fail> {
+    let mut disk = empty_disk(rt.alloc(), &[])?;
+    run(rt.alloc(), &mut disk, Change::Commits)?;
+    assert!(rt; disk.reads(Side::A).len() == 66 && disk.reads(Side::A).starts_with(&SIDE[..65]));
+    assert!(rt; leaves_all(rt.alloc(), &disk, 0, COMMITTING)?);
+    Ok(())
+}
+
+/// From the opening on, which takes 7 calls where a side is live; a compaction takes 8.
+static COMPACTING: &str = "2222222222222vvv\n222222222222222v";
+
+#[test]
+fn a_stop_inside_a_compaction_leaves_all_records_or_the_latest(
+    rt: HostRuntime,
+) -> Result<(), Fail> {
+    let mut disk = disk_of(rt.alloc(), &[], &SIDE)?;
+    run(rt.alloc(), &mut disk, Change::Compacts)?;
+    assert!(rt; disk.reads(Side::A) == SIDE.as_slice());
+    assert!(rt; disk.reads(Side::B) == KEPT.as_slice());
+    assert!(rt; leaves_all(rt.alloc(), &disk, 2, COMPACTING)?);
+    Ok(())
+}
+
+/// A payload, and a last gate that is open though none follows.
+fn open_gate(alloc: Global, failing: &[u64]) -> Result<MemDisk, StoreFault> {
+    let mut bytes = SIDE;
+    bytes[65] = 1;
+    disk_of(alloc, failing, &bytes[..66])
+}
+
+/// From the first call after the side was written on: the 7 that open a live side, and a write that closes its gate.
+static OPENING: &str = "yyyyyyyyyy\nyyyyyyyyyy";
+
+#[test]
+fn a_stop_inside_an_opening_leaves_all_records(rt: HostRuntime) -> Result<(), Fail> {
+    let mut disk = open_gate(rt.alloc(), &[])?;
+    run(rt.alloc(), &mut disk, Change::Opens)?;
+    assert!(rt; disk.reads(Side::A).len() == 66 && disk.reads(Side::A).ends_with(b"y\0"));
+    assert!(rt; leaves_all(rt.alloc(), &disk, 2, OPENING)?);
+    Ok(())
+}
+
+/// Whether a commit whose gate can't be written is answered by a fault of the disk.
+fn is_torn(alloc: Global, disk: &mut MemDisk) -> bool {
+    matches!(
+        run(alloc, disk, Change::Commits),
+        Err(StoreFault::DiskFailed)
+    )
+}
+
+/// From the opening after such a commit on: the gate may be any up to the end of the first sync.
+static REOPENING: &str = "y-------\n--------";
+
+#[test]
+fn opening_after_a_torn_commit_settles_on_what_reads_gave(rt: HostRuntime) -> Result<(), Fail> {
+    let mut disk = empty_disk(rt.alloc(), &[16])?;
+    assert!(rt; is_torn(rt.alloc(), &mut disk));
+    run(rt.alloc(), &mut disk, Change::Opens)?;
+    assert!(rt; leaves_all(rt.alloc(), &disk, 17, REOPENING)?);
+    Ok(())
+}
+
+/// A disk to be changed, of which a call fails.
+fn failing_disk(alloc: Global, change: Change, call: u64) -> Result<MemDisk, StoreFault> {
+    match change {
+        Change::Opens => open_gate(alloc, &[call]),
+        Change::Compacts => disk_of(alloc, &[call], &SIDE),
+        _ => Ok(empty_disk(alloc, &[call])?),
+    }
+}
+
+/// Whether a change is answered by a fault of the disk.
+fn is_refused(alloc: Global, disk: &mut MemDisk, change: Change) -> bool {
+    let answer = run(alloc, disk, change);
+    matches!(answer, Err(StoreFault::DiskFailed))
+}
+
+/// Whether a call that fails is answered, and leaves what a stop inside of it can.
+fn fails(
+    alloc: Global,
+    change: Change,
+    call: u64,
+    ones: u8,
+    others: u8,
+) -> Result<bool, StoreFault> {
+    let mut disk = failing_disk(alloc, change, call)?;
+    let is_fault = is_refused(alloc, &mut disk, change);
+    Ok(is_fault && leaves(alloc, &disk, call.saturating_add(1), ones, others)?)
+}
+
+/// The same of each call from the first one on, with a letter for each in either list.
+fn fails_each(
+    alloc: Global,
+    change: Change,
+    first: u64,
+    ones: &[u8],
+    others: &[u8],
+) -> Result<bool, StoreFault> {
+    if ones.len() != others.len() {
+        return Ok(false);
+    }
+    for i in 0..ones.len() {
+        let call = first.saturating_add(i as u64);
+        if !fails(alloc, change, call, ones[i], others[i])? {
+            return Ok(false);
+        }
+    }
+    Ok(true)
+}
+
+/// The same of a table.
+fn fails_all(alloc: Global, change: Change, first: u64, table: &str) -> Result<bool, StoreFault> {
+    match table.split_once('\n') {
+        Some((ones, others)) => {
+            fails_each(alloc, change, first, ones.as_bytes(), others.as_bytes())
+        }
+        None => Ok(false),
+    }
+}
+
+/// From the first call on.
+static FAILING_IN_COMMIT: &str = "----------------yy\n------------------";
+
+#[test]
+fn each_disk_call_of_a_commit_may_fail(rt: HostRuntime) -> Result<(), Fail> {
+    assert!(rt; fails_all(rt.alloc(), Change::Commits, 0, FAILING_IN_COMMIT)?);
+    Ok(())
+}
+
+/// From the first call after the side was written on.
+static FAILING_IN_OPENING: &str = "yyyyyyyyy\nyyyyyyyyy";
+
+#[test]
+fn each_disk_call_of_an_opening_may_fail(rt: HostRuntime) -> Result<(), Fail> {
+    assert!(rt; fails_all(rt.alloc(), Change::Opens, 2, FAILING_IN_OPENING)?);
+    Ok(())
+}
+
+/// From the opening on.
+static FAILING_IN_COMPACTION: &str = "2222222222222vv\n222222222222222";
+
+#[test]
+fn each_disk_call_of_a_compaction_may_fail(rt: HostRuntime) -> Result<(), Fail> {
+    assert!(rt; fails_all(rt.alloc(), Change::Compacts, 2, FAILING_IN_COMPACTION)?);
+    Ok(())
+}
+
+/// From the call after the commit on: the other side is cut, the live one is made dead, and the other is made.
+static FAILING_IN_RESET: &str = "yyyy--------\nyy----------";
+
+#[test]
+fn each_disk_call_of_a_reset_may_fail(rt: HostRuntime) -> Result<(), Fail> {
+    assert!(rt; fails_all(rt.alloc(), Change::Resets, 18, FAILING_IN_RESET)?);
+    Ok(())
+}
+
+/// From the call after the commit on.
+static RESETTING: &str = "yyyy---------\nyy-----------";
+
+#[test]
+fn a_stop_inside_a_reset_leaves_the_record_or_none(rt: HostRuntime) -> Result<(), Fail> {
+    let mut disk = empty_disk(rt.alloc(), &[])?;
+    run(rt.alloc(), &mut disk, Change::Resets)?;
+    assert!(rt; leaves_all(rt.alloc(), &disk, 18, RESETTING)?);
+    Ok(())
+}
+
+/// The bytes of a side of the first payload and so many more of its node, whose artefacts have these numbers of bytes, and
+/// then one with the artefact `z`.
+fn long_side(alloc: Global, lengths: &[u32]) -> Result<Vec<u8>, NoMemory> {
+    let mut bytes = Vec::from_slice(alloc, &SIDE[..65])?;
+    for length in lengths {
+        bytes.extend_from_slice(&[1])?;
+        bytes.extend_from_slice(&length.saturating_add(13).to_le_bytes())?;
+        bytes.extend_from_slice(&[0, 0, 0, 0, 0, 0, 0, 0, 0])?;
+        bytes.extend_from_slice(&length.to_le_bytes())?;
+        bytes.extend_from_slice(&vec![in alloc; b'q'; *length as usize]?)?;
+    }
+    bytes.extend_from_slice(&[
+        1, 14, 0, 0, 0, 0, 0, 0, 0, 0, 0, 0, 0, 0, 1, 0, 0, 0, b'z', 0,
+    ])?;
+    Ok(bytes)
+}
+
+/// The bytes of side B once the store of a disk whose side A is long was opened.
+fn other_side(alloc: Global, lengths: &[u32]) -> Result<Vec<u8>, StoreFault> {
+    let side = long_side(alloc, lengths)?;
+    let mut disk = disk_of(alloc, &[], &side)?;
+    run(alloc, &mut disk, Change::Opens)?;
+    Ok(Vec::from_slice(alloc, disk.reads(Side::B))?)
+}
+
+/// The side that keeps the first payload's node with the last artefact.
+fn kept_side() -> [u8; 66] {
+    let mut bytes = KEPT;
+    bytes[55] = b'x';
+    bytes[64] = b'z';
+    bytes
+}
+
+/// Of each payload of a long artefact 18 bytes more than it are dead, and of the last one, which takes 19, as many as the
+/// first one, which is kept with its artefact: so 1,048,576 bytes are dead here, and one more there.
+static AT_THE_LIMIT: [u32; 4] = [262144, 262144, 262144, 262053];
+
+static PAST_THE_LIMIT: [u32; 4] = [262144, 262144, 262144, 262054];
+
+#[test]
+fn a_store_is_compacted_past_the_limit_of_dead_bytes(rt: HostRuntime) -> Result<(), Fail> {
+    assert!(rt; other_side(rt.alloc(), &AT_THE_LIMIT)?.is_empty());
+    assert!(rt; other_side(rt.alloc(), &PAST_THE_LIMIT)?.as_slice() == kept_side().as_slice());
+    Ok(())
+}
+
+/// A side of generation 1 of the file, and then of `b.vhd` with the same text, which depends on it, with the artefact `z`.
+static EXAMPLE: [u8; 124] = [
+    1, b'V', b'U', b'N', b'I', b'T', b'R', b'E', b'C', 2, 1, 0, 0, 0, 0, 0, 0, 0, //
+    1, 42, 0, 0, 0, //
+    1, 3, 0, 0, 0, b'l', b'i', b'b', 5, 0, 0, 0, b'a', b'.', b'v', b'h', b'd', //
+    1, 0, 0, 0, 2, 0, 0, 0, b'c', b'c', 1, 1, 0, 0, 0, b'x', 0, 0, 0, 0, 1, 0, 0, 0, b'y', //
+    1, 53, 0, 0, 0, //
+    1, 3, 0, 0, 0, b'l', b'i', b'b', 5, 0, 0, 0, b'b', b'.', b'v', b'h', b'd', //
+    1, 0, 0, 0, 2, 0, 0, 0, b'c', b'c', 0, 0, 0, 0, 0, 0, 0, 0, 0, //
+    1, 0, 0, 0, 0, 0, 0, 0, 0, 0, 0, 0, 1, 0, 0, 0, b'z', //
+    0,
+];
+
+/// Both files as a record of the whole view of `b.vhd`.
+static BOTH: [u8; 83] = [
+    2, 0, 0, 0, 3, 0, 0, 0, b'l', b'i', b'b', 5, 0, 0, 0, b'a', b'.', b'v', b'h', b'd', //
+    1, 0, 0, 0, 2, 0, 0, 0, b'c', b'c', 1, 0, 0, 0, b'x', 0, 0, 0, 0, //
+    3, 0, 0, 0, b'l', b'i', b'b', 5, 0, 0, 0, b'b', b'.', b'v', b'h', b'd', //
+    1, 0, 0, 0, 2, 0, 0, 0, b'c', b'c', 1, 0, 0, 0, b'x', 1, 0, 0, 0, 0, 0, 0, 0, //
+    1, 0, 0, 0, b'z',
+];
+
+/// The graph of both files, with these texts.
+fn both(alloc: Global, first: u8, second: u8) -> Result<Graph, StoreFault>
+    ensures { IfOk result (λ graph. 1 < length graph) }
+{
+    let mut bytes = BOTH;
+    bytes[34] = first;
+    bytes[69] = second;
+    let Some(Record { view, artefact: _ }) = read_record(alloc, &bytes)? else {
+        return Err(StoreFault::NoMemory);
+    };
+    if view.len() < 2 {
+        return Err(StoreFault::NoMemory);
+    }
+    Ok(view)
+}
+
+/// Whether the first of some needs is fresh.
+fn begins_fresh(needs: &[Need]) -> bool
+    ensures { IsTrue result → slice_index_or needs.now 0 need.Stale ≡ need.Fresh }
+{
+    match needs {
+        [Need::Fresh, ..] => true,
+        _ => false,
+    }
+}
+
+/// Whether some positions are the first alone.
+fn is_first(deps: &[u32]) -> bool
+    ensures { IsTrue result → deps.now ≡ 0 ∷ [] }
+{
+    match deps {
+        [0] => true,
+        _ => false,
+    }
+}
+
+/// Whether the second file of a graph depends on the first alone, and that has a record of its present view.
+fn may_follow(alloc: Global, store: &NodeStore, graph: &Graph) -> Result<bool, NoMemory>
+    requires { 1 < length graph.now }
+    ensures { IfOk result
+        (λ may. IsTrue may →
+        All (IsRecorded (latest_among store.now.held.payloads) graph.now) (deps_at graph.now 1)) }
+{
+    let needs = store.needs(alloc, graph)?;
+    let listed = needs.as_slice();
+    if !begins_fresh(listed) {
+        return Ok(false);
+    }
+    let second = graph.get(1);
+    let deps = second.deps.as_slice();
+    if !is_first(deps) {
+        return Ok(false);
+    }
+    Ok(true)
+}
+
+/// Adds records of both files.
+fn keep_both<D: Disk>(
+    alloc: Global,
+    store: &mut NodeStore,
+    disk: &mut D,
+    graph: &Graph,
+) -> Result<(), StoreFault>
+    requires both { 1 < length graph.now }
+    requires usable { store.old.journal.broken ≡ false }
+    requires in_step { D.tells →
+        IsNodeStoreInStep store.old.journal store.old.held (D.moments disk.old).now }
+{
+    keep_first(alloc, store, disk, graph)?;
+    if !may_follow(alloc, store, graph)? {
+        return Err(StoreFault::NoMemory);
+    }
+    let artefact = Text::from_slice(alloc, b"z")?;
+    keep(alloc, store, disk, graph, 1, &artefact)
+}
+
+/// What is done to the store of a disk, once it is opened.
+#[derive(Clone, Copy)]
+enum Change {
+    Opens,
+    Commits,
+    CommitsBoth,
+    Compacts,
+    Resets,
+}
+
+fn make_change<D: Disk>(
+    alloc: Global,
+    store: &mut NodeStore,
+    disk: &mut D,
+    change: Change,
+    graph: &Graph,
+) -> Result<(), StoreFault>
+    requires both { 1 < length graph.now }
+    requires usable { store.old.journal.broken ≡ false }
+    requires form { store.old.journal.form ≡ 2 }
+    requires in_step { D.tells →
+        IsNodeStoreInStep store.old.journal store.old.held (D.moments disk.old).now }
+{
+    match change {
+        Change::Opens => Ok(()),
+        Change::Commits => keep_first(alloc, store, disk, graph),
+        Change::CommitsBoth => keep_both(alloc, store, disk, graph),
+        Change::Compacts => store.compact(alloc, disk),
+        Change::Resets => keep_none(alloc, store, disk, graph),
+    }
+}
+
+/// The needs of both files as letters, `f` or `s`, and then the artefacts that are lent.
+fn seen(alloc: Global, store: &NodeStore, graph: &Graph) -> Result<[u8; 4], NoMemory>
+    requires { 1 < length graph.now }
+{
+    let needs = store.needs(alloc, graph)?;
+    let mut letters = [b'?'; 4];
+    for (i, need) in needs.as_slice().iter().enumerate() {
+        if i < 2 {
+            letters[i] = if *need == Need::Fresh { b'f' } else { b's' };
+        }
+    }
+    letters[2] = letter(store, &graph.get(0).name);
+    letters[3] = letter(store, &graph.get(1).name);
+    Ok(letters)
+}
+
+/// The same after a change.
+fn seen_after<D: Disk>(
+    alloc: Global,
+    store: &mut NodeStore,
+    disk: &mut D,
+    by: Change,
+    graph: &Graph,
+) -> Result<[u8; 4], StoreFault>
+    requires both { 1 < length graph.now }
+    requires usable { store.old.journal.broken ≡ false }
+    requires form { store.old.journal.form ≡ 2 }
+    requires in_step { D.tells →
+        IsNodeStoreInStep store.old.journal store.old.held (D.moments disk.old).now }
+{
+    make_change(alloc, store, disk, by, graph)?;
+    Ok(seen(alloc, store, graph)?)
+}
+
+/// Opens the store of a disk, and gives what is seen after a change. It alone owns a store.
+fn seen_on<D: Disk>(
+    alloc: Global,
+    disk: &mut D,
+    by: Change,
+    graph: &Graph,
+) -> Result<[u8; 4], StoreFault>
+    requires { 1 < length graph.now }
+{
+    let mut store = NodeStore::open(alloc, disk)?;
+    seen_after(alloc, &mut store, disk, by, graph)
+}
+
+/// The same of files with the text `x`.
+fn run<D: Disk>(alloc: Global, disk: &mut D, by: Change) -> Result<[u8; 4], StoreFault> {
+    let graph = both(alloc, b'x', b'x')?;
+    seen_on(alloc, disk, by, &graph)
+}
+
+/// The same of a disk of the example, over files with these texts.
+fn example(alloc: Global, first: u8, second: u8) -> Result<[u8; 4], StoreFault> {
+    let graph = both(alloc, first, second)?;
+    let mut disk = disk_of(alloc, &[], &EXAMPLE)?;
+    seen_on(alloc, &mut disk, Change::Opens, &graph)
+}
+
+#[test]
+fn the_example_is_opened_and_its_files_are_needed(rt: HostRuntime) -> Result<(), Fail> {
+    assert!(rt; example(rt.alloc(), b'x', b'x')? == *b"ffyz");
+    assert!(rt; example(rt.alloc(), b'x', b'w')? == *b"fsyz");
+    assert!(rt; example(rt.alloc(), b'w', b'x')? == *b"ssyz");
+    Ok(())
+}
+
+/// The bytes of side A once both files were committed to the store of an empty disk.
+fn both_committed(alloc: Global) -> Result<Vec<u8>, StoreFault> {
+    let graph = both(alloc, b'x', b'x')?;
+    let mut disk = empty_disk(alloc, &[])?;
+    seen_on(alloc, &mut disk, Change::CommitsBoth, &graph)?;
+    Ok(Vec::from_slice(alloc, disk.reads(Side::A))?)
+}
+
+#[test]
+fn the_example_is_committed(rt: HostRuntime) -> Result<(), Fail> {
+    assert!(rt; both_committed(rt.alloc())?.as_slice() == EXAMPLE.as_slice());
+    Ok(())
+}
