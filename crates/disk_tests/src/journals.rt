@@ -68,20 +68,6 @@ fn leaves_image(
     holds(alloc, &mut image, letter)
 }
 
-/// Whether the images of a moment whose free bytes are all one byte have the payloads of a letter.
-fn leaves_filled(
-    alloc: Global,
-    disk: &MemDisk,
-    moment: u64,
-    fill: u8,
-    letter: u8,
-) -> Result<bool, StoreFault> {
-    Ok(
-        leaves_image(alloc, disk, moment, 0, fill, letter)?
-            && leaves_image(alloc, disk, moment, LONG, fill, letter)?,
-    )
-}
-
 /// Whether each image of a moment has the payloads of a letter: of a first one where its free bytes are 1, and of a second
 /// one where they are others.
 fn leaves(
@@ -91,11 +77,15 @@ fn leaves(
     ones: u8,
     others: u8,
 ) -> Result<bool, StoreFault> {
-    Ok(
-        leaves_filled(alloc, disk, moment, 1, ones)?
-            && leaves_filled(alloc, disk, moment, 0, others)?
-            && leaves_filled(alloc, disk, moment, 255, others)?,
-    )
+    for fill in [1, 0, 255] {
+        let letter = if fill == 1 { ones } else { others };
+        if !leaves_image(alloc, disk, moment, 0, fill, letter)?
+            || !leaves_image(alloc, disk, moment, LONG, fill, letter)?
+        {
+            return Ok(false);
+        }
+    }
+    Ok(true)
 }
 
 /// The same of moments from the first one on, with a letter for each in either list.
@@ -174,12 +164,68 @@ fn emptied(alloc: Global, disk: &mut MemDisk) -> Result<Journal, StoreFault> {
     Ok(journal)
 }
 
+/// What is done to an empty disk: a journal is opened; `ab` is committed; then `cd` takes its place, or it is emptied.
+#[derive(Clone, Copy)]
+enum Change {
+    Opens,
+    Commits,
+    Replaces,
+    Resets,
+}
+
+/// Whether opening an empty disk finds no payload.
+fn opens(alloc: Global, disk: &mut MemDisk) -> Result<bool, StoreFault> {
+    holds(alloc, disk, b'-')
+}
+
+/// Whether a journal is of the first generation after a commit, and as long as its side.
+fn commits(alloc: Global, disk: &mut MemDisk) -> Result<bool, StoreFault> {
+    let journal = with_ab(alloc, disk)?;
+    Ok(journal.generation() == 1 && journal.length() == 26)
+}
+
+/// Makes a change, and tells whether it goes so.
+fn make(alloc: Global, disk: &mut MemDisk, change: Change) -> Result<bool, StoreFault> {
+    match change {
+        Change::Opens => opens(alloc, disk),
+        Change::Commits => commits(alloc, disk),
+        Change::Replaces => {
+            with_cd(alloc, disk)?;
+            Ok(true)
+        }
+        Change::Resets => {
+            emptied(alloc, disk)?;
+            Ok(true)
+        }
+    }
+}
+
+/// Whether the sides of a disk are those after a change.
+fn has_sides(disk: &MemDisk, change: Change) -> bool {
+    let a = disk.reads(Side::A);
+    let b = disk.reads(Side::B);
+    match change {
+        Change::Opens => a == EMPTY.as_slice() && b.is_empty(),
+        Change::Commits => a == WITH_AB.as_slice(),
+        Change::Replaces => a == WITH_AB.as_slice() && b == WITH_CD.as_slice(),
+        Change::Resets => b == EMPTY.as_slice(),
+    }
+}
+
+/// Whether a change goes so, and leaves its sides.
+fn changes(alloc: Global, disk: &mut MemDisk, change: Change) -> Result<bool, StoreFault> {
+    Ok(make(alloc, disk, change)? && has_sides(disk, change))
+}
+
+/// Whether a change leaves its sides, and a stop the payloads of a table, from a moment on.
+fn goes(alloc: Global, change: Change, first: u64, table: &str) -> Result<bool, StoreFault> {
+    let mut disk = disk(alloc, &[])?;
+    Ok(changes(alloc, &mut disk, change)? && leaves_all(alloc, &disk, first, table)?)
+}
+
 #[test]
 fn opening_makes_a_side(rt: HostRuntime) -> Result<(), Fail> {
-    let mut disk = disk(rt.alloc(), &[])?;
-    assert!(rt; holds(rt.alloc(), &mut disk, b'-')?);
-    assert!(rt; disk.reads(Side::A) == EMPTY.as_slice());
-    assert!(rt; disk.reads(Side::B).is_empty());
+    assert!(rt; goes(rt.alloc(), Change::Opens, 0, "\n")?);
     Ok(())
 }
 
@@ -207,10 +253,7 @@ fn opening_a_healthy_disk_writes_nothing(rt: HostRuntime) -> Result<(), Fail> {
 
 #[test]
 fn a_commit_writes_the_payload_and_its_gate(rt: HostRuntime) -> Result<(), Fail> {
-    let mut disk = disk(rt.alloc(), &[])?;
-    let journal = with_ab(rt.alloc(), &mut disk)?;
-    assert!(rt; disk.reads(Side::A) == WITH_AB.as_slice());
-    assert!(rt; journal.generation() == 1 && journal.length() == 26);
+    assert!(rt; goes(rt.alloc(), Change::Commits, 0, "\n")?);
     Ok(())
 }
 
@@ -219,29 +262,34 @@ static COMMITTING: &str = "----------------aaa\n------------------a";
 
 #[test]
 fn a_stop_inside_a_commit_leaves_its_payload_or_none(rt: HostRuntime) -> Result<(), Fail> {
-    let mut disk = disk(rt.alloc(), &[])?;
-    with_ab(rt.alloc(), &mut disk)?;
-    assert!(rt; leaves_all(rt.alloc(), &disk, 0, COMMITTING)?);
+    assert!(rt; goes(rt.alloc(), Change::Commits, 0, COMMITTING)?);
     Ok(())
 }
 
-/// Whether side A of each image of a moment begins with what was there before the commit.
-fn begins_empty(alloc: Global, disk: &MemDisk, moment: u64) -> Result<bool, NoMemory> {
-    for length in [0, LONG] {
-        let image = disk.crash(alloc, moment, length, 37)?;
-        if !image.reads(Side::A).starts_with(&EMPTY) {
+/// Whether side A of an image of a moment begins with what was there before the commit.
+fn begins_empty(alloc: Global, disk: &MemDisk, moment: u64, length: u64) -> Result<bool, NoMemory> {
+    let image = disk.crash(alloc, moment, length, 37)?;
+    Ok(image.reads(Side::A).starts_with(&EMPTY))
+}
+
+/// The same of each image inside of the two calls of a commit before its first sync.
+fn begins_so(alloc: Global, disk: &MemDisk) -> Result<bool, NoMemory> {
+    for moment in [COMMIT, COMMIT + 1] {
+        if !begins_empty(alloc, disk, moment, 0)? || !begins_empty(alloc, disk, moment, LONG)? {
             return Ok(false);
         }
     }
     Ok(true)
 }
 
+fn stays_until_synced(alloc: Global) -> Result<bool, StoreFault> {
+    let mut disk = disk(alloc, &[])?;
+    Ok(commits(alloc, &mut disk)? && begins_so(alloc, &disk)?)
+}
+
 #[test]
 fn a_stop_before_the_first_sync_leaves_the_side_as_it_was(rt: HostRuntime) -> Result<(), Fail> {
-    let mut disk = disk(rt.alloc(), &[])?;
-    with_ab(rt.alloc(), &mut disk)?;
-    assert!(rt; begins_empty(rt.alloc(), &disk, COMMIT)?);
-    assert!(rt; begins_empty(rt.alloc(), &disk, COMMIT + 1)?);
+    assert!(rt; stays_until_synced(rt.alloc())?);
     Ok(())
 }
 
@@ -250,11 +298,7 @@ static REPLACING: &str = "aaaaaaccc\naaaaaaaac";
 
 #[test]
 fn a_stop_inside_a_replacement_leaves_either_list(rt: HostRuntime) -> Result<(), Fail> {
-    let mut disk = disk(rt.alloc(), &[])?;
-    with_cd(rt.alloc(), &mut disk)?;
-    assert!(rt; disk.reads(Side::A) == WITH_AB.as_slice());
-    assert!(rt; disk.reads(Side::B) == WITH_CD.as_slice());
-    assert!(rt; leaves_all(rt.alloc(), &disk, NEXT, REPLACING)?);
+    assert!(rt; goes(rt.alloc(), Change::Replaces, NEXT, REPLACING)?);
     Ok(())
 }
 
@@ -262,26 +306,13 @@ static RESETTING: &str = "aaaa---------\naa-----------";
 
 #[test]
 fn a_stop_inside_a_reset_leaves_the_list_or_none(rt: HostRuntime) -> Result<(), Fail> {
-    let mut disk = disk(rt.alloc(), &[])?;
-    emptied(rt.alloc(), &mut disk)?;
-    assert!(rt; disk.reads(Side::B) == EMPTY.as_slice());
-    assert!(rt; leaves_all(rt.alloc(), &disk, NEXT, RESETTING)?);
+    assert!(rt; goes(rt.alloc(), Change::Resets, NEXT, RESETTING)?);
     Ok(())
-}
-
-/// What is done to a journal with `ab`.
-#[derive(Clone, Copy)]
-enum Change {
-    Replaces,
-    Resets,
 }
 
 /// Whether a change is answered by a fault of the disk.
 fn is_refused(alloc: Global, disk: &mut MemDisk, change: Change) -> bool {
-    let answer = match change {
-        Change::Replaces => with_cd(alloc, disk),
-        Change::Resets => emptied(alloc, disk),
-    };
+    let answer = make(alloc, disk, change);
     matches!(answer, Err(StoreFault::DiskFailed))
 }
 

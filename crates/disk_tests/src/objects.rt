@@ -6,7 +6,9 @@ use vr_base::{
     Event, Exit, Items, MaybeText, NamedText, NamedTextList, NoMemory, Numbers, Positions, Request,
     Text,
 };
-use vr_memory::{Answer, MemSink, MemSource, MemTree, ScriptProcs, can_answer, have_paths};
+use vr_memory::{
+    Answer, AnswerList, MemSink, MemSource, MemTree, ScriptProcs, can_answer, have_paths,
+};
 use vr_outside::{
     NamesEnd, Procs, ReadEnd, Sink, Source, SourceFault, StartFault, TakeEnd, Tree, TreeFault,
     WaitFault,
@@ -38,6 +40,12 @@ fn add(
     })
 }
 
+fn add_long(alloc: Global, files: &mut NamedTextList) -> Result<(), NoMemory> {
+    let long = vec![in alloc; b'n'; 1025]?;
+    add(alloc, files, long.as_slice(), b"")?;
+    add(alloc, files, &long.as_slice()[..1024], b"")
+}
+
 /// The files, and empty ones whose paths have 1,024 and 1,025 bytes.
 fn files(alloc: Global) -> Result<NamedTextList, NoMemory> {
     let mut list = Items::new(alloc);
@@ -46,9 +54,7 @@ fn files(alloc: Global) -> Result<NamedTextList, NoMemory> {
             add(alloc, &mut list, path.as_bytes(), bytes.as_bytes())?;
         }
     }
-    let long = vec![in alloc; b'n'; 1025]?;
-    add(alloc, &mut list, long.as_slice(), b"")?;
-    add(alloc, &mut list, &long.as_slice()[..1024], b"")?;
+    add_long(alloc, &mut list)?;
     Ok(list)
 }
 
@@ -59,8 +65,8 @@ fn tree(rt: &impl Abort, alloc: Global) -> Result<MemTree, NoMemory> {
     Ok(MemTree::new(alloc, files, numbers(alloc, &[4])?))
 }
 
-/// The listing: of each path the first 15 bytes, and a space.
-static LISTED: &[u8] = b"a.vhd nnnnnnnnnnnnnnn src.vhd src/b.vhd vunit_outer/q ";
+/// A limit, and what a listing of at most so many paths gives: of each path the first 15 bytes, and a space.
+static LISTINGS: &str = "5* a.vhd nnnnnnnnnnnnnnn src.vhd src/b.vhd vunit_outer/q \n4* too many\n";
 
 /// The first 15 bytes of each text, with a space after them.
 fn beginnings(alloc: Global, texts: &[Text]) -> Result<Vec<u8>, NoMemory> {
@@ -73,16 +79,19 @@ fn beginnings(alloc: Global, texts: &[Text]) -> Result<Vec<u8>, NoMemory> {
     Ok(all)
 }
 
-#[test]
-fn a_tree_lists_in_order(rt: HostRuntime) -> Result<(), Fail> {
-    let mut tree = tree(&rt, rt.alloc())?;
-    let NamesEnd::Got(names) = tree.names(rt.alloc(), 5)? else {
-        return Err(Fail::from("more than five names"));
-    };
-    let found = beginnings(rt.alloc(), names.as_slice())?;
-    assert_eq!(rt; found.as_slice(), LISTED);
-    assert!(rt; matches!(tree.names(rt.alloc(), 4)?, NamesEnd::TooMany));
-    Ok(())
+/// Whether a listing gives this.
+fn lists(alloc: Global, tree: &mut MemTree, limit: u64, wanted: &str) -> Result<bool, NoMemory> {
+    match tree.names(alloc, limit) {
+        Ok(NamesEnd::Got(names)) => are_listed(alloc, names.as_slice(), wanted),
+        Ok(NamesEnd::TooMany) => Ok(wanted == "too many"),
+        Err(TreeFault::Failed) => Ok(wanted == "failed"),
+        Err(TreeFault::NoMemory) => Err(NoMemory),
+    }
+}
+
+/// Whether these paths begin so.
+fn are_listed(alloc: Global, names: &[Text], wanted: &str) -> Result<bool, NoMemory> {
+    Ok(beginnings(alloc, names)?.as_slice() == wanted.as_bytes())
 }
 
 /// A limit, a path, and what a read of it gives, one read a line.
@@ -97,11 +106,11 @@ static READS: &str = "5a.vhd first\n\
 fn gives(
     alloc: Global,
     tree: &mut MemTree,
-    path: &[u8],
+    path: &Text,
     limit: u64,
     wanted: &str,
 ) -> Result<bool, NoMemory> {
-    match tree.read(alloc, &Text::from_slice(alloc, path)?, limit) {
+    match tree.read(alloc, path, limit) {
         Ok(ReadEnd::Got(bytes)) => Ok(bytes.bytes() == wanted.as_bytes()),
         Ok(ReadEnd::TooLong) => Ok(wanted == "too long"),
         Ok(ReadEnd::Absent) => Ok(wanted == "absent"),
@@ -115,6 +124,21 @@ fn number(digit: u8) -> u64 {
     digit.saturating_sub(b'0') as u64
 }
 
+/// Whether a listing, where the path is a star, or else a read gives this.
+fn answers_so(
+    alloc: Global,
+    tree: &mut MemTree,
+    path: &[u8],
+    limit: u64,
+    wanted: &str,
+) -> Result<bool, NoMemory> {
+    if path == b"*".as_slice() {
+        return lists(alloc, tree, limit, wanted);
+    }
+    let path = Text::from_slice(alloc, path)?;
+    gives(alloc, tree, &path, limit, wanted)
+}
+
 /// The same of a line.
 fn gives_line(alloc: Global, tree: &mut MemTree, line: &str) -> Result<bool, NoMemory> {
     match line.split_once(' ') {
@@ -123,18 +147,36 @@ fn gives_line(alloc: Global, tree: &mut MemTree, line: &str) -> Result<bool, NoM
             if path.is_empty() {
                 return Ok(false);
             }
-            gives(alloc, tree, &path[1..], number(path[0]), wanted)
+            answers_so(alloc, tree, &path[1..], number(path[0]), wanted)
         }
         None => Ok(false),
     }
 }
 
+fn gives_each(alloc: Global, tree: &mut MemTree, lines: &str) -> Result<bool, NoMemory> {
+    for line in lines.lines() {
+        if !gives_line(alloc, tree, line)? {
+            return Ok(false);
+        }
+    }
+    Ok(true)
+}
+
+/// Whether the tree gives what each line says. This function alone owns one.
+fn gives_all(rt: &impl Abort, alloc: Global, lines: &str) -> Result<bool, NoMemory> {
+    let mut tree = tree(rt, alloc)?;
+    gives_each(alloc, &mut tree, lines)
+}
+
+#[test]
+fn a_tree_lists_in_order(rt: HostRuntime) -> Result<(), Fail> {
+    assert!(rt; gives_all(&rt, rt.alloc(), LISTINGS)?);
+    Ok(())
+}
+
 #[test]
 fn a_tree_reads_its_files(rt: HostRuntime) -> Result<(), Fail> {
-    let mut tree = tree(&rt, rt.alloc())?;
-    for line in READS.lines() {
-        assert!(rt; gives_line(rt.alloc(), &mut tree, line)?, "{line}");
-    }
+    assert!(rt; gives_all(&rt, rt.alloc(), READS)?);
     Ok(())
 }
 
@@ -159,6 +201,13 @@ fn answer(alloc: Global, word: &[u8], code: u32) -> Result<Answer, NoMemory> {
     })
 }
 
+fn answers(alloc: Global) -> Result<AnswerList, NoMemory> {
+    let mut answers = Items::new(alloc);
+    answers.push(answer(alloc, b"a", 0)?)?;
+    answers.push(answer(alloc, b"b", 3)?)?;
+    Ok(answers)
+}
+
 /// Children that answer to `a` with 0 and to `b` with 3.
 fn script(
     rt: &impl Abort,
@@ -166,9 +215,7 @@ fn script(
     picks: &[u32],
     failing: &[u64],
 ) -> Result<ScriptProcs, NoMemory> {
-    let mut answers = Items::new(alloc);
-    answers.push(answer(alloc, b"a", 0)?)?;
-    answers.push(answer(alloc, b"b", 3)?)?;
+    let answers = answers(alloc)?;
     assert!(rt; can_answer(&answers));
     let picks: Positions = Items::from_vec(Vec::from_slice(alloc, picks)?);
     Ok(ScriptProcs::new(alloc, answers, picks, numbers(alloc, failing)?))
@@ -256,18 +303,28 @@ fn kinds(alloc: Global, procs: &ScriptProcs) -> Result<Vec<u8>, NoMemory> {
     Ok(kinds)
 }
 
+/// Whether steps go so, and leave a journal of these kinds. This function alone owns children.
+fn goes_as(
+    rt: &impl Abort,
+    alloc: Global,
+    picks: &[u32],
+    failing: &[u64],
+    steps: &str,
+    events: &[u8],
+) -> Result<bool, NoMemory> {
+    let mut procs = script(rt, alloc, picks, failing)?;
+    Ok(follows(rt, alloc, &mut procs, steps)? && kinds(alloc, &procs)?.as_slice() == events)
+}
+
 #[test]
 fn a_script_picks_among_those_that_run(rt: HostRuntime) -> Result<(), Fail> {
-    let mut procs = script(&rt, rt.alloc(), &[2, 3], &[])?;
-    assert!(rt; follows(&rt, rt.alloc(), &mut procs, PICKED)?);
+    assert!(rt; goes_as(&rt, rt.alloc(), &[2, 3], &[], PICKED, b"ssseesee")?);
     Ok(())
 }
 
 #[test]
 fn a_script_keeps_a_journal(rt: HostRuntime) -> Result<(), Fail> {
-    let mut procs = script(&rt, rt.alloc(), &[], &[0, 3])?;
-    assert!(rt; follows(&rt, rt.alloc(), &mut procs, FAILING)?);
-    assert_eq!(rt; kinds(rt.alloc(), &procs)?.as_slice(), b"ssge".as_slice());
+    assert!(rt; goes_as(&rt, rt.alloc(), &[], &[0, 3], FAILING, b"ssge")?);
     Ok(())
 }
 
@@ -307,14 +364,25 @@ fn takes_line(alloc: Global, source: &mut MemSource, line: &str) -> Result<bool,
     }
 }
 
+fn takes_each(alloc: Global, source: &mut MemSource, lines: &str) -> Result<bool, NoMemory> {
+    for line in lines.lines() {
+        if !takes_line(alloc, source, line)? {
+            return Ok(false);
+        }
+    }
+    Ok(true)
+}
+
+/// Whether a source of which these calls fail gives what each line says. This function alone owns one.
+fn takes_all(alloc: Global, failing: &[u64], lines: &str) -> Result<bool, NoMemory> {
+    let mut source = source(alloc, failing)?;
+    takes_each(alloc, &mut source, lines)
+}
+
 #[test]
 fn a_source_is_taken_once(rt: HostRuntime) -> Result<(), Fail> {
-    let mut taken = source(rt.alloc(), &[0])?;
-    for line in TAKEN.lines() {
-        assert!(rt; takes_line(rt.alloc(), &mut taken, line)?, "{line}");
-    }
-    let mut long = source(rt.alloc(), &[])?;
-    assert!(rt; takes(rt.alloc(), &mut long, 4, "too long")?);
+    assert!(rt; takes_all(rt.alloc(), &[0], TAKEN)?);
+    assert!(rt; takes_all(rt.alloc(), &[], "4 too long\n")?);
     Ok(())
 }
 
@@ -329,12 +397,23 @@ fn puts(sink: &mut MemSink, line: &[u8]) -> bool {
     sink.put(&line[1..]).is_err() == (line[0] == b'!')
 }
 
+fn puts_each(sink: &mut MemSink, lines: &str) -> bool {
+    for line in lines.lines() {
+        if !puts(sink, line.as_bytes()) {
+            return false;
+        }
+    }
+    true
+}
+
+/// Whether a sink of which call 1 fails keeps these bytes of what is put. This function alone owns one.
+fn keeps(alloc: Global, lines: &str, wanted: &[u8]) -> Result<bool, NoMemory> {
+    let mut sink = MemSink::new(alloc, numbers(alloc, &[1])?);
+    Ok(puts_each(&mut sink, lines) && sink.bytes() == wanted)
+}
+
 #[test]
 fn a_sink_keeps_what_is_put(rt: HostRuntime) -> Result<(), Fail> {
-    let mut sink = MemSink::new(rt.alloc(), numbers(rt.alloc(), &[1])?);
-    for line in PUT.lines() {
-        assert!(rt; puts(&mut sink, line.as_bytes()), "{line}");
-    }
-    assert_eq!(rt; sink.bytes(), b"one three".as_slice());
+    assert!(rt; keeps(rt.alloc(), PUT, b"one three")?);
     Ok(())
 }
