@@ -1,18 +1,13 @@
 //! Tests of what no clause says: the bytes that are kept of payloads, spelled by hand.
 
+use crate::payloads::{A, opened};
 use gate_journal::Payloads;
 use node_carry::{carried_payloads, plan_latest};
 use node_shelf::{Pieces, shelf_of};
 use std::alloc::Global;
+use std::process::Abort;
 use std::test::Fail;
 use vr_base::NoMemory;
-
-/// The file `a.vhd` of library `lib`, compiled by `cc`, with the new text `x` and the artefact `y`.
-const A: [u8; 42] = [
-    1, 3, 0, 0, 0, b'l', b'i', b'b', 5, 0, 0, 0, b'a', b'.', b'v', b'h', b'd', //
-    1, 0, 0, 0, 2, 0, 0, 0, b'c', b'c', //
-    1, 1, 0, 0, 0, b'x', 0, 0, 0, 0, 1, 0, 0, 0, b'y',
-];
 
 /// The file `b.vhd` over node 0, with the new text `z` and the artefact `q`.
 const B: [u8; 50] = [
@@ -44,27 +39,41 @@ fn kept(alloc: Global, opened: Payloads) -> Result<(Payloads, u64), NoMemory> {
     Ok((carried_payloads(alloc, &pieces, &shelf, &plan)?, plan.len))
 }
 
+fn is_at(payloads: &Payloads, at: u64, wanted: &[u8]) -> bool {
+    if payloads.len() <= at {
+        return false;
+    }
+    payloads.get(at) == wanted
+}
+
+fn keeps_one(alloc: Global, opened: Payloads) -> Result<bool, NoMemory> {
+    let (payloads, len) = kept(alloc, opened)?;
+    Ok(len == 47 && payloads.len() == 1 && is_at(&payloads, 0, &later()))
+}
+
 #[test]
 fn only_the_latest_record_is_kept(rt: HostRuntime) -> Result<(), Fail> {
-    let mut opened = Payloads::new(rt.alloc());
-    opened.push(rt.alloc(), &A)?;
-    opened.push(rt.alloc(), &later())?;
-    let (payloads, len) = kept(rt.alloc(), opened)?;
-    assert!(rt; payloads.len() == 1 && len == 47);
-    assert!(rt; payloads.get(0) == later().as_slice());
+    let opened = opened(rt.alloc(), &A, &later(), &[])?;
+    assert!(rt; keeps_one(rt.alloc(), opened)?);
     Ok(())
+}
+
+/// Whether these are `ALONE`, `B` and the later ones.
+fn are_three(payloads: &Payloads) -> bool {
+    payloads.len() == 3
+        && is_at(payloads, 0, &ALONE)
+        && is_at(payloads, 1, &B)
+        && is_at(payloads, 2, &later())
+}
+
+fn keeps_three(alloc: Global, opened: Payloads) -> Result<bool, NoMemory> {
+    let (payloads, len) = kept(alloc, opened)?;
+    Ok(len == 144 && are_three(&payloads))
 }
 
 #[test]
 fn a_node_without_its_record_is_kept_alone(rt: HostRuntime) -> Result<(), Fail> {
-    let mut opened = Payloads::new(rt.alloc());
-    opened.push(rt.alloc(), &A)?;
-    opened.push(rt.alloc(), &B)?;
-    opened.push(rt.alloc(), &later())?;
-    let (payloads, len) = kept(rt.alloc(), opened)?;
-    assert!(rt; payloads.len() == 3 && len == 144);
-    assert!(rt; payloads.get(0) == ALONE.as_slice());
-    assert!(rt; payloads.get(1) == B.as_slice());
-    assert!(rt; payloads.get(2) == later().as_slice());
+    let opened = opened(rt.alloc(), &A, &B, &later())?;
+    assert!(rt; keeps_three(rt.alloc(), opened)?);
     Ok(())
 }

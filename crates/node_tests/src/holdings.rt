@@ -1,39 +1,19 @@
 //! Tests of which records are the latest, and which are of the present view.
 
-use gate_journal::Payloads;
+use crate::payloads::{A, AGAIN, opened};
 use node_holdings::Holdings;
 use record_codec::read_record;
 use std::alloc::Global;
+use std::process::Abort;
 use std::test::Fail;
 use vr_base::{Graph, NoMemory};
 use vr_outside::{Need, Record};
-
-/// The file `a.vhd` of library `lib`, compiled by `cc`, with the new text `x` and the artefact `y`.
-const A: [u8; 42] = [
-    1, 3, 0, 0, 0, b'l', b'i', b'b', 5, 0, 0, 0, b'a', b'.', b'v', b'h', b'd', //
-    1, 0, 0, 0, 2, 0, 0, 0, b'c', b'c', //
-    1, 1, 0, 0, 0, b'x', 0, 0, 0, 0, 1, 0, 0, 0, b'y',
-];
-
-/// Node 0 once more, with the artefact `z`.
-const AGAIN: [u8; 14] = [0, 0, 0, 0, 0, 0, 0, 0, 0, 1, 0, 0, 0, b'z'];
 
 /// The file as a record of its view, whose form is another.
 const VIEW: [u8; 44] = [
     1, 0, 0, 0, 3, 0, 0, 0, b'l', b'i', b'b', 5, 0, 0, 0, b'a', b'.', b'v', b'h', b'd', //
     1, 0, 0, 0, 2, 0, 0, 0, b'c', b'c', 1, 0, 0, 0, b'x', 0, 0, 0, 0, 1, 0, 0, 0, b'y',
 ];
-
-fn held(alloc: Global, first: &[u8], second: &[u8]) -> Result<Holdings, NoMemory> {
-    let mut opened = Payloads::new(alloc);
-    if first.len() < 100 {
-        opened.push(alloc, first)?;
-    }
-    if second.len() < 100 {
-        opened.push(alloc, second)?;
-    }
-    Holdings::of(alloc, opened)
-}
 
 /// The graph of the one file, of which this is the text.
 fn graph(alloc: Global, text: u8) -> Result<Graph, Fail> {
@@ -45,21 +25,38 @@ fn graph(alloc: Global, text: u8) -> Result<Graph, Fail> {
     Ok(view)
 }
 
-/// Whether the latest record of the file has its present view, where this is its text.
-fn is_fresh(alloc: Global, second: &[u8], text: u8) -> Result<bool, Fail> {
-    let held = held(alloc, &A, second)?;
+/// What is held of `A` and another payload.
+fn held(alloc: Global, second: &[u8]) -> Result<Holdings, NoMemory> {
+    let opened = opened(alloc, &A, second, &[])?;
+    Holdings::of(alloc, opened)
+}
+
+/// The need of the one file of a graph as a letter.
+fn need(alloc: Global, held: &Holdings, graph: &Graph) -> Result<u8, NoMemory> {
+    let needs = held.needs(alloc, graph)?;
+    match needs.as_slice() {
+        [Need::Fresh] => Ok(b'f'),
+        [_] => Ok(b's'),
+        _ => Ok(b'?'),
+    }
+}
+
+/// The same after `A` and another payload. This function alone owns what is held.
+fn need_after(alloc: Global, second: &[u8], graph: &Graph) -> Result<u8, NoMemory> {
+    let held = held(alloc, second)?;
+    need(alloc, &held, graph)
+}
+
+/// Whether the latest record of the file has its present view, where this is its text: `f` where it has, and else `s`.
+fn seen(alloc: Global, second: &[u8], text: u8) -> Result<u8, Fail> {
     let graph = graph(alloc, text)?;
-    let needs = held.needs(alloc, &graph)?;
-    let [need] = needs.as_slice() else {
-        return Err(Fail::from("the graph has one file"));
-    };
-    Ok(matches!(need, Need::Fresh))
+    Ok(need_after(alloc, second, &graph)?)
 }
 
 #[test]
 fn the_recorded_view_is_fresh(rt: HostRuntime) -> Result<(), Fail> {
-    assert!(rt; is_fresh(rt.alloc(), &AGAIN, b'x')?);
-    assert!(rt; !is_fresh(rt.alloc(), &AGAIN, b'w')?);
+    assert!(rt; seen(rt.alloc(), &AGAIN, b'x')? == b'f');
+    assert!(rt; seen(rt.alloc(), &AGAIN, b'w')? == b's');
     Ok(())
 }
 
@@ -67,20 +64,30 @@ fn the_recorded_view_is_fresh(rt: HostRuntime) -> Result<(), Fail> {
 fn only_the_latest_record_counts(rt: HostRuntime) -> Result<(), Fail> {
     let mut bytes = A;
     bytes[32] = b'w';
-    assert!(rt; is_fresh(rt.alloc(), &bytes, b'w')?);
-    assert!(rt; !is_fresh(rt.alloc(), &bytes, b'x')?);
+    assert!(rt; seen(rt.alloc(), &bytes, b'w')? == b'f');
+    assert!(rt; seen(rt.alloc(), &bytes, b'x')? == b's');
     Ok(())
+}
+
+/// Whether the artefact `z` is lent of the first file.
+fn lends(held: &Holdings, graph: &Graph) -> bool {
+    if graph.is_empty() {
+        return false;
+    }
+    match held.artefact(&graph.get(0).name) {
+        Some([byte]) => *byte == b'z',
+        _ => false,
+    }
+}
+
+fn lends_after(alloc: Global, second: &[u8], graph: &Graph) -> Result<bool, NoMemory> {
+    let held = held(alloc, second)?;
+    Ok(lends(&held, graph))
 }
 
 #[test]
 fn the_latest_artefact_is_lent(rt: HostRuntime) -> Result<(), Fail> {
-    let held = held(rt.alloc(), &A, &AGAIN)?;
     let graph = graph(rt.alloc(), b'x')?;
-    if graph.is_empty() {
-        return Err(Fail::from("the graph has one file"));
-    }
-    assert!(rt;
-        matches!(held.artefact(&graph.get(0).name), Some(bytes) if bytes == b"z".as_slice())
-    );
+    assert!(rt; lends_after(rt.alloc(), &AGAIN, &graph)?);
     Ok(())
 }

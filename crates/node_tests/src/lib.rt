@@ -6,6 +6,8 @@ mod carrying;
 #[cfg(test)]
 mod holdings;
 #[cfg(test)]
+mod payloads;
+#[cfg(test)]
 mod shelves;
 #[cfg(test)]
 mod tables;

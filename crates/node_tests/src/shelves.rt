@@ -1,17 +1,12 @@
 //! Tests of payloads one after the other, byte for byte.
 
+use crate::payloads::{A, AGAIN, opened};
 use gate_journal::Payloads;
-use node_shelf::{Pieces, shelf_of};
+use node_shelf::{Pieces, ShelfPlaces, shelf_of};
 use std::alloc::Global;
+use std::process::Abort;
 use std::test::Fail;
 use vr_base::NoMemory;
-
-/// The file `a.vhd` of library `lib`, compiled by `cc`, with the new text `x` and the artefact `y`.
-const A: [u8; 42] = [
-    1, 3, 0, 0, 0, b'l', b'i', b'b', 5, 0, 0, 0, b'a', b'.', b'v', b'h', b'd', //
-    1, 0, 0, 0, 2, 0, 0, 0, b'c', b'c', //
-    1, 1, 0, 0, 0, b'x', 0, 0, 0, 0, 1, 0, 0, 0, b'y',
-];
 
 /// The file `b.vhd` with text 0, which depends on node 0, with the artefact `z`.
 const B: [u8; 53] = [
@@ -20,24 +15,28 @@ const B: [u8; 53] = [
     0, 0, 0, 0, 0, 0, 0, 0, 0, 1, 0, 0, 0, 0, 0, 0, 0, 0, 0, 0, 0, 1, 0, 0, 0, b'z',
 ];
 
-/// Node 0 once more, with the artefact `z`.
-const AGAIN: [u8; 14] = [0, 0, 0, 0, 0, 0, 0, 0, 0, 1, 0, 0, 0, b'z'];
+/// The numbers of texts, nodes and records, as one number of three digits.
+fn digits(shelf: &ShelfPlaces) -> usize {
+    let texts = shelf.texts.places.len();
+    let nodes = shelf.table.len();
+    let records = shelf.records.places.len();
+    if texts < 9 && nodes < 9 && records < 9 {
+        texts * 100 + nodes * 10 + records
+    } else {
+        999
+    }
+}
 
-/// The numbers of texts, nodes and records of two payloads, as one number of three digits.
+/// The same of payloads.
+fn shelved(alloc: Global, opened: Payloads) -> Result<usize, NoMemory> {
+    let pieces = Pieces::of(alloc, opened);
+    let shelf = shelf_of(alloc, &pieces)?;
+    Ok(digits(&shelf))
+}
+
+/// The same of two payloads.
 fn counts(alloc: Global, first: &[u8], second: &[u8]) -> Result<usize, NoMemory> {
-    let mut opened = Payloads::new(alloc);
-    if first.len() < 100 {
-        opened.push(alloc, first)?;
-    }
-    if second.len() < 100 {
-        opened.push(alloc, second)?;
-    }
-    let shelf = shelf_of(alloc, &Pieces::of(alloc, opened))?;
-    if shelf.texts.places.len() < 9 && shelf.table.len() < 9 && shelf.records.places.len() < 9 {
-        let digits = shelf.texts.places.len() * 100 + shelf.table.len() * 10;
-        return Ok(digits + shelf.records.places.len());
-    }
-    Ok(999)
+    shelved(alloc, opened(alloc, first, second, &[])?)
 }
 
 #[test]

@@ -2,6 +2,7 @@
 
 use node_table::NodeTable;
 use std::alloc::Global;
+use std::process::Abort;
 use std::test::Fail;
 use vr_base::{FileName, NoMemory, Text, TextList};
 
@@ -12,22 +13,51 @@ fn name(alloc: Global, path: &[u8]) -> Result<FileName, NoMemory> {
     })
 }
 
+/// The number that a name gets.
+fn number_of(alloc: Global, table: &mut NodeTable, path: &[u8]) -> Result<usize, NoMemory> {
+    let name = name(alloc, path)?;
+    table.add_name(name)
+}
+
+fn numbers_once(alloc: Global, table: &mut NodeTable) -> Result<bool, NoMemory> {
+    let first = number_of(alloc, table, b"a.vhd")?;
+    let second = number_of(alloc, table, b"b.vhd")?;
+    let again = number_of(alloc, table, b"a.vhd")?;
+    Ok(first == 0 && second == 1 && again == 0)
+}
+
 #[test]
 fn a_name_is_numbered_once(rt: HostRuntime) -> Result<(), Fail> {
     let mut table = NodeTable::new(rt.alloc());
-    let first = table.add_name(name(rt.alloc(), b"a.vhd")?)?;
-    let second = table.add_name(name(rt.alloc(), b"b.vhd")?)?;
-    let again = table.add_name(name(rt.alloc(), b"a.vhd")?)?;
-    assert!(rt; first == 0 && second == 1 && again == 0);
+    assert!(rt; numbers_once(rt.alloc(), &mut table)?);
     Ok(())
+}
+
+fn command(alloc: Global) -> Result<TextList, NoMemory> {
+    let mut words = TextList::new(alloc);
+    words.push(Text::from_slice(alloc, b"cc")?)?;
+    Ok(words)
+}
+
+/// Adds a copy of a command.
+fn add(alloc: Global, table: &mut NodeTable, words: &TextList) -> Result<usize, NoMemory> {
+    let copy = words.copy(alloc)?;
+    table.add_command(copy)
+}
+
+fn finds(alloc: Global, table: &mut NodeTable, words: &TextList) -> Result<bool, NoMemory> {
+    add(alloc, table, words)?;
+    Ok(table.command_number(alloc, words)? == Some(0))
+}
+
+fn finds_command(alloc: Global, table: &mut NodeTable) -> Result<bool, NoMemory> {
+    let words = command(alloc)?;
+    finds(alloc, table, &words)
 }
 
 #[test]
 fn a_copy_of_a_command_is_found(rt: HostRuntime) -> Result<(), Fail> {
     let mut table = NodeTable::new(rt.alloc());
-    let mut words = TextList::new(rt.alloc());
-    words.push(Text::from_slice(rt.alloc(), b"cc")?)?;
-    table.add_command(words.copy(rt.alloc())?)?;
-    assert!(rt; table.command_number(rt.alloc(), &words)? == Some(0));
+    assert!(rt; finds_command(rt.alloc(), &mut table)?);
     Ok(())
 }
