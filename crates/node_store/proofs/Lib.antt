@@ -2,4 +2,3 @@
 pub mod NodeRecords
 pub mod NodeMoments
 pub mod Compacting
-pub mod Following

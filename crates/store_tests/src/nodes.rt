@@ -163,20 +163,6 @@ fn leaves_image(
     holds(alloc, &mut image, letter)
 }
 
-/// Whether the images of a moment whose free bytes are all one byte hold that.
-fn leaves_filled(
-    alloc: Global,
-    disk: &MemDisk,
-    moment: u64,
-    fill: u8,
-    letter: u8,
-) -> Result<bool, StoreFault> {
-    Ok(
-        leaves_image(alloc, disk, moment, 0, fill, letter)?
-            && leaves_image(alloc, disk, moment, LONG, fill, letter)?,
-    )
-}
-
 /// Whether each image of a moment holds one letter where its free bytes are 1, and another where they are others.
 fn leaves(
     alloc: Global,
@@ -185,11 +171,15 @@ fn leaves(
     ones: u8,
     others: u8,
 ) -> Result<bool, StoreFault> {
-    Ok(
-        leaves_filled(alloc, disk, moment, 1, ones)?
-            && leaves_filled(alloc, disk, moment, 0, others)?
-            && leaves_filled(alloc, disk, moment, 255, others)?,
-    )
+    for fill in [1, 0, 255] {
+        let letter = if fill == 1 { ones } else { others };
+        if !leaves_image(alloc, disk, moment, 0, fill, letter)?
+            || !leaves_image(alloc, disk, moment, LONG, fill, letter)?
+        {
+            return Ok(false);
+        }
+    }
+    Ok(true)
 }
 
 /// The same of moments from the first one on, with a letter for each in either list.
@@ -222,16 +212,54 @@ fn leaves_all(alloc: Global, disk: &MemDisk, first: u64, table: &str) -> Result<
     }
 }
 
+/// A payload, and a last gate that is open though none follows.
+fn open_gate(alloc: Global, failing: &[u64]) -> Result<MemDisk, StoreFault> {
+    let mut bytes = SIDE;
+    bytes[65] = 1;
+    disk_of(alloc, failing, &bytes[..66])
+}
+
+/// A disk to be changed, of which a call fails.
+fn failing_disk(alloc: Global, change: Change, call: u64) -> Result<MemDisk, StoreFault> {
+    match change {
+        Change::Opens => open_gate(alloc, &[call]),
+        Change::Compacts => disk_of(alloc, &[call], &SIDE),
+        _ => Ok(empty_disk(alloc, &[call])?),
+    }
+}
+
+/// Whether the sides of a disk are those after a change.
+fn has_sides(disk: &MemDisk, change: Change) -> bool {
+    let a = disk.reads(Side::A);
+    match change {
+        Change::Opens => a.len() == 66 && a.ends_with(b"y\0"),
+        Change::Commits => a.len() == 66 && a.starts_with(&SIDE[..65]),
+        Change::Compacts => a == SIDE.as_slice() && disk.reads(Side::B) == KEPT.as_slice(),
+        _ => true,
+    }
+}
+
+fn changes(alloc: Global, disk: &mut MemDisk, change: Change) -> Result<bool, StoreFault> {
+    run(alloc, disk, change)?;
+    Ok(has_sides(disk, change))
+}
+
+/// Past all calls.
+const NEVER: u64 = u64::MAX;
+
+/// Whether a change leaves its sides, and a stop the payloads of a table, from a moment on.
+fn goes(alloc: Global, change: Change, first: u64, table: &str) -> Result<bool, StoreFault> {
+    let mut disk = failing_disk(alloc, change, NEVER)?;
+    Ok(changes(alloc, &mut disk, change)? && leaves_all(alloc, &disk, first, table)?)
+}
+
 /// From the first call on: opening an empty disk takes 14 calls, and a commit 4. After the third of these its gate may be
 /// open.
 static COMMITTING: &str = "----------------yyy\n------------------y";
 
 #[test]
 fn a_stop_inside_a_commit_leaves_its_record_or_none(rt: HostRuntime) -> Result<(), Fail> {
-    let mut disk = empty_disk(rt.alloc(), &[])?;
-    run(rt.alloc(), &mut disk, Change::Commits)?;
-    assert!(rt; disk.reads(Side::A).len() == 66 && disk.reads(Side::A).starts_with(&SIDE[..65]));
-    assert!(rt; leaves_all(rt.alloc(), &disk, 0, COMMITTING)?);
+    assert!(rt; goes(rt.alloc(), Change::Commits, 0, COMMITTING)?);
     Ok(())
 }
 
@@ -242,19 +270,8 @@ static COMPACTING: &str = "2222222222222vvv\n222222222222222v";
 fn a_stop_inside_a_compaction_leaves_all_records_or_the_latest(
     rt: HostRuntime,
 ) -> Result<(), Fail> {
-    let mut disk = disk_of(rt.alloc(), &[], &SIDE)?;
-    run(rt.alloc(), &mut disk, Change::Compacts)?;
-    assert!(rt; disk.reads(Side::A) == SIDE.as_slice());
-    assert!(rt; disk.reads(Side::B) == KEPT.as_slice());
-    assert!(rt; leaves_all(rt.alloc(), &disk, 2, COMPACTING)?);
+    assert!(rt; goes(rt.alloc(), Change::Compacts, 2, COMPACTING)?);
     Ok(())
-}
-
-/// A payload, and a last gate that is open though none follows.
-fn open_gate(alloc: Global, failing: &[u64]) -> Result<MemDisk, StoreFault> {
-    let mut bytes = SIDE;
-    bytes[65] = 1;
-    disk_of(alloc, failing, &bytes[..66])
 }
 
 /// From the first call after the side was written on: the 7 that open a live side, and a write that closes its gate.
@@ -262,40 +279,31 @@ static OPENING: &str = "yyyyyyyyyy\nyyyyyyyyyy";
 
 #[test]
 fn a_stop_inside_an_opening_leaves_all_records(rt: HostRuntime) -> Result<(), Fail> {
-    let mut disk = open_gate(rt.alloc(), &[])?;
-    run(rt.alloc(), &mut disk, Change::Opens)?;
-    assert!(rt; disk.reads(Side::A).len() == 66 && disk.reads(Side::A).ends_with(b"y\0"));
-    assert!(rt; leaves_all(rt.alloc(), &disk, 2, OPENING)?);
+    assert!(rt; goes(rt.alloc(), Change::Opens, 2, OPENING)?);
     Ok(())
 }
 
-/// Whether a commit whose gate can't be written is answered by a fault of the disk.
-fn is_torn(alloc: Global, disk: &mut MemDisk) -> bool {
-    matches!(
-        run(alloc, disk, Change::Commits),
-        Err(StoreFault::DiskFailed)
-    )
+/// Whether a commit whose gate can't be written is answered by a fault of the disk, and the store can then be opened.
+fn reopens(alloc: Global, disk: &mut MemDisk) -> Result<bool, StoreFault> {
+    if !is_refused(alloc, disk, Change::Commits) {
+        return Ok(false);
+    }
+    run(alloc, disk, Change::Opens)?;
+    Ok(true)
 }
 
 /// From the opening after such a commit on: the gate may be any up to the end of the first sync.
 static REOPENING: &str = "y-------\n--------";
 
-#[test]
-fn opening_after_a_torn_commit_settles_on_what_reads_gave(rt: HostRuntime) -> Result<(), Fail> {
-    let mut disk = empty_disk(rt.alloc(), &[16])?;
-    assert!(rt; is_torn(rt.alloc(), &mut disk));
-    run(rt.alloc(), &mut disk, Change::Opens)?;
-    assert!(rt; leaves_all(rt.alloc(), &disk, 17, REOPENING)?);
-    Ok(())
+fn settles(alloc: Global) -> Result<bool, StoreFault> {
+    let mut disk = empty_disk(alloc, &[16])?;
+    Ok(reopens(alloc, &mut disk)? && leaves_all(alloc, &disk, 17, REOPENING)?)
 }
 
-/// A disk to be changed, of which a call fails.
-fn failing_disk(alloc: Global, change: Change, call: u64) -> Result<MemDisk, StoreFault> {
-    match change {
-        Change::Opens => open_gate(alloc, &[call]),
-        Change::Compacts => disk_of(alloc, &[call], &SIDE),
-        _ => Ok(empty_disk(alloc, &[call])?),
-    }
+#[test]
+fn opening_after_a_torn_commit_settles_on_what_reads_gave(rt: HostRuntime) -> Result<(), Fail> {
+    assert!(rt; settles(rt.alloc())?);
+    Ok(())
 }
 
 /// Whether a change is answered by a fault of the disk.
@@ -388,9 +396,18 @@ static RESETTING: &str = "yyyy---------\nyy-----------";
 
 #[test]
 fn a_stop_inside_a_reset_leaves_the_record_or_none(rt: HostRuntime) -> Result<(), Fail> {
-    let mut disk = empty_disk(rt.alloc(), &[])?;
-    run(rt.alloc(), &mut disk, Change::Resets)?;
-    assert!(rt; leaves_all(rt.alloc(), &disk, 18, RESETTING)?);
+    assert!(rt; goes(rt.alloc(), Change::Resets, 18, RESETTING)?);
+    Ok(())
+}
+
+/// Adds a payload of the first node, whose artefact has this number of bytes.
+fn put_long(alloc: Global, bytes: &mut Vec<u8>, length: u32) -> Result<(), NoMemory> {
+    let artefact = vec![in alloc; b'q'; length as usize]?;
+    bytes.push(1)?;
+    bytes.extend_from_slice(&length.saturating_add(13).to_le_bytes())?;
+    bytes.extend_from_slice(&[0, 0, 0, 0, 0, 0, 0, 0, 0])?;
+    bytes.extend_from_slice(&length.to_le_bytes())?;
+    bytes.extend_from_slice(&artefact)?;
     Ok(())
 }
 
@@ -399,11 +416,7 @@ fn a_stop_inside_a_reset_leaves_the_record_or_none(rt: HostRuntime) -> Result<()
 fn long_side(alloc: Global, lengths: &[u32]) -> Result<Vec<u8>, NoMemory> {
     let mut bytes = Vec::from_slice(alloc, &SIDE[..65])?;
     for length in lengths {
-        bytes.extend_from_slice(&[1])?;
-        bytes.extend_from_slice(&length.saturating_add(13).to_le_bytes())?;
-        bytes.extend_from_slice(&[0, 0, 0, 0, 0, 0, 0, 0, 0])?;
-        bytes.extend_from_slice(&length.to_le_bytes())?;
-        bytes.extend_from_slice(&vec![in alloc; b'q'; *length as usize]?)?;
+        put_long(alloc, &mut bytes, *length)?;
     }
     bytes.extend_from_slice(&[
         1, 14, 0, 0, 0, 0, 0, 0, 0, 0, 0, 0, 0, 0, 1, 0, 0, 0, b'z', 0,
@@ -411,12 +424,16 @@ fn long_side(alloc: Global, lengths: &[u32]) -> Result<Vec<u8>, NoMemory> {
     Ok(bytes)
 }
 
-/// The bytes of side B once the store of a disk whose side A is long was opened.
-fn other_side(alloc: Global, lengths: &[u32]) -> Result<Vec<u8>, StoreFault> {
+fn long_disk(alloc: Global, lengths: &[u32]) -> Result<MemDisk, StoreFault> {
     let side = long_side(alloc, lengths)?;
-    let mut disk = disk_of(alloc, &[], &side)?;
+    disk_of(alloc, &[], &side)
+}
+
+/// Whether side B has these bytes once the store of a disk whose side A is long was opened.
+fn makes_side(alloc: Global, lengths: &[u32], wanted: &[u8]) -> Result<bool, StoreFault> {
+    let mut disk = long_disk(alloc, lengths)?;
     run(alloc, &mut disk, Change::Opens)?;
-    Ok(Vec::from_slice(alloc, disk.reads(Side::B))?)
+    Ok(disk.reads(Side::B) == wanted)
 }
 
 /// The side that keeps the first payload's node with the last artefact.
@@ -435,8 +452,8 @@ static PAST_THE_LIMIT: [u32; 4] = [262144, 262144, 262144, 262054];
 
 #[test]
 fn a_store_is_compacted_past_the_limit_of_dead_bytes(rt: HostRuntime) -> Result<(), Fail> {
-    assert!(rt; other_side(rt.alloc(), &AT_THE_LIMIT)?.is_empty());
-    assert!(rt; other_side(rt.alloc(), &PAST_THE_LIMIT)?.as_slice() == kept_side().as_slice());
+    assert!(rt; makes_side(rt.alloc(), &AT_THE_LIMIT, &[])?);
+    assert!(rt; makes_side(rt.alloc(), &PAST_THE_LIMIT, &kept_side())?);
     Ok(())
 }
 
@@ -638,16 +655,15 @@ fn the_example_is_opened_and_its_files_are_needed(rt: HostRuntime) -> Result<(),
     Ok(())
 }
 
-/// The bytes of side A once both files were committed to the store of an empty disk.
-fn both_committed(alloc: Global) -> Result<Vec<u8>, StoreFault> {
-    let graph = both(alloc, b'x', b'x')?;
-    let mut disk = empty_disk(alloc, &[])?;
-    seen_on(alloc, &mut disk, Change::CommitsBoth, &graph)?;
-    Ok(Vec::from_slice(alloc, disk.reads(Side::A))?)
+/// Whether side A has these bytes once both files were committed to the store of a disk.
+fn commits_both(alloc: Global, disk: &mut MemDisk, wanted: &[u8]) -> Result<bool, StoreFault> {
+    run(alloc, disk, Change::CommitsBoth)?;
+    Ok(disk.reads(Side::A) == wanted)
 }
 
 #[test]
 fn the_example_is_committed(rt: HostRuntime) -> Result<(), Fail> {
-    assert!(rt; both_committed(rt.alloc())?.as_slice() == EXAMPLE.as_slice());
+    let mut disk = empty_disk(rt.alloc(), &[])?;
+    assert!(rt; commits_both(rt.alloc(), &mut disk, &EXAMPLE)?);
     Ok(())
 }

@@ -101,22 +101,33 @@ fn has(alloc: Global, store: &RecordStore, text: u8) -> Result<bool, Fail> {
     Ok(is_fresh(alloc, store, &graph)?)
 }
 
+/// Whether a record that is kept is found, also on the disk.
+fn finds(alloc: Global, disk: &mut MemDisk) -> Result<bool, Fail> {
+    let store = with_x(alloc, disk)?;
+    has(alloc, &store, b'x')
+}
+
+fn finds_again(alloc: Global, disk: &mut MemDisk) -> Result<bool, Fail> {
+    Ok(finds(alloc, disk)? && disk.reads(Side::A) == SIDE.as_slice() && holds(alloc, disk)?)
+}
+
 #[test]
 fn a_record_is_kept_and_found_again(rt: HostRuntime) -> Result<(), Fail> {
     let mut disk = disk(rt.alloc(), &[])?;
-    let store = with_x(rt.alloc(), &mut disk)?;
-    assert!(rt; has(rt.alloc(), &store, b'x')?);
-    assert!(rt; disk.reads(Side::A) == SIDE.as_slice());
-    assert!(rt; holds(rt.alloc(), &mut disk)?);
+    assert!(rt; finds_again(rt.alloc(), &mut disk)?);
     Ok(())
+}
+
+/// Whether the store of a disk has a record of the file with the text `x`, and none of one with `z`.
+fn finds_x_alone(alloc: Global, disk: &mut MemDisk) -> Result<bool, Fail> {
+    let store = RecordStore::from_disk(alloc, disk)?;
+    Ok(has(alloc, &store, b'x')? && !has(alloc, &store, b'z')?)
 }
 
 #[test]
 fn another_text_is_stale(rt: HostRuntime) -> Result<(), Fail> {
     let mut disk = disk_of(rt.alloc(), &SIDE)?;
-    let store = RecordStore::from_disk(rt.alloc(), &mut disk)?;
-    assert!(rt; has(rt.alloc(), &store, b'x')?);
-    assert!(rt; !has(rt.alloc(), &store, b'z')?);
+    assert!(rt; finds_x_alone(rt.alloc(), &mut disk)?);
     Ok(())
 }
 
@@ -171,14 +182,27 @@ static COMMITTING: &[(u64, u8, bool)] = &[
     (COMMIT + 4, 0, true),
 ];
 
+/// Whether each image has the record or not as the table says.
+fn leaves_each(alloc: Global, disk: &MemDisk) -> Result<bool, Fail> {
+    for row in COMMITTING {
+        if image_holds(alloc, disk, row.0, 0, row.1)? != row.2
+            || image_holds(alloc, disk, row.0, LONG, row.1)? != row.2
+        {
+            return Ok(false);
+        }
+    }
+    Ok(true)
+}
+
+fn leaves_record_or_none(alloc: Global, disk: &mut MemDisk) -> Result<bool, Fail> {
+    with_x(alloc, disk)?;
+    leaves_each(alloc, disk)
+}
+
 #[test]
 fn a_stop_inside_a_commit_leaves_the_record_or_none(rt: HostRuntime) -> Result<(), Fail> {
     let mut disk = disk(rt.alloc(), &[])?;
-    with_x(rt.alloc(), &mut disk)?;
-    for row in COMMITTING {
-        assert!(rt; image_holds(rt.alloc(), &disk, row.0, 0, row.1)? == row.2);
-        assert!(rt; image_holds(rt.alloc(), &disk, row.0, LONG, row.1)? == row.2);
-    }
+    assert!(rt; leaves_record_or_none(rt.alloc(), &mut disk)?);
     Ok(())
 }
 
@@ -219,10 +243,13 @@ fn empties(alloc: Global, disk: &mut MemDisk) -> Result<bool, Fail> {
     Ok(!store.is_broken() && !has(alloc, &store, b'x')?)
 }
 
+fn empties_all(alloc: Global, disk: &mut MemDisk) -> Result<bool, Fail> {
+    Ok(empties(alloc, disk)? && !holds(alloc, disk)?)
+}
+
 #[test]
 fn a_reset_leaves_no_record(rt: HostRuntime) -> Result<(), Fail> {
     let mut disk = disk(rt.alloc(), &[])?;
-    assert!(rt; empties(rt.alloc(), &mut disk)?);
-    assert!(rt; !holds(rt.alloc(), &mut disk)?);
+    assert!(rt; empties_all(rt.alloc(), &mut disk)?);
     Ok(())
 }

@@ -2,7 +2,7 @@ use Rattle.std.proofs.Common.{◌≡◌, get_or, List, sym, ap, ◌∙◌, arith
 use Rattle.vr_outside.specs.declared.records.Need.{Need}
 use Rattle.vr_outside.specs.declared.records.Need.TheVariants as need
 use Rattle.node_store.specs.Stored.{latest_among}
-use Rattle.node_store.proofs.Following.{may_follow}
+use Rattle.store_tests.proofs.Following.{may_follow}
 use Rattle.store_tests.proofs.nodes.may_follow.Goals as goal
 
 pub returns : goal.returns
