@@ -7,3 +7,5 @@ mod cuts;
 mod outlines;
 #[cfg(test)]
 mod references;
+#[cfg(test)]
+mod tables;
