@@ -5,7 +5,7 @@ ghost use Rattle.std.specs.List.{All};
 ghost use Rattle.scan_spec.specs.Scans.{AreScansOf};
 ghost use Rattle.name_scope.specs.Scopes.{IsTextSmall};
 
-use crate::projects::{are_small, file_of, scans_of};
+use crate::projects::{add, are_small, scans_of};
 use std::alloc::Global;
 use std::process::Abort;
 use std::test::Fail;
@@ -48,8 +48,9 @@ fn project_of(alloc: Global, files: &[u8]) -> Result<(Project, TextList), Fail> 
     let mut texts = TextList::new(alloc);
     for file in files.split(|b| *b == b'#') {
         let mut parts = file.split(|b| *b == b'%');
-        list.push(file_of(alloc, parts.next().unwrap_or(b""), b"")?)?;
-        texts.push(text_of(alloc, parts.next().unwrap_or(b""))?)?;
+        let library = parts.next().unwrap_or(b"");
+        let text = text_of(alloc, parts.next().unwrap_or(b""))?;
+        add(alloc, &mut list, &mut texts, library, b"", text)?;
     }
     Ok((project_with(alloc, list), texts))
 }
@@ -269,8 +270,7 @@ fn one_call(alloc: Global, byte: u8) -> Result<Text, Fail> {
 fn shown_file(alloc: Global, text: Text) -> Result<Vec<u8>, Fail> {
     let mut list = Items::new(alloc);
     let mut texts = TextList::new(alloc);
-    list.push(file_of(alloc, b"l", b"")?)?;
-    texts.push(text)?;
+    add(alloc, &mut list, &mut texts, b"l", b"", text)?;
     shown_project(alloc, &project_with(alloc, list), &texts, false)
 }
 

@@ -5,35 +5,16 @@ ghost use Rattle.std.specs.List.{All};
 ghost use Rattle.scan_spec.specs.Scans.{AreScansOf};
 ghost use Rattle.name_scope.specs.Scopes.{IsTextSmall};
 
-use crate::projects::{are_small, file_of, scans_of};
+use crate::projects::{add, are_small, files_of, project_with, scans_of};
 use name_scope::{VisibleLibraries, visible_libraries, visible_sets};
 use std::alloc::Global;
 use std::process::Abort;
 use std::test::Fail;
-use vr_base::{Items, Project, ProjectFile, Scans, Text, TextList, UnitId};
+use vr_base::{Items, Project, Scans, Text, TextList, UnitId};
 
-fn project_with(alloc: Global, files: Items<ProjectFile>) -> Project {
-    Project {
-        files,
-        simulator: Items::new(alloc),
-        external: Items::new(alloc),
-        bodies: false,
-        depends: Items::new(alloc),
-        listed: false,
-    }
-}
-
-/// The project of files that are parted by `#`, each with its library before a `%`; and the texts of the files.
+/// The project of files that are parted by `#`; and the texts.
 fn project_of(alloc: Global, files: &[u8]) -> Result<(Project, TextList), Fail> {
-    let mut list = Items::new(alloc);
-    let mut texts = TextList::new(alloc);
-    for file in files.split(|b| *b == b'#') {
-        let mut parts = file.split(|b| *b == b'%');
-        let library = parts.next().unwrap_or(b"");
-        let text = parts.next().unwrap_or(b"");
-        list.push(file_of(alloc, library, b"")?)?;
-        texts.push(Text::from_slice(alloc, text)?)?;
-    }
+    let (list, texts) = files_of(alloc, files)?;
     Ok((project_with(alloc, list), texts))
 }
 
@@ -69,81 +50,74 @@ fn shown_of(
     Ok(out)
 }
 
-fn shown(alloc: Global, files: &[u8]) -> Result<Vec<u8>, Fail> {
-    let (project, texts) = project_of(alloc, files)?;
-    if !are_small(&texts) || texts.len() != project.files.len() || texts.len() > 8 {
+fn shown_project(alloc: Global, project: &Project, texts: &TextList) -> Result<Vec<u8>, Fail> {
+    if !are_small(texts) || texts.len() != project.files.len() || texts.len() > 8 {
         return Err(Fail::from("few small files"));
     }
-    let count = texts.len() as u32;
-    let scans = scans_of(alloc, &texts)?;
-    let sets = visible_sets(alloc, &project, &texts, &scans)?;
-    shown_of(alloc, &sets, count, &scans)
+    let scans = scans_of(alloc, texts)?;
+    shown_sets(alloc, project, texts, &scans)
 }
 
-/// Projects, and for each unit the libraries that it sees.
-static PROJECTS: &[(&[u8], &[u8])] = &[
-    // a context hands on what it names, but not `work` and `std`
-    (
-        b"lib%context ctx is library other; use other.q.all; end context ctx;#lib%context work.ctx; package w is constant k : integer := other.q.c; end;#other%package q is end;",
-        b"other,std,work,|other,std,work,|std,work,|",
-    ),
-    // an architecture sees what its entity sees
-    (
-        b"lib%library other; entity e is end;#lib%architecture rtl of e is constant k : integer := other.q.c; begin end;#other%package q is end;",
-        b"other,std,work,|other,std,work,|std,work,|",
-    ),
-    (
-        b"lib%entity top is end; architecture a of top is begin u : entity work.missing; end;",
-        b"std,work,|std,work,|",
-    ),
-    // contexts that refer to each other
-    (
-        b"l%library a; context work.d; context c is library b; end;#l%context work.c; context d is library e; end;#l%context work.c; package p is end;",
-        b"a,b,e,std,work,|a,b,e,std,work,|a,b,e,std,work,|",
-    ),
-    // a context that refers to itself, and one to a unit that isn't there
-    (
-        b"l%context c is library a; context work.c; end;#l%context work.x; package p is end;",
-        b"a,std,work,|std,work,|",
-    ),
-    // the library of a context reference has to be visible
-    (
-        b"l%context m.c; package p is end;#m%context c is library a; end;#l%library m; context m.c; package q is end;",
-        b"std,work,|a,std,work,|a,m,std,work,|",
-    ),
-    // and may become so by another one
-    (
-        b"l%context m.c, work.n; package p is end;#l%context n is library m; end;#m%context c is library a; end;",
-        b"a,m,std,work,|m,std,work,|a,std,work,|",
-    ),
-    // several primary units of one name, a package body, and one without a package
-    (
-        b"l%library a; entity e is end;#l%library b; package e is end;#l%library c; package body e is end; package body q is end;#m%library d; entity e is end;",
-        b"a,std,work,|b,std,work,|a,b,c,std,work,|std,work,|d,std,work,|",
-    ),
-    // a package named as a context hands nothing on, and a secondary unit is no primary unit
-    (
-        b"l%library a; package c is end;#l%context work.c; package p is end;#l%library b; package body p is end; architecture z of p is begin end;",
-        b"a,std,work,|std,work,|b,std,work,|std,work,|",
-    ),
-    // words in other case, names that are no words, and names that repeat
-    (
-        b"l%library B, a, \\X\\, a; context C is end;#l%CONTEXT WORK.c; package p is end;",
-        b"\\X\\,a,b,std,work,|\\X\\,a,b,std,work,|",
-    ),
-];
+fn shown_sets(
+    alloc: Global,
+    project: &Project,
+    texts: &TextList,
+    scans: &Scans,
+) -> Result<Vec<u8>, Fail>
+    requires few { length texts.now ≤ 8 }
+    requires each { length texts.now ≡ length project.now.files }
+    requires scans { AreScansOf texts.now scans.now }
+    requires small { All IsTextSmall texts.now }
+{
+    let count = texts.len() as u32;
+    let sets = visible_sets(alloc, project, texts, scans)?;
+    shown_of(alloc, &sets, count, scans)
+}
 
-fn check(rt: &impl Abort, alloc: Global, table: &[(&[u8], &[u8])]) -> Result<(), Fail> {
-    for (files, want) in table {
-        let found = shown(alloc, files)?;
-        assert!(rt; found.as_slice() == *want, "at {files:?}: {found:?}");
+fn shown(alloc: Global, files: &[u8]) -> Result<Vec<u8>, Fail> {
+    let (project, texts) = project_of(alloc, files)?;
+    shown_project(alloc, &project, &texts)
+}
+
+/// A line each: a project, and for each unit the libraries that it sees.
+static PROJECTS: &str = r#"
+-- a context hands on what it names, but not `work` and `std`
+lib%%context ctx is library other; use other.q.all; end context ctx;#lib%%context work.ctx; package w is constant k : integer := other.q.c; end;#other%%package q is end; => other,std,work,|other,std,work,|std,work,|
+-- an architecture sees what its entity sees
+lib%%library other; entity e is end;#lib%%architecture rtl of e is constant k : integer := other.q.c; begin end;#other%%package q is end; => other,std,work,|other,std,work,|std,work,|
+lib%%entity top is end; architecture a of top is begin u : entity work.missing; end; => std,work,|std,work,|
+-- contexts that refer to each other
+l%%library a; context work.d; context c is library b; end;#l%%context work.c; context d is library e; end;#l%%context work.c; package p is end; => a,b,e,std,work,|a,b,e,std,work,|a,b,e,std,work,|
+-- a context that refers to itself, and one to a unit that isn't there
+l%%context c is library a; context work.c; end;#l%%context work.x; package p is end; => a,std,work,|std,work,|
+-- the library of a context reference has to be visible
+l%%context m.c; package p is end;#m%%context c is library a; end;#l%%library m; context m.c; package q is end; => std,work,|a,std,work,|a,m,std,work,|
+-- and may become so by another one
+l%%context m.c, work.n; package p is end;#l%%context n is library m; end;#m%%context c is library a; end; => a,m,std,work,|m,std,work,|a,std,work,|
+-- several primary units of one name, a package body, and one without a package
+l%%library a; entity e is end;#l%%library b; package e is end;#l%%library c; package body e is end; package body q is end;#m%%library d; entity e is end; => a,std,work,|b,std,work,|a,b,c,std,work,|std,work,|d,std,work,|
+-- a package named as a context hands nothing on, and a secondary unit is no primary unit
+l%%library a; package c is end;#l%%context work.c; package p is end;#l%%library b; package body p is end; architecture z of p is begin end; => a,std,work,|std,work,|b,std,work,|std,work,|
+-- words in other case, names that are no words, and names that repeat
+l%%library B, a, \X\, a; context C is end;#l%%CONTEXT WORK.c; package p is end; => \X\,a,b,std,work,|\X\,a,b,std,work,|
+"#;
+
+/// Whether the units of a line see what stands there, or it has no arrow.
+fn check(alloc: Global, line: &str) -> Result<bool, Fail> {
+    match line.split_once(" => ") {
+        Some((files, wanted)) => {
+            Ok(shown(alloc, files.as_bytes())?.as_slice() == wanted.as_bytes())
+        }
+        None => Ok(true),
     }
-    Ok(())
 }
 
 #[test]
 fn projects(rt: HostRuntime) -> Result<(), Fail> {
-    check(&rt, rt.alloc(), PROJECTS)
+    for line in PROJECTS.lines() {
+        assert!(rt; check(rt.alloc(), line)?, "{line}");
+    }
+    Ok(())
 }
 
 /// What one call says of one unit, where there is such a file.
@@ -165,35 +139,52 @@ fn one_unit(
             &mut out,
         )?;
         let sets = visible_sets(alloc, project, texts, scans)?;
-        out.push(if sets.sees_library(unit, b"other") {
-            b'y'
-        } else {
-            b'n'
-        })?;
-        out.push(if sets.sees_library(unit, b"lib") {
-            b'y'
-        } else {
-            b'n'
-        })?;
+        push_look(&sets, unit, b"other", &mut out)?;
+        push_look(&sets, unit, b"lib", &mut out)?;
     }
     Ok(out)
 }
 
+/// Adds whether a unit sees a library.
+fn push_look(
+    sets: &VisibleLibraries,
+    unit: UnitId,
+    library: &[u8],
+    out: &mut Vec<u8>,
+) -> Result<(), Fail>
+    requires { unit.file < length sets.now.starts }
+{
+    out.push(if sets.sees_library(unit, library) {
+        b'y'
+    } else {
+        b'n'
+    })?;
+    Ok(())
+}
+
+fn shown_unit(alloc: Global, project: &Project, texts: &TextList) -> Result<Vec<u8>, Fail> {
+    if !are_small(texts) || texts.len() != project.files.len() {
+        return Err(Fail::from("small files"));
+    }
+    let scans = scans_of(alloc, texts)?;
+    one_unit(alloc, project, texts, &scans)
+}
+
+fn shown_call(alloc: Global, files: &[u8]) -> Result<Vec<u8>, Fail> {
+    let (project, texts) = project_of(alloc, files)?;
+    shown_unit(alloc, &project, &texts)
+}
+
+static ONE_CALL: &[u8] =
+    b"lib%%context ctx is library other; end;#lib%%context work.ctx; package w is end;";
+
 #[test]
 fn one_call(rt: HostRuntime) -> Result<(), Fail> {
-    let alloc = rt.alloc();
-    let (project, texts) = project_of(
-        alloc,
-        b"lib%context ctx is library other; end;#lib%context work.ctx; package w is end;",
-    )?;
-    if are_small(&texts) && texts.len() == project.files.len() {
-        let scans = scans_of(alloc, &texts)?;
-        let found = one_unit(alloc, &project, &texts, &scans)?;
-        assert!(rt;
-            found.as_slice() == b"other,std,work,|yn".as_slice(),
-            "{found:?}"
-        );
-    }
+    let found = shown_call(rt.alloc(), ONE_CALL)?;
+    assert!(rt;
+        found.as_slice() == b"other,std,work,|yn".as_slice(),
+        "{found:?}"
+    );
     Ok(())
 }
 
@@ -206,27 +197,32 @@ fn ring_of(alloc: Global, count: u32, step: u32) -> Result<(Project, TextList), 
     for i in 0..count {
         let next = (u64::from(i) + u64::from(step)) % u64::from(count);
         let text = format!(in alloc; "context c{i} is library l{i}; context work.c{next}; end;")?;
-        list.push(file_of(alloc, b"lib", b"")?)?;
-        texts.push(Text::from_slice(alloc, text.as_bytes())?)?;
+        let text = Text::from_slice(alloc, text.as_bytes())?;
+        add(alloc, &mut list, &mut texts, b"lib", b"", text)?;
     }
     Ok((project_with(alloc, list), texts))
 }
 
-/// Contexts that each have a library of their own, and refer to all.
+/// One of so many contexts that each have a library of their own, and refer to all.
+fn knot(alloc: Global, count: u32, i: u32) -> Result<Text, Fail> {
+    let mut text = Vec::new(alloc);
+    let begin = format!(in alloc; "context c{i} is library l{i}, lib; context lib.c0")?;
+    text.extend_from_slice(begin.as_bytes())?;
+    for j in 1..count {
+        let part = format!(in alloc; ",lib.c{j}")?;
+        text.extend_from_slice(part.as_bytes())?;
+    }
+    text.extend_from_slice(b"; end;")?;
+    Ok(Text::from_vec(text))
+}
+
+/// So many such contexts.
 fn net_of(alloc: Global, count: u32) -> Result<(Project, TextList), Fail> {
     let mut list = Items::new(alloc);
     let mut texts = TextList::new(alloc);
     for i in 0..count {
-        let mut text = Vec::new(alloc);
-        let begin = format!(in alloc; "context c{i} is library l{i}, lib; context lib.c0")?;
-        text.extend_from_slice(begin.as_bytes())?;
-        for j in 1..count {
-            let part = format!(in alloc; ",lib.c{j}")?;
-            text.extend_from_slice(part.as_bytes())?;
-        }
-        text.extend_from_slice(b"; end;")?;
-        list.push(file_of(alloc, b"lib", b"")?)?;
-        texts.push(Text::from_vec(text))?;
+        let text = knot(alloc, count, i)?;
+        add(alloc, &mut list, &mut texts, b"lib", b"", text)?;
     }
     Ok((project_with(alloc, list), texts))
 }
@@ -262,16 +258,19 @@ static HOSTILE: &[(u32, u32, u64)] = &[
     (40, 0, 43),
 ];
 
-fn check_hostile(rt: &impl Abort, alloc: Global, table: &[(u32, u32, u64)]) -> Result<(), Fail> {
-    for (count, step, want) in table {
-        let (project, texts) = hostile_of(alloc, *count, *step)?;
-        let seen = first_sees(alloc, &project, &texts)?;
-        assert!(rt; seen == *want, "{count} contexts, step {step}: {seen}");
-    }
-    Ok(())
+/// How many libraries the first one sees of so many contexts with this step.
+fn seen_of(alloc: Global, count: u32, step: u32) -> Result<u64, Fail> {
+    let (project, texts) = hostile_of(alloc, count, step)?;
+    first_sees(alloc, &project, &texts)
 }
 
 #[test]
 fn hostile(rt: HostRuntime) -> Result<(), Fail> {
-    check_hostile(&rt, rt.alloc(), HOSTILE)
+    for (count, step, wanted) in HOSTILE {
+        assert!(rt;
+            seen_of(rt.alloc(), *count, *step)? == *wanted,
+            "{count}, {step}"
+        );
+    }
+    Ok(())
 }

@@ -5,13 +5,14 @@ ghost use Rattle.std.specs.List.{All};
 ghost use Rattle.scan_spec.specs.Scans.{AreScansOf};
 ghost use Rattle.name_scope.specs.Scopes.{IsTextSmall};
 
-use crate::projects::{are_small, file_of, scans_of};
+use crate::projects::{are_small, files_of, scans_of};
 use file_graph::link;
 use std::alloc::Global;
 use std::process::Abort;
 use std::test::Fail;
 use vr_base::{
-    FILE_LIMIT, Items, LinkFault, Linked, Pair, PairList, Project, Scans, Text, TextList,
+    FILE_LIMIT, Items, LinkFault, Linked, Pair, PairList, Project, ProjectFileList, Scans, Text,
+    TextList,
 };
 
 /// The library `unisim`, where it is outside.
@@ -37,27 +38,18 @@ fn pairs_of(alloc: Global, options: &[u8]) -> Result<PairList, Fail> {
     Ok(pairs)
 }
 
-/// The project of files that are parted by `#`, each with its library and its path before a `%`; and the texts.
-fn project_of(alloc: Global, options: &[u8], files: &[u8]) -> Result<(Project, TextList), Fail> {
-    let mut list = Items::new(alloc);
-    let mut texts = TextList::new(alloc);
-    for file in files.split(|b| *b == b'#') {
-        let mut parts = file.split(|b| *b == b'%');
-        let library = parts.next().unwrap_or(b"");
-        let path = parts.next().unwrap_or(b"");
-        let text = parts.next().unwrap_or(b"");
-        list.push(file_of(alloc, library, path)?)?;
-        texts.push(Text::from_slice(alloc, text)?)?;
-    }
-    let project = Project {
-        files: list,
+/// The project of files, with what the options say.
+fn project_of(alloc: Global, files: ProjectFileList, options: &[u8]) -> Result<Project, Fail> {
+    let external = external_of(alloc, options)?;
+    let depends = pairs_of(alloc, options)?;
+    Ok(Project {
+        files,
         simulator: Items::new(alloc),
-        external: external_of(alloc, options)?,
+        external,
         bodies: options.contains(&b'b'),
-        depends: pairs_of(alloc, options)?,
+        depends,
         listed: false,
-    };
-    Ok((project, texts))
+    })
 }
 
 /// The positions of each file, one digit each, with a bar after each; and the warnings.
@@ -127,119 +119,73 @@ fn shown_answer(
     }
 }
 
-fn shown(alloc: Global, options: &[u8], files: &[u8]) -> Result<Vec<u8>, Fail> {
-    let (project, texts) = project_of(alloc, options, files)?;
-    if !are_small(&texts) || texts.len() != project.files.len() || texts.len() > 8 {
+/// The answer of a project and its texts, which are few and small.
+fn shown_project(alloc: Global, project: &Project, texts: &TextList) -> Result<Vec<u8>, Fail> {
+    if !are_small(texts) || texts.len() != project.files.len() || texts.len() > 8 {
         return Err(Fail::from("few small files"));
     }
-    let scans = scans_of(alloc, &texts)?;
-    shown_answer(alloc, &project, &texts, &scans)
+    let scans = scans_of(alloc, texts)?;
+    shown_answer(alloc, project, texts, &scans)
 }
 
-/// Options (`x` for an external library, `b` for bodies, `d` for pairs of the project), files, and the answer.
-static PROJECTS: &[(&[u8], &[u8], &[u8])] = &[
-    // by a context, and by a name in an expression
-    (
-        b"",
-        b"lib%c%context ctx is library other; use other.q.all; end context ctx;#lib%w%context work.ctx; package w is constant k : integer := other.q.c; end;#other%q%package q is end;",
-        b"2|02||",
-    ),
-    // an architecture on its entity, by whose library clause it sees another library
-    (
-        b"",
-        b"lib%e%library other; entity e is end;#lib%a%architecture rtl of e is constant k : integer := other.q.c; begin end;#other%q%package q is end;",
-        b"|02||",
-    ),
-    (
-        b"",
-        b"lib%top%entity top is end; architecture a of top is begin u : entity work.missing; end;",
-        b"U top lib missing",
-    ),
-    // a loose reference to what isn't there
-    (
-        b"",
-        b"lib%a%library rec; package a is constant k : integer := rec.field; end;#rec%b%package b is end;",
-        b"||",
-    ),
-    // external libraries, by the project and always
-    (
-        b"x",
-        b"l%a%library unisim, ieee; use unisim.vcomponents.all; use ieee.std_logic_1164.all; package a is end;",
-        b"|",
-    ),
-    (
-        b"",
-        b"l%a%library unisim, ieee; use ieee.std_logic_1164.all; use unisim.vcomponents.all; package a is end;",
-        b"U a unisim vcomponents",
-    ),
-    // a library that is said to be outside, but has files
-    (
-        b"x",
-        b"l%a%library unisim; use unisim.vcomponents.all; package a is end;#unisim%b%package c is end;",
-        b"U a unisim vcomponents",
-    ),
-    // bodies
-    (
-        b"",
-        b"l%u%use work.p.all; package u is end;#l%p%package p is end;#l%b%package body p is end;",
-        b"1||1|",
-    ),
-    (
-        b"b",
-        b"l%u%use work.p.all; package u is end;#l%p%package p is end;#l%b%package body p is end;",
-        b"12||1|",
-    ),
-    (
-        b"",
-        b"l%u%use work.p.all; package u is end;#l%b%package body p is end;",
-        b"U u l p",
-    ),
-    // architectures
-    (
-        b"",
-        b"l%u%entity t is end; architecture a of t is begin i : entity work.e(r); end;#l%e%entity e is end;#l%r%architecture r of e is begin end;#l%s%architecture s of e is begin end;",
-        b"12||1|1|",
-    ),
-    (
-        b"",
-        b"l%u%entity t is end; architecture a of t is begin i : entity work.e(q); end;#l%e%entity e is end;#l%r%architecture r of e is begin end;",
-        b"A u l e q",
-    ),
-    // the project's own pairs
-    (b"d", b"l%a%#l%b%package b is end;#l%c%", b"2|||"),
-    // duplicates come before what is missing
-    (
-        b"",
-        b"l%a%use work.x.all; package p is end;#l%b%entity p is end;#l%c%package p is end;",
-        b"D l.p a b",
-    ),
-    (
-        b"",
-        b"l%a%entity e is end;#l%b%architecture r of e is begin end;#l%c%architecture r of e is begin end;#m%d%entity e is end;",
-        b"D l.e(r) b c",
-    ),
-    (
-        b"",
-        b"l%a%package p is end; package body p is end;#l%b%package body p is end;",
-        b"D body l.p a b",
-    ),
-    // uses of whole libraries, in text order
-    (
-        b"",
-        b"l%a%library m, n; use m.all; use work.all; use n.all; package a is end;#m%b%package b is end;",
-        b"||0m 0l ",
-    ),
-];
+fn shown(alloc: Global, options: &[u8], files: &[u8]) -> Result<Vec<u8>, Fail> {
+    let (list, texts) = files_of(alloc, files)?;
+    let project = project_of(alloc, list, options)?;
+    shown_project(alloc, &project, &texts)
+}
 
-fn check(rt: &impl Abort, alloc: Global, table: &[(&[u8], &[u8], &[u8])]) -> Result<(), Fail> {
-    for (options, files, want) in table {
-        let found = shown(alloc, options, files)?;
-        assert!(rt; found.as_slice() == *want, "at {files:?}: {found:?}");
+/// A line each: options (`x` for an external library, `b` for bodies, `d` for pairs of the project), files, and the answer.
+static PROJECTS: &str = r#"
+-- by a context, and by a name in an expression
+- lib%c%context ctx is library other; use other.q.all; end context ctx;#lib%w%context work.ctx; package w is constant k : integer := other.q.c; end;#other%q%package q is end; => 2|02||
+-- an architecture on its entity, by whose library clause it sees another library
+- lib%e%library other; entity e is end;#lib%a%architecture rtl of e is constant k : integer := other.q.c; begin end;#other%q%package q is end; => |02||
+- lib%top%entity top is end; architecture a of top is begin u : entity work.missing; end; => U top lib missing
+-- a loose reference to what isn't there
+- lib%a%library rec; package a is constant k : integer := rec.field; end;#rec%b%package b is end; => ||
+-- external libraries, by the project and always
+x l%a%library unisim, ieee; use unisim.vcomponents.all; use ieee.std_logic_1164.all; package a is end; => |
+- l%a%library unisim, ieee; use ieee.std_logic_1164.all; use unisim.vcomponents.all; package a is end; => U a unisim vcomponents
+-- a library that is said to be outside, but has files
+x l%a%library unisim; use unisim.vcomponents.all; package a is end;#unisim%b%package c is end; => U a unisim vcomponents
+-- bodies
+- l%u%use work.p.all; package u is end;#l%p%package p is end;#l%b%package body p is end; => 1||1|
+b l%u%use work.p.all; package u is end;#l%p%package p is end;#l%b%package body p is end; => 12||1|
+- l%u%use work.p.all; package u is end;#l%b%package body p is end; => U u l p
+-- architectures
+- l%u%entity t is end; architecture a of t is begin i : entity work.e(r); end;#l%e%entity e is end;#l%r%architecture r of e is begin end;#l%s%architecture s of e is begin end; => 12||1|1|
+- l%u%entity t is end; architecture a of t is begin i : entity work.e(q); end;#l%e%entity e is end;#l%r%architecture r of e is begin end; => A u l e q
+-- the project's own pairs
+d l%a%#l%b%package b is end;#l%c% => 2|||
+-- duplicates come before what is missing
+- l%a%use work.x.all; package p is end;#l%b%entity p is end;#l%c%package p is end; => D l.p a b
+- l%a%entity e is end;#l%b%architecture r of e is begin end;#l%c%architecture r of e is begin end;#m%d%entity e is end; => D l.e(r) b c
+- l%a%package p is end; package body p is end;#l%b%package body p is end; => D body l.p a b
+-- uses of whole libraries, in text order
+- l%a%library m, n; use m.all; use work.all; use n.all; package a is end;#m%b%package b is end; => ||0m 0l 
+"#;
+
+/// Whether the answer of a line is what is found.
+fn is_right(alloc: Global, options: &str, files: &str, wanted: &str) -> Result<bool, Fail> {
+    let found = shown(alloc, options.as_bytes(), files.as_bytes())?;
+    Ok(found.as_slice() == wanted.as_bytes())
+}
+
+/// The same of a line, or it has no arrow.
+fn check(alloc: Global, line: &str) -> Result<bool, Fail> {
+    let Some((project, wanted)) = line.split_once(" => ") else {
+        return Ok(true);
+    };
+    match project.split_once(' ') {
+        Some((options, files)) => is_right(alloc, options, files, wanted),
+        None => Ok(false),
     }
-    Ok(())
 }
 
 #[test]
 fn projects(rt: HostRuntime) -> Result<(), Fail> {
-    check(&rt, rt.alloc(), PROJECTS)
+    for line in PROJECTS.lines() {
+        assert!(rt; check(rt.alloc(), line)?, "{line}");
+    }
+    Ok(())
 }

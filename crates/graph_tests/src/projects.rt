@@ -9,7 +9,9 @@ use std::alloc::Global;
 use std::test::Fail;
 use vhdl_lex::scan_tokens;
 use vhdl_units::outline;
-use vr_base::{FileName, Items, ProjectFile, Scan, Scans, TEXT_LIMIT, Text, TextList};
+use vr_base::{
+    FileName, Items, Project, ProjectFile, ProjectFileList, Scan, Scans, TEXT_LIMIT, Text, TextList,
+};
 
 fn scan_of(alloc: Global, text: &[u8]) -> Result<Scan, Fail>
     requires { length text.now ≤ TEXT_LIMIT }
@@ -51,4 +53,54 @@ pub fn file_of(alloc: Global, library: &[u8], path: &[u8]) -> Result<ProjectFile
         },
         command: Items::new(alloc),
     })
+}
+
+/// Adds a file of a library, with its text.
+pub fn add(
+    alloc: Global,
+    list: &mut ProjectFileList,
+    texts: &mut TextList,
+    library: &[u8],
+    path: &[u8],
+    text: Text,
+) -> Result<(), Fail> {
+    texts.push(text)?;
+    list.push(file_of(alloc, library, path)?)?;
+    Ok(())
+}
+
+/// A project of nothing but these files.
+pub fn project_with(alloc: Global, files: ProjectFileList) -> Project {
+    Project {
+        files,
+        simulator: Items::new(alloc),
+        external: Items::new(alloc),
+        bodies: false,
+        depends: Items::new(alloc),
+        listed: false,
+    }
+}
+
+/// Adds a file: its library, its path before a `%`, and its text before another one.
+fn add_parts(
+    alloc: Global,
+    list: &mut ProjectFileList,
+    texts: &mut TextList,
+    file: &[u8],
+) -> Result<(), Fail> {
+    let mut parts = file.split(|b| *b == b'%');
+    let library = parts.next().unwrap_or(b"");
+    let path = parts.next().unwrap_or(b"");
+    let text = Text::from_slice(alloc, parts.next().unwrap_or(b""))?;
+    add(alloc, list, texts, library, path, text)
+}
+
+/// The files that are parted by `#`, and their texts.
+pub fn files_of(alloc: Global, files: &[u8]) -> Result<(ProjectFileList, TextList), Fail> {
+    let mut list = Items::new(alloc);
+    let mut texts = TextList::new(alloc);
+    for file in files.split(|b| *b == b'#') {
+        add_parts(alloc, &mut list, &mut texts, file)?;
+    }
+    Ok((list, texts))
 }

@@ -1,103 +1,85 @@
 //! Project files of a few lines, and what each says.
 
+use crate::projects::unfolded;
 use project_file::read_csv_project;
 use std::alloc::Global;
 use std::process::Abort;
 use std::test::Fail;
 use vr_base::{NoMemory, ProjectFault, ProjectFile};
 
-/// A file's library and path.
-type Name = (&'static [u8], &'static [u8]);
+/// A line each: the bytes of a project file, where a bar is an end of a line, and after a `~` the files that they say, each
+/// with a semicolon, or the first fault.
+static ROWS: &str = "~
+\r| Lib_1 ,\ta/b.vhd ||lib_1,c.vhd\r|other,c.vhd~lib_1,a/b.vhd;lib_1,c.vhd;other,c.vhd;
+lib,a.vhd|LIB,a.vhd|work,b.vhd~file lib, a.vhd
+||Work,a.vhd~work
+lib,a.vhd,b.vhd~line 1
+lib,a/./b.vhd~line 1
+1lib,a.vhd~line 1
+";
 
-/// The bytes of a project file, the files that they say, and the first fault (empty: there is none).
-struct Row {
-    bytes: &'static [u8],
-    files: &'static [Name],
-    fault: &'static str,
-}
-
-static ROWS: [Row; 7] = [
-    Row {
-        bytes: b"",
-        files: &[],
-        fault: "",
-    },
-    Row {
-        bytes: b"\r\n Lib_1 ,\ta/b.vhd \n\nlib_1,c.vhd\r\nother,c.vhd",
-        files: &[
-            (b"lib_1", b"a/b.vhd"),
-            (b"lib_1", b"c.vhd"),
-            (b"other", b"c.vhd"),
-        ],
-        fault: "",
-    },
-    Row {
-        bytes: b"lib,a.vhd\nLIB,a.vhd\nwork,b.vhd",
-        files: &[],
-        fault: "file lib, a.vhd",
-    },
-    Row {
-        bytes: b"\n\nWork,a.vhd",
-        files: &[],
-        fault: "work",
-    },
-    Row {
-        bytes: b"lib,a.vhd,b.vhd",
-        files: &[],
-        fault: "line 1",
-    },
-    Row {
-        bytes: b"lib,a/./b.vhd",
-        files: &[],
-        fault: "line 1",
-    },
-    Row {
-        bytes: b"1lib,a.vhd",
-        files: &[],
-        fault: "line 1",
-    },
-];
-
-fn are(files: &[ProjectFile], names: &[Name]) -> bool {
-    if files.len() != names.len() {
-        return false;
+fn files_of(alloc: Global, files: &[ProjectFile]) -> Result<Vec<u8>, NoMemory> {
+    let mut out = Vec::new(alloc);
+    for file in files {
+        out.extend_from_slice(file.name.library.bytes())?;
+        out.push(b',')?;
+        out.extend_from_slice(file.name.path.bytes())?;
+        out.push(b';')?;
     }
-    for i in 0..files.len() {
-        let name = &files[i].name;
-        if name.library.bytes() != names[i].0 || name.path.bytes() != names[i].1 {
-            return false;
-        }
-    }
-    true
+    Ok(out)
 }
 
 /// A fault in words.
-fn words_of(alloc: Global, fault: &ProjectFault) -> Result<String, NoMemory> {
+fn words_of(alloc: Global, fault: &ProjectFault) -> Result<Vec<u8>, NoMemory> {
+    let mut out = Vec::new(alloc);
     match fault {
-        ProjectFault::BadLine { line } => Ok(format!(in alloc; "line {line}")?),
-        ProjectFault::WorkLibrary => Ok(String::from_str(alloc, "work")?),
-        ProjectFault::DuplicateFile { name } => {
-            let library = str::from_utf8(name.library.bytes()).unwrap_or("");
-            let path = str::from_utf8(name.path.bytes()).unwrap_or("");
-            Ok(format!(in alloc; "file {library}, {path}")?)
+        ProjectFault::BadLine { line } => {
+            let words = format!(in alloc; "line {line}")?;
+            out.extend_from_slice(words.as_bytes())?;
         }
-        _ => Ok(String::new(alloc)),
+        ProjectFault::WorkLibrary => out.extend_from_slice(b"work")?,
+        ProjectFault::DuplicateFile { name } => {
+            out.extend_from_slice(b"file ")?;
+            out.extend_from_slice(name.library.bytes())?;
+            out.extend_from_slice(b", ")?;
+            out.extend_from_slice(name.path.bytes())?;
+        }
+        _ => out.push(b'?')?,
+    }
+    Ok(out)
+}
+
+/// What a project file says, where it is a short one.
+fn said(alloc: Global, bytes: &[u8]) -> Result<Vec<u8>, NoMemory> {
+    if bytes.len() > 1000 {
+        return Ok(Vec::new(alloc));
+    }
+    match read_csv_project(alloc, bytes) {
+        Ok(project) => files_of(alloc, project.files.as_slice()),
+        Err(ProjectFault::NoMemory) => Err(NoMemory),
+        Err(fault) => words_of(alloc, &fault),
     }
 }
 
-fn says(rt: &impl Abort, alloc: Global, row: &Row) -> Result<bool, NoMemory> {
-    assert!(rt; row.bytes.len() < 1000);
-    match read_csv_project(alloc, row.bytes) {
-        Ok(project) => Ok(row.fault.is_empty() && are(project.files.as_slice(), row.files)),
-        Err(ProjectFault::NoMemory) => Err(NoMemory),
-        Err(fault) => Ok(words_of(alloc, &fault)?.as_str() == row.fault),
+fn says(alloc: Global, bytes: &[u8], wanted: &[u8]) -> Result<bool, NoMemory> {
+    Ok(said(alloc, bytes)?.as_slice() == wanted)
+}
+
+/// Whether the project file of a line says what stands there.
+fn is_right(alloc: Global, line: &str) -> Result<bool, Fail> {
+    match line.split_once('~') {
+        Some((bytes, wanted)) => {
+            let bytes = unfolded(alloc, bytes.as_bytes())?;
+            Ok(says(alloc, bytes.bytes(), wanted.as_bytes())?)
+        }
+        None => Ok(false),
     }
 }
 
 #[test]
 fn each_file_says_its_project(rt: HostRuntime) -> Result<(), Fail> {
-    for row in &ROWS {
-        assert!(rt; says(&rt, rt.alloc(), row)?);
+    for line in ROWS.lines() {
+        assert!(rt; is_right(rt.alloc(), line)?, "{line}");
     }
     Ok(())
 }

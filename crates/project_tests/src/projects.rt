@@ -42,7 +42,7 @@ fn is(bytes: &[u8], wanted: &[u8]) -> bool {
 }
 
 /// The bytes with the ends of lines in place of bars.
-fn unfolded(alloc: Global, bytes: &[u8]) -> Result<Text, Fail> {
+pub(super) fn unfolded(alloc: Global, bytes: &[u8]) -> Result<Text, Fail> {
     let mut out = Vec::new(alloc);
     for byte in bytes {
         if *byte == b'|' {
@@ -73,8 +73,8 @@ fn files_of(alloc: Global, row: &[u8]) -> Result<NamedTextList, Fail> {
     for file in row.split(|b| *b == b'#') {
         let mut parts = file.split(|b| *b == b'%');
         let path = parts.next().unwrap_or(b"");
-        let bytes = unfolded(alloc, parts.next().unwrap_or(b""))?;
-        add_file(alloc, &mut files, path, bytes)?;
+        let bytes = parts.next().unwrap_or(b"");
+        add_file(alloc, &mut files, path, unfolded(alloc, bytes)?)?;
     }
     Ok(files)
 }
@@ -128,12 +128,27 @@ fn shown(rt: &impl Abort, alloc: Global, files: NamedTextList, failing: u64) -> 
 /// A call that isn't made.
 const NEVER: u64 = 9999;
 
-pub(crate) fn is_right(rt: &impl Abort, alloc: Global, row: &[u8]) -> Result<bool, Fail> {
-    let mut parts = row.split(|b| *b == b'~');
-    let files = files_of(alloc, parts.next().unwrap_or(b""))?;
-    let wanted = unfolded(alloc, parts.next().unwrap_or(b""))?;
+/// Whether of a tree of these files this is read.
+fn reads(
+    rt: &impl Abort,
+    alloc: Global,
+    files: NamedTextList,
+    wanted: &[u8],
+) -> Result<bool, Fail> {
     let said = shown(rt, alloc, files, NEVER)?;
-    Ok(is(said.bytes(), wanted.bytes()))
+    Ok(is(said.bytes(), wanted))
+}
+
+/// The two parts of a row.
+fn halves(row: &[u8]) -> (&[u8], &[u8]) {
+    let mut parts = row.split(|b| *b == b'~');
+    (parts.next().unwrap_or(b""), parts.next().unwrap_or(b""))
+}
+
+pub(super) fn is_right(rt: &impl Abort, alloc: Global, row: &[u8]) -> Result<bool, Fail> {
+    let (files, wanted) = halves(row);
+    let wanted = unfolded(alloc, wanted)?;
+    reads(rt, alloc, files_of(alloc, files)?, wanted.bytes())
 }
 
 /// How many rows are right.
@@ -203,6 +218,18 @@ fn put_name(out: &mut Vec<u8>, number: usize) -> Result<(), Fail> {
     Ok(())
 }
 
+/// Adds a file with such a name.
+fn add_numbered(
+    alloc: Global,
+    files: &mut NamedTextList,
+    number: usize,
+    bytes: Text,
+) -> Result<(), Fail> {
+    let mut path = Vec::new(alloc);
+    put_name(&mut path, number)?;
+    add_file(alloc, files, path.as_slice(), bytes)
+}
+
 /// A project file that lists so many files.
 fn listing(alloc: Global, count: usize) -> Result<Text, Fail> {
     let mut out = Vec::new(alloc);
@@ -233,9 +260,7 @@ fn of_total(alloc: Global, total: usize) -> Result<NamedTextList, Fail> {
     for number in 0..32 {
         if left > 0 {
             let size = left.min(TEXT_LIMIT);
-            let mut path = Vec::new(alloc);
-            put_name(&mut path, number)?;
-            add_file(alloc, &mut files, path.as_slice(), blank(alloc, size)?)?;
+            add_numbered(alloc, &mut files, number, blank(alloc, size)?)?;
             left -= size;
             count = number + 1;
         }
@@ -252,73 +277,88 @@ fn of_names(alloc: Global, count: usize) -> Result<NamedTextList, Fail> {
         Text::from_slice(alloc, b"library = []")?,
     )?;
     for number in 0..count {
-        let mut path = Vec::new(alloc);
-        put_name(&mut path, number)?;
-        add_file(alloc, &mut files, path.as_slice(), Text::new(alloc))?;
+        add_numbered(alloc, &mut files, number, Text::new(alloc))?;
     }
     Ok(files)
 }
 
+/// The letter of what is read of a project file that lists so many files.
+fn letter_of_listing(rt: &impl Abort, alloc: Global, count: usize) -> Result<u8, Fail> {
+    let files = alone(alloc, b"vunit.csv", listing(alloc, count)?)?;
+    letter_of(rt, alloc, files, NEVER)
+}
+
 #[test]
 fn a_project_has_no_more_files_than_it_may(rt: HostRuntime) -> Result<(), Fail> {
-    let alloc = rt.alloc();
-    let most = alone(alloc, b"vunit.csv", listing(alloc, FILE_LIMIT)?)?;
-    assert!(rt; letter_of(&rt, alloc, most, NEVER)? == b'R');
-    let more = alone(alloc, b"vunit.csv", listing(alloc, FILE_LIMIT + 1)?)?;
-    assert!(rt; letter_of(&rt, alloc, more, NEVER)? == b'F');
+    assert!(rt; letter_of_listing(&rt, rt.alloc(), FILE_LIMIT)? == b'R');
+    assert!(rt; letter_of_listing(&rt, rt.alloc(), FILE_LIMIT + 1)? == b'F');
     Ok(())
+}
+
+/// The letter of what is read of a project file of so many ends of lines, one call of the tree being to fail.
+fn letter_of_blank(
+    rt: &impl Abort,
+    alloc: Global,
+    path: &[u8],
+    size: usize,
+    failing: u64,
+) -> Result<u8, Fail> {
+    let files = alone(alloc, path, blank(alloc, size)?)?;
+    letter_of(rt, alloc, files, failing)
 }
 
 #[test]
 fn a_project_file_is_no_longer_than_it_may(rt: HostRuntime) -> Result<(), Fail> {
     let alloc = rt.alloc();
-    let most = alone(alloc, b"vunit.csv", blank(alloc, TEXT_LIMIT)?)?;
-    assert!(rt; letter_of(&rt, alloc, most, NEVER)? == b'k');
-    let more = alone(alloc, b"vunit.csv", blank(alloc, TEXT_LIMIT + 1)?)?;
-    assert!(rt; letter_of(&rt, alloc, more, NEVER)? == b'T');
-    let toml = alone(alloc, b"vunit.toml", blank(alloc, TEXT_LIMIT + 1)?)?;
-    assert!(rt; letter_of(&rt, alloc, toml, 1)? == b'T');
+    assert!(rt; letter_of_blank(&rt, alloc, b"vunit.csv", TEXT_LIMIT, NEVER)? == b'k');
+    assert!(rt; letter_of_blank(&rt, alloc, b"vunit.csv", TEXT_LIMIT + 1, NEVER)? == b'T');
+    assert!(rt; letter_of_blank(&rt, alloc, b"vunit.toml", TEXT_LIMIT + 1, 1)? == b'T');
     Ok(())
+}
+
+fn letter_of_total(rt: &impl Abort, alloc: Global, total: usize) -> Result<u8, Fail> {
+    let files = of_total(alloc, total)?;
+    letter_of(rt, alloc, files, NEVER)
 }
 
 #[test]
 fn files_have_no_more_bytes_than_they_may(rt: HostRuntime) -> Result<(), Fail> {
-    let alloc = rt.alloc();
-    let most = of_total(alloc, GRAPH_TEXT_LIMIT)?;
-    assert!(rt; letter_of(&rt, alloc, most, NEVER)? == b'k');
-    let more = of_total(alloc, GRAPH_TEXT_LIMIT + 1)?;
-    assert!(rt; letter_of(&rt, alloc, more, NEVER)? == b'A');
+    assert!(rt; letter_of_total(&rt, rt.alloc(), GRAPH_TEXT_LIMIT)? == b'k');
+    assert!(rt; letter_of_total(&rt, rt.alloc(), GRAPH_TEXT_LIMIT + 1)? == b'A');
     Ok(())
+}
+
+fn letter_of_names(rt: &impl Abort, alloc: Global, count: usize) -> Result<u8, Fail> {
+    let files = of_names(alloc, count)?;
+    letter_of(rt, alloc, files, NEVER)
 }
 
 #[test]
 fn a_folder_has_no_more_names_than_it_may(rt: HostRuntime) -> Result<(), Fail> {
-    let alloc = rt.alloc();
-    let most = of_names(alloc, NAME_LIMIT - 1)?;
-    assert!(rt; letter_of(&rt, alloc, most, NEVER)? == b'k');
-    let more = of_names(alloc, NAME_LIMIT)?;
-    assert!(rt; letter_of(&rt, alloc, more, NEVER)? == b'N');
+    assert!(rt; letter_of_names(&rt, rt.alloc(), NAME_LIMIT - 1)? == b'k');
+    assert!(rt; letter_of_names(&rt, rt.alloc(), NAME_LIMIT)? == b'N');
     Ok(())
 }
 
-/// The letters of a tree of a row, where each of its first four calls is to fail in turn.
-fn letters(rt: &impl Abort, alloc: Global, row: &[u8]) -> Result<Text, Fail> {
-    let mut out = Vec::new(alloc);
+/// Whether of a tree of a row, where each of its first four calls is to fail in turn, the fault of the tree is answered
+/// three times.
+fn tells_faults(rt: &impl Abort, alloc: Global, row: &[u8]) -> Result<bool, Fail> {
     for call in 0..4 {
-        out.push(letter_of(rt, alloc, files_of(alloc, row)?, call)?)?;
+        let wanted = if call < 3 { b'f' } else { b'k' };
+        if letter_of(rt, alloc, files_of(alloc, row)?, call)? != wanted {
+            return Ok(false);
+        }
     }
-    Ok(Text::from_vec(out))
+    Ok(true)
 }
+
+static LISTED: &[u8] = b"vunit.csv%lib,a#a%";
+
+static LINKED: &[u8] = b"vunit.toml%library=[{name=\"lib\",files=[\"a\"]}]#a%";
 
 #[test]
 fn faults_of_the_tree_are_told(rt: HostRuntime) -> Result<(), Fail> {
-    let listed = letters(&rt, rt.alloc(), b"vunit.csv%lib,a#a%")?;
-    assert!(rt; is(listed.bytes(), b"fffk"));
-    let linked = letters(
-        &rt,
-        rt.alloc(),
-        b"vunit.toml%library=[{name=\"lib\",files=[\"a\"]}]#a%",
-    )?;
-    assert!(rt; is(linked.bytes(), b"fffk"));
+    assert!(rt; tells_faults(&rt, rt.alloc(), LISTED)?);
+    assert!(rt; tells_faults(&rt, rt.alloc(), LINKED)?);
     Ok(())
 }

@@ -2,6 +2,7 @@
 
 use command_line::{Setting, WordsFault, read_words};
 use std::alloc::Global;
+use std::process::Abort;
 use std::test::Fail;
 use vr_base::{MaybeText, NoMemory, Text, TextList};
 
@@ -48,25 +49,29 @@ fn words_of(alloc: Global, line: &str) -> Result<TextList, NoMemory> {
     Ok(words)
 }
 
-fn put(out: &mut String, given: bool, letter: &str) -> Result<(), NoMemory> {
+fn put(out: &mut Vec<u8>, given: bool, letter: u8) -> Result<(), NoMemory> {
     if given {
-        out.push_str(letter)?;
+        out.push(letter)?;
     }
     Ok(())
 }
 
-fn flags_of(alloc: Global, setting: &Setting) -> Result<String, NoMemory> {
-    let mut out = String::new(alloc);
-    put(&mut out, setting.list, "l")?;
-    put(&mut out, setting.files, "f")?;
-    put(&mut out, setting.compile, "c")?;
-    put(&mut out, setting.keep_compiling, "k")?;
-    put(&mut out, setting.fail_fast, "a")?;
-    put(&mut out, setting.clean, "e")?;
-    put(&mut out, setting.exit_0, "o")?;
-    put(&mut out, setting.verbose, "v")?;
-    put(&mut out, setting.quiet, "q")?;
-    Ok(out)
+fn put_flags(out: &mut Vec<u8>, setting: &Setting) -> Result<(), NoMemory> {
+    put(out, setting.list, b'l')?;
+    put(out, setting.files, b'f')?;
+    put(out, setting.compile, b'c')?;
+    put(out, setting.keep_compiling, b'k')?;
+    put(out, setting.fail_fast, b'a')?;
+    put(out, setting.clean, b'e')?;
+    put(out, setting.exit_0, b'o')?;
+    put(out, setting.verbose, b'v')?;
+    put(out, setting.quiet, b'q')
+}
+
+fn put_numbers(alloc: Global, out: &mut Vec<u8>, setting: &Setting) -> Result<(), NoMemory> {
+    let numbers = format!(in alloc; " {} {}", setting.num_threads, setting.generate)?;
+    out.extend_from_slice(numbers.as_bytes())?;
+    Ok(())
 }
 
 fn put_text(out: &mut Vec<u8>, text: &Text) -> Result<(), NoMemory> {
@@ -82,49 +87,66 @@ fn put_maybe(out: &mut Vec<u8>, text: &MaybeText) -> Result<(), NoMemory> {
     }
 }
 
-fn line_of(alloc: Global, setting: &Setting) -> Result<Vec<u8>, Fail> {
-    let flags = flags_of(alloc, setting)?;
-    let numbers = format!(in alloc;
-        "{} {} {}",
-        flags.as_str(),
-        setting.num_threads,
-        setting.generate
-    )?;
-    let mut out = Vec::from_slice(alloc, numbers.as_bytes())?;
-    put_maybe(&mut out, &setting.xunit_xml)?;
-    put_maybe(&mut out, &setting.export_json)?;
+fn put_line(alloc: Global, out: &mut Vec<u8>, setting: &Setting) -> Result<(), NoMemory> {
+    put_flags(out, setting)?;
+    put_numbers(alloc, out, setting)?;
+    put_maybe(out, &setting.xunit_xml)?;
+    put_maybe(out, &setting.export_json)?;
     for pattern in setting.patterns.as_slice() {
-        put_text(&mut out, pattern)?;
+        put_text(out, pattern)?;
     }
+    Ok(())
+}
+
+fn line_of(alloc: Global, setting: &Setting) -> Result<Vec<u8>, NoMemory> {
+    let mut out = Vec::new(alloc);
+    put_line(alloc, &mut out, setting)?;
     Ok(out)
 }
 
-fn said(alloc: Global, words: &TextList) -> Result<Vec<u8>, Fail> {
+fn said(alloc: Global, words: &TextList) -> Result<Vec<u8>, NoMemory> {
     match read_words(alloc, words) {
         Ok(setting) => line_of(alloc, &setting),
         Err(WordsFault::Bad) => Ok(Vec::from_slice(alloc, b"bad")?),
-        Err(WordsFault::NoMemory) => Err(Fail::from("out of memory")),
+        Err(WordsFault::NoMemory) => Err(NoMemory),
+    }
+}
+
+/// Whether words say this.
+fn say(alloc: Global, words: &TextList, wanted: &[u8]) -> Result<bool, NoMemory> {
+    let said = said(alloc, words)?;
+    Ok(said.as_slice() == wanted)
+}
+
+/// Whether the words of a line say what stands there.
+fn is_right(alloc: Global, line: &str) -> Result<bool, NoMemory> {
+    match line.split_once(':') {
+        Some((words, wanted)) => {
+            let words = words_of(alloc, words)?;
+            say(alloc, &words, wanted.as_bytes())
+        }
+        None => Ok(false),
     }
 }
 
 #[test]
 fn words_say_what_clap_reads(rt: HostRuntime) -> Result<(), Fail> {
     for line in ROWS.lines() {
-        let Some((words, expected)) = line.split_once(':') else {
-            return Err(Fail::from("a row has a colon"));
-        };
-        let words = words_of(rt.alloc(), words)?;
-        let said = said(rt.alloc(), &words)?;
-        assert!(rt; said.as_slice() == expected.as_bytes());
+        assert!(rt; is_right(rt.alloc(), line)?, "{line}");
     }
     Ok(())
 }
 
+/// A word that is no UTF-8 after one that is.
+fn foreign_words(alloc: Global) -> Result<TextList, NoMemory> {
+    let mut words = words_of(alloc, "--compile")?;
+    words.push(Text::from_slice(alloc, b"\xff")?)?;
+    Ok(words)
+}
+
 #[test]
 fn words_are_utf8(rt: HostRuntime) -> Result<(), Fail> {
-    let mut words = words_of(rt.alloc(), "--compile")?;
-    words.push(Text::from_slice(rt.alloc(), b"\xff")?)?;
-    let said = said(rt.alloc(), &words)?;
-    assert!(rt; said.as_slice() == b"bad".as_slice());
+    let words = foreign_words(rt.alloc())?;
+    assert!(rt; say(rt.alloc(), &words, b"bad")?);
     Ok(())
 }
