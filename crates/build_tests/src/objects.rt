@@ -223,6 +223,19 @@ fn tell(
     }
 }
 
+/// Builds over a disk, and tells.
+fn told_over(
+    rt: &impl Abort,
+    alloc: Global,
+    graph: &Graph,
+    disk: &mut MemDisk,
+    procs: &mut ScriptProcs,
+    way: &Way,
+) -> Result<Told, NoMemory> {
+    let end = build_over(rt, alloc, graph, disk, procs, way.limit, way.keep_going);
+    tell(alloc, graph, procs.journal().as_slice(), &end)
+}
+
 /// Builds a shape, of which some files have changed, over a disk.
 pub(super) fn told_build(
     rt: &impl Abort,
@@ -234,16 +247,7 @@ pub(super) fn told_build(
 ) -> Result<Told, Fail> {
     let graph = graph_of(alloc, shape, changed)?;
     let mut procs = script(rt, alloc, shape, changed, way)?;
-    let end = build_over(
-        rt,
-        alloc,
-        &graph,
-        disk,
-        &mut procs,
-        way.limit,
-        way.keep_going,
-    );
-    Ok(tell(alloc, &graph, procs.journal().as_slice(), &end)?)
+    Ok(told_over(rt, alloc, &graph, disk, &mut procs, way)?)
 }
 
 /// The fault that ends such a build, if one does.
@@ -255,20 +259,8 @@ pub(super) fn build_fault(
     way: &Way,
     disk: &mut MemDisk,
 ) -> Result<Option<BuildFault>, Fail> {
-    let graph = graph_of(alloc, shape, changed)?;
-    let mut procs = script(rt, alloc, shape, changed, way)?;
-    match build_over(
-        rt,
-        alloc,
-        &graph,
-        disk,
-        &mut procs,
-        way.limit,
-        way.keep_going,
-    ) {
-        Ok(_end) => Ok(None),
-        Err(fault) => Ok(Some(fault)),
-    }
+    let told = told_build(rt, alloc, shape, changed, way, disk)?;
+    Ok(told.fault)
 }
 
 /// Builds over a store that is opened over the disk, for the marks alone.
@@ -287,16 +279,28 @@ fn build_marks_over(
     Ok(build_marks(alloc, graph, &mut store, disk, procs, limit, true)?)
 }
 
-/// The marks of a build of a shape over an empty disk.
+/// The marks of such a build as letters.
+fn marks_over(
+    rt: &impl Abort,
+    alloc: Global,
+    graph: &Graph,
+    disk: &mut MemDisk,
+    procs: &mut ScriptProcs,
+    limit: u32,
+) -> Result<Vec<u8>, Fail> {
+    let marks = build_marks_over(rt, alloc, graph, disk, procs, limit)?;
+    Ok(tell_marks(alloc, &marks)?)
+}
+
+/// The marks of a build of a shape over a disk.
 pub(super) fn told_marks(
     rt: &impl Abort,
     alloc: Global,
     shape: &Shape,
     way: &Way,
+    disk: &mut MemDisk,
 ) -> Result<Vec<u8>, Fail> {
     let graph = graph_of(alloc, shape, 0)?;
     let mut procs = script(rt, alloc, shape, 0, way)?;
-    let mut disk = empty_disk(alloc, NEVER)?;
-    let marks = build_marks_over(rt, alloc, &graph, &mut disk, &mut procs, way.limit)?;
-    Ok(tell_marks(alloc, &marks)?)
+    marks_over(rt, alloc, &graph, disk, &mut procs, way.limit)
 }

@@ -28,7 +28,11 @@ pub(super) fn pick_of(picks: u32, wait: u32) -> u32 {
     if wait >= 8 {
         return 0;
     }
-    (picks >> (wait * 4)) & 15
+    let mut left = picks;
+    for _ in 0..wait {
+        left /= 16;
+    }
+    left % 16
 }
 
 /// What has happened: in the events `+0` is a start of file 0, `-0` its end, `!0` its refusal, `?0` its loss.

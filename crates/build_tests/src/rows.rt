@@ -57,106 +57,102 @@ fn a_changed_package_and_its_users_are_compiled(rt: HostRuntime) -> Result<(), F
     Ok(())
 }
 
-/// Builds from an empty disk.
-fn first_goes(
+/// The project of a letter.
+fn shape_of(letter: u8) -> Shape {
+    match letter {
+        b'u' => USERS,
+        b'r' => REFUSED,
+        _ => ALONE,
+    }
+}
+
+/// Whether a build over a disk starts, ends and marks so.
+fn goes_over(
     rt: &impl Abort,
     alloc: Global,
     shape: &Shape,
     way: &Way,
-    events: &[u8],
-    marks: &[u8],
+    wanted: (&[u8], &[u8]),
+    disk: &mut MemDisk,
+) -> Result<bool, Fail> {
+    let told = told_build(rt, alloc, shape, 0, way, disk)?;
+    Ok(is(&told, wanted.0, wanted.1))
+}
+
+/// Builds a project of a letter from an empty disk.
+fn first_goes(
+    rt: &impl Abort,
+    alloc: Global,
+    letter: u8,
+    way: &Way,
+    events: &str,
+    marks: &str,
 ) -> Result<(), Fail> {
     let mut disk = empty_disk(alloc, NEVER)?;
-    let told = told_build(rt, alloc, shape, 0, way, &mut disk)?;
-    assert!(rt; is(&told, events, marks));
+    let wanted = (events.as_bytes(), marks.as_bytes());
+    assert!(rt; goes_over(rt, alloc, &shape_of(letter), way, wanted, &mut disk)?);
     Ok(())
 }
 
 #[test]
 fn a_free_slot_is_used_before_the_first_wait(rt: HostRuntime) -> Result<(), Fail> {
-    let events = b"+0+2-0+1+3-2-1+4-3-4+5-5";
+    let way = way(3, false, 0, 0);
     first_goes(
         &rt,
         rt.alloc(),
-        &USERS,
-        &way(3, false, 0, 0),
-        events,
-        b"cccccc",
+        b'u',
+        &way,
+        "+0+2-0+1+3-2-1+4-3-4+5-5",
+        "cccccc",
     )
 }
 
 #[test]
 fn a_refusal_skips_what_depends_on_it(rt: HostRuntime) -> Result<(), Fail> {
-    let alloc = rt.alloc();
-    first_goes(
-        &rt,
-        alloc,
-        &REFUSED,
-        &way(1, true, 0b1, 0),
-        b"+0!0+2-2",
-        b"rscss",
-    )?;
-    for limit in [2, 3, 64] {
-        first_goes(
-            &rt,
-            alloc,
-            &REFUSED,
-            &way(limit, true, 0b1, 0),
-            b"+0+2!0-2",
-            b"rscss",
-        )?;
+    for limit in [1, 2, 3, 64] {
+        let events = if limit == 1 { "+0!0+2-2" } else { "+0+2!0-2" };
+        let way = way(limit, true, 0b1, 0);
+        first_goes(&rt, rt.alloc(), b'r', &way, events, "rscss")?;
     }
     Ok(())
 }
 
 #[test]
 fn a_refusal_ends_a_build_that_does_not_keep_going(rt: HostRuntime) -> Result<(), Fail> {
-    let alloc = rt.alloc();
     first_goes(
         &rt,
-        alloc,
-        &REFUSED,
+        rt.alloc(),
+        b'r',
         &way(1, false, 0b1, 0),
-        b"+0!0",
-        b"rllll",
+        "+0!0",
+        "rllll",
     )?;
     for limit in [2, 3, 64] {
-        first_goes(
-            &rt,
-            alloc,
-            &REFUSED,
-            &way(limit, false, 0b1, 0),
-            b"+0+2!0-2",
-            b"rlcll",
-        )?;
+        let way = way(limit, false, 0b1, 0);
+        first_goes(&rt, rt.alloc(), b'r', &way, "+0+2!0-2", "rlcll")?;
     }
     Ok(())
 }
 
+/// What comes with so many slots, where the picks are 2, 1 and 0, but 0 with two slots.
+fn ends_so(rt: &impl Abort, alloc: Global, limit: u32, events: &str) -> Result<(), Fail> {
+    let picks = if limit == 2 { 0 } else { 0x012 };
+    first_goes(
+        rt,
+        alloc,
+        b'a',
+        &way(limit, false, 0, picks),
+        events,
+        "cccc",
+    )
+}
+
 #[test]
 fn ends_come_in_any_order(rt: HostRuntime) -> Result<(), Fail> {
-    let alloc = rt.alloc();
-    first_goes(
-        &rt,
-        alloc,
-        &ALONE,
-        &way(1, false, 0, 0x012),
-        b"+0-0+1-1+2-2+3-3",
-        b"cccc",
-    )?;
-    first_goes(
-        &rt,
-        alloc,
-        &ALONE,
-        &way(2, false, 0, 0),
-        b"+0+1-0+2-1-2+3-3",
-        b"cccc",
-    )?;
-    for limit in [3, 64] {
-        let way = way(limit, false, 0, 0x012);
-        first_goes(&rt, alloc, &ALONE, &way, b"+0+1+2-2-1-0+3-3", b"cccc")?;
-    }
-    Ok(())
+    ends_so(&rt, rt.alloc(), 1, "+0-0+1-1+2-2+3-3")?;
+    ends_so(&rt, rt.alloc(), 2, "+0+1-0+2-1-2+3-3")?;
+    ends_so(&rt, rt.alloc(), 3, "+0+1+2-2-1-0+3-3")?;
+    ends_so(&rt, rt.alloc(), 64, "+0+1+2-2-1-0+3-3")
 }
 
 /// Loses the third file.
@@ -193,7 +189,8 @@ fn the_others_are_waited_for_and_recorded_after_a_loss(rt: HostRuntime) -> Resul
 
 #[test]
 fn marks_alone_are_those_of_the_build(rt: HostRuntime) -> Result<(), Fail> {
-    let marks = told_marks(&rt, rt.alloc(), &REFUSED, &way(2, true, 0b1, 0))?;
+    let mut disk = empty_disk(rt.alloc(), NEVER)?;
+    let marks = told_marks(&rt, rt.alloc(), &REFUSED, &way(2, true, 0b1, 0), &mut disk)?;
     assert!(rt; marks.as_slice() == b"rscss".as_slice());
     Ok(())
 }

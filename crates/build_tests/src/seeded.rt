@@ -18,9 +18,9 @@ const ROWS: u32 = 200;
 fn mixed(seed: u32, turn: u32) -> u32 {
     let mut x = seed.wrapping_mul(0x9e37_79b1) ^ turn.wrapping_mul(0x85eb_ca77);
     for _ in 0..3 {
-        x ^= x >> 15;
+        x ^= x / 32_768;
         x = x.wrapping_mul(0x2c1b_3c6d);
-        x ^= x >> 12;
+        x ^= x / 4_096;
     }
     x
 }
