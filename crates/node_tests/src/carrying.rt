@@ -2,8 +2,7 @@
 
 use crate::payloads::{A, opened};
 use gate_journal::Payloads;
-use node_carry::{carried_payloads, plan_latest};
-use node_shelf::{Pieces, shelf_of};
+use node_holdings::Holdings;
 use std::alloc::Global;
 use std::process::Abort;
 use std::test::Fail;
@@ -31,12 +30,10 @@ fn later() -> [u8; 42] {
     bytes
 }
 
-/// The payloads that are kept of some, and how many bytes they take with their gates and lengths.
-fn kept(alloc: Global, opened: Payloads) -> Result<(Payloads, u64), NoMemory> {
-    let pieces = Pieces::of(alloc, opened);
-    let shelf = shelf_of(alloc, &pieces)?;
-    let plan = plan_latest(alloc, &pieces, &shelf)?;
-    Ok((carried_payloads(alloc, &pieces, &shelf, &plan)?, plan.len))
+/// The payloads that are kept of what is held, and how many bytes they take with their gates and lengths.
+fn kept(alloc: Global, held: &Holdings) -> Result<(Payloads, u64), NoMemory> {
+    let plan = held.latest_plan(alloc)?;
+    Ok((held.latest_payloads(alloc, &plan)?, plan.len))
 }
 
 fn is_at(payloads: &Payloads, at: u64, wanted: &[u8]) -> bool {
@@ -46,16 +43,9 @@ fn is_at(payloads: &Payloads, at: u64, wanted: &[u8]) -> bool {
     payloads.get(at) == wanted
 }
 
-fn keeps_one(alloc: Global, opened: Payloads) -> Result<bool, NoMemory> {
-    let (payloads, len) = kept(alloc, opened)?;
-    Ok(len == 47 && payloads.len() == 1 && is_at(&payloads, 0, &later()))
-}
-
-#[test]
-fn only_the_latest_record_is_kept(rt: HostRuntime) -> Result<(), Fail> {
-    let opened = opened(rt.alloc(), &A, &later(), &[])?;
-    assert!(rt; keeps_one(rt.alloc(), opened)?);
-    Ok(())
+/// Whether these are the later ones alone.
+fn are_later(payloads: &Payloads) -> bool {
+    payloads.len() == 1 && is_at(payloads, 0, &later())
 }
 
 /// Whether these are `ALONE`, `B` and the later ones.
@@ -66,14 +56,32 @@ fn are_three(payloads: &Payloads) -> bool {
         && is_at(payloads, 2, &later())
 }
 
-fn keeps_three(alloc: Global, opened: Payloads) -> Result<bool, NoMemory> {
-    let (payloads, len) = kept(alloc, opened)?;
-    Ok(len == 144 && are_three(&payloads))
+/// Whether of what is held so many payloads are kept: the later one in 47 bytes, or the three in 144.
+fn keeps(alloc: Global, held: &Holdings, count: u64) -> Result<bool, NoMemory> {
+    let (payloads, len) = kept(alloc, held)?;
+    if count == 1 {
+        Ok(len == 47 && are_later(&payloads))
+    } else {
+        Ok(len == 144 && are_three(&payloads))
+    }
+}
+
+/// The same of payloads. This function alone owns what is held.
+fn keeps_of(alloc: Global, opened: Payloads, count: u64) -> Result<bool, NoMemory> {
+    let held = Holdings::of(alloc, opened)?;
+    keeps(alloc, &held, count)
+}
+
+#[test]
+fn only_the_latest_record_is_kept(rt: HostRuntime) -> Result<(), Fail> {
+    let opened = opened(rt.alloc(), &A, &later(), &[])?;
+    assert!(rt; keeps_of(rt.alloc(), opened, 1)?);
+    Ok(())
 }
 
 #[test]
 fn a_node_without_its_record_is_kept_alone(rt: HostRuntime) -> Result<(), Fail> {
     let opened = opened(rt.alloc(), &A, &B, &later())?;
-    assert!(rt; keeps_three(rt.alloc(), opened)?);
+    assert!(rt; keeps_of(rt.alloc(), opened, 3)?);
     Ok(())
 }

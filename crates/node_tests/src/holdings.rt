@@ -41,22 +41,34 @@ fn need(alloc: Global, held: &Holdings, graph: &Graph) -> Result<u8, NoMemory> {
     }
 }
 
-/// The same after `A` and another payload. This function alone owns what is held.
-fn need_after(alloc: Global, second: &[u8], graph: &Graph) -> Result<u8, NoMemory> {
-    let held = held(alloc, second)?;
-    need(alloc, &held, graph)
+/// The artefact of the first file, of which one byte is given, or `-` where none is lent.
+fn lent(held: &Holdings, graph: &Graph) -> u8 {
+    if graph.is_empty() {
+        return b'-';
+    }
+    match held.artefact(&graph.get(0).name) {
+        Some([byte]) => *byte,
+        _ => b'-',
+    }
 }
 
-/// Whether the latest record of the file has its present view, where this is its text: `f` where it has, and else `s`.
-fn seen(alloc: Global, second: &[u8], text: u8) -> Result<u8, Fail> {
+/// Both after `A` and another payload. This function alone owns what is held.
+fn seen_after(alloc: Global, second: &[u8], graph: &Graph) -> Result<[u8; 2], NoMemory> {
+    let held = held(alloc, second)?;
+    Ok([need(alloc, &held, graph)?, lent(&held, graph)])
+}
+
+/// Whether the latest record of the file has its present view, where this is its text, `f` where it has, and else `s`; and
+/// the artefact that is lent.
+fn seen(alloc: Global, second: &[u8], text: u8) -> Result<[u8; 2], Fail> {
     let graph = graph(alloc, text)?;
-    Ok(need_after(alloc, second, &graph)?)
+    Ok(seen_after(alloc, second, &graph)?)
 }
 
 #[test]
 fn the_recorded_view_is_fresh(rt: HostRuntime) -> Result<(), Fail> {
-    assert!(rt; seen(rt.alloc(), &AGAIN, b'x')? == b'f');
-    assert!(rt; seen(rt.alloc(), &AGAIN, b'w')? == b's');
+    assert!(rt; seen(rt.alloc(), &AGAIN, b'x')?[0] == b'f');
+    assert!(rt; seen(rt.alloc(), &AGAIN, b'w')?[0] == b's');
     Ok(())
 }
 
@@ -64,30 +76,13 @@ fn the_recorded_view_is_fresh(rt: HostRuntime) -> Result<(), Fail> {
 fn only_the_latest_record_counts(rt: HostRuntime) -> Result<(), Fail> {
     let mut bytes = A;
     bytes[32] = b'w';
-    assert!(rt; seen(rt.alloc(), &bytes, b'w')? == b'f');
-    assert!(rt; seen(rt.alloc(), &bytes, b'x')? == b's');
+    assert!(rt; seen(rt.alloc(), &bytes, b'w')? == *b"fy");
+    assert!(rt; seen(rt.alloc(), &bytes, b'x')? == *b"sy");
     Ok(())
-}
-
-/// Whether the artefact `z` is lent of the first file.
-fn lends(held: &Holdings, graph: &Graph) -> bool {
-    if graph.is_empty() {
-        return false;
-    }
-    match held.artefact(&graph.get(0).name) {
-        Some([byte]) => *byte == b'z',
-        _ => false,
-    }
-}
-
-fn lends_after(alloc: Global, second: &[u8], graph: &Graph) -> Result<bool, NoMemory> {
-    let held = held(alloc, second)?;
-    Ok(lends(&held, graph))
 }
 
 #[test]
 fn the_latest_artefact_is_lent(rt: HostRuntime) -> Result<(), Fail> {
-    let graph = graph(rt.alloc(), b'x')?;
-    assert!(rt; lends_after(rt.alloc(), &AGAIN, &graph)?);
+    assert!(rt; seen(rt.alloc(), &AGAIN, b'x')? == *b"fz");
     Ok(())
 }

@@ -28,15 +28,20 @@ fn digits(shelf: &ShelfPlaces) -> usize {
 }
 
 /// The same of payloads.
-fn shelved(alloc: Global, opened: Payloads) -> Result<usize, NoMemory> {
-    let pieces = Pieces::of(alloc, opened);
-    let shelf = shelf_of(alloc, &pieces)?;
+fn shelved(alloc: Global, pieces: &Pieces) -> Result<usize, NoMemory> {
+    let shelf = shelf_of(alloc, pieces)?;
     Ok(digits(&shelf))
+}
+
+fn shelved_of(alloc: Global, opened: Payloads) -> Result<usize, NoMemory> {
+    let pieces = Pieces::of(alloc, opened);
+    shelved(alloc, &pieces)
 }
 
 /// The same of two payloads.
 fn counts(alloc: Global, first: &[u8], second: &[u8]) -> Result<usize, NoMemory> {
-    shelved(alloc, opened(alloc, first, second, &[])?)
+    let opened = opened(alloc, first, second, &[])?;
+    shelved_of(alloc, opened)
 }
 
 #[test]

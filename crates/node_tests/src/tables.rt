@@ -26,13 +26,6 @@ fn numbers_once(alloc: Global, table: &mut NodeTable) -> Result<bool, NoMemory> 
     Ok(first == 0 && second == 1 && again == 0)
 }
 
-#[test]
-fn a_name_is_numbered_once(rt: HostRuntime) -> Result<(), Fail> {
-    let mut table = NodeTable::new(rt.alloc());
-    assert!(rt; numbers_once(rt.alloc(), &mut table)?);
-    Ok(())
-}
-
 fn command(alloc: Global) -> Result<TextList, NoMemory> {
     let mut words = TextList::new(alloc);
     words.push(Text::from_slice(alloc, b"cc")?)?;
@@ -55,9 +48,34 @@ fn finds_command(alloc: Global, table: &mut NodeTable) -> Result<bool, NoMemory>
     finds(alloc, table, &words)
 }
 
+/// What is tried.
+#[derive(Clone, Copy)]
+enum Tried {
+    Names,
+    Commands,
+}
+
+fn goes(alloc: Global, table: &mut NodeTable, tried: Tried) -> Result<bool, NoMemory> {
+    match tried {
+        Tried::Names => numbers_once(alloc, table),
+        Tried::Commands => finds_command(alloc, table),
+    }
+}
+
+/// Whether what is tried goes as it is to. This function alone owns a table.
+fn goes_so(alloc: Global, tried: Tried) -> Result<bool, NoMemory> {
+    let mut table = NodeTable::new(alloc);
+    goes(alloc, &mut table, tried)
+}
+
+#[test]
+fn a_name_is_numbered_once(rt: HostRuntime) -> Result<(), Fail> {
+    assert!(rt; goes_so(rt.alloc(), Tried::Names)?);
+    Ok(())
+}
+
 #[test]
 fn a_copy_of_a_command_is_found(rt: HostRuntime) -> Result<(), Fail> {
-    let mut table = NodeTable::new(rt.alloc());
-    assert!(rt; finds_command(rt.alloc(), &mut table)?);
+    assert!(rt; goes_so(rt.alloc(), Tried::Commands)?);
     Ok(())
 }
