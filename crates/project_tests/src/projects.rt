@@ -100,10 +100,10 @@ fn shown_project(alloc: Global, read: &ReadProject) -> Result<Text, Fail> {
     Ok(Text::from_vec(out))
 }
 
-fn shown_stop(alloc: Global, stop: ReadStop) -> Result<Text, Fail> {
+fn shown_stop(alloc: Global, stop: &ReadStop) -> Result<Text, Fail> {
     match stop {
-        ReadStop::Refused(reason) => Ok(refusal_text(alloc, &reason)?),
-        ReadStop::Over(limit, number) => Ok(limit_text(alloc, limit, number)?),
+        ReadStop::Refused(reason) => Ok(refusal_text(alloc, reason)?),
+        ReadStop::Over(limit, number) => Ok(limit_text(alloc, *limit, *number)?),
         ReadStop::Failed => Ok(Text::from_slice(alloc, b"failed")?),
         ReadStop::NoMemory => Ok(Text::from_slice(alloc, b"no memory")?),
     }
@@ -112,7 +112,7 @@ fn shown_stop(alloc: Global, stop: ReadStop) -> Result<Text, Fail> {
 fn shown_tree(alloc: Global, tree: &mut MemTree) -> Result<Text, Fail> {
     match read_project(alloc, tree, false) {
         Ok(read) => shown_project(alloc, &read),
-        Err(stop) => shown_stop(alloc, stop),
+        Err(stop) => shown_stop(alloc, &stop),
     }
 }
 
