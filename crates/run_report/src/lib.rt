@@ -10,4 +10,3 @@ mod status;
 pub use listing::list_files;
 pub use report::{build_outcome, build_text, limit_text, refusal_text, warning_text};
 pub use status::status_of;
-
