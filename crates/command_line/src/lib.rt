@@ -7,4 +7,3 @@ mod setting;
 
 pub use reading::read_words;
 pub use setting::{Setting, WordsFault};
-

@@ -17,4 +17,3 @@ mod warnings;
 
 pub use laws::laws_of_links;
 pub use linking::{link, link_by_roles};
-

@@ -15,4 +15,3 @@ pub use journal::{Journal, commit_both};
 pub use opening::Opened;
 pub use payloads::Payloads;
 pub use ready::{Ready, ReadySide};
-

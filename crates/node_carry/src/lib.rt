@@ -12,4 +12,3 @@ pub use laws::laws_of_compaction;
 pub use plan::{NodeStep, Plan, Step};
 pub use walking::plan_latest;
 pub use writing::carried_payloads;
-

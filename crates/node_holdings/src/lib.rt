@@ -9,4 +9,3 @@ mod holdings;
 pub use additions::{Addition, KnownNode, NewNode, NextPiece};
 pub use holdings::Holdings;
 pub use node_carry::Plan;
-

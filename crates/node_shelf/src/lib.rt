@@ -16,4 +16,3 @@ pub use records::{RecordPlace, RecordPlaces};
 pub use shelf::ShelfPlaces;
 pub use taking::shelf_of;
 pub use texts::{TextPlace, TextPlaces, find_text, text_at};
-

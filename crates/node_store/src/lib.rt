@@ -4,4 +4,3 @@
 mod store;
 
 pub use store::{NodeStore, PreparedNode};
-

@@ -8,4 +8,3 @@ mod table;
 pub use commands::Command;
 pub use rows::Row;
 pub use table::NodeTable;
-

@@ -12,4 +12,3 @@ mod values;
 
 pub use csv::read_csv_project;
 pub use tables::read_toml_project;
-

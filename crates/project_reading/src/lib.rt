@@ -12,4 +12,3 @@ mod texts;
 pub use linking::ReadProject;
 pub use reading::read_project;
 pub use stops::ReadStop;
-

@@ -8,4 +8,3 @@ mod store;
 
 pub use pairs::{keep, keep_both};
 pub use store::{PreparedRecord, RecordStore};
-

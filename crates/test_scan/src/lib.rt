@@ -16,4 +16,3 @@ mod words;
 
 pub use laws::laws_of_benches;
 pub use scanning::benches;
-

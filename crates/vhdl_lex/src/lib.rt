@@ -12,4 +12,3 @@ mod stops;
 pub use reserved::{is_reserved, reserved_number};
 pub use roles::role_of;
 pub use scan::{scan_tokens, scan_with_roles};
-

@@ -20,4 +20,3 @@ pub use places::RefPlace;
 pub use refs::{no_ref, ref_at};
 pub use structural::structural_ref;
 pub use uses::uses_of_all;
-

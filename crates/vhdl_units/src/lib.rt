@@ -15,4 +15,3 @@ mod view;
 pub use ends::role_at;
 pub use file::{outline, outline_by_roles};
 pub use view::{is_named, name_in, name_of, roles_of};
-

@@ -30,4 +30,3 @@ pub use mem_sink::MemSink;
 pub use mem_source::MemSource;
 pub use mem_tree::MemTree;
 pub use script_procs::ScriptProcs;
-
