@@ -102,13 +102,13 @@ l%%library a; package c is end;#l%%context work.c; package p is end;#l%%library 
 l%%library B, a, \X\, a; context C is end;#l%%CONTEXT WORK.c; package p is end; => \X\,a,b,std,work,|\X\,a,b,std,work,|
 "#;
 
-/// Whether the units of a line see what stands there, or it has no arrow.
+/// Whether the units of a line see what stands there. A line without an arrow is empty or a remark.
 fn check(alloc: Global, line: &str) -> Result<bool, Fail> {
     match line.split_once(" => ") {
         Some((files, wanted)) => {
             Ok(shown(alloc, files.as_bytes())?.as_slice() == wanted.as_bytes())
         }
-        None => Ok(true),
+        None => Ok(line.is_empty() || line.starts_with("--")),
     }
 }
 

@@ -174,7 +174,7 @@ fn is_right(alloc: Global, options: &str, files: &str, wanted: &str) -> Result<b
 /// The same of a line, or it has no arrow.
 fn check(alloc: Global, line: &str) -> Result<bool, Fail> {
     let Some((project, wanted)) = line.split_once(" => ") else {
-        return Ok(true);
+        return Ok(line.is_empty() || line.starts_with("--"));
     };
     match project.split_once(' ') {
         Some((options, files)) => is_right(alloc, options, files, wanted),
