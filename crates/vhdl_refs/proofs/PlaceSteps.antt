@@ -43,7 +43,7 @@ places_all_more test start at done items more ordered so_far adds =
     adds ∙ ap (λ (xs : List ℕ). xs ++ cond (test at) (at ∷ []) []) so_far ∙ append_assoc done (places test start at) (cond (test at) (at ∷ []) []) ∙ ap (λ (xs : List ℕ). done ++ xs) (sym (places_more test start at ordered))
 
 -- what is made of the place of each reference is made of its token number
-made_at : {X : Type 0} (f : ℕ → X) (roles : List Role) (found : List ℕ) → map (λ (place : RefPlace). f place.at) (map (ref_place roles) found) ≡ map f found
+pub made_at : {X : Type 0} (f : ℕ → X) (roles : List Role) (found : List ℕ) → map (λ (place : RefPlace). f place.at) (map (ref_place roles) found) ≡ map f found
 made_at f roles [] = refl
 made_at {X} f roles (at ∷ found) = ap (λ (rest : List X). f at ∷ rest) (made_at f roles found)
 

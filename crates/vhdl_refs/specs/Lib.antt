@@ -1,5 +1,5 @@
 -- What the walks of this crate keep.
 pub mod Clauses
 pub mod Dots
-pub mod Contexts
 pub mod Places
+pub mod Mentions

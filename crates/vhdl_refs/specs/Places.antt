@@ -3,9 +3,7 @@ use Rattle.std.specs.Prelude.{◌≡◌, ℕ, ◌+◌, ◌<◌, List, length, ma
 use Rattle.std.specs.List.{All}
 use Rattle.vr_base.specs.declared.design.Role.{Role}
 use Rattle.vr_base.specs.declared.design.Unit.{Unit as DesignUnit}
-use Rattle.vr_base.specs.declared.lexical.Token.{Token}
-use Rattle.vr_base.specs.declared.refs.Ref.{Ref}
-use Rattle.scan_spec.specs.References.{is_reference, is_strict, places, structural_by}
+use Rattle.scan_spec.specs.References.{context_end, is_context_ref, is_reference, is_strict, places}
 use Rattle.vhdl_refs.specs.declared.places.RefPlace.{RefPlace}
 
 -- the token number of its library, and whether it is strict
@@ -20,6 +18,10 @@ refs_between roles start end = map (ref_place roles) (places (is_reference roles
 abbrev pub ref_places : List Role → DesignUnit → List RefPlace
 ref_places roles unit = refs_between roles unit.lead unit.last
 
+-- those of a unit to context declarations
+abbrev pub context_places : List Role → DesignUnit → List RefPlace
+context_places roles unit = map (ref_place roles) (places (is_context_ref roles) unit.lead (context_end unit))
+
 -- the name of the unit is two tokens further
 pub record IsRefPlace (roles : List Role) (place : RefPlace) : Type 0 where
   pub within : place.at + 2 < length roles
@@ -27,7 +29,3 @@ pub record IsRefPlace (roles : List Role) (place : RefPlace) : Type 0 where
 
 abbrev pub AreRefPlaces : List Role → List RefPlace → Type 0
 AreRefPlaces roles found = All (IsRefPlace roles) found
-
--- the one that a unit has by its structure, or none
-abbrev pub structural_refs : List ℕ → List Token → DesignUnit → List Ref
-structural_refs text tokens unit = structural_by text tokens unit unit.kind

@@ -4,20 +4,20 @@ ghost use Rattle.std.specs.Prelude.{◌≡◌, ◌+◌, ◌<◌, ◌≤◌, [], 
 ghost use Rattle.std.specs.Option.{option_map};
 ghost use Rattle.scan_spec.specs.Units.{AreTokensOf, name_of, roles_of};
 ghost use Rattle.scan_spec.specs.Scans.{IsScanOf};
-ghost use Rattle.scan_spec.specs.References.{context_end, context_refs, is_context_ref, is_in_library_clause, is_library_name, library_names, places, ref_at};
+ghost use Rattle.scan_spec.specs.References.{context_end, context_refs, is_context_ref, is_in_library_clause, is_library_name, library_names, places};
 ghost use Rattle.vhdl_refs.specs.Clauses.{IsClauseAt};
-ghost use Rattle.vhdl_refs.specs.Contexts.{AreContextPlaces, context_places};
+ghost use Rattle.vhdl_refs.specs.Places.{AreRefPlaces, context_places, ref_place};
 
 use crate::clause::{Clause, clause_after};
 use crate::places::{RefPlace, is_reference, is_strict};
-use crate::refs::{no_ref, ref_at};
+use crate::refs::push_refs;
 use crate::unit::unit_at;
 use crate::words::{is_comma, is_context_word, is_library_word, is_name, role_before};
 use std::alloc::Global;
 use vhdl_units::{name_of, role_at};
 use vr_base::{
-    Items, NoMemory, Positions, Ref, RefList, Role, RoleList, Scan, TEXT_LIMIT, Text, TextList,
-    Tokens, Unit, UnitKind,
+    Items, NoMemory, RefList, Role, RoleList, Scan, TEXT_LIMIT, Text, TextList, Tokens, Unit,
+    UnitKind,
 };
 
 /// Where the context items of a unit end.
@@ -44,60 +44,74 @@ fn is_context_ref(roles: &[Role], at: usize, clause: Clause) -> bool
     is_reference(roles, at) && (is_context_word(before) || is_comma(before)) && clause.has_context
 }
 
-/// Adds the reference to a context declaration at a token, where one is.
-fn push_context_ref(
-    alloc: Global,
-    text: &[u8],
-    tokens: &Tokens,
+/// Adds the place of the reference to a context declaration at a token, where one is.
+fn push_context_place(
     roles: &[Role],
     at: usize,
     clause: Clause,
-    refs: &mut Vec<Ref>,
+    found: &mut Vec<RefPlace>,
 ) -> Result<(), NoMemory>
-    requires tokens { AreTokensOf text.now tokens.now }
-    requires roles { roles.now ≡ roles_of text.now tokens.now.list }
     requires within { at < length roles.now }
     requires small { length roles.now ≤ TEXT_LIMIT }
     requires clause { IsClauseAt roles.now at clause }
-    ensures { OnOk result (refs.new.items ≡ refs.old.items ++
-        (if is_context_ref roles.now at then ref_at text.now tokens.now.list at ∷ [] else [])) }
+    requires before { AreRefPlaces roles.now found.old.items }
+    ensures found { OnOk result (found.new.items ≡ found.old.items ++
+        (if is_context_ref roles.now at then ref_place roles.now at ∷ [] else [])) }
+    ensures after { OnOk result (AreRefPlaces roles.now found.new.items) }
 {
     if is_context_ref(roles, at, clause) {
-        let place = RefPlace {
+        let strict = is_strict(roles, at, clause.lists_names);
+        found.push(RefPlace {
             at: at as u32,
-            strict: is_strict(roles, at, clause.lists_names),
-        };
-        refs.push(ref_at(alloc, text, tokens, roles, place, no_ref(alloc))?)?;
+            strict,
+        })?;
     }
     Ok(())
 }
 
-/// Adds the references to context declarations from the start of a clause up to another token, in order.
-fn push_context_refs(
-    alloc: Global,
-    text: &[u8],
-    tokens: &Tokens,
+/// Adds those from the start of a clause up to another token, in order.
+fn push_context_places(
     roles: &[Role],
     clause: Clause,
     end: usize,
-    refs: &mut Vec<Ref>,
+    found: &mut Vec<RefPlace>,
 ) -> Result<(), NoMemory>
-    requires tokens { AreTokensOf text.now tokens.now }
-    requires roles { roles.now ≡ roles_of text.now tokens.now.list }
     requires ordered { clause.start ≤ end }
     requires within { end ≤ length roles.now }
     requires small { length roles.now ≤ TEXT_LIMIT }
     requires clause { IsClauseAt roles.now clause.start clause }
-    ensures { OnOk result (refs.new.items ≡ refs.old.items ++
-        map (ref_at text.now tokens.now.list)
-        (places (is_context_ref (roles_of text.now tokens.now.list)) clause.start end)) }
+    requires before { AreRefPlaces roles.now found.old.items }
+    ensures found { OnOk result (found.new.items ≡ found.old.items ++
+        map (ref_place roles.now) (places (is_context_ref roles.now) clause.start end)) }
+    ensures after { OnOk result (AreRefPlaces roles.now found.new.items) }
 {
     let mut clause = clause;
     for at in clause.start..end {
-        push_context_ref(alloc, text, tokens, roles, at, clause, refs)?;
+        push_context_place(roles, at, clause, found)?;
         clause = clause_after(clause, roles, at);
     }
     Ok(())
+}
+
+/// Adds the places of the references of a unit to context declarations, in order. `clause` begins with its first token.
+pub fn push_contexts(
+    roles: &[Role],
+    unit: &Unit,
+    clause: Clause,
+    found: &mut Vec<RefPlace>,
+) -> Result<(), NoMemory>
+    requires led { unit.now.lead ≤ unit.now.first }
+    requires ordered { unit.now.first < unit.now.last }
+    requires within { unit.now.last < length roles.now }
+    requires small { length roles.now ≤ TEXT_LIMIT }
+    requires start { clause.start ≡ unit.now.lead }
+    requires clause { IsClauseAt roles.now clause.start clause }
+    requires before { AreRefPlaces roles.now found.old.items }
+    ensures found { OnOk result (found.new.items ≡
+        found.old.items ++ context_places roles.now unit.now) }
+    ensures after { OnOk result (AreRefPlaces roles.now found.new.items) }
+{
+    push_context_places(roles, clause, context_end(unit), found)
 }
 
 /// The references of the unit of a number in a scan to context declarations, in order (IEEE Std 1076-2008, clause 13.4).
@@ -119,86 +133,18 @@ pub fn context_refs(
 {
     let roles = roles.as_slice();
     let (found, clause) = unit_at(text, scan, roles, unit);
+    let mut places = Vec::new(alloc);
+    push_contexts(roles, found, clause, &mut places)?;
     let mut refs = Vec::new(alloc);
-    push_context_refs(
+    push_refs(
         alloc,
         text,
         &scan.tokens,
         roles,
-        clause,
-        context_end(found),
+        places.as_slice(),
         &mut refs,
     )?;
     Ok(Items::from_vec(refs))
-}
-
-/// Adds a token number where a reference to a context declaration is.
-fn push_context_place(
-    roles: &[Role],
-    at: usize,
-    clause: Clause,
-    found: &mut Vec<u32>,
-) -> Result<(), NoMemory>
-    requires within { at < length roles.now }
-    requires small { length roles.now ≤ TEXT_LIMIT }
-    requires clause { IsClauseAt roles.now at clause }
-    requires before { AreContextPlaces roles.now found.old.items }
-    ensures found { OnOk result (found.new.items ≡ found.old.items ++
-        (if is_context_ref roles.now at then at ∷ [] else [])) }
-    ensures after { OnOk result (AreContextPlaces roles.now found.new.items) }
-{
-    if is_context_ref(roles, at, clause) {
-        found.push(at as u32)?;
-    }
-    Ok(())
-}
-
-/// Adds those from the start of a clause up to another token, rising.
-fn push_context_places(
-    roles: &[Role],
-    clause: Clause,
-    end: usize,
-    found: &mut Vec<u32>,
-) -> Result<(), NoMemory>
-    requires ordered { clause.start ≤ end }
-    requires within { end ≤ length roles.now }
-    requires small { length roles.now ≤ TEXT_LIMIT }
-    requires clause { IsClauseAt roles.now clause.start clause }
-    requires before { AreContextPlaces roles.now found.old.items }
-    ensures found { OnOk result (found.new.items ≡ found.old.items ++
-        places (is_context_ref roles.now) clause.start end) }
-    ensures after { OnOk result (AreContextPlaces roles.now found.new.items) }
-{
-    let mut clause = clause;
-    for at in clause.start..end {
-        push_context_place(roles, at, clause, found)?;
-        clause = clause_after(clause, roles, at);
-    }
-    Ok(())
-}
-
-/// The token numbers of the `L` of each reference of the unit of a number in a scan to a context declaration, rising (IEEE
-/// Std 1076-2008, clause 13.4). `roles` are those of the scan's tokens.
-pub fn context_places(
-    alloc: Global,
-    text: &[u8],
-    scan: &Scan,
-    roles: &RoleList,
-    unit: u32,
-) -> Result<Positions, NoMemory>
-    requires scan { IsScanOf text.now scan.now }
-    requires small { length text.now ≤ TEXT_LIMIT }
-    requires roles { roles.now ≡ roles_of text.now scan.now.tokens.list }
-    requires unit { unit < length scan.now.units }
-    ensures found { IfOk result (λ found.
-        option_map (context_places roles.now) (slice_get scan.now.units unit) ≡ Some found) }
-    ensures named { IfOk result (AreContextPlaces roles.now) }
-{
-    let roles = roles.as_slice();
-    let (unit, clause) = unit_at(text, scan, roles, unit);
-    let mut found = Vec::new(alloc);
-    push_context_places(roles, clause, context_end(unit), &mut found)?;
-    Ok(Items::from_vec(found))
 }
 
 /// Whether a token is between `library` and its `;`, of a unit whose keyword is at `first`.

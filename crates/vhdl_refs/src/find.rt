@@ -8,7 +8,7 @@ ghost use Rattle.scan_spec.specs.References.{refs_of, structural_by};
 
 use crate::named::push_places;
 use crate::refs::{no_ref, push_refs};
-use crate::structural::structural_by;
+use crate::structural::{configured_by, structural_ref};
 use crate::unit::unit_at;
 use std::alloc::Global;
 use vr_base::{Items, NoMemory, Ref, RefList, Role, RoleList, Scan, TEXT_LIMIT, Tokens, Unit};
@@ -29,7 +29,8 @@ fn push_structural(
     ensures { OnOk result (refs.new.items ≡
         refs.old.items ++ structural_by text.now tokens.now.list unit.now unit.now.kind) }
 {
-    let (is_there, found) = structural_by(alloc, text, tokens, roles, unit, no_ref(alloc))?;
+    let configured = configured_by(alloc, text, tokens, roles, unit)?;
+    let (is_there, found) = structural_ref(alloc, unit, &configured, no_ref(alloc))?;
     if is_there {
         refs.push(found)?;
     }

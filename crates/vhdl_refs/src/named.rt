@@ -1,19 +1,15 @@
 //! Where the references by name, `L.U`, of some tokens are.
 
-ghost use Rattle.std.specs.Prelude.{◌≡◌, ◌<◌, ◌≤◌, [], ◌∷◌, ◌++◌, true, if◌then◌else◌, length, IfOk, OnOk, Some, slice_get};
-ghost use Rattle.std.specs.Option.{option_map};
-ghost use Rattle.scan_spec.specs.Units.{roles_of};
-ghost use Rattle.scan_spec.specs.Scans.{IsScanOf};
+ghost use Rattle.std.specs.Prelude.{◌≡◌, ◌<◌, ◌≤◌, [], ◌∷◌, ◌++◌, true, if◌then◌else◌, length, OnOk};
 ghost use Rattle.scan_spec.specs.References.{is_comma, is_in_name_list, is_reference, role_before};
 ghost use Rattle.vhdl_refs.specs.Clauses.{HasReached, IsClauseAt};
-ghost use Rattle.vhdl_refs.specs.Places.{AreRefPlaces, ref_place, ref_places, refs_between};
+ghost use Rattle.vhdl_refs.specs.Places.{AreRefPlaces, ref_place, refs_between};
 
 use crate::clause::{Clause, Reached, clause_at};
 use crate::dots::next_dotted;
 use crate::places::{RefPlace, is_reference, is_strict};
-use crate::unit::unit_at;
 use crate::words::{is_comma, role_before};
-use vr_base::{Items, NoMemory, Role, RoleList, Scan, TEXT_LIMIT};
+use vr_base::{NoMemory, Role, TEXT_LIMIT};
 
 /// Follows clauses up to a token that a comma is before, and to no other: only there it matters what began the clause.
 fn follow(roles: &[Role], at: usize, reached: &mut Reached)
@@ -83,29 +79,4 @@ pub fn push_places(
         at = next_dotted(roles, at + 1, end);
     }
     Ok(())
-}
-
-/// The places of the references by name of the unit of a number in a scan, in order, in the memory of places that aren't
-/// used any more (IEEE Std 1076-2008, clauses 12.4 and 13). `roles` are those of the scan's tokens.
-pub fn ref_places(
-    text: &[u8],
-    scan: &Scan,
-    roles: &RoleList,
-    unit: u32,
-    used: Items<RefPlace>,
-) -> Result<Items<RefPlace>, NoMemory>
-    requires scan { IsScanOf text.now scan.now }
-    requires small { length text.now ≤ TEXT_LIMIT }
-    requires roles { roles.now ≡ roles_of text.now scan.now.tokens.list }
-    requires unit { unit < length scan.now.units }
-    ensures found { IfOk result (λ found.
-        option_map (ref_places roles.now) (slice_get scan.now.units unit) ≡ Some found) }
-    ensures named { IfOk result (AreRefPlaces roles.now) }
-{
-    let roles = roles.as_slice();
-    let (unit, clause) = unit_at(text, scan, roles, unit);
-    let mut found = used.into_vec();
-    found.clear();
-    push_places(roles, clause, unit.last as usize, &mut found)?;
-    Ok(Items::from_vec(found))
 }

@@ -1,14 +1,16 @@
-//! The reference by name at a place.
+//! References with their names.
 
 ghost use Rattle.std.specs.Prelude.{◌≡◌, ◌+◌, ◌<◌, ◌++◌, IfOk, OnOk, length, map};
 ghost use Rattle.scan_spec.specs.Units.{AreTokensOf, roles_of};
-ghost use Rattle.scan_spec.specs.References.{architecture_at, ref_at};
+ghost use Rattle.scan_spec.specs.References.{ref_at};
+ghost use Rattle.vhdl_refs.specs.Mentions.{NamedLiesIn, SomeLiesIn, named_architecture, named_ref};
 ghost use Rattle.vhdl_refs.specs.Places.{AreRefPlaces, IsRefPlace};
 
-use crate::places::{RefPlace, has_architecture};
+use crate::mentions::{NamedRef, named_at};
+use crate::places::RefPlace;
 use std::alloc::Global;
-use vhdl_units::name_in;
-use vr_base::{MaybeText, NoMemory, Ref, Role, Text, Tokens};
+use vhdl_units::name_of_token;
+use vr_base::{MaybeText, NoMemory, Ref, Role, Text, Token, Tokens};
 
 /// A reference to nothing, which takes no memory: others are made in what one that isn't used any more leaves.
 pub fn no_ref(alloc: Global) -> Ref {
@@ -29,43 +31,30 @@ fn room_of(alloc: Global, used: MaybeText) -> Text {
     }
 }
 
-/// The architecture that is named with the entity at a token, if it is one.
-fn architecture_at(
+/// The name of the architecture that a reference names, if it names one.
+fn architecture_in(
     alloc: Global,
     text: &[u8],
-    tokens: &Tokens,
-    roles: &[Role],
-    at: usize,
+    named: Option<Token>,
     used: MaybeText,
 ) -> Result<MaybeText, NoMemory>
-    requires tokens { AreTokensOf text.now tokens.now }
-    requires roles { roles.now ≡ roles_of text.now tokens.now.list }
-    requires within { at + 2 < length roles.now }
-    ensures { IfOk result (λ named. named ≡ architecture_at text.now tokens.now.list at) }
+    requires { SomeLiesIn text.now named }
+    ensures { IfOk result (λ found. found ≡ named_architecture text.now named) }
 {
-    if has_architecture(roles, at) {
-        let room = room_of(alloc, used);
-        Ok(MaybeText::Given(name_in(text, tokens, at + 4, room)?))
-    } else {
-        Ok(MaybeText::Nothing)
+    match named {
+        Some(token) => {
+            let room = room_of(alloc, used);
+            Ok(MaybeText::Given(name_of_token(text, token, room)?))
+        }
+        None => Ok(MaybeText::Nothing),
     }
 }
 
-/// The reference by name at a place, in the memory of one that isn't used any more, where that has room.
-pub fn ref_at(
-    alloc: Global,
-    text: &[u8],
-    tokens: &Tokens,
-    roles: &[Role],
-    place: RefPlace,
-    used: Ref,
-) -> Result<Ref, NoMemory>
-    requires tokens { AreTokensOf text.now tokens.now }
-    requires roles { roles.now ≡ roles_of text.now tokens.now.list }
-    requires place { IsRefPlace roles.now place }
-    ensures { IfOk result (λ found. found ≡ ref_at text.now tokens.now.list place.at) }
+/// The reference whose names are tokens of a text, in the memory of one that isn't used any more, where that has room.
+pub fn ref_in(alloc: Global, text: &[u8], named: &NamedRef, used: Ref) -> Result<Ref, NoMemory>
+    requires { NamedLiesIn text.now named.now }
+    ensures { IfOk result (λ found. found ≡ named_ref text.now named.now) }
 {
-    let at = place.at as usize;
     let Ref {
         library,
         name,
@@ -74,12 +63,29 @@ pub fn ref_at(
         at: _,
     } = used;
     Ok(Ref {
-        library: name_in(text, tokens, at, library)?,
-        name: name_in(text, tokens, at + 2, name)?,
-        architecture: architecture_at(alloc, text, tokens, roles, at, architecture)?,
-        strict: place.strict,
-        at: place.at,
+        library: name_of_token(text, named.library, library)?,
+        name: name_of_token(text, named.name, name)?,
+        architecture: architecture_in(alloc, text, named.architecture, architecture)?,
+        strict: named.strict,
+        at: named.at,
     })
+}
+
+/// The reference by name at a place.
+fn ref_at(
+    alloc: Global,
+    text: &[u8],
+    tokens: &Tokens,
+    roles: &[Role],
+    place: RefPlace,
+) -> Result<Ref, NoMemory>
+    requires tokens { AreTokensOf text.now tokens.now }
+    requires roles { roles.now ≡ roles_of text.now tokens.now.list }
+    requires place { IsRefPlace roles.now place }
+    ensures { IfOk result (λ found. found ≡ ref_at text.now tokens.now.list place.at) }
+{
+    let named = named_at(text, tokens, roles, place);
+    ref_in(alloc, text, &named, no_ref(alloc))
 }
 
 /// Adds the references at places.
@@ -98,7 +104,7 @@ pub fn push_refs(
         map (λ place. ref_at text.now tokens.now.list place.at) places.now) }
 {
     for place in places {
-        refs.push(ref_at(alloc, text, tokens, roles, *place, no_ref(alloc))?)?;
+        refs.push(ref_at(alloc, text, tokens, roles, *place)?)?;
     }
     Ok(())
 }

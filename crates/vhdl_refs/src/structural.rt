@@ -1,19 +1,14 @@
 //! The reference that a unit has by its structure: to its entity or its package.
 
-ghost use Rattle.std.specs.Prelude.{◌≡◌, ◌+◌, ◌<◌, ◌≤◌, [], ◌∷◌, if◌then◌else◌, IfOk, IfSome, Some, length, slice_get};
-ghost use Rattle.std.specs.Option.{option_map};
+ghost use Rattle.std.specs.Prelude.{◌≡◌, ◌+◌, ◌<◌, ◌≤◌, [], ◌∷◌, if◌then◌else◌, IfOk, IfSome, length};
 ghost use Rattle.scan_spec.specs.Units.{AreTokensOf, roles_of, role_at, name_of};
-ghost use Rattle.scan_spec.specs.Scans.{IsScanOf};
 ghost use Rattle.scan_spec.specs.References.{configured, first_for, name_if, owner_name, structural_by, structural_ref};
-ghost use Rattle.vhdl_refs.specs.Places.{structural_refs};
+ghost use Rattle.vhdl_refs.specs.Mentions.{structural_of};
 
-use crate::unit::unit_at;
 use crate::words::is_for;
 use std::alloc::Global;
 use vhdl_units::{name_of, role_at};
-use vr_base::{
-    MaybeText, NoMemory, Ref, Role, RoleList, Scan, TEXT_LIMIT, Text, Tokens, Unit, UnitKind,
-};
+use vr_base::{MaybeText, NoMemory, Ref, Role, Text, Tokens, Unit, UnitKind};
 
 static WORK: [u8; 4] = *b"work";
 
@@ -114,22 +109,38 @@ fn own_ref(unit: &Unit, name: &[u8], architecture: MaybeText, used: Ref) -> Resu
     })
 }
 
-/// The structural reference of a unit, if it has one: an architecture and a configuration to their entity, a package body
-/// to its package. It is told with whether there is one.
-pub fn structural_by(
+/// The architecture that a unit configures, if it is a configuration that does.
+pub fn configured_by(
     alloc: Global,
     text: &[u8],
     tokens: &Tokens,
     roles: &[Role],
     unit: &Unit,
-    used: Ref,
-) -> Result<(bool, Ref), NoMemory>
+) -> Result<MaybeText, NoMemory>
     requires tokens { AreTokensOf text.now tokens.now }
     requires roles { roles.now ≡ roles_of text.now tokens.now.list }
     requires ordered { unit.now.first ≤ unit.now.last }
     requires within { unit.now.last < length roles.now }
-    ensures { IfOk result (λ found. (if found.0 then found.1 ∷ [] else []) ≡
-        structural_by text.now tokens.now.list unit.now unit.now.kind) }
+    ensures { IfOk result (λ configured. structural_of configured unit.now unit.now.kind
+        ≡ structural_by text.now tokens.now.list unit.now unit.now.kind) }
+{
+    match unit.kind {
+        UnitKind::Configuration => configured(alloc, text, tokens, roles, unit),
+        _ => Ok(MaybeText::Nothing),
+    }
+}
+
+/// The reference that a unit has by its structure, in the memory of one that isn't used any more, and whether it has one
+/// (IEEE Std 1076-2008, clauses 3.3, 3.4 and 4.8): an architecture and a configuration refer to their entity, a package body
+/// to its package. Where it has none, the reference says nothing.
+pub fn structural_ref(
+    alloc: Global,
+    unit: &Unit,
+    configured: &MaybeText,
+    used: Ref,
+) -> Result<(bool, Ref), NoMemory>
+    ensures { IfOk result (λ found. (if found.0 then found.1 ∷ [] else [])
+        ≡ structural_of configured.now unit.now unit.now.kind) }
 {
     match unit.kind {
         UnitKind::Architecture => {
@@ -138,8 +149,7 @@ pub fn structural_by(
         }
         UnitKind::Configuration => {
             let owner = owner_name(&unit.owner);
-            let architecture = configured(alloc, text, tokens, roles, unit)?;
-            Ok((true, own_ref(unit, owner, architecture, used)?))
+            Ok((true, own_ref(unit, owner, configured.copy(alloc)?, used)?))
         }
         UnitKind::PackageBody => {
             let package = unit.name.bytes();
@@ -149,28 +159,4 @@ pub fn structural_by(
             Ok((false, used))
         }
     }
-}
-
-/// The structural reference of the unit of a number in a scan, in the memory of one that isn't used any more, and whether
-/// there is one (IEEE Std 1076-2008, clauses 3.3, 3.4 and 4.8): else the reference says nothing. `roles` are those of the
-/// scan's tokens.
-pub fn structural_ref(
-    alloc: Global,
-    text: &[u8],
-    scan: &Scan,
-    roles: &RoleList,
-    unit: u32,
-    used: Ref,
-) -> Result<(bool, Ref), NoMemory>
-    requires scan { IsScanOf text.now scan.now }
-    requires small { length text.now ≤ TEXT_LIMIT }
-    requires roles { roles.now ≡ roles_of text.now scan.now.tokens.list }
-    requires unit { unit < length scan.now.units }
-    ensures { IfOk result (λ found.
-        option_map (structural_refs text.now scan.now.tokens.list) (slice_get scan.now.units unit)
-        ≡ Some (if found.0 then found.1 ∷ [] else [])) }
-{
-    let roles = roles.as_slice();
-    let (unit, _clause) = unit_at(text, scan, roles, unit);
-    structural_by(alloc, text, &scan.tokens, roles, unit, used)
 }

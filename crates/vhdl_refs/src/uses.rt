@@ -1,6 +1,7 @@
 //! The places of `use L.all` of one design unit, which names a library and no unit of it.
 
 ghost use Rattle.std.specs.Prelude.{◌≡◌, ◌+◌, ◌<◌, ◌≤◌, [], ◌∷◌, ◌++◌, if◌then◌else◌, IfOk, OnOk, Some, length, slice_get};
+ghost use Rattle.std.specs.List.{All};
 ghost use Rattle.std.specs.Option.{option_map};
 ghost use Rattle.scan_spec.specs.Units.{roles_of};
 ghost use Rattle.scan_spec.specs.Scans.{IsScanOf};
@@ -30,8 +31,10 @@ fn is_use_of_all(roles: &[Role], at: usize) -> bool
 fn push_use(roles: &[Role], at: usize, uses: &mut Vec<u32>) -> Result<(), NoMemory>
     requires within { at < length roles.now }
     requires small { length roles.now ≤ TEXT_LIMIT }
-    ensures { OnOk result (uses.new.items ≡ uses.old.items ++
+    requires before { All (λ at. at < length roles.now) uses.old.items }
+    ensures found { OnOk result (uses.new.items ≡ uses.old.items ++
         (if is_use_of_all roles.now at then at ∷ [] else [])) }
+    ensures after { OnOk result (All (λ at. at < length roles.now) uses.new.items) }
 {
     if is_use_of_all(roles, at) {
         uses.push(at as u32)?;
@@ -40,12 +43,19 @@ fn push_use(roles: &[Role], at: usize, uses: &mut Vec<u32>) -> Result<(), NoMemo
 }
 
 /// Adds those from one token up to another, rising.
-fn push_uses(roles: &[Role], start: usize, end: usize, uses: &mut Vec<u32>) -> Result<(), NoMemory>
+pub fn push_uses(
+    roles: &[Role],
+    start: usize,
+    end: usize,
+    uses: &mut Vec<u32>,
+) -> Result<(), NoMemory>
     requires ordered { start ≤ end }
     requires within { end ≤ length roles.now }
     requires small { length roles.now ≤ TEXT_LIMIT }
-    ensures { OnOk result (uses.new.items ≡
+    requires before { All (λ at. at < length roles.now) uses.old.items }
+    ensures found { OnOk result (uses.new.items ≡
         uses.old.items ++ places (is_use_of_all roles.now) start end) }
+    ensures after { OnOk result (All (λ at. at < length roles.now) uses.new.items) }
 {
     let mut at = next_dotted(roles, start, end);
     while at < end {

@@ -14,4 +14,5 @@ mod view;
 
 pub use ends::role_at;
 pub use file::{outline, outline_by_roles};
-pub use view::{is_named, name_in, name_of, roles_of};
+pub use texts::{name_of_token, token_has_name};
+pub use view::{is_named, name_in, name_of, roles_of, token_of};

@@ -4,7 +4,9 @@ ghost use Rattle.std.specs.Prelude.{◌≡◌, ◌↔◌, IsTrue, ◌+◌, ◌*�
 ghost use Rattle.vr_base.specs.declared.lexical.Token.{Token};
 ghost use Rattle.scan_spec.specs.Words.{lower_case};
 ghost use Rattle.scan_spec.specs.Units.{name_of, name_token, unit_of, plain, owned, token_at};
+ghost use Rattle.vhdl_lex.specs.Pieces.{LiesIn};
 ghost use Rattle.vhdl_units.specs.Lies.{AllLieIn};
+ghost use Rattle.vhdl_units.specs.Names.{token_name};
 
 use std::alloc::Global;
 use vr_base::{MaybeText, NoMemory, TEXT_LIMIT, Text, Token, TokenKind, Unit, UnitKind};
@@ -25,13 +27,21 @@ pub fn token_name(alloc: Global, text: &[u8], tokens: &[Token], at: usize) -> Re
     Ok(Text::from_vec(name))
 }
 
-/// The same name, in the memory of a text that isn't used any more, where that has room.
-pub fn token_name_in(text: &[u8], tokens: &[Token], at: usize, used: Text) -> Result<Text, NoMemory>
-    requires lie { AllLieIn text.now tokens.now }
+/// The token of a number, which lies in the text.
+pub fn token_at(_text: &[u8], tokens: &[Token], at: usize) -> Token
+    requires lie { AllLieIn _text.now tokens.now }
     requires within { at < length tokens.now }
-    ensures { IfOk result (λ name. name ≡ name_of text.now tokens.now at) }
+    ensures is { result ≡ token_at tokens.now at }
+    ensures lies { LiesIn _text.now result }
 {
-    let token = tokens[at];
+    tokens[at]
+}
+
+/// The name that one token is, in the memory of a text that isn't used any more, where that has room.
+pub fn name_of_token(text: &[u8], token: Token, used: Text) -> Result<Text, NoMemory>
+    requires { LiesIn text.now token }
+    ensures { IfOk result (λ name. name ≡ token_name text.now token) }
+{
     let bytes = &text[token.start as usize..token.end as usize];
     let mut room = used.into_vec();
     room.clear();
@@ -65,13 +75,11 @@ fn is_same(bytes: &[u8], name: &[u8]) -> bool
     bytes == name
 }
 
-/// Whether a token has this name.
-pub fn token_is_named(text: &[u8], tokens: &[Token], at: usize, name: &[u8]) -> bool
-    requires lie { AllLieIn text.now tokens.now }
-    requires within { at < length tokens.now }
-    ensures { IsTrue result ↔ (name_of text.now tokens.now at ≡ name.now) }
+/// Whether one token has this name, as `run` or `runner_cfg`, of which no copy is made.
+pub fn token_has_name(text: &[u8], token: Token, name: &[u8]) -> bool
+    requires { LiesIn text.now token }
+    ensures { IsTrue result ↔ (token_name text.now token ≡ name.now) }
 {
-    let token = tokens[at];
     let bytes = &text[token.start as usize..token.end as usize];
     match token.kind {
         TokenKind::Extended => is_same(bytes, name),

@@ -1,12 +1,13 @@
 //! What readers of a file's tokens ask: the role of each token, and the name of one.
 
 ghost use Rattle.std.specs.Prelude.{◌≡◌, ◌<◌, ◌↔◌, IsTrue, IfOk, length};
-ghost use Rattle.scan_spec.specs.Units.{AreTokensOf, name_of, roles_of};
+ghost use Rattle.scan_spec.specs.Units.{AreTokensOf, name_of, roles_of, token_at};
+ghost use Rattle.vhdl_lex.specs.Pieces.{LiesIn};
 
 use crate::roles::token_roles;
-use crate::texts::{token_is_named, token_name, token_name_in};
+use crate::texts::{name_of_token, token_at, token_has_name, token_name};
 use std::alloc::Global;
-use vr_base::{Items, NoMemory, RoleList, Text, Tokens};
+use vr_base::{Items, NoMemory, RoleList, Text, Token, Tokens};
 
 /// The roles of a text's tokens, in order: one byte a token, made once for all who read the file.
 pub fn roles_of(alloc: Global, text: &[u8], tokens: &Tokens) -> Result<RoleList, NoMemory>
@@ -26,13 +27,23 @@ pub fn name_of(alloc: Global, text: &[u8], tokens: &Tokens, at: usize) -> Result
     token_name(alloc, text, tokens.list.as_slice(), at)
 }
 
+/// The token of a number, which lies in the text.
+pub fn token_of(text: &[u8], tokens: &Tokens, at: usize) -> Token
+    requires tokens { AreTokensOf text.now tokens.now }
+    requires within { at < length tokens.now.list }
+    ensures is { result ≡ token_at tokens.now.list at }
+    ensures lies { LiesIn text.now result }
+{
+    token_at(text, tokens.list.as_slice(), at)
+}
+
 /// `name_of` in the memory of a text that isn't used any more, where that has room.
 pub fn name_in(text: &[u8], tokens: &Tokens, at: usize, used: Text) -> Result<Text, NoMemory>
     requires tokens { AreTokensOf text.now tokens.now }
     requires within { at < length tokens.now.list }
     ensures { IfOk result (λ name. name ≡ name_of text.now tokens.now.list at) }
 {
-    token_name_in(text, tokens.list.as_slice(), at, used)
+    name_of_token(text, token_of(text, tokens, at), used)
 }
 
 /// Whether a token has this name, as `run` or `runner_cfg`, of which no copy is made.
@@ -41,5 +52,5 @@ pub fn is_named(text: &[u8], tokens: &Tokens, at: usize, name: &[u8]) -> bool
     requires within { at < length tokens.now.list }
     ensures { IsTrue result ↔ (name_of text.now tokens.now.list at ≡ name.now) }
 {
-    token_is_named(text, tokens.list.as_slice(), at, name)
+    token_has_name(text, token_of(text, tokens, at), name)
 }

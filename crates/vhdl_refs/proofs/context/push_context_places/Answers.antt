@@ -1,11 +1,12 @@
 -- One token more.
 use Rattle.scan_spec.specs.References.{is_context_ref}
-use Rattle.vhdl_refs.proofs.PlaceSteps.{places_all_more}
+use Rattle.vhdl_refs.specs.Places.{ref_place}
+use Rattle.vhdl_refs.proofs.PlaceSteps.{walk_more}
 use Rattle.vhdl_refs.proofs.context.push_context_places.Goals as goal
 
 pub loop-at-preserved : goal.loop-at-preserved
 loop-at-preserved c = record {
   clause = c.clause_after-clause.ensures;
   after = c.in_ok-push_context_place.ensures.after;
-  found = places_all_more (is_context_ref c.args.roles.now) c.args.clause.start c.loop-at.at c.args.found.now.items c.loop-at.found.items c.push_context_place.new.found.items c.loop-at.auto.at c.loop-at.invariant.found c.in_ok-push_context_place.ensures.found;
+  found = walk_more (ref_place c.args.roles.now) (is_context_ref c.args.roles.now) c.args.clause.start c.loop-at.at c.args.found.now.items c.loop-at.found.items c.push_context_place.new.found.items c.loop-at.auto.at c.loop-at.invariant.found c.in_ok-push_context_place.ensures.found;
 }

@@ -11,6 +11,7 @@ loop-at-init c =
     record {
       after = passed.reaches;
       within = passed.within;
+      inside = c.requires.before;
       found = none_so_far _ _ (skip_uses c.args.roles.now c.args.start c.args.start c.args.end c.next_dotted-at.result (omega arith) passed ∙ places_none (is_use_of_all c.args.roles.now) c.args.start);
     }
 
@@ -20,6 +21,7 @@ loop-at-preserved c =
     record {
       after = let after = c.loop-at.invariant.after in omega (arith, after, passed.reaches);
       within = passed.within;
-      found = places_all_more (is_use_of_all c.args.roles.now) c.args.start c.loop-at.at c.args.uses.now.items c.loop-at.uses.items c.push_use.new.uses.items c.loop-at.invariant.after c.loop-at.invariant.found c.in_ok-push_use.ensures
+      inside = c.in_ok-push_use.ensures.after;
+      found = places_all_more (is_use_of_all c.args.roles.now) c.args.start c.loop-at.at c.args.uses.now.items c.loop-at.uses.items c.push_use.new.uses.items c.loop-at.invariant.after c.loop-at.invariant.found c.in_ok-push_use.ensures.found
           ∙ ap (λ (xs : List ℕ). c.args.uses.now.items ++ xs) (sym (skip_uses c.args.roles.now c.args.start (c.loop-at.at + 1) c.args.end c.next_dotted-at-in-loop-at.result (let after = c.loop-at.invariant.after in omega (arith, after)) passed));
     }

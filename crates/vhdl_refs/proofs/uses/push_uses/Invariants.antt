@@ -1,5 +1,6 @@
 -- The places so far.
-use Rattle.std.proofs.Common.{◌≡◌, ◌++◌, ◌-◌, ◌≤◌}
+use Rattle.std.proofs.Common.{◌≡◌, ◌++◌, ◌-◌, ◌<◌, ◌≤◌, length}
+use Rattle.std.specs.List.{All}
 use Rattle.scan_spec.specs.References.{is_use_of_all, places}
 use Rattle.vhdl_refs.proofs.uses.push_uses.Given as goal
 
@@ -7,6 +8,7 @@ abbrev pub invariant-loop-at : goal.invariant-loop-at
 invariant-loop-at l = record {
   after : l.start ≤ l.at;
   within : l.at ≤ l.end;
+  inside : All (λ at. at < length l.roles) l.uses.items;
   found : l.uses.items ≡ l.initial.uses.items ++ places (is_use_of_all l.roles) l.start l.at;
 }
 

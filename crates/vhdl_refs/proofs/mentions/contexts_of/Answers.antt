@@ -1,0 +1,22 @@
+-- The references at the places are those of the unit.
+use Rattle.std.proofs.Common.{◌≡◌, ◌∙◌, ◌++◌, List, map, ap}
+use Rattle.std.proofs.lemmas.Result.{IfOk-weaker}
+use Rattle.vr_base.specs.declared.design.Role.{Role}
+use Rattle.scan_spec.specs.Units.{roles_of}
+use Rattle.scan_spec.specs.References.{context_end, is_context_ref, places, ref_at}
+use Rattle.vhdl_refs.specs.declared.places.RefPlace.{RefPlace}
+use Rattle.vhdl_refs.specs.Places.{context_places}
+use Rattle.vhdl_refs.proofs.PlaceSteps.{made_at}
+use Rattle.vhdl_refs.proofs.mentions.contexts_of.Goals as goal
+
+pub returns-clause-are : goal.returns-clause-are
+returns-clause-are c =
+    let text = c.args.text.now in
+    let tokens = c.args.tokens.now.list in
+    let unit = c.args.unit.now in
+    let found : c.as_slice.result.now ≡ context_places (roles_of text tokens) unit =
+    c.as_slice.ensures.value ∙ c.in_ok-push_contexts.ensures.found ∙ ap (λ (xs : List RefPlace). xs ++ context_places c.args.roles.now unit) c.clear.ensures.items
+    ∙ ap (λ (roles : List Role). context_places roles unit) c.requires.roles in
+    IfOk-weaker c.named_all.result _ _
+    (λ named are. are ∙ ap (map (λ (place : RefPlace). ref_at text tokens place.at)) found ∙ made_at (ref_at text tokens) (roles_of text tokens) (places (is_context_ref (roles_of text tokens)) unit.lead (context_end unit)))
+    c.named_all.ensures.are

@@ -1,0 +1,22 @@
+-- The references at the places are those of the unit.
+use Rattle.std.proofs.Common.{◌≡◌, ◌∙◌, ◌++◌, ℕ, List, map, ap}
+use Rattle.std.proofs.lemmas.Result.{IfOk-weaker}
+use Rattle.vr_base.specs.declared.design.Role.{Role}
+use Rattle.scan_spec.specs.Units.{roles_of}
+use Rattle.scan_spec.specs.References.{ref_at}
+use Rattle.vhdl_refs.specs.declared.places.RefPlace.{RefPlace}
+use Rattle.vhdl_refs.specs.Places.{refs_between}
+use Rattle.vhdl_refs.proofs.PlaceSteps.{refs_at_places}
+use Rattle.vhdl_refs.proofs.mentions.refs_of.Goals as goal
+
+pub returns-clause-are : goal.returns-clause-are
+returns-clause-are c =
+    let text = c.args.text.now in
+    let tokens = c.args.tokens.now.list in
+    let unit = c.args.unit.now in
+    let found : c.as_slice.result.now ≡ refs_between (roles_of text tokens) unit.lead unit.last =
+    c.as_slice.ensures.value ∙ c.in_ok-push_places.ensures.found ∙ ap (λ (xs : List RefPlace). xs ++ refs_between c.args.roles.now c.args.clause.start unit.last) c.clear.ensures.items
+    ∙ ap (λ (roles : List Role). refs_between roles c.args.clause.start unit.last) c.requires.roles ∙ ap (λ (k : ℕ). refs_between (roles_of text tokens) k unit.last) c.requires.start in
+    IfOk-weaker c.named_all.result _ _
+    (λ named are. are ∙ ap (map (λ (place : RefPlace). ref_at text tokens place.at)) found ∙ refs_at_places (ref_at text tokens) (roles_of text tokens) unit.lead unit.last)
+    c.named_all.ensures.are

@@ -1,0 +1,52 @@
+-- What a design unit mentions, as tokens that are kept without those around them.
+use Rattle.std.specs.Prelude.{◌≡◌, ℕ, Option, Some, None, List, [], ◌∷◌, map}
+use Rattle.std.specs.List.{All}
+use Rattle.vr_base.specs.declared.child.MaybeText.{MaybeText}
+use Rattle.vr_base.specs.declared.child.MaybeText.TheVariants.{Nothing, Given}
+use Rattle.vr_base.specs.declared.design.Unit.{Unit as DesignUnit}
+use Rattle.vr_base.specs.declared.design.UnitKind.{UnitKind}
+use Rattle.vr_base.specs.declared.design.UnitKind.TheVariants as kinds
+use Rattle.vr_base.specs.declared.lexical.Token.{Token}
+use Rattle.vr_base.specs.declared.refs.Ref.{Ref}
+use Rattle.scan_spec.specs.References.{context_refs, named_refs, owner_name, structural_by, structural_ref, uses_of_all}
+use Rattle.scan_spec.specs.Units.{name_of, roles_of}
+use Rattle.vhdl_lex.specs.Pieces.{LiesIn}
+use Rattle.vhdl_units.specs.Names.{token_name}
+use Rattle.vhdl_refs.specs.declared.mentions.NamedRef.{NamedRef}
+use Rattle.vhdl_refs.specs.declared.mentions.Mentions.{Mentions}
+
+abbrev pub named_architecture : List ℕ → Option Token → MaybeText
+named_architecture text None = Nothing
+named_architecture text (Some token) = Given (token_name text token)
+
+-- the reference whose names are these tokens of a text
+abbrev pub named_ref : List ℕ → NamedRef → Ref
+named_ref text named = record { library = token_name text named.library; name = token_name text named.name; architecture = named_architecture text named.architecture; strict = named.strict; at = named.at }
+
+abbrev pub SomeLiesIn : List ℕ → Option Token → Type 0
+SomeLiesIn text None = Unit {0}
+SomeLiesIn text (Some token) = LiesIn text token
+
+pub record NamedLiesIn (text : List ℕ) (named : NamedRef) : Type 0 where
+  pub library : LiesIn text named.library
+  pub name : LiesIn text named.name
+  pub architecture : SomeLiesIn text named.architecture
+
+-- the reference that a unit has by its structure, or none; a configuration configures this architecture
+abbrev pub structural_of : MaybeText → DesignUnit → UnitKind → List Ref
+structural_of configured unit kinds.Architecture = structural_ref unit (owner_name unit.owner) Nothing ∷ []
+structural_of configured unit kinds.Configuration = structural_ref unit (owner_name unit.owner) configured ∷ []
+structural_of configured unit kinds.PackageBody = structural_ref unit unit.name Nothing ∷ []
+structural_of configured unit _ = []
+
+-- all that a unit refers to, in order
+pub record AreMentionsOf (text : List ℕ) (tokens : List Token) (unit : DesignUnit) (mentions : Mentions) : Type 0 where
+  pub contexts : map (named_ref text) mentions.contexts ≡ context_refs text tokens unit
+  pub structural : structural_of mentions.configured unit unit.kind ≡ structural_by text tokens unit unit.kind
+  pub refs : map (named_ref text) mentions.refs ≡ named_refs text tokens unit.lead unit.last
+  pub whole : map (token_name text) mentions.whole ≡ map (name_of text tokens) (uses_of_all (roles_of text tokens) unit)
+
+pub record MentionsLieIn (text : List ℕ) (mentions : Mentions) : Type 0 where
+  pub contexts : All (NamedLiesIn text) mentions.contexts
+  pub refs : All (NamedLiesIn text) mentions.refs
+  pub whole : All (LiesIn text) mentions.whole

@@ -1,0 +1,230 @@
+//! What a design unit mentions: what is asked of its tokens once all units of a project are known, kept as copies of the
+//! tokens that are names, so that the others needn't be kept.
+
+ghost use Rattle.std.specs.Prelude.{◌≡◌, ◌+◌, ◌<◌, ◌≤◌, IfOk, Some, length, map, slice_get};
+ghost use Rattle.std.specs.List.{All};
+ghost use Rattle.vr_base.specs.declared.design.Unit.{Unit as DesignUnit};
+ghost use Rattle.scan_spec.specs.Units.{AreTokensOf, name_of, roles_of};
+ghost use Rattle.scan_spec.specs.Scans.{IsScanOf};
+ghost use Rattle.scan_spec.specs.References.{architecture_at, context_refs, named_refs, ref_at, uses_of_all};
+ghost use Rattle.vhdl_lex.specs.Pieces.{LiesIn};
+ghost use Rattle.vhdl_units.specs.Names.{token_name};
+ghost use Rattle.vhdl_refs.specs.Clauses.{IsClauseAt};
+ghost use Rattle.vhdl_refs.specs.Mentions.{AreMentionsOf, MentionsLieIn, NamedLiesIn, SomeLiesIn, named_architecture, named_ref};
+ghost use Rattle.vhdl_refs.specs.Places.{AreRefPlaces, IsRefPlace};
+
+use crate::clause::Clause;
+use crate::context::push_contexts;
+use crate::named::push_places;
+use crate::places::{RefPlace, has_architecture};
+use crate::structural::configured_by;
+use crate::unit::unit_at;
+use crate::uses::push_uses;
+use std::alloc::Global;
+use vhdl_units::token_of;
+use vr_base::{
+    Items, MaybeText, NoMemory, Role, RoleList, Scan, TEXT_LIMIT, Token, TokenList, Tokens, Unit,
+};
+
+/// A reference by name, `L.U` (IEEE Std 1076-2008, clause 13.2): the tokens that are its names, with that of the
+/// architecture that is named with an entity. `at` is the token number of `L`.
+#[derive(Clone, Copy)]
+pub struct NamedRef {
+    pub library: Token,
+    pub name: Token,
+    pub architecture: Option<Token>,
+    pub strict: bool,
+    pub at: u32,
+}
+
+/// What a design unit mentions: context declarations, the architecture that it configures, what it refers to by name, and
+/// the libraries that it uses whole.
+#[derive(Drop)]
+pub struct Mentions {
+    pub contexts: Items<NamedRef>,
+    pub configured: MaybeText,
+    pub refs: Items<NamedRef>,
+    pub whole: TokenList,
+}
+
+/// The token of the architecture that is named with the entity at a token, if it is one.
+fn architecture_at(text: &[u8], tokens: &Tokens, roles: &[Role], at: usize) -> Option<Token>
+    requires tokens { AreTokensOf text.now tokens.now }
+    requires roles { roles.now ≡ roles_of text.now tokens.now.list }
+    requires within { at + 2 < length roles.now }
+    ensures is { named_architecture text.now result ≡ architecture_at text.now tokens.now.list at }
+    ensures lies { SomeLiesIn text.now result }
+{
+    if has_architecture(roles, at) {
+        Some(token_of(text, tokens, at + 4))
+    } else {
+        None
+    }
+}
+
+/// The reference by name at a place.
+pub fn named_at(text: &[u8], tokens: &Tokens, roles: &[Role], place: RefPlace) -> NamedRef
+    requires tokens { AreTokensOf text.now tokens.now }
+    requires roles { roles.now ≡ roles_of text.now tokens.now.list }
+    requires place { IsRefPlace roles.now place }
+    ensures is { named_ref text.now result ≡ ref_at text.now tokens.now.list place.at }
+    ensures lies { NamedLiesIn text.now result }
+{
+    let at = place.at as usize;
+    NamedRef {
+        library: token_of(text, tokens, at),
+        name: token_of(text, tokens, at + 2),
+        architecture: architecture_at(text, tokens, roles, at),
+        strict: place.strict,
+        at: place.at,
+    }
+}
+
+/// The references by name at places, in order.
+fn named_all(
+    alloc: Global,
+    text: &[u8],
+    tokens: &Tokens,
+    roles: &[Role],
+    places: &[RefPlace],
+) -> Result<Items<NamedRef>, NoMemory>
+    requires tokens { AreTokensOf text.now tokens.now }
+    requires roles { roles.now ≡ roles_of text.now tokens.now.list }
+    requires places { AreRefPlaces roles.now places.now }
+    ensures are { IfOk result (λ found. map (named_ref text.now) found
+        ≡ map (λ place. ref_at text.now tokens.now.list place.at) places.now) }
+    ensures lie { IfOk result (All (NamedLiesIn text.now)) }
+{
+    let mut found = Vec::with_capacity(alloc, places.len())?;
+    for place in places {
+        found.push(named_at(text, tokens, roles, *place))?;
+    }
+    Ok(Items::from_vec(found))
+}
+
+/// The references of a unit to context declarations, in order. What is in `room` is lost.
+fn contexts_of(
+    alloc: Global,
+    text: &[u8],
+    tokens: &Tokens,
+    roles: &[Role],
+    unit: &Unit,
+    clause: Clause,
+    room: &mut Vec<RefPlace>,
+) -> Result<Items<NamedRef>, NoMemory>
+    requires tokens { AreTokensOf text.now tokens.now }
+    requires roles { roles.now ≡ roles_of text.now tokens.now.list }
+    requires led { unit.now.lead ≤ unit.now.first }
+    requires ordered { unit.now.first < unit.now.last }
+    requires within { unit.now.last < length roles.now }
+    requires small { length roles.now ≤ TEXT_LIMIT }
+    requires start { clause.start ≡ unit.now.lead }
+    requires clause { IsClauseAt roles.now clause.start clause }
+    ensures are { IfOk result (λ found.
+        map (named_ref text.now) found ≡ context_refs text.now tokens.now.list unit.now) }
+    ensures lie { IfOk result (All (NamedLiesIn text.now)) }
+{
+    room.clear();
+    push_contexts(roles, unit, clause, room)?;
+    named_all(alloc, text, tokens, roles, room.as_slice())
+}
+
+/// The references of a unit by name, in order. What is in `room` is lost.
+fn refs_of(
+    alloc: Global,
+    text: &[u8],
+    tokens: &Tokens,
+    roles: &[Role],
+    unit: &Unit,
+    clause: Clause,
+    room: &mut Vec<RefPlace>,
+) -> Result<Items<NamedRef>, NoMemory>
+    requires tokens { AreTokensOf text.now tokens.now }
+    requires roles { roles.now ≡ roles_of text.now tokens.now.list }
+    requires led { unit.now.lead ≤ unit.now.first }
+    requires ordered { unit.now.first < unit.now.last }
+    requires within { unit.now.last < length roles.now }
+    requires small { length roles.now ≤ TEXT_LIMIT }
+    requires start { clause.start ≡ unit.now.lead }
+    requires clause { IsClauseAt roles.now clause.start clause }
+    ensures are { IfOk result (λ found. map (named_ref text.now) found
+        ≡ named_refs text.now tokens.now.list unit.now.lead unit.now.last) }
+    ensures lie { IfOk result (All (NamedLiesIn text.now)) }
+{
+    room.clear();
+    push_places(roles, clause, unit.last as usize, room)?;
+    named_all(alloc, text, tokens, roles, room.as_slice())
+}
+
+/// Tokens by their numbers.
+fn tokens_at(
+    alloc: Global,
+    text: &[u8],
+    tokens: &Tokens,
+    places: &[u32],
+) -> Result<TokenList, NoMemory>
+    requires tokens { AreTokensOf text.now tokens.now }
+    requires within { All (λ at. at < length tokens.now.list) places.now }
+    ensures are { IfOk result (λ found. map (token_name text.now) found
+        ≡ map (name_of text.now tokens.now.list) places.now) }
+    ensures lie { IfOk result (All (LiesIn text.now)) }
+{
+    let mut found = Vec::with_capacity(alloc, places.len())?;
+    for at in places {
+        found.push(token_of(text, tokens, *at as usize))?;
+    }
+    Ok(Items::from_vec(found))
+}
+
+/// The libraries that a unit uses whole, in order.
+fn whole_of(
+    alloc: Global,
+    text: &[u8],
+    tokens: &Tokens,
+    roles: &[Role],
+    unit: &Unit,
+) -> Result<TokenList, NoMemory>
+    requires tokens { AreTokensOf text.now tokens.now }
+    requires roles { roles.now ≡ roles_of text.now tokens.now.list }
+    requires led { unit.now.lead ≤ unit.now.first }
+    requires ordered { unit.now.first < unit.now.last }
+    requires within { unit.now.last < length roles.now }
+    requires small { length roles.now ≤ TEXT_LIMIT }
+    ensures are { IfOk result (λ found. map (token_name text.now) found
+        ≡ map (name_of text.now tokens.now.list)
+        (uses_of_all (roles_of text.now tokens.now.list) unit.now)) }
+    ensures lie { IfOk result (All (LiesIn text.now)) }
+{
+    let mut places = Vec::new(alloc);
+    push_uses(roles, unit.lead as usize, unit.last as usize, &mut places)?;
+    tokens_at(alloc, text, tokens, places.as_slice())
+}
+
+/// What the unit of a number in a scan mentions. `roles` are those of the scan's tokens. What is in `room` is lost.
+pub fn mentions_of(
+    alloc: Global,
+    text: &[u8],
+    scan: &Scan,
+    roles: &RoleList,
+    unit: u32,
+    room: &mut Vec<RefPlace>,
+) -> Result<Mentions, NoMemory>
+    requires scan { IsScanOf text.now scan.now }
+    requires small { length text.now ≤ TEXT_LIMIT }
+    requires roles { roles.now ≡ roles_of text.now scan.now.tokens.list }
+    requires unit { unit < length scan.now.units }
+    ensures are { IfOk result (λ mentions. (design : DesignUnit) →
+        slice_get scan.now.units unit ≡ Some design →
+        AreMentionsOf text.now scan.now.tokens.list design mentions) }
+    ensures lie { IfOk result (MentionsLieIn text.now) }
+{
+    let roles = roles.as_slice();
+    let (found, clause) = unit_at(text, scan, roles, unit);
+    let tokens = &scan.tokens;
+    Ok(Mentions {
+        contexts: contexts_of(alloc, text, tokens, roles, found, clause, room)?,
+        configured: configured_by(alloc, text, tokens, roles, found)?,
+        refs: refs_of(alloc, text, tokens, roles, found, clause, room)?,
+        whole: whole_of(alloc, text, tokens, roles, found)?,
+    })
+}

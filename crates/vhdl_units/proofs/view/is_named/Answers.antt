@@ -1,7 +1,0 @@
--- Tokens of a cut are in the text.
-use Rattle.std.proofs.Common.{length, sym, subst}
-use Rattle.scan_spec.proofs.Lying.{Lie, tokens_lie}
-use Rattle.vhdl_units.proofs.view.is_named.Goals as goal
-
-pub token_is_named-requires-clause-lie : goal.token_is_named-requires-clause-lie
-token_is_named-requires-clause-lie c = subst (Lie (length c.args.text.now)) (sym c.as_slice.ensures) (tokens_lie c.args.text.now c.args.tokens.now c.requires.tokens)
