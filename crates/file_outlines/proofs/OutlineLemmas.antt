@@ -1,10 +1,10 @@
 -- Outlines grow with their texts and scans.
-use Rattle.std.proofs.Common.{◌≡◌, ℕ, zero, suc, ◌+◌, ◌<◌, ◌≤◌, ◌⊎◌, inl, inr, List, [], ◌∷◌, ◌++◌, Some, length, map, take, refl, sym, ◌∙◌, ap, subst, arith, append_assoc}
+use Rattle.std.proofs.Common.{◌≡◌, ℕ, zero, suc, ◌+◌, ◌<◌, ◌≤◌, ◌⊎◌, inl, inr, List, [], ◌∷◌, ◌++◌, Some, get_or, length, map, take, refl, sym, ◌∙◌, ap, subst, arith, append_assoc}
 use Rattle.std.specs.Prelude.{slice_get}
 use Rattle.std.specs.List.{All}
 use Rattle.std.specs.Option.{option_map}
 use Rattle.std.proofs.lemmas.List.{append-nil, length-map, length_push}
-use Rattle.std.proofs.lemmas.Option.{slice_get_within}
+use Rattle.std.proofs.lemmas.Option.{slice_get-get_or, slice_get_within}
 use Rattle.vr_base.specs.declared.design.Scan.{Scan}
 use Rattle.scan_spec.specs.Units.{role_of, roles_of}
 use Rattle.scan_spec.specs.Scans.{IsScanOf}
@@ -14,7 +14,7 @@ use Rattle.vhdl_refs.specs.Mentions.{MentionsLieIn}
 use Rattle.file_outlines.specs.declared.outlines.FileOutline.{FileOutline}
 use Rattle.file_outlines.specs.declared.outlines.Outlines.{Outlines}
 use Rattle.file_outlines.specs.declared.outlines.UnitScope.{UnitScope}
-use Rattle.file_outlines.specs.Outlines.{AreOutlinesOf, HasAdded, IsOutlineOf, MentionsAreOf, OutlineLiesIn, OutlinesLieIn, scope_of, scopes_of}
+use Rattle.file_outlines.specs.Outlines.{AreOutlinesOf, FilesAreOf, FilesLieIn, HasAdded, IsOutlineOf, MentionsAreOf, OutlineLiesIn, scope_of, scopes_of}
 
 pub few_units : (text : List ℕ) (scan : Scan) → IsScanOf text scan → length scan.units ≤ length text
 few_units text scan is =
@@ -66,38 +66,59 @@ added text scan old new file is units are lie files scopes = record {
   scopes = scopes;
 }
 
+pub no_files : FilesAreOf [] [] []
+no_files = record { scanned = refl; each = refl; are = λ i text scan file in_texts in_scans in_files. let never : ⊥ = cc in absurd never }
+
 pub no_outlines : AreOutlinesOf [] [] (record { scopes = []; files = [] })
-no_outlines = record { scanned = refl; each = refl; files = λ i text scan file in_texts in_scans in_files. let never : ⊥ = cc in absurd never; scopes = refl }
+no_outlines = record { files = no_files; scopes = refl }
 
-pub none_lie : OutlinesLieIn [] (record { scopes = []; files = [] })
-none_lie = record { each = refl; files = λ i text file in_texts in_files. let never : ⊥ = cc in absurd never }
+pub none_lie : FilesLieIn [] []
+none_lie = record { each = refl; lie = λ i text file in_texts in_files. let never : ⊥ = cc in absurd never }
 
--- the outline of one file more
+-- one file more
+files_more : (texts : List (List ℕ)) (scans : List Scan) (files : List FileOutline) (text : List ℕ) (scan : Scan) (file : FileOutline) → FilesAreOf texts scans files → IsOutlineOf text scan file → FilesAreOf (texts ++ text ∷ []) (scans ++ scan ∷ []) (files ++ file ∷ [])
+files_more texts scans files text scan file are is = record {
+  scanned = length_push scans scan ∙ (ap (λ (n : ℕ). n + 1) are.scanned ∙ sym (length_push texts text));
+  each = length_push files file ∙ (ap (λ (n : ℕ). n + 1) are.each ∙ sym (length_push texts text));
+  are = λ i t s f in_texts in_scans in_files.
+      by_place i t s f (got_push texts text i t in_texts) (got_push scans scan i s in_scans) (got_push files file i f in_files);
+} where
+  by_place : (i : ℕ) (t : List ℕ) (s : Scan) (f : FileOutline) → (slice_get texts i ≡ Some t) ⊎ ((i ≡ length texts) × (text ≡ t)) → (slice_get scans i ≡ Some s) ⊎ ((i ≡ length scans) × (scan ≡ s)) → (slice_get files i ≡ Some f) ⊎ ((i ≡ length files) × (file ≡ f)) → IsOutlineOf t s f
+  by_place i t s f (inl a) (inl b) (inl d) = are.are i t s f a b d
+  by_place i t s f (inl a) (inl b) (inr d) = absurd (omega (arith, slice_get_within texts i t a, d.0, are.each))
+  by_place i t s f (inl a) (inr b) d = absurd (omega (arith, slice_get_within texts i t a, b.0, are.scanned))
+  by_place i t s f (inr a) (inl b) d = absurd (omega (arith, slice_get_within scans i s b, a.0, are.scanned))
+  by_place i t s f (inr a) (inr b) (inl d) = absurd (omega (arith, slice_get_within files i f d, a.0, are.each))
+  by_place i t s f (inr a) (inr b) (inr d) =
+      subst (λ (q : List ℕ). IsOutlineOf q s f) a.1 (subst (λ (q : Scan). IsOutlineOf text q f) b.1 (subst (IsOutlineOf text scan) d.1 is))
+
 pub outlines_more : (texts : List (List ℕ)) (scans : List Scan) (text : List ℕ) (scan : Scan) (old new : Outlines) → AreOutlinesOf texts scans old → HasAdded text scan old new → AreOutlinesOf (texts ++ text ∷ []) (scans ++ scan ∷ []) new
 outlines_more texts scans text scan old new are added = record {
-  scanned = length_push scans scan ∙ (ap (λ (n : ℕ). n + 1) are.scanned ∙ sym (length_push texts text));
-  each = ap length added.files ∙ (length_push old.files added.file ∙ (ap (λ (n : ℕ). n + 1) are.each ∙ sym (length_push texts text)));
-  files = λ i t s f in_texts in_scans in_files.
-      by_text i t s f (got_push texts text i t in_texts) (got_push scans scan i s in_scans) (got_push old.files added.file i f (ap (λ (fs : List FileOutline). slice_get fs i) (sym added.files) ∙ in_files));
-  scopes = added.scopes ∙ (ap (λ (some : List UnitScope). some ++ map (scope_of text scan) scan.units) are.scopes ∙ sym (scopes_more texts scans text scan are.scanned));
-} where
-  by_text : (i : ℕ) (t : List ℕ) (s : Scan) (f : FileOutline) → (slice_get texts i ≡ Some t) ⊎ ((i ≡ length texts) × (text ≡ t)) → (slice_get scans i ≡ Some s) ⊎ ((i ≡ length scans) × (scan ≡ s)) → (slice_get old.files i ≡ Some f) ⊎ ((i ≡ length old.files) × (added.file ≡ f)) → IsOutlineOf t s f
-  by_text i t s f (inl a) (inl b) (inl d) = are.files i t s f a b d
-  by_text i t s f (inl a) (inl b) (inr d) = absurd (omega (arith, slice_get_within texts i t a, d.0, are.each))
-  by_text i t s f (inl a) (inr b) d = absurd (omega (arith, slice_get_within texts i t a, b.0, are.scanned))
-  by_text i t s f (inr a) (inl b) d = absurd (omega (arith, slice_get_within scans i s b, a.0, are.scanned))
-  by_text i t s f (inr a) (inr b) (inl d) = absurd (omega (arith, slice_get_within old.files i f d, a.0, are.each))
-  by_text i t s f (inr a) (inr b) (inr d) =
-      subst (λ (q : List ℕ). IsOutlineOf q s f) a.1 (subst (λ (q : Scan). IsOutlineOf text q f) b.1 (subst (IsOutlineOf text scan) d.1 added.is))
+  files = subst (FilesAreOf (texts ++ text ∷ []) (scans ++ scan ∷ [])) (sym added.files) (files_more texts scans old.files text scan added.file are.files added.is);
+  scopes = added.scopes ∙ (ap (λ (some : List UnitScope). some ++ map (scope_of text scan) scan.units) are.scopes ∙ sym (scopes_more texts scans text scan are.files.scanned));
+}
 
-pub lie_more : (texts : List (List ℕ)) (text : List ℕ) (scan : Scan) (old new : Outlines) → OutlinesLieIn texts old → HasAdded text scan old new → OutlinesLieIn (texts ++ text ∷ []) new
-lie_more texts text scan old new lie added = record {
-  each = ap length added.files ∙ (length_push old.files added.file ∙ (ap (λ (n : ℕ). n + 1) lie.each ∙ sym (length_push texts text)));
-  files = λ i t f in_texts in_files.
-      by_text i t f (got_push texts text i t in_texts) (got_push old.files added.file i f (ap (λ (fs : List FileOutline). slice_get fs i) (sym added.files) ∙ in_files));
+some_lie : (texts : List (List ℕ)) (files : List FileOutline) (text : List ℕ) (file : FileOutline) → FilesLieIn texts files → OutlineLiesIn text file → FilesLieIn (texts ++ text ∷ []) (files ++ file ∷ [])
+some_lie texts files text file lie lies = record {
+  each = length_push files file ∙ (ap (λ (n : ℕ). n + 1) lie.each ∙ sym (length_push texts text));
+  lie = λ i t f in_texts in_files. by_place i t f (got_push texts text i t in_texts) (got_push files file i f in_files);
 } where
-  by_text : (i : ℕ) (t : List ℕ) (f : FileOutline) → (slice_get texts i ≡ Some t) ⊎ ((i ≡ length texts) × (text ≡ t)) → (slice_get old.files i ≡ Some f) ⊎ ((i ≡ length old.files) × (added.file ≡ f)) → OutlineLiesIn t f
-  by_text i t f (inl a) (inl d) = lie.files i t f a d
-  by_text i t f (inl a) (inr d) = absurd (omega (arith, slice_get_within texts i t a, d.0, lie.each))
-  by_text i t f (inr a) (inl d) = absurd (omega (arith, slice_get_within old.files i f d, a.0, lie.each))
-  by_text i t f (inr a) (inr d) = subst (λ (q : List ℕ). OutlineLiesIn q f) a.1 (subst (OutlineLiesIn text) d.1 added.lies)
+  by_place : (i : ℕ) (t : List ℕ) (f : FileOutline) → (slice_get texts i ≡ Some t) ⊎ ((i ≡ length texts) × (text ≡ t)) → (slice_get files i ≡ Some f) ⊎ ((i ≡ length files) × (file ≡ f)) → OutlineLiesIn t f
+  by_place i t f (inl a) (inl d) = lie.lie i t f a d
+  by_place i t f (inl a) (inr d) = absurd (omega (arith, slice_get_within texts i t a, d.0, lie.each))
+  by_place i t f (inr a) (inl d) = absurd (omega (arith, slice_get_within files i f d, a.0, lie.each))
+  by_place i t f (inr a) (inr d) = subst (λ (q : List ℕ). OutlineLiesIn q f) a.1 (subst (OutlineLiesIn text) d.1 lies)
+
+pub lie_more : (texts : List (List ℕ)) (text : List ℕ) (scan : Scan) (old new : Outlines) → FilesLieIn texts old.files → HasAdded text scan old new → FilesLieIn (texts ++ text ∷ []) new.files
+lie_more texts text scan old new lie added = subst (FilesLieIn (texts ++ text ∷ [])) (sym added.files) (some_lie texts old.files text added.file lie added.lies)
+
+no_scan : Scan
+no_scan = record { tokens = record { list = []; comments = [] }; units = [] }
+
+-- the text and the scan of a file
+pub got_file : (texts : List (List ℕ)) (scans : List Scan) (files : List FileOutline) (at : ℕ) (file : FileOutline) → FilesAreOf texts scans files → slice_get files at ≡ Some file → (text : List ℕ) × (scan : Scan) × (slice_get texts at ≡ Some text) × (slice_get scans at ≡ Some scan) × IsOutlineOf text scan file
+got_file texts scans files at file are is =
+    let within : at < length files = slice_get_within files at file is in
+    let in_texts = slice_get-get_or texts at [] (omega (arith, within, are.each)) in
+    let in_scans = slice_get-get_or scans at no_scan (omega (arith, within, are.each, are.scanned)) in
+    (get_or texts at [], get_or scans at no_scan, in_texts, in_scans, are.are at (get_or texts at []) (get_or scans at no_scan) file in_texts in_scans is)

@@ -37,16 +37,26 @@ pub record OutlineLiesIn (text : List ℕ) (file : FileOutline) : Type 0 where
   pub mentions : All (MentionsLieIn text) file.mentions
 
 -- the outlines of files of these texts and scans
-pub record AreOutlinesOf (texts : List (List ℕ)) (scans : List Scan) (outlines : Outlines) : Type 0 where
+pub record FilesAreOf (texts : List (List ℕ)) (scans : List Scan) (files : List FileOutline) : Type 0 where
   pub scanned : length scans ≡ length texts
-  pub each : length outlines.files ≡ length texts
-  pub files : (i : ℕ) (text : List ℕ) (scan : Scan) (file : FileOutline) → slice_get texts i ≡ Some text → slice_get scans i ≡ Some scan → slice_get outlines.files i ≡ Some file → IsOutlineOf text scan file
-  pub scopes : outlines.scopes ≡ scopes_of texts scans
+  pub each : length files ≡ length texts
+  pub are : (i : ℕ) (text : List ℕ) (scan : Scan) (file : FileOutline) → slice_get texts i ≡ Some text → slice_get scans i ≡ Some scan → slice_get files i ≡ Some file → IsOutlineOf text scan file
 
 -- each can be read of its text
-pub record OutlinesLieIn (texts : List (List ℕ)) (outlines : Outlines) : Type 0 where
-  pub each : length outlines.files ≡ length texts
-  pub files : (i : ℕ) (text : List ℕ) (file : FileOutline) → slice_get texts i ≡ Some text → slice_get outlines.files i ≡ Some file → OutlineLiesIn text file
+pub record FilesLieIn (texts : List (List ℕ)) (files : List FileOutline) : Type 0 where
+  pub each : length files ≡ length texts
+  pub lie : (i : ℕ) (text : List ℕ) (file : FileOutline) → slice_get texts i ≡ Some text → slice_get files i ≡ Some file → OutlineLiesIn text file
+
+-- with what their units name
+pub record AreOutlinesOf (texts : List (List ℕ)) (scans : List Scan) (outlines : Outlines) : Type 0 where
+  pub files : FilesAreOf texts scans outlines.files
+  pub scopes : outlines.scopes ≡ scopes_of texts scans
+
+-- these are outlines of files of these texts
+pub record AreOutlined (texts : List (List ℕ)) (outlines : Outlines) : Type 0 where
+  pub scans : List Scan
+  pub are : AreOutlinesOf texts scans outlines
+  pub lie : FilesLieIn texts outlines.files
 
 -- the outline of one more file was added
 pub record HasAdded (text : List ℕ) (scan : Scan) (old new : Outlines) : Type 0 where

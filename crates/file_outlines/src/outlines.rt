@@ -6,7 +6,7 @@ ghost use Rattle.std.specs.Option.{option_map};
 ghost use Rattle.scan_spec.specs.Units.{roles_of};
 ghost use Rattle.scan_spec.specs.Scans.{AreScansOf, IsScanOf};
 ghost use Rattle.vhdl_refs.specs.Mentions.{MentionsLieIn};
-ghost use Rattle.file_outlines.specs.Outlines.{AreOutlinesOf, HasAdded, MentionsAreOf, OutlinesLieIn, scope_of};
+ghost use Rattle.file_outlines.specs.Outlines.{AreOutlinesOf, FilesLieIn, HasAdded, MentionsAreOf, scope_of};
 ghost use Rattle.file_outlines.specs.Roles.{IsTextSmall};
 
 use crate::copies::copy_units;
@@ -156,7 +156,7 @@ pub fn outlines_of(alloc: Global, texts: &TextList, scans: &Scans) -> Result<Out
     requires scans { AreScansOf texts.now scans.now }
     requires small { All IsTextSmall texts.now }
     ensures are { IfOk result (AreOutlinesOf texts.now scans.now) }
-    ensures lie { IfOk result (OutlinesLieIn texts.now) }
+    ensures lie { IfOk result (λ outlines. FilesLieIn texts.now outlines.files) }
 {
     let mut outlines = Outlines::new(alloc);
     for file in 0..texts.len() {

@@ -15,7 +15,7 @@ use Rattle.scan_spec.specs.Visibility.{AreClosed, ScopeUnit, enough_steps, grown
 use Rattle.scan_spec.proofs.SomeTests.{and_both, and_cases, or_cases, or_first, or_second, some_of, Contains-first, Contains-later}
 use Rattle.scan_spec.proofs.Seeing.{closed}
 use Rattle.name_scope.specs.declared.links.Link.{Link}
-use Rattle.name_scope.specs.declared.scope.UnitScope.{UnitScope}
+use Rattle.file_outlines.specs.declared.outlines.UnitScope.{UnitScope}
 use Rattle.name_scope.specs.declared.want.Group.{Group}
 use Rattle.name_scope.specs.declared.want.Want.{Want}
 use Rattle.name_scope.specs.Bits.{AreWithin, has, row_has}

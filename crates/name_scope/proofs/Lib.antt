@@ -5,7 +5,6 @@ pub mod WorkLemmas
 pub mod SpreadLemmas
 pub mod KeyLemmas
 pub mod NameLemmas
-pub mod RoleLemmas
 pub mod ScopeLemmas
 pub mod OwnLemmas
 pub mod JoinLemmas

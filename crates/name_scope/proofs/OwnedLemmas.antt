@@ -118,26 +118,26 @@ groups_of_units library text scan [] = refl
 groups_of_units library text scan (unit ∷ units) = ap (λ (rest : List Group). own_groups library unit ++ rest) (groups_of_units library text scan units)
 
 -- no unit so far, and one unit more
-pub owned_none : (library : List ℕ) (scan : Scan) (groups : List Group) (owned : List Owned) → AddsOwned library scan [] groups owned groups owned
-owned_none library scan groups owned = record {
+pub owned_none : (library : List ℕ) (groups : List Group) (owned : List Owned) → AddsOwned library [] groups owned groups owned
+owned_none library groups owned = record {
   all = all_none groups;
   grown = grown_none groups;
-  each = λ (users : List ScopeUnit) (text : List ℕ) (zipped : AllZip (IsOwnedBy groups) owned users). subst (AllZip (IsOwnedBy groups) owned) (sym (append-nil users)) zipped;
+  each = λ (users : List ScopeUnit) (text : List ℕ) (scan : Scan) (zipped : AllZip (IsOwnedBy groups) owned users). subst (AllZip (IsOwnedBy groups) owned) (sym (append-nil users)) zipped;
 }
 
-pub owned_more : (library : List ℕ) (scan : Scan) (number : ℕ) (unit : DesignUnit) (one : Owned) (old mid new : List Group) (first owned : List Owned) → slice_get scan.units number ≡ Some unit → AddsOwned library scan (take number scan.units) old first mid owned → IsOwned new library unit one → HasAll (own_groups library unit) mid new → HasGrown mid new → AddsOwned library scan (take (number + 1) scan.units) old first new (owned ++ one ∷ [])
-owned_more library scan number unit one old mid new first owned is so_far own all grown = record {
-  all = all_more [] (own_groups library) scan.units number unit old mid new within so_far.all (subst (λ (u : DesignUnit). HasAll (own_groups library u) mid new) here all);
+pub owned_more : (library : List ℕ) (designs : List DesignUnit) (number : ℕ) (unit : DesignUnit) (one : Owned) (old mid new : List Group) (first owned : List Owned) → slice_get designs number ≡ Some unit → AddsOwned library (take number designs) old first mid owned → IsOwned new library unit one → HasAll (own_groups library unit) mid new → HasGrown mid new → AddsOwned library (take (number + 1) designs) old first new (owned ++ one ∷ [])
+owned_more library designs number unit one old mid new first owned is so_far own all grown = record {
+  all = all_more [] (own_groups library) designs number unit old mid new within so_far.all (subst (λ (u : DesignUnit). HasAll (own_groups library u) mid new) here all);
   grown = grown_both old mid new so_far.grown grown;
-  each = λ (users : List ScopeUnit) (text : List ℕ) (zipped : AllZip (IsOwnedBy old) first users).
-      unit_more (IsOwnedBy new) library text scan number owned one users within (λ (u : DesignUnit) (there : slice_get scan.units number ≡ Some u). subst (λ (v : DesignUnit). IsOwned new library v one) (same_Some unit u (sym is ∙ there)) own)
-      (stay_owned mid new owned (users ++ map (scope_unit library text scan) (take number scan.units)) grown (so_far.each users text zipped));
+  each = λ (users : List ScopeUnit) (text : List ℕ) (scan : Scan) (zipped : AllZip (IsOwnedBy old) first users).
+      unit_more (IsOwnedBy new) (scope_unit library text scan) designs number owned one users within (λ (u : DesignUnit) (there : slice_get designs number ≡ Some u). subst (λ (v : DesignUnit). IsOwned new library v one) (same_Some unit u (sym is ∙ there)) own)
+      (stay_owned mid new owned (users ++ map (scope_unit library text scan) (take number designs)) grown (so_far.each users text scan zipped));
 } where
-  within : number < length scan.units
-  within = slice_get_within scan.units number unit is
+  within : number < length designs
+  within = slice_get_within designs number unit is
 
-  here : unit ≡ get_or scan.units number unit
-  here = sym (get_or_from_slice_get scan.units number unit unit is)
+  here : unit ≡ get_or designs number unit
+  here = sym (get_or_from_slice_get designs number unit unit is)
 
 -- the groups of the units of one file more
 pub grouped_more : (users : List ScopeUnit) (library : List ℕ) (scan : Scan) (text : List ℕ) (old new : List Group) → HasAll (flat_map user_groups users) [] old → HasAll (flat_map (own_groups library) scan.units) old new → HasAll (flat_map user_groups (users ++ map (scope_unit library text scan) scan.units)) [] new

@@ -1,7 +1,7 @@
--- The units of a scan are few, and those of files follow one another.
+-- The units of files follow one another.
 use Rattle.std.proofs.Common.{◌≡◌, ℕ, zero, suc, ◌+◌, ◌<◌, ◌≤◌, List, [], ◌∷◌, ◌++◌, Some, length, map, take, get_or, refl, sym, ◌∙◌, ap, subst, arith, below_more, append_assoc}
 use Rattle.std.specs.List.{AllZip, slice_get}
-use Rattle.std.proofs.lemmas.List.{length-map, map-append, append-nil, take_more}
+use Rattle.std.proofs.lemmas.List.{length-map, map-append, append-nil, take_all, take_more}
 use Rattle.std.proofs.Math.ListN.{get_or-append}
 use Rattle.std.proofs.Math.Seq.{get_or-append_seam}
 use Rattle.std.proofs.lemmas.Option.{slice_get-get_or}
@@ -11,34 +11,41 @@ use Rattle.vr_base.specs.declared.design.Unit.{Unit as DesignUnit}
 use Rattle.vr_base.specs.declared.design.UnitKind.TheVariants as kinds
 use Rattle.vr_base.specs.declared.child.MaybeText.TheVariants.{Nothing}
 use Rattle.vr_base.specs.declared.project.ProjectFile.{ProjectFile}
-use Rattle.scan_spec.specs.Units.{role_of, roles_of}
-use Rattle.scan_spec.specs.Scans.{IsScanOf}
 use Rattle.scan_spec.specs.Visibility.{ScopeUnit, scope_unit, scope_units}
-use Rattle.scan_spec.proofs.Lying.{tokens_few}
-use Rattle.scan_spec.proofs.Placed.{units_few}
-use Rattle.name_scope.specs.declared.scope.UnitScope.{UnitScope}
-use Rattle.name_scope.specs.Scopes.{IsScopeAt, IsScopeOf}
-
-pub few_units : (text : List ℕ) (scan : Scan) → IsScanOf text scan → length scan.units ≤ length text
-few_units text scan is =
-    let few = units_few text scan.tokens.list 0 0 is.elements (length (roles_of text scan.tokens.list)) is.outline in
-    omega (arith, length-map scan.tokens.list (role_of text), tokens_few text scan.tokens is.tokens, ap length is.units)
+use Rattle.file_outlines.specs.declared.outlines.UnitScope.{UnitScope}
+use Rattle.file_outlines.specs.Outlines.{scope_of, scopes_of}
+use Rattle.name_scope.specs.declared.groups.Owned.{Owned}
+use Rattle.name_scope.specs.declared.want.Group.{Group}
+use Rattle.name_scope.specs.Scopes.{AreGrouped, as_scope, units_before}
 
 no_unit : DesignUnit
 no_unit = record { kind = kinds.Entity; name = []; owner = Nothing; lead = 0; first = 0; last = 0 }
 
 -- one unit more of a file
-pub unit_more : {X : Type 0} (R : X → ScopeUnit → Type 0) (library text : List ℕ) (scan : Scan) (number : ℕ) (found : List X) (one : X) (units : List ScopeUnit) → number < length scan.units → ((unit : DesignUnit) → slice_get scan.units number ≡ Some unit → R one (scope_unit library text scan unit)) → AllZip R found (units ++ map (scope_unit library text scan) (take number scan.units)) → AllZip R (found ++ one ∷ []) (units ++ map (scope_unit library text scan) (take (number + 1) scan.units))
-unit_more R library text scan number found one units within is so_far =
-    let unit : DesignUnit = get_or scan.units number no_unit in
-    let done : List ScopeUnit = map (scope_unit library text scan) (take number scan.units) in
-    let all : units ++ map (scope_unit library text scan) (take (number + 1) scan.units) ≡ (units ++ done) ++ scope_unit library text scan unit ∷ [] =
-    ap (λ (some : List DesignUnit). units ++ map (scope_unit library text scan) some) (take_more scan.units number no_unit within)
-    ∙ (ap (λ (some : List ScopeUnit). units ++ some) (map-append (scope_unit library text scan) (take number scan.units) (unit ∷ [])) ∙ sym (append_assoc units done (scope_unit library text scan unit ∷ []))) in
-    subst (AllZip R (found ++ one ∷ [])) (sym all) (AllZip-push R found (units ++ done) one (scope_unit library text scan unit) so_far (is unit (slice_get-get_or scan.units number no_unit within)))
+pub unit_more : {X : Type 0} (R : X → ScopeUnit → Type 0) (made : DesignUnit → ScopeUnit) (designs : List DesignUnit) (number : ℕ) (found : List X) (one : X) (units : List ScopeUnit) → number < length designs → ((unit : DesignUnit) → slice_get designs number ≡ Some unit → R one (made unit)) → AllZip R found (units ++ map made (take number designs)) → AllZip R (found ++ one ∷ []) (units ++ map made (take (number + 1) designs))
+unit_more R made designs number found one units within is so_far =
+    let unit : DesignUnit = get_or designs number no_unit in
+    let done : List ScopeUnit = map made (take number designs) in
+    let all : units ++ map made (take (number + 1) designs) ≡ (units ++ done) ++ made unit ∷ [] =
+    ap (λ (some : List DesignUnit). units ++ map made some) (take_more designs number no_unit within)
+    ∙ (ap (λ (some : List ScopeUnit). units ++ some) (map-append made (take number designs) (unit ∷ [])) ∙ sym (append_assoc units done (made unit ∷ []))) in
+    subst (AllZip R (found ++ one ∷ [])) (sym all) (AllZip-push R found (units ++ done) one (made unit) so_far (is unit (slice_get-get_or designs number no_unit within)))
 
-pub scope_more : (library text : List ℕ) (scan : Scan) (number : ℕ) (scopes : List UnitScope) (scope : UnitScope) (units : List ScopeUnit) → number < length scan.units → IsScopeAt library text scan number scope → AllZip IsScopeOf scopes (units ++ map (scope_unit library text scan) (take number scan.units)) → AllZip IsScopeOf (scopes ++ scope ∷ []) (units ++ map (scope_unit library text scan) (take (number + 1) scan.units))
-scope_more library text scan number scopes scope units within is so_far = unit_more IsScopeOf library text scan number scopes scope units within is so_far
+-- what the units of a project name is kept in their order
+scopes_of_units : (library text : List ℕ) (scan : Scan) (designs : List DesignUnit) → map (scope_of text scan) designs ≡ map as_scope (map (scope_unit library text scan) designs)
+scopes_of_units library text scan [] = refl
+scopes_of_units library text scan (unit ∷ designs) = ap (λ (rest : List UnitScope). scope_of text scan unit ∷ rest) (scopes_of_units library text scan designs)
+
+pub scopes_are : (files : List ProjectFile) (texts : List (List ℕ)) (scans : List Scan) → length texts ≡ length files → scopes_of texts scans ≡ map as_scope (scope_units files texts scans)
+scopes_are [] [] scans each = refl
+scopes_are [] (text ∷ texts) scans each = let never : ⊥ = cc in absurd never
+scopes_are (file ∷ files) [] scans each = let never : ⊥ = cc in absurd never
+scopes_are (file ∷ files) (text ∷ texts) [] each = refl
+scopes_are (file ∷ files) (text ∷ texts) (scan ∷ scans) each =
+    let fewer : length texts ≡ length files = cc in
+    ap (λ (some : List UnitScope). some ++ scopes_of texts scans) (scopes_of_units file.name.library text scan scan.units)
+    ∙ (ap (λ (some : List UnitScope). map as_scope (map (scope_unit file.name.library text scan) scan.units) ++ some) (scopes_are files texts scans fewer)
+    ∙ sym (map-append as_scope (map (scope_unit file.name.library text scan) scan.units) (scope_units files texts scans)))
 
 -- the units of one file more
 pub file_more : (files : List ProjectFile) (texts : List (List ℕ)) (scans : List Scan) (at : ℕ) (file : ProjectFile) (text : List ℕ) (scan : Scan) → slice_get files at ≡ Some file → slice_get texts at ≡ Some text → slice_get scans at ≡ Some scan → scope_units (take (at + 1) files) (take (at + 1) texts) (take (at + 1) scans) ≡ scope_units (take at files) (take at texts) (take at scans) ++ map (scope_unit file.name.library text scan) scan.units
@@ -76,3 +83,15 @@ at_place R (x ∷ xs) (y ∷ ys) (suc k) d e all within = at_place R xs ys k d e
 -- the start of one file more
 pub starts_more : (starts : List ℕ) (start end : ℕ) (wanted : ℕ → ℕ) → length starts ≡ end → start ≡ wanted end → ((file : ℕ) → file < end → get_or starts file 0 ≡ wanted file) → (file : ℕ) → file < end + 1 → get_or (starts ++ start ∷ []) file 0 ≡ wanted file
 starts_more starts start end wanted each is so_far = below_more _ _ (λ (k : ℕ) (below : k < end). get_or-append starts (start ∷ []) 0 k (omega arith) ∙ so_far k below) (ap (λ (n : ℕ). get_or (starts ++ start ∷ []) n 0) (sym each) ∙ (get_or-append_seam starts start [] 0 ∙ is))
+
+-- the units of so many files, with their groups
+pub record AreFirst (files : List ProjectFile) (texts : List (List ℕ)) (scans : List Scan) (count : ℕ) (starts : List ℕ) (groups : List Group) (owned : List Owned) : Type 0 where
+  pub grouped : AreGrouped (scope_units (take count files) (take count texts) (take count scans)) groups owned
+  pub begins : (file : ℕ) → file < count → get_or starts file 0 ≡ units_before files texts scans file
+
+-- the units of as many files as there are
+pub all_units : (files : List ProjectFile) (texts : List (List ℕ)) (scans : List Scan) (count : ℕ) → length files ≤ count → length texts ≤ count → length scans ≤ count → scope_units (take count files) (take count texts) (take count scans) ≡ scope_units files texts scans
+all_units files texts scans count f t s =
+    ap (λ (some : List ProjectFile). scope_units some (take count texts) (take count scans)) (take_all count files f)
+    ∙ (ap (λ (some : List (List ℕ)). scope_units files some (take count scans)) (take_all count texts t)
+    ∙ ap (scope_units files texts) (take_all count scans s))

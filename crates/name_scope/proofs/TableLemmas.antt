@@ -24,11 +24,11 @@ use Rattle.vr_base.specs.declared.refs.UnitId.{UnitId}
 use Rattle.scan_spec.specs.Visibility.{ScopeUnit, scope_unit, scope_units, sees}
 use Rattle.scan_spec.proofs.SomeTests.{some_of, Contains-later}
 use Rattle.name_scope.specs.declared.scope.Scopes.{Scopes}
-use Rattle.name_scope.specs.declared.scope.UnitScope.{UnitScope}
+use Rattle.file_outlines.specs.declared.outlines.UnitScope.{UnitScope}
 use Rattle.name_scope.specs.Bits.{row_has}
 use Rattle.name_scope.specs.Links.{place_row}
 use Rattle.name_scope.specs.Names.{name_of_number, number_of}
-use Rattle.name_scope.specs.Scopes.{AreScopes, IsScopeOf, as_scope, units_before}
+use Rattle.name_scope.specs.Scopes.{AreScopes, as_scope, units_before}
 use Rattle.name_scope.specs.Exact.{AreGrown}
 use Rattle.name_scope.specs.Tables.{AreExactly, AreVisible, ListsNames, IsUnitAt, Table, row_names, set_at, table_of}
 use Rattle.name_scope.proofs.KeyLemmas.{numbered, there_by}
@@ -87,13 +87,6 @@ unit_found (x ∷ files) (y ∷ texts) (z ∷ scans) (suc at) number file text s
     let place : length (first ++ scope_units (take at files) (take at texts) (take at scans)) + number ≡ length first + (units_before files texts scans at + number) = omega (arith, long) in
     rw place (omega (arith, later.0, length-append first rest), get_or-append-add first rest (units_before files texts scans at + number) no_unit ∙ later.1)
 
--- what the program keeps of the units is what they are
-pub same_scopes : (scopes : List UnitScope) (units : List ScopeUnit) → AllZip IsScopeOf scopes units → scopes ≡ map as_scope units
-same_scopes [] [] all = refl
-same_scopes [] (u ∷ units) all = absurd all
-same_scopes (s ∷ scopes) [] all = absurd all
-same_scopes (s ∷ scopes) (u ∷ units) all = ap (λ (first : UnitScope). first ∷ scopes) (all.0) ∙ ap (λ (rest : List UnitScope). as_scope u ∷ rest) (same_scopes scopes units (all.1))
-
 -- the names of a row are those that its unit sees
 module _ (units : List ScopeUnit) (names : List (List ℕ)) (rows : List (List ℕ)) (is : AreGrown (map as_scope units) units names rows) (at : ℕ) (within : at < length units) (user : ScopeUnit) (found : get_or units at no_unit ≡ user) where
   row : List ℕ
@@ -116,14 +109,11 @@ module _ (units : List ScopeUnit) (names : List (List ℕ)) (rows : List (List �
   pub row_is : (name : List ℕ) → list_any (bytes_eq name) (row_names names (place_row rows at)) ≡ sees units user name
   row_is name = both_ways (list_any (bytes_eq name) (row_names names (place_row rows at))) (sees units user name) (there name) (back name)
 
-pub visible : (files : List ProjectFile) (texts : List (List ℕ)) (scans : List Scan) (scopes : Scopes) (names : List (List ℕ)) (rows : List (List ℕ)) → AreScopes files texts scans scopes → AreGrown scopes.units.items (scope_units files texts scans) names rows → AreVisible files texts scans (table_of scopes.starts.items names rows)
+pub visible : (files : List ProjectFile) (texts : List (List ℕ)) (scans : List Scan) (scopes : Scopes) (names : List (List ℕ)) (rows : List (List ℕ)) → AreScopes files texts scans scopes → AreGrown (map as_scope (scope_units files texts scans)) (scope_units files texts scans) names rows → AreVisible files texts scans (table_of scopes.starts.items names rows)
 unfolding table_of
-visible files texts scans scopes names rows are is = record { each = are.each; sees = by_unit } where
+visible files texts scans scopes names rows are grown = record { each = are.each; sees = by_unit } where
   units : List ScopeUnit
   units = scope_units files texts scans
-
-  grown : AreGrown (map as_scope (scope_units files texts scans)) (scope_units files texts scans) names rows
-  grown = subst (λ (some : List UnitScope). AreGrown some (scope_units files texts scans) names rows) (same_scopes scopes.units.items (scope_units files texts scans) are.units) is
 
   by_unit : (id : UnitId) (user : ScopeUnit) → IsUnitAt files texts scans id user → (name : List ℕ) → list_any (bytes_eq name) (get_or (map (row_names names) rows) (get_or scopes.starts.items id.file 0 + id.unit) []) ≡ sees (scope_units files texts scans) user name
   by_unit id user unit name =

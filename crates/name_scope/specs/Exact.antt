@@ -4,7 +4,7 @@ use Rattle.std.specs.List.{AllZip, flat_map}
 use Rattle.scan_spec.specs.References.{work}
 use Rattle.scan_spec.specs.Visibility.{ScopeUnit}
 use Rattle.name_scope.specs.declared.links.Link.{Link}
-use Rattle.name_scope.specs.declared.scope.UnitScope.{UnitScope}
+use Rattle.file_outlines.specs.declared.outlines.UnitScope.{UnitScope}
 use Rattle.name_scope.specs.declared.want.Group.{Group}
 use Rattle.name_scope.specs.Bits.{has}
 use Rattle.name_scope.specs.Links.{AreTaken, HasSpread}

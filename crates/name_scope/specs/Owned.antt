@@ -34,7 +34,7 @@ pub record HasGrown (old new : List Group) : Type 0 where
   pub same : (group : Group) → group_number old group < length old → group_number new group ≡ group_number old group
 
 -- the groups of units were added, and the numbers of those of each unit
-pub record AddsOwned (library : List ℕ) (scan : Scan) (units : List DesignUnit) (old : List Group) (first : List Owned) (new : List Group) (owned : List Owned) : Type 0 where
+pub record AddsOwned (library : List ℕ) (units : List DesignUnit) (old : List Group) (first : List Owned) (new : List Group) (owned : List Owned) : Type 0 where
   pub all : HasAll (flat_map (own_groups library) units) old new
   pub grown : HasGrown old new
-  pub each : (users : List ScopeUnit) (text : List ℕ) → AllZip (IsOwnedBy old) first users → AllZip (IsOwnedBy new) owned (users ++ map (scope_unit library text scan) units)
+  pub each : (users : List ScopeUnit) (text : List ℕ) (scan : Scan) → AllZip (IsOwnedBy old) first users → AllZip (IsOwnedBy new) owned (users ++ map (scope_unit library text scan) units)

@@ -9,7 +9,7 @@ use crate::want::Group;
 use crate::wants::{group_of, is_context_kind, is_secondary};
 use indexmap::IndexSet;
 use std::alloc::Global;
-use vr_base::{NoMemory, Scan, Text, Unit};
+use vr_base::{NoMemory, Text, Unit};
 
 /// Groups, in the order in which they were met.
 pub type Groups = IndexSet<Group>;
@@ -102,15 +102,15 @@ fn add_own(
 pub fn add_groups(
     alloc: Global,
     library: &Text,
-    scan: &Scan,
+    units: &[Unit],
     groups: &mut Groups,
     owned: &mut Vec<Owned>,
 ) -> Result<(), NoMemory>
-    ensures { OnOk result (AddsOwned library.now scan.now scan.now.units
+    ensures { OnOk result (AddsOwned library.now units.now
         groups.old.keys owned.old.items groups.new.keys owned.new.items) }
 {
-    for number in 0..scan.units.len() {
-        owned.push(add_own(alloc, groups, library, scan.units.get(number))?)?;
+    for number in 0..units.len() {
+        owned.push(add_own(alloc, groups, library, &units[number])?)?;
     }
     Ok(())
 }

@@ -11,7 +11,6 @@ mod look;
 mod names;
 mod order;
 mod own;
-mod roles;
 mod row;
 mod scope;
 mod spread;
@@ -20,8 +19,7 @@ mod want;
 mod wants;
 mod work;
 
-pub use roles::roles_of_files;
 pub use table::{
-    VisibleLibraries, visible_libraries, visible_libraries_by_roles, visible_sets,
-    visible_sets_by_roles,
+    VisibleLibraries, visible_libraries, visible_libraries_by_outlines, visible_sets,
+    visible_sets_by_outlines,
 };

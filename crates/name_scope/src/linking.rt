@@ -1,16 +1,15 @@
 //! The links of the units of a project. What each wants is found and linked, all in the same memory.
 
-ghost use Rattle.std.specs.Prelude.{◌≡◌, ◌+◌, ◌<◌, ◌≤◌, ◌∷◌, [], IfOk, OnOk, Some, length, map, slice_get};
+ghost use Rattle.std.specs.Prelude.{◌≡◌, ◌+◌, ◌≤◌, ◌∷◌, [], List, IfOk, OnOk, length, map};
 ghost use Rattle.std.specs.List.{All, AllZip};
-ghost use Rattle.vr_base.specs.declared.design.Unit.{Unit};
-ghost use Rattle.scan_spec.specs.References.{ref_at};
-ghost use Rattle.scan_spec.specs.Units.{AreTokensOf, roles_of};
-ghost use Rattle.scan_spec.specs.Scans.{AreScansOf, IsScanOf};
-ghost use Rattle.scan_spec.specs.Visibility.{primary_name, scope_unit, scope_units};
+ghost use Rattle.vr_base.specs.declared.design.Scan.{Scan};
+ghost use Rattle.scan_spec.specs.Visibility.{primary_name, scope_units};
+ghost use Rattle.vhdl_refs.specs.Mentions.{NamedLiesIn, named_ref};
+ghost use Rattle.file_outlines.specs.Outlines.{FilesAreOf, FilesLieIn, IsOutlineOf, OutlineLiesIn};
 ghost use Rattle.name_scope.specs.Names.{keys_of};
 ghost use Rattle.name_scope.specs.Joins.{HasLinked, IsLinkedFor};
-ghost use Rattle.name_scope.specs.Scopes.{AddsLinks, AreRolesOf, IsTextSmall};
-ghost use Rattle.name_scope.specs.Wants.{context_want, primary_want, primary_wants, unit_wants};
+ghost use Rattle.name_scope.specs.Scopes.{AddsLinks};
+ghost use Rattle.name_scope.specs.Wants.{context_want, primary_want, primary_wants, wants_of};
 
 use crate::groups::Groups;
 use crate::joins::add_link;
@@ -18,12 +17,10 @@ use crate::links::LinkList;
 use crate::names::Names;
 use crate::want::Want;
 use crate::wants::{context_want, no_want, primary_want};
+use file_outlines::FileOutline;
 use std::alloc::Global;
-use vhdl_refs::context_places;
-use vr_base::{
-    Items, MaybeText, NoMemory, Project, RoleList, Scan, Scans, TEXT_LIMIT, Text, TextList, Tokens,
-    Unit, UnitKind,
-};
+use vhdl_refs::NamedRef;
+use vr_base::{Items, MaybeText, NoMemory, Project, Text, TextList, Unit, UnitKind};
 
 /// Adds the link for what a unit wants of primary units of a name. What is wanted is made in the memory of what isn't
 /// wanted any more, and comes back.
@@ -106,7 +103,7 @@ fn add_own_link(
     }
 }
 
-/// Adds the links for what references to context declarations want, which are at tokens.
+/// Adds the links for what references to context declarations want.
 fn add_context_links(
     alloc: Global,
     names: &Names,
@@ -114,27 +111,25 @@ fn add_context_links(
     places: usize,
     library: &Text,
     text: &[u8],
-    tokens: &Tokens,
-    found: &[u32],
+    found: &[NamedRef],
     links: &mut LinkList,
     used: Want,
 ) -> Result<Want, NoMemory>
     requires room { places + length groups.now.keys ≤ usize.MAX }
-    requires tokens { AreTokensOf text.now tokens.now }
-    requires within { All (λ at. at + 2 < length tokens.now.list) found.now }
+    requires lie { All (NamedLiesIn text.now) found.now }
     ensures { OnOk result (HasLinked (keys_of names.now) groups.now.keys places
-        (map (λ at. context_want library.now (ref_at text.now tokens.now.list at)) found.now)
+        (map (λ named. context_want library.now (named_ref text.now named)) found.now)
         links.old links.new) }
 {
     let mut want = used;
-    for at in found {
-        want = context_want(library, text, tokens, *at as usize, want)?;
+    for named in found {
+        want = context_want(library, text, named, want)?;
         add_link(alloc, names, groups, places, &want, links)?;
     }
     Ok(want)
 }
 
-/// Adds the links of the unit of a number in a scan.
+/// Adds the links of a unit that mentions these context declarations.
 fn add_unit_links(
     alloc: Global,
     names: &Names,
@@ -142,35 +137,19 @@ fn add_unit_links(
     places: usize,
     library: &Text,
     text: &[u8],
-    scan: &Scan,
-    roles: &RoleList,
-    number: u32,
+    unit: &Unit,
+    found: &[NamedRef],
     links: &mut LinkList,
     used: Want,
 ) -> Result<Want, NoMemory>
     requires room { places + length groups.now.keys ≤ usize.MAX }
-    requires scan { IsScanOf text.now scan.now }
-    requires small { length text.now ≤ TEXT_LIMIT }
-    requires roles { roles.now ≡ roles_of text.now scan.now.tokens.list }
-    requires number { number < length scan.now.units }
-    ensures { OnOk result ((unit : Unit) → slice_get scan.now.units number ≡ Some unit →
-        HasLinked (keys_of names.now) groups.now.keys places
-        (unit_wants (scope_unit library.now text.now scan.now unit)) links.old links.new) }
+    requires lie { All (NamedLiesIn text.now) found.now }
+    ensures { OnOk result (HasLinked (keys_of names.now) groups.now.keys places
+        (wants_of library.now unit.now (map (named_ref text.now) found.now)) links.old links.new) }
 {
-    let unit = scan.units.get(number as u64);
     let want = add_own_link(alloc, names, groups, places, library, unit, links, used)?;
-    let found = context_places(alloc, text, scan, roles, number)?;
     Ok(add_context_links(
-        alloc,
-        names,
-        groups,
-        places,
-        library,
-        text,
-        &scan.tokens,
-        found.as_slice(),
-        links,
-        want,
+        alloc, names, groups, places, library, text, found, links, want,
     )?)
 }
 
@@ -182,20 +161,18 @@ fn add_links(
     places: usize,
     library: &Text,
     text: &[u8],
-    scan: &Scan,
-    roles: &RoleList,
+    file: &FileOutline,
     links: &mut Vec<LinkList>,
     used: Want,
 ) -> Result<Want, NoMemory>
     requires room { places + length groups.now.keys ≤ usize.MAX }
-    requires scan { IsScanOf text.now scan.now }
-    requires small { length text.now ≤ TEXT_LIMIT }
-    requires roles { roles.now ≡ roles_of text.now scan.now.tokens.list }
-    ensures { OnOk result (AddsLinks (keys_of names.now) groups.now.keys places
-        library.now text.now scan.now links.old.items links.new.items) }
+    requires lies { OutlineLiesIn text.now file.now }
+    ensures { OnOk result ((scan : Scan) → IsOutlineOf text.now scan file.now →
+        AddsLinks (keys_of names.now) groups.now.keys places
+        library.now text.now scan links.old.items links.new.items) }
 {
     let mut want = used;
-    for number in 0..scan.units.len() {
+    for number in 0..file.units.len() {
         let mut own = LinkList::new(alloc);
         want = add_unit_links(
             alloc,
@@ -204,9 +181,8 @@ fn add_links(
             places,
             library,
             text,
-            scan,
-            roles,
-            number as u32,
+            file.units.get(number),
+            file.mentions.get(number).contexts.as_slice(),
             &mut own,
             want,
         )?;
@@ -223,16 +199,14 @@ pub fn links_of_units(
     places: usize,
     project: &Project,
     texts: &TextList,
-    scans: &Scans,
-    roles: &Items<RoleList>,
+    files: &Items<FileOutline>,
 ) -> Result<Vec<LinkList>, NoMemory>
     requires room { places + length groups.now.keys ≤ usize.MAX }
     requires each { length texts.now ≡ length project.now.files }
-    requires scans { AreScansOf texts.now scans.now }
-    requires small { All IsTextSmall texts.now }
-    requires roles { AreRolesOf texts.now scans.now roles.now }
-    ensures { IfOk result (λ links. AllZip (IsLinkedFor (keys_of names.now) groups.now.keys places)
-        links.items (scope_units project.now.files texts.now scans.now)) }
+    requires lie { FilesLieIn texts.now files.now }
+    ensures { IfOk result (λ links. (scans : List Scan) → FilesAreOf texts.now scans files.now →
+        AllZip (IsLinkedFor (keys_of names.now) groups.now.keys places)
+        links.items (scope_units project.now.files texts.now scans)) }
 {
     let mut links = Vec::new(alloc);
     let mut want = no_want(alloc);
@@ -245,8 +219,7 @@ pub fn links_of_units(
             places,
             library,
             texts.get(file).bytes(),
-            scans.get(file),
-            roles.get(file),
+            files.get(file),
             &mut links,
             want,
         )?;

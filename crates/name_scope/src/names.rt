@@ -4,8 +4,8 @@ ghost use Rattle.std.specs.Prelude.{◌≡◌, ◌<◌, ◌∷◌, ◌++◌, [],
 ghost use Rattle.std.specs.List.{flat_map};
 ghost use Rattle.name_scope.specs.Names.{HasAll, implicit, keys_of, number_of};
 
-use crate::scope::UnitScope;
 use crate::wants::WORK;
+use file_outlines::UnitScope;
 use indexmap::IndexSet;
 use std::alloc::Global;
 use vr_base::{NoMemory, Text};

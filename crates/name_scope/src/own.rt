@@ -7,8 +7,8 @@ ghost use Rattle.name_scope.specs.Graph.{AreNamed, HasPut, IsRowOf};
 
 use crate::names::{Names, STD, find};
 use crate::row::Row;
-use crate::scope::UnitScope;
 use crate::wants::WORK;
+use file_outlines::UnitScope;
 use std::alloc::Global;
 use vr_base::{NoMemory, Text};
 

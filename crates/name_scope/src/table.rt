@@ -1,15 +1,16 @@
 //! The libraries that all units of a project see, worked out at once.
 
-ghost use Rattle.std.specs.Prelude.{◌≡◌, ◌+◌, ◌<◌, ◌++◌, [], IfOk, length, slice_get, slice_index};
-ghost use Rattle.std.specs.List.{All, AllZip, flat_map};
+ghost use Rattle.std.specs.Prelude.{◌≡◌, ◌+◌, ◌<◌, ◌++◌, [], List, IfOk, length, slice_get, slice_index};
+ghost use Rattle.std.specs.List.{All, flat_map};
 ghost use Rattle.std.specs.Option.{option_map};
+ghost use Rattle.vr_base.specs.declared.design.Scan.{Scan};
 ghost use Rattle.scan_spec.specs.Scans.{AreScansOf};
 ghost use Rattle.scan_spec.specs.Visibility.{ScopeUnit, scope_units};
+ghost use Rattle.file_outlines.specs.Outlines.{AreOutlined, AreOutlinesOf};
+ghost use Rattle.file_outlines.specs.Roles.{IsTextSmall};
 ghost use Rattle.name_scope.specs.Exact.{AreGrown};
 ghost use Rattle.name_scope.specs.Names.{HasAll, implicit, keys_of};
-ghost use Rattle.name_scope.specs.Owned.{IsOwnedBy};
-ghost use Rattle.name_scope.specs.Wants.{user_groups};
-ghost use Rattle.name_scope.specs.Scopes.{AreRolesOf, IsTextSmall};
+ghost use Rattle.name_scope.specs.Scopes.{AreGrouped};
 ghost use Rattle.name_scope.specs.Tables.{AreExactly, AreVisible, ListsNames, IsUnitAt, set_at, table_sees};
 
 use crate::groups::{Groups, Owned};
@@ -18,43 +19,37 @@ use crate::linking::links_of_units;
 use crate::listing::{rising_names, sees_name};
 use crate::names::{self, Names, names_of};
 use crate::own::rows_of;
-use crate::roles::roles_of_files;
 use crate::row::Row;
-use crate::scope::{Scopes, UnitScope, scopes_of};
+use crate::scope::{Scopes, scopes_of};
 use crate::spread::spread;
 use crate::wants::WORK;
+use file_outlines::{Outlines, outlines_of};
 use std::alloc::Global;
 use std::marker::Model;
-use vr_base::{Items, NoMemory, Project, RoleList, Scans, TextList, UnitId};
+use vr_base::{Items, NoMemory, Project, Scans, TextList, UnitId};
 
 /// The rows of units, grown until each takes all that it wants.
 fn grown_rows(
     alloc: Global,
     names: &Names,
-    units: &[UnitScope],
+    outlines: &Outlines,
     groups: &Groups,
     owned: &[Owned],
     project: &Project,
     texts: &TextList,
-    scans: &Scans,
-    roles: &Items<RoleList>,
 ) -> Result<Vec<Row>, NoMemory>
-    requires named { HasAll (implicit ++ flat_map (λ unit. unit.names) units.now)
-        [] (keys_of names.now) }
-    requires units { length units.now
-        ≡ length (scope_units project.now.files texts.now scans.now) }
-    requires groups { HasAll
-        (flat_map user_groups (scope_units project.now.files texts.now scans.now))
-        [] groups.now.keys }
-    requires owned { AllZip (IsOwnedBy groups.now.keys) owned.now
-        (scope_units project.now.files texts.now scans.now) }
     requires each { length texts.now ≡ length project.now.files }
-    requires scans { AreScansOf texts.now scans.now }
-    requires small { All IsTextSmall texts.now }
-    requires roles { AreRolesOf texts.now scans.now roles.now }
-    ensures { IfOk result (λ rows. AreGrown units.now
-        (scope_units project.now.files texts.now scans.now) (keys_of names.now) rows.items) }
+    requires outlined { AreOutlined texts.now outlines.now }
+    requires named { HasAll (implicit ++ flat_map (λ unit. unit.names) outlines.now.scopes)
+        [] (keys_of names.now) }
+    requires grouped { (scans : List Scan) → AreOutlinesOf texts.now scans outlines.now →
+        AreGrouped (scope_units project.now.files texts.now scans) groups.now.keys owned.now }
+    ensures { IfOk result (λ rows. (scans : List Scan) →
+        AreOutlinesOf texts.now scans outlines.now →
+        AreGrown outlines.now.scopes (scope_units project.now.files texts.now scans)
+        (keys_of names.now) rows.items) }
 {
+    let units = outlines.scopes.as_slice();
     if units.len().checked_add(groups.len()).is_none() {
         return Err(NoMemory);
     }
@@ -71,8 +66,7 @@ fn grown_rows(
         units.len(),
         project,
         texts,
-        scans,
-        roles,
+        &outlines.files,
     )?;
     let mut members = group_links(alloc, groups, owned, gate)?;
     links.append(&mut members)?;
@@ -110,41 +104,37 @@ pub fn visible_sets(
     requires small { All IsTextSmall texts.now }
     ensures { IfOk result (AreVisible project.now.files texts.now scans.now) }
 {
-    let roles = roles_of_files(alloc, texts, scans)?;
-    visible_sets_by_roles(alloc, project, texts, scans, &roles)
+    let outlines = outlines_of(alloc, texts, scans)?;
+    visible_sets_by_outlines(alloc, project, texts, &outlines)
 }
 
-/// `visible_sets` for a caller that has the roles of the tokens of all files already.
-pub fn visible_sets_by_roles(
+/// `visible_sets` for a caller that has the outlines of all files, and not their tokens.
+pub fn visible_sets_by_outlines(
     alloc: Global,
     project: &Project,
     texts: &TextList,
-    scans: &Scans,
-    roles: &Items<RoleList>,
+    outlines: &Outlines,
 ) -> Result<VisibleLibraries, NoMemory>
     requires each { length texts.now ≡ length project.now.files }
-    requires scans { AreScansOf texts.now scans.now }
-    requires small { All IsTextSmall texts.now }
-    requires roles { AreRolesOf texts.now scans.now roles.now }
-    ensures { IfOk result (AreVisible project.now.files texts.now scans.now) }
+    requires outlined { AreOutlined texts.now outlines.now }
+    ensures { IfOk result (λ sets. (scans : List Scan) →
+        AreOutlinesOf texts.now scans outlines.now →
+        AreVisible project.now.files texts.now scans sets) }
 {
     let Scopes {
         starts,
-        units,
         groups,
         owned,
-    } = scopes_of(alloc, project, texts, scans, roles)?;
-    let names = names_of(alloc, units.as_slice())?;
+    } = scopes_of(alloc, project, &outlines.files)?;
+    let names = names_of(alloc, outlines.scopes.as_slice())?;
     let rows = grown_rows(
         alloc,
         &names,
-        units.as_slice(),
+        outlines,
         &groups,
         owned.as_slice(),
         project,
         texts,
-        scans,
-        roles,
     )?;
     Ok(VisibleLibraries {
         starts,
@@ -206,28 +196,26 @@ pub fn visible_libraries(
         IsUnitAt project.now.files texts.now scans.now unit user →
         AreExactly (scope_units project.now.files texts.now scans.now) user names) }
 {
-    let roles = roles_of_files(alloc, texts, scans)?;
-    visible_libraries_by_roles(alloc, project, texts, scans, &roles, unit)
+    let outlines = outlines_of(alloc, texts, scans)?;
+    visible_libraries_by_outlines(alloc, project, texts, &outlines, unit)
 }
 
-/// `visible_libraries` for a caller that has the roles of the tokens of all files already.
-pub fn visible_libraries_by_roles(
+/// `visible_libraries` for a caller that has the outlines of all files, and not their tokens.
+pub fn visible_libraries_by_outlines(
     alloc: Global,
     project: &Project,
     texts: &TextList,
-    scans: &Scans,
-    roles: &Items<RoleList>,
+    outlines: &Outlines,
     unit: UnitId,
 ) -> Result<TextList, NoMemory>
     requires each { length texts.now ≡ length project.now.files }
-    requires scans { AreScansOf texts.now scans.now }
-    requires small { All IsTextSmall texts.now }
-    requires roles { AreRolesOf texts.now scans.now roles.now }
+    requires outlined { AreOutlined texts.now outlines.now }
     requires file { unit.file < length project.now.files }
-    ensures { IfOk result (λ names. (user : ScopeUnit) →
-        IsUnitAt project.now.files texts.now scans.now unit user →
-        AreExactly (scope_units project.now.files texts.now scans.now) user names) }
+    ensures { IfOk result (λ names. (scans : List Scan) (user : ScopeUnit) →
+        AreOutlinesOf texts.now scans outlines.now →
+        IsUnitAt project.now.files texts.now scans unit user →
+        AreExactly (scope_units project.now.files texts.now scans) user names) }
 {
-    let sets = visible_sets_by_roles(alloc, project, texts, scans, roles)?;
+    let sets = visible_sets_by_outlines(alloc, project, texts, outlines)?;
     sets.libraries(alloc, unit)
 }

@@ -1,16 +1,17 @@
 //! What one design unit is to others, and what it wants of them.
 
-ghost use Rattle.std.specs.Prelude.{◌≡◌, ◌+◌, ◌<◌, IfOk, length};
+ghost use Rattle.std.specs.Prelude.{◌≡◌, IfOk};
 ghost use Rattle.std.specs.Str.{bytes_eq};
-ghost use Rattle.scan_spec.specs.References.{work, is_context_kind, ref_at};
-ghost use Rattle.scan_spec.specs.Units.{AreTokensOf};
+ghost use Rattle.scan_spec.specs.References.{work, is_context_kind};
 ghost use Rattle.scan_spec.specs.Visibility.{is_secondary};
+ghost use Rattle.vhdl_refs.specs.Mentions.{NamedLiesIn, named_ref};
 ghost use Rattle.name_scope.specs.Wants.{context_want, gate_of, group_of, primary_want};
 
 use crate::want::{Group, Want};
 use std::alloc::Global;
-use vhdl_units::name_in;
-use vr_base::{NoMemory, Text, Tokens, UnitKind};
+use vhdl_refs::NamedRef;
+use vhdl_units::name_of_token;
+use vr_base::{NoMemory, Text, UnitKind};
 
 /// The library of the unit itself.
 pub static WORK: [u8; 4] = *b"work";
@@ -99,29 +100,25 @@ pub fn primary_want(library: &Text, name: &Text, used: Want) -> Result<Want, NoM
     })
 }
 
-/// What the reference at a token wants of context declarations, in the memory of what isn't wanted any more.
+/// What a reference wants of context declarations, in the memory of what isn't wanted any more.
 pub fn context_want(
     library: &Text,
     text: &[u8],
-    tokens: &Tokens,
-    at: usize,
+    reference: &NamedRef,
     used: Want,
 ) -> Result<Want, NoMemory>
-    requires tokens { AreTokensOf text.now tokens.now }
-    requires within { at + 2 < length tokens.now.list }
+    requires { NamedLiesIn text.now reference.now }
     ensures { IfOk result (λ want.
-        want ≡ context_want library.now (ref_at text.now tokens.now.list at)) }
+        want ≡ context_want library.now (named_ref text.now reference.now)) }
 {
-    // the number of tokens bounds the place of the name
-    let _count = tokens.list.len();
     let Want { own: _, group } = used;
     let Group {
         context: _,
         library: first,
         name: second,
     } = group;
-    let named = name_in(text, tokens, at, first)?;
-    let name = name_in(text, tokens, at + 2, second)?;
+    let named = name_of_token(text, reference.library, first)?;
+    let name = name_of_token(text, reference.name, second)?;
     let own = is_work(named.bytes());
     let library = if own { copy_in(library, named)? } else { named };
     Ok(Want {

@@ -7,7 +7,7 @@ use Rattle.vr_base.specs.declared.design.Scan.{Scan}
 use Rattle.vr_base.specs.declared.limits.TheConstants.{TEXT_LIMIT}
 use Rattle.scan_spec.specs.Units.{AreTokensOf}
 use Rattle.scan_spec.specs.Scans.{IsScanOf}
-use Rattle.file_outlines.specs.Outlines.{AreOutlinesOf, OutlinesLieIn}
+use Rattle.file_outlines.specs.Outlines.{AreOutlinesOf, FilesLieIn}
 use Rattle.file_outlines.proofs.OutlineLemmas.{lie_more, no_outlines, none_lie, outlines_more, take_got}
 use Rattle.file_outlines.proofs.outlines.outlines_of.Goals as goal
 
@@ -35,5 +35,5 @@ loop-file-preserved c =
     record {
       are = subst (λ (some : List (List ℕ)). AreOutlinesOf some (take (at + 1) c.args.scans.now) c.push_copy.new.self) (sym texts) (subst (λ (some : List Scan). AreOutlinesOf (take at c.args.texts.now ++ text ∷ []) some c.push_copy.new.self) (sym scans)
           (outlines_more (take at c.args.texts.now) (take at c.args.scans.now) text scan c.loop-file.outlines c.push_copy.new.self c.loop-file.invariant.are c.in_ok-push_copy.ensures));
-      lie = subst (λ (some : List (List ℕ)). OutlinesLieIn some c.push_copy.new.self) (sym texts) (lie_more (take at c.args.texts.now) text scan c.loop-file.outlines c.push_copy.new.self c.loop-file.invariant.lie c.in_ok-push_copy.ensures);
+      lie = subst (λ (some : List (List ℕ)). FilesLieIn some c.push_copy.new.self.files) (sym texts) (lie_more (take at c.args.texts.now) text scan c.loop-file.outlines c.push_copy.new.self c.loop-file.invariant.lie c.in_ok-push_copy.ensures);
     }

@@ -1,6 +1,6 @@
 -- Those of one unit more are there.
 use Rattle.std.proofs.Common.{◌<◌, ◌∙◌, ℕ, List, length, arith, ap, subst}
-use Rattle.name_scope.specs.declared.scope.UnitScope.{UnitScope}
+use Rattle.file_outlines.specs.declared.outlines.UnitScope.{UnitScope}
 use Rattle.name_scope.specs.Names.{HasAll, implicit, keys_of}
 use Rattle.name_scope.proofs.KeyLemmas.{all_more}
 use Rattle.name_scope.proofs.names.names_of.Goals as goal

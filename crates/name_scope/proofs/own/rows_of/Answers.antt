@@ -1,6 +1,6 @@
 -- One unit more, and one group more.
 use Rattle.std.proofs.Common.{◌<◌, ◌∙◌, ◌++◌, ℕ, List, [], ap, length, map, arith, subst, sym}
-use Rattle.name_scope.specs.declared.scope.UnitScope.{UnitScope}
+use Rattle.file_outlines.specs.declared.outlines.UnitScope.{UnitScope}
 use Rattle.name_scope.specs.Names.{implicit, keys_of}
 use Rattle.name_scope.specs.Graph.{AreNamed, IsRowOf}
 use Rattle.name_scope.proofs.OwnLemmas.{zip_again, zip_more}

@@ -1,23 +1,49 @@
 -- One file more.
-use Rattle.std.proofs.Common.{◌∙◌, List, [], Some, ap, sym, subst, take, arith}
+use Rattle.std.proofs.Common.{◌≡◌, ◌∙◌, List, [], Some, length, ap, sym, subst, take, arith}
 use Rattle.std.specs.List.{AllZip, flat_map}
+use Rattle.vr_base.specs.declared.design.Unit.{Unit as DesignUnit}
 use Rattle.scan_spec.specs.Visibility.{ScopeUnit, scope_units}
-use Rattle.name_scope.specs.Scopes.{IsScopeOf, units_before}
+use Rattle.file_outlines.proofs.OutlineLemmas.{got_file}
+use Rattle.name_scope.specs.Scopes.{AreGrouped, units_before}
 use Rattle.name_scope.specs.Names.{HasAll}
-use Rattle.name_scope.specs.Owned.{IsOwnedBy}
+use Rattle.name_scope.specs.Owned.{AddsOwned, IsOwnedBy}
 use Rattle.name_scope.specs.Wants.{user_groups}
 use Rattle.name_scope.proofs.OwnedLemmas.{grouped_more}
-use Rattle.name_scope.proofs.ScopeLemmas.{as_long, file_more, starts_more}
+use Rattle.name_scope.proofs.ScopeLemmas.{all_units, as_long, file_more, starts_more}
 use Rattle.name_scope.proofs.scope.scopes_of.Goals as goal
 
 pub loop-file-preserved : goal.loop-file-preserved
-loop-file-preserved c =
-    let more = file_more c.args.project.now.files c.args.texts.now c.args.scans.now c.loop-file.file _ _ _ c.get-in-loop-file-2.ensures (c.get.ensures ∙ ap Some (sym c.bytes.ensures)) c.get-scan.ensures in
-    let long = as_long IsScopeOf c.loop-file.units.items (scope_units (take c.loop-file.file c.args.project.now.files) (take c.loop-file.file c.args.texts.now) (take c.loop-file.file c.args.scans.now)) c.loop-file.invariant.units in
+loop-file-preserved c = record {
+  each = omega (arith, c.in_ok-push.ensures.len, c.loop-file.invariant.each);
+  first = λ texts scans are.
+      let so_far = c.loop-file.invariant.first texts scans are in
+      let at = c.loop-file.file in
+      let files = c.args.project.now.files in
+      let it = got_file texts scans c.args.files.now at c.get-in-loop-file.result.now are c.get-in-loop-file.ensures in
+      let text = it.0 in
+      let scan = it.1 in
+      let users : List ScopeUnit = scope_units (take at files) (take at texts) (take at scans) in
+      let more = file_more files texts scans at _ text scan c.get.ensures it.2 it.3 in
+      let long = as_long (IsOwnedBy c.loop-file.groups.keys) c.loop-file.owned.items users so_far.grouped.each in
+      let added = subst (λ (designs : List DesignUnit). AddsOwned c.get.result.now.name.library designs c.loop-file.groups.keys c.loop-file.owned.items c.add_groups.new.groups.keys c.add_groups.new.owned.items) (c.as_slice-units.ensures ∙ it.4.units) c.in_ok-add_groups.ensures in
+      record {
+        grouped = subst (λ (some : List ScopeUnit). AreGrouped some c.add_groups.new.groups.keys c.add_groups.new.owned.items) (sym more) (record {
+          all = grouped_more users c.get.result.now.name.library scan text _ _ so_far.grouped.all added.all;
+          each = added.each users text scan so_far.grouped.each;
+        });
+        begins = rw c.in_ok-push.ensures.items (starts_more c.loop-file.starts.items c.len.result at (units_before files texts scans) c.loop-file.invariant.each (omega (arith, c.len.ensures, long)) so_far.begins);
+      };
+}
+
+pub returns : goal.returns
+returns c texts scans are =
+    let first = c.loop-file.invariant.first texts scans are in
+    let long = c.loop-file-test.false in
+    let end = c.len-file-end.ensures in
+    let each = c.loop-file.invariant.each in
     record {
-      units = subst (AllZip IsScopeOf c.add_scopes.new.units.items) (sym more) (c.in_ok-add_scopes.ensures _ _ c.loop-file.invariant.units);
-      groups = subst (λ (users : List ScopeUnit). HasAll (flat_map user_groups users) [] c.add_groups.new.groups.keys) (sym more) (grouped_more (scope_units (take c.loop-file.file c.args.project.now.files) (take c.loop-file.file c.args.texts.now) (take c.loop-file.file c.args.scans.now)) c.get-in-loop-file-2.result.now.name.library c.get-scan.result.now c.bytes.result.now _ _ c.loop-file.invariant.groups c.in_ok-add_groups.ensures.all);
-      owned = subst (AllZip (IsOwnedBy c.add_groups.new.groups.keys) c.add_groups.new.owned.items) (sym more) (c.in_ok-add_groups.ensures.each _ c.bytes.result.now c.loop-file.invariant.owned);
-      each = omega (arith, c.in_ok-push.ensures.len, c.loop-file.invariant.each);
-      starts = rw c.in_ok-push.ensures.items (starts_more c.loop-file.starts.items c.len.result c.loop-file.file (units_before c.args.project.now.files c.args.texts.now c.args.scans.now) c.loop-file.invariant.each (omega (arith, c.len.ensures, long)) c.loop-file.invariant.starts);
+      grouped = subst (λ (some : List ScopeUnit). AreGrouped some c.loop-file.groups.keys c.loop-file.owned.items)
+          (all_units c.args.project.now.files texts scans c.loop-file.file (omega (arith, long, end)) (omega (arith, long, end, c.requires, are.each)) (omega (arith, long, end, c.requires, are.each, are.scanned))) first.grouped;
+      each = omega (arith, each, end, long, c.loop-file.auto.file-end);
+      starts = λ file below. first.begins file (omega (arith, below, end, long));
     }
