@@ -1,5 +1,5 @@
 -- The files of a project one by one: what they lack, refer to and use whole.
-use Rattle.std.proofs.Common.{◌≡◌, ℕ, zero, suc, ◌+◌, ◌<◌, ◌==◌, Bool, true, false, cond, ◌&&◌, ◌||◌, not, Option, Some, None, List, [], ◌∷◌, ◌++◌, map, inl, inr, refl, sym, ◌∙◌, ap, arith}
+use Rattle.std.proofs.Common.{◌≡◌, ℕ, zero, suc, ◌+◌, ◌<◌, ◌==◌, Bool, true, false, cond, ◌&&◌, ◌||◌, not, Option, Some, None, List, [], ◌∷◌, ◌++◌, length, map, take, inl, inr, refl, sym, ◌∙◌, ap, arith}
 use Rattle.std.specs.Prelude.{Result, Ok, Err, filter, slice_get}
 use Rattle.std.specs.List.{flat_map, list_any}
 use Rattle.std.specs.Option.{option_or, option_map_or}
@@ -13,6 +13,7 @@ use Rattle.vr_base.specs.declared.design.Unit.{Unit as DesignUnit}
 use Rattle.vr_base.specs.declared.linking.LinkFault.{LinkFault}
 use Rattle.vr_base.specs.declared.linking.LinkFault.TheVariants.{NoMemory, DuplicateUnit, MissingUnit, MissingArchitecture}
 use Rattle.vr_base.specs.declared.linking.Linked.{Linked}
+use Rattle.vr_base.specs.declared.linking.Warning.{Warning}
 use Rattle.vr_base.specs.declared.project.Project.{Project}
 use Rattle.vr_base.specs.declared.project.ProjectFile.{ProjectFile}
 use Rattle.vr_base.specs.declared.refs.UnitId.{UnitId}
@@ -174,6 +175,12 @@ file_missing g before more rest all fault none said is =
 pub none_missing : (g : LinkUnit → List (Option LinkFault)) (before more all : List LinkUnit) → first_some (flat_map g before) ≡ None → first_some (flat_map g more) ≡ None → all ≡ before ++ more → first_some (flat_map g all) ≡ None
 none_missing g before more all none said is =
     ap (λ (some : List LinkUnit). first_some (flat_map g some)) is ∙ (ap first_some (flat_map-append g before more) ∙ (none_append (flat_map g before) (flat_map g more) none ∙ said))
+
+-- the files up to a position are linked
+pub record AreLinked (project : Project) (texts : List (List ℕ)) (scans : List Scan) (count : ℕ) (edges : List (List ℕ)) (warnings : List Warning) : Type 0 where
+  pub none : first_some (flat_map (λ unit. map (missing_of project (link_units 0 project.files texts scans) unit) unit.refs) (link_units 0 (take count project.files) (take count texts) (take count scans))) ≡ None
+  pub edges_are : edges ≡ map (λ user. filter (depends_on project (link_units 0 project.files texts scans) user) (below (length project.files))) (below count)
+  pub warnings_are : warnings ≡ flat_map (warnings_of project (link_units 0 project.files texts scans)) (link_units 0 (take count project.files) (take count texts) (take count scans))
 
 -- ## The answer
 

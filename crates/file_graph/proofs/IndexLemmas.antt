@@ -9,7 +9,7 @@ use Rattle.std.proofs.lemmas.Grind.{common_steps}
 use Rattle.std.proofs.lemmas.List.Folds.{find-append}
 use Rattle.std.proofs.lemmas.List.Elements.{Contains-append_cases}
 use Rattle.order_spec.proofs.Finds.{found_within, none_passes}
-use Rattle.std.proofs.lemmas.List.{map-append, map_more}
+use Rattle.std.proofs.lemmas.List.{map-append, map_more, take_all}
 use Rattle.vr_base.specs.declared.design.Scan.{Scan}
 use Rattle.vr_base.specs.declared.design.Unit.{Unit as DesignUnit}
 use Rattle.vr_base.specs.declared.linking.LinkFault.{LinkFault}
@@ -238,3 +238,15 @@ file_fault before more rest all fault told none is =
 -- the units of a file more, and none has the name of one before
 pub none_more : (before more : List LinkUnit) → ((rest : List LinkUnit) → first_duplicate [] (before ++ rest) ≡ first_duplicate before rest) → ((rest : List LinkUnit) → first_duplicate before (more ++ rest) ≡ first_duplicate (before ++ more) rest) → (rest : List LinkUnit) → first_duplicate [] ((before ++ more) ++ rest) ≡ first_duplicate (before ++ more) rest
 none_more before more one two rest = ap (first_duplicate []) (append_assoc before more rest) ∙ (one (more ++ rest) ∙ two rest)
+
+-- the units of the files up to a position are added, and no two of them have one name
+pub record AreIndexed {S : Type 0} (files : List ProjectFile) (texts : List (List ℕ)) (scans : List Scan) (count : ℕ) (index : IndexMap UnitKey Place S) : Type 0 where
+  pub is : IsIndex files (link_units 0 (take count files) (take count texts) (take count scans)) index
+  pub none : (rest : List LinkUnit) → first_duplicate [] (link_units 0 (take count files) (take count texts) (take count scans) ++ rest) ≡ first_duplicate (link_units 0 (take count files) (take count texts) (take count scans)) rest
+
+-- the units of as many files as there are
+pub all_units : (files : List ProjectFile) (texts : List (List ℕ)) (scans : List Scan) (count : ℕ) → length files ≤ count → length texts ≤ count → length scans ≤ count → link_units 0 (take count files) (take count texts) (take count scans) ≡ link_units 0 files texts scans
+all_units files texts scans count f t s =
+    ap (λ (some : List ProjectFile). link_units 0 some (take count texts) (take count scans)) (take_all count files f)
+    ∙ (ap (λ (some : List (List ℕ)). link_units 0 files some (take count scans)) (take_all count texts t)
+    ∙ ap (link_units 0 files texts) (take_all count scans s))

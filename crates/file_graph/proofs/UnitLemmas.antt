@@ -32,26 +32,6 @@ no_design = record { kind = kinds.Entity; name = []; owner = Nothing; lead = 0; 
 pub some_same : {X : Type 0} (x y : X) → ◌≡◌ {A = Option X} (Some x) (Some y) → x ≡ y
 some_same x y e = cc
 
--- what is made of the element at a place
-pub made_of : {X Y : Type 0} (f : X → Y) (xs : List X) (n : ℕ) (x : X) (y : Y) → slice_get xs n ≡ Some x → option_map f (slice_get xs n) ≡ Some y → y ≡ f x
-made_of f xs n x y got told = some_same y (f x) (sym told ∙ ap (option_map f) got)
-
--- ## Places of uses
-
-pub places_within : (test : ℕ → Bool) (start end : ℕ) → start ≤ end → All (λ at. at < end) (places test start end)
-places_within test start end ordered = All-filter test (λ at. at < end) (range_with_len start (end - start)) in_range where
-  in_range : All (λ at. at < end) (range_with_len start (end - start))
-  in_range i d lt =
-      let within : i < end - start = omega (arith, lt, length-range_with_len start (end - start)) in
-      omega (arith, within, ordered, get_or-range_with_len start (end - start) i d within)
-
-pub uses_within : (text : List ℕ) (scan : Scan) (number : ℕ) (design : DesignUnit) → IsScanOf text scan → slice_get scan.units number ≡ Some design → All (λ at. at < length scan.tokens.list) (uses_of_all (roles_of text scan.tokens.list) design)
-uses_within text scan number design is got i d lt =
-    let all = subst (All (IsPlaced text scan.tokens.list)) (sym is.units) (all_placed text scan.tokens.list is.elements is.outline) in
-    let there = subst (IsPlaced text scan.tokens.list) (get_or_from_slice_get scan.units number design design got) (all number design (slice_get_within scan.units number design got)) in
-    let low = places_within (is_use_of_all (roles_of text scan.tokens.list)) design.lead design.last (omega (arith, there.led, there.ordered)) i d lt in
-    omega (arith, low, there.within)
-
 pub parts_map : {X Y Z : Type 0} (f : Y → List Z) (g : X → Y) (xs : List X) → flat_map (λ x. f (g x)) xs ≡ flat_map f (map g xs)
 parts_map f g [] = refl
 parts_map {X} {Y} {Z} f g (x ∷ xs) = ap (λ (rest : List Z). f (g x) ++ rest) (parts_map f g xs)

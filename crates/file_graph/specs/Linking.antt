@@ -14,8 +14,7 @@ use Rattle.vr_base.specs.declared.project.ProjectFile.{ProjectFile}
 use Rattle.vr_base.specs.declared.refs.Ref.{Ref}
 use Rattle.vr_base.specs.declared.refs.UnitId.{UnitId}
 use Rattle.position_set.specs.declared.set.PositionSet.{PositionSet}
-use Rattle.scan_spec.specs.Units.{name_of, roles_of}
-use Rattle.scan_spec.specs.References.{uses_of_all, work}
+use Rattle.scan_spec.specs.References.{work}
 use Rattle.scan_spec.specs.Visibility.{sees}
 use Rattle.scan_spec.specs.Dependencies.{LinkUnit, edges_of, first_missing, first_some, link_unit, missing_of, names_unit, warnings_of}
 use Rattle.name_scope.specs.Tables.{table_sees}
@@ -43,10 +42,6 @@ noted_where is_seen tables file library = if is_seen then noted_library (knows t
 
 abbrev pub noted : Tables → UnitId → List ℕ → List ℕ → List Warning
 noted tables id own named = noted_where (table_sees tables.sets id named) tables id.file (named_library own named)
-
--- the names of the libraries that a unit uses whole
-abbrev pub whole_libraries : List ℕ → Scan → DesignUnit → List (List ℕ)
-whole_libraries text scan design = map (name_of text scan.tokens.list) (uses_of_all (roles_of text scan.tokens.list) design)
 
 -- a name means a library in a unit that is visible there and looked into
 abbrev pub is_inside : Tables → UnitId → List ℕ → List ℕ → Bool

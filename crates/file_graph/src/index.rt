@@ -2,19 +2,20 @@
 
 ghost use Rattle.std.specs.Prelude.{◌≡◌, ℕ, ◌<◌, ◌≤◌, List, [], Some, IfOk, OnOk, length, map, slice_get};
 ghost use Rattle.indexmap.specs.IndexMap.{get};
+ghost use Rattle.vr_base.specs.declared.design.Scan.{Scan};
 ghost use Rattle.vr_base.specs.declared.project.ProjectFile.{ProjectFile};
 ghost use Rattle.vr_base.specs.declared.linking.LinkFault.TheVariants.{DuplicateUnit};
 ghost use Rattle.scan_spec.specs.Dependencies.{LinkUnit, duplicate_of, first_duplicate, is_package_kind, link_unit, link_units, spelled_by};
+ghost use Rattle.file_outlines.specs.Outlines.{FilesAreOf};
 ghost use Rattle.file_graph.specs.Keys.{is_same_key};
 ghost use Rattle.file_graph.specs.Indexes.{AddsAll, AddsUnit, ArePlacesOfFiles, GivesOrFaults, IsIndex, IsOfFile, IsUnitOf, Refuses};
 
 use crate::key::{UnitKey, unit_key};
 use crate::spelling::spelled;
+use file_outlines::FileOutline;
 use indexmap::IndexMap;
 use std::alloc::Global;
-use vr_base::{
-    FILE_LIMIT, FileName, LinkFault, NoMemory, Project, Scan, Scans, TextList, Unit, UnitKind,
-};
+use vr_base::{FILE_LIMIT, FileName, Items, LinkFault, NoMemory, Project, Unit, UnitKind};
 
 /// The position of the file of a unit, and whether the unit is a package.
 #[derive(Clone, Copy)]
@@ -111,19 +112,19 @@ fn add_file(
     alloc: Global,
     project: &Project,
     file: u32,
-    scan: &Scan,
+    designs: &[Unit],
     index: &mut Index,
 ) -> Result<(), LinkFault>
     requires file { file < length project.now.files }
     requires places { ArePlacesOfFiles (length project.now.files) index.now }
     ensures places { OnOk result (ArePlacesOfFiles (length project.now.files) index.new) }
-    ensures added { (units : List LinkUnit) (named : ProjectFile) (text : List ℕ) →
+    ensures added { (units : List LinkUnit) (named : ProjectFile) (text : List ℕ) (scan : Scan) →
         IsIndex project.now.files units index.old →
         slice_get project.now.files file ≡ Some named →
         AddsAll project.now.files units
-        (map (link_unit file named text scan.now) scan.now.units) index.new result }
+        (map (link_unit file named text scan) designs.now) index.new result }
 {
-    for unit in scan.units.as_slice() {
+    for unit in designs {
         add_unit(alloc, project, file, unit, index)?;
     }
     Ok(())
@@ -134,20 +135,20 @@ fn add_file(
 pub fn index_of(
     alloc: Global,
     project: &Project,
-    _texts: &TextList,
-    scans: &Scans,
+    files: &Items<FileOutline>,
 ) -> Result<Index, LinkFault>
     requires few { length project.now.files ≤ FILE_LIMIT }
-    requires each { length _texts.now ≡ length project.now.files }
-    requires scans { length scans.now ≡ length project.now.files }
+    requires each { length files.now ≡ length project.now.files }
     ensures places { IfOk result (λ index. ArePlacesOfFiles (length project.now.files) index) }
-    ensures index { GivesOrFaults
-        (first_duplicate [] (link_units 0 project.now.files _texts.now scans.now))
-        (IsIndex project.now.files (link_units 0 project.now.files _texts.now scans.now)) result }
+    ensures index { (texts : List (List ℕ)) (scans : List Scan) →
+        FilesAreOf texts scans files.now → GivesOrFaults
+        (first_duplicate [] (link_units 0 project.now.files texts scans))
+        (IsIndex project.now.files (link_units 0 project.now.files texts scans)) result }
 {
     let mut index = Index::new(alloc);
     for file in 0..project.files.len() {
-        add_file(alloc, project, file as u32, scans.get(file), &mut index)?;
+        let units = files.get(file).units.as_slice();
+        add_file(alloc, project, file as u32, units, &mut index)?;
     }
     Ok(index)
 }

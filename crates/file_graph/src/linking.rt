@@ -1,11 +1,13 @@
 //! Which files of a project depend on which, and the warnings about it.
 
-ghost use Rattle.std.specs.Prelude.{◌≡◌, ◌≤◌, IfOk, length};
+ghost use Rattle.std.specs.Prelude.{◌≡◌, ◌≤◌, List, IfOk, length};
 ghost use Rattle.std.specs.List.{All};
+ghost use Rattle.vr_base.specs.declared.design.Scan.{Scan};
 ghost use Rattle.scan_spec.specs.Scans.{AreScansOf};
 ghost use Rattle.scan_spec.specs.Dependencies.{link_of, link_units};
 ghost use Rattle.order_spec.specs.BuildOrder.{AreEdges};
-ghost use Rattle.name_scope.specs.Scopes.{AreRolesOf, IsTextSmall};
+ghost use Rattle.file_outlines.specs.Outlines.{AreOutlined, AreOutlinesOf};
+ghost use Rattle.file_outlines.specs.Roles.{IsTextSmall};
 ghost use Rattle.name_scope.specs.Tables.{AreVisible};
 ghost use Rattle.file_graph.specs.Indexes.{ArePlacesOfFiles};
 ghost use Rattle.file_graph.specs.Linking.{AreRowsOf, GivesAll, Knows};
@@ -16,34 +18,33 @@ use crate::libraries::libraries_of;
 use crate::pairs::rows_of_pairs;
 use crate::seen::{Tables, no_scratch};
 use crate::units::link_file;
-use name_scope::{roles_of_files, visible_sets_by_roles};
+use file_outlines::{Outlines, outlines_of};
+use name_scope::visible_sets_by_outlines;
 use position_set::PositionSet;
 use std::alloc::Global;
-use vr_base::{
-    Edges, FILE_LIMIT, Items, LinkFault, Linked, Project, RoleList, Scans, TextList, WarningList,
-};
+use vr_base::{Edges, FILE_LIMIT, LinkFault, Linked, Project, Scans, TextList, WarningList};
 
 /// Takes up the references of all files.
 fn link_files(
     alloc: Global,
     project: &Project,
     texts: &TextList,
-    scans: &Scans,
-    roles: &Items<RoleList>,
+    outlines: &Outlines,
     tables: &Tables,
     rows: &[PositionSet],
 ) -> Result<Linked, LinkFault>
     requires few { length project.now.files ≤ FILE_LIMIT }
     requires each { length texts.now ≡ length project.now.files }
-    requires scans { AreScansOf texts.now scans.now }
     requires small { All IsTextSmall texts.now }
-    requires roles { AreRolesOf texts.now scans.now roles.now }
+    requires outlined { AreOutlined texts.now outlines.now }
     requires rows { AreRowsOf project.now rows.now }
     requires places { ArePlacesOfFiles (length project.now.files) tables.now.index }
-    requires seen { AreVisible project.now.files texts.now scans.now tables.now.sets }
-    requires known { Knows project.now
-        (link_units 0 project.now.files texts.now scans.now) tables.now }
-    ensures { GivesAll project.now (link_units 0 project.now.files texts.now scans.now) result }
+    requires seen { (scans : List Scan) → AreOutlinesOf texts.now scans outlines.now →
+        AreVisible project.now.files texts.now scans tables.now.sets }
+    requires known { (scans : List Scan) → AreOutlinesOf texts.now scans outlines.now →
+        Knows project.now (link_units 0 project.now.files texts.now scans) tables.now }
+    ensures { (scans : List Scan) → AreOutlinesOf texts.now scans outlines.now →
+        GivesAll project.now (link_units 0 project.now.files texts.now scans) result }
 {
     let count = project.files.len();
     let mut edges = Edges::new(alloc);
@@ -59,8 +60,7 @@ fn link_files(
             tables,
             file as u32,
             text,
-            scans.get(file),
-            roles.get(file),
+            outlines.files.get(file),
             &mut scratch,
             &mut row,
             &mut warnings,
@@ -89,43 +89,33 @@ pub fn link(
         (link_of project.now (link_units 0 project.now.files texts.now scans.now)) result }
     ensures edges { IfOk result (λ linked. AreEdges linked.edges) }
 {
-    let roles = roles_of_files(alloc, texts, scans)?;
-    link_by_roles(alloc, project, texts, scans, &roles)
+    let outlines = outlines_of(alloc, texts, scans)?;
+    link_by_outlines(alloc, project, texts, &outlines)
 }
 
-/// `link` for a caller that has the roles of the tokens of all files already.
-pub fn link_by_roles(
+/// `link` for a caller that has the outlines of all files, and not their tokens.
+pub fn link_by_outlines(
     alloc: Global,
     project: &Project,
     texts: &TextList,
-    scans: &Scans,
-    roles: &Items<RoleList>,
+    outlines: &Outlines,
 ) -> Result<Linked, LinkFault>
     requires few { length project.now.files ≤ FILE_LIMIT }
     requires each { length texts.now ≡ length project.now.files }
-    requires scans { AreScansOf texts.now scans.now }
     requires small { All IsTextSmall texts.now }
-    requires roles { AreRolesOf texts.now scans.now roles.now }
-    ensures exact { GivesLinks
-        (link_of project.now (link_units 0 project.now.files texts.now scans.now)) result }
+    requires outlined { AreOutlined texts.now outlines.now }
+    ensures exact { (scans : List Scan) → AreOutlinesOf texts.now scans outlines.now →
+        GivesLinks (link_of project.now (link_units 0 project.now.files texts.now scans)) result }
     ensures edges { IfOk result (λ linked. AreEdges linked.edges) }
 {
-    let index = index_of(alloc, project, texts, scans)?;
+    let index = index_of(alloc, project, &outlines.files)?;
     let libraries = libraries_of(alloc, project)?;
-    let sets = visible_sets_by_roles(alloc, project, texts, scans, roles)?;
+    let sets = visible_sets_by_outlines(alloc, project, texts, outlines)?;
     let rows = rows_of_pairs(alloc, project)?;
     let tables = Tables {
         index,
         libraries,
         sets,
     };
-    link_files(
-        alloc,
-        project,
-        texts,
-        scans,
-        roles,
-        &tables,
-        rows.as_slice(),
-    )
+    link_files(alloc, project, texts, outlines, &tables, rows.as_slice())
 }

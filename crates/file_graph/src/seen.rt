@@ -1,15 +1,15 @@
 //! The references of a design unit to visible libraries.
 
-ghost use Rattle.std.specs.Prelude.{◌≡◌, ◌<◌, ◌≤◌, List, IfOk, OnOk, Some, false, length, map, slice_get, true};
+ghost use Rattle.std.specs.Prelude.{◌≡◌, ◌<◌, List, IfOk, OnOk, false, length, map, true};
+ghost use Rattle.std.specs.List.{All};
 ghost use Rattle.std.specs.Option.{option_map};
 ghost use Rattle.std.specs.Str.{bytes_eq};
-ghost use Rattle.vr_base.specs.declared.design.Unit.{Unit as DesignUnit};
-ghost use Rattle.scan_spec.specs.References.{ref_at, work};
-ghost use Rattle.scan_spec.specs.Scans.{IsScanOf};
-ghost use Rattle.scan_spec.specs.Units.{AreTokensOf, name_of, roles_of};
+ghost use Rattle.scan_spec.specs.References.{work};
 ghost use Rattle.scan_spec.specs.Dependencies.{LinkUnit, missing_of, names_unit};
+ghost use Rattle.vhdl_lex.specs.Pieces.{LiesIn};
+ghost use Rattle.vhdl_units.specs.Names.{token_name};
+ghost use Rattle.vhdl_refs.specs.Mentions.{NamedLiesIn, named_ref, structural_of};
 ghost use Rattle.name_scope.specs.Tables.{table_sees};
-ghost use Rattle.vhdl_refs.specs.Places.{AreRefPlaces, IsRefPlace, structural_refs};
 ghost use Rattle.file_graph.specs.Indexes.{ArePlacesOfFiles, GivesOrFaults};
 ghost use Rattle.file_graph.specs.Libraries.{stands_outside};
 ghost use Rattle.file_graph.specs.Linking.{IsLooked, Knows, LinksRefs, Stands, is_inside, named_library, seen_library};
@@ -25,11 +25,10 @@ use name_scope::VisibleLibraries;
 use position_set::PositionSet;
 use std::alloc::Global;
 use std::mem::replace;
-use vhdl_refs::{RefPlace, no_ref, ref_at, structural_ref};
-use vhdl_units::{is_named, name_in};
+use vhdl_refs::{NamedRef, no_ref, ref_in, structural_ref};
+use vhdl_units::{name_of_token, token_has_name};
 use vr_base::{
-    FILE_LIMIT, FileName, Items, LinkFault, NoMemory, Project, Ref, Role, RoleList, Scan,
-    TEXT_LIMIT, Text, Tokens, UnitId,
+    FILE_LIMIT, FileName, LinkFault, MaybeText, NoMemory, Project, Ref, Text, Token, Unit, UnitId,
 };
 
 static WORK: [u8; 4] = *b"work";
@@ -105,32 +104,30 @@ fn look_up(tables: &Tables, id: UnitId, own: &Text, name: Text) -> Looked
     }
 }
 
-/// Looks the name at a token up, unless it was the last one.
+/// Looks the name that a token is up, unless it was the last one.
 fn look_at(
     alloc: Global,
     tables: &Tables,
     id: UnitId,
     own: &Text,
     text: &[u8],
-    tokens: &Tokens,
-    at: usize,
+    token: Token,
     looked: &mut Looked,
 ) -> Result<bool, NoMemory>
     requires file { id.file < length tables.now.sets.starts }
-    requires tokens { AreTokensOf text.now tokens.now }
-    requires within { at < length tokens.now.list }
+    requires lies { LiesIn text.now token }
     requires known { IsLooked tables.now id own.now looked.old }
     ensures known { OnOk result (IsLooked tables.now id own.now looked.new) }
-    ensures inside { IfOk result (λ inside. inside ≡
-        is_inside tables.now id own.now (name_of text.now tokens.now.list at)) }
+    ensures inside { IfOk result (λ inside.
+        inside ≡ is_inside tables.now id own.now (token_name text.now token)) }
 {
     if looked.known {
-        if is_named(text, tokens, at, looked.name.bytes()) {
+        if token_has_name(text, token, looked.name.bytes()) {
             return Ok(looked.inside);
         }
     }
     let used = replace(&mut looked.name, Text::new(alloc));
-    *looked = look_up(tables, id, own, name_in(text, tokens, at, used)?);
+    *looked = look_up(tables, id, own, name_of_token(text, token, used)?);
     Ok(looked.inside)
 }
 
@@ -156,7 +153,6 @@ fn look_named(
 /// What references leave behind: memory that the next ones use, and what was looked up last.
 #[derive(Drop)]
 pub struct Scratch {
-    pub places: Items<RefPlace>,
     pub reference: Ref,
     pub key: UnitKey,
     pub other: UnitKey,
@@ -166,7 +162,6 @@ pub struct Scratch {
 /// Nothing, which takes no memory.
 pub fn no_scratch(alloc: Global) -> Scratch {
     Scratch {
-        places: Items::new(alloc),
         reference: no_ref(alloc),
         key: no_key(alloc),
         other: no_key(alloc),
@@ -300,35 +295,29 @@ fn link_own(
     )
 }
 
-/// Takes up the reference of a unit by its structure, if it has one.
+/// Takes up the reference of a unit by its structure, if it has one. A configuration configures this architecture.
 pub fn link_structural(
     alloc: Global,
     project: &Project,
     tables: &Tables,
     id: UnitId,
     file: &FileName,
-    text: &[u8],
-    scan: &Scan,
-    roles: &RoleList,
+    design: &Unit,
+    configured: &MaybeText,
     scratch: &mut Scratch,
     row: &mut PositionSet,
 ) -> Result<(), LinkFault>
     requires places { ArePlacesOfFiles FILE_LIMIT tables.now.index }
     requires file { id.file < length tables.now.sets.starts }
-    requires scan { IsScanOf text.now scan.now }
-    requires small { length text.now ≤ TEXT_LIMIT }
-    requires roles { roles.now ≡ roles_of text.now scan.now.tokens.list }
-    requires unit { id.unit < length scan.now.units }
     ensures known { OnOk result (IsLooked tables.now id file.now.library scratch.new.looked) }
-    ensures links { (units : List LinkUnit) (unit : LinkUnit) (design : DesignUnit) →
+    ensures links { (units : List LinkUnit) (unit : LinkUnit) →
         Knows project.now units tables.now → Stands units tables.now id file.now unit →
-        slice_get scan.now.units id.unit ≡ Some design →
-        LinksRefs project.now units unit (structural_refs text.now scan.now.tokens.list design)
-        row.old row.new result }
+        LinksRefs project.now units unit
+        (structural_of configured.now design.now design.now.kind) row.old row.new result }
 {
     scratch.looked.known = false;
     let used = replace(&mut scratch.reference, no_ref(alloc));
-    let (is_there, reference) = structural_ref(alloc, text, scan, roles, id.unit, used)?;
+    let (is_there, reference) = structural_ref(alloc, design, configured, used)?;
     if !is_there {
         hand_back(&mut scratch.reference, reference);
         return Ok(());
@@ -338,40 +327,43 @@ pub fn link_structural(
     linked
 }
 
-/// Takes up the reference by name at a place. Its library alone is named first, and no more where nothing is looked for there.
-fn link_place(
+/// Takes up a reference by name. Its library alone is named first, and no more where nothing is looked for there.
+fn link_named(
     alloc: Global,
     project: &Project,
     tables: &Tables,
     id: UnitId,
     file: &FileName,
     text: &[u8],
-    tokens: &Tokens,
-    roles: &[Role],
-    place: RefPlace,
+    named: &NamedRef,
     scratch: &mut Scratch,
     row: &mut PositionSet,
 ) -> Result<(), LinkFault>
     requires places { ArePlacesOfFiles FILE_LIMIT tables.now.index }
     requires file { id.file < length tables.now.sets.starts }
-    requires tokens { AreTokensOf text.now tokens.now }
-    requires roles { roles.now ≡ roles_of text.now tokens.now.list }
-    requires place { IsRefPlace roles.now place }
+    requires lies { NamedLiesIn text.now named.now }
     requires known { IsLooked tables.now id file.now.library scratch.old.looked }
     ensures known { OnOk result (IsLooked tables.now id file.now.library scratch.new.looked) }
     ensures links { (units : List LinkUnit) (unit : LinkUnit) → Knows project.now units tables.now →
         Stands units tables.now id file.now unit →
-        GivesOrFaults (missing_of project.now units unit (ref_at text.now tokens.now.list place.at))
+        GivesOrFaults (missing_of project.now units unit (named_ref text.now named.now))
         (λ value. HasAdded (stands_at (names_unit project.now units unit
-        (ref_at text.now tokens.now.list place.at)) units) row.old row.new) result }
+        (named_ref text.now named.now)) units) row.old row.new) result }
 {
-    let at = place.at as usize;
     let looked = &mut scratch.looked;
-    if !look_at(alloc, tables, id, &file.library, text, tokens, at, looked)? {
+    if !look_at(
+        alloc,
+        tables,
+        id,
+        &file.library,
+        text,
+        named.library,
+        looked,
+    )? {
         return Ok(());
     }
     let used = replace(&mut scratch.reference, no_ref(alloc));
-    let reference = ref_at(alloc, text, tokens, roles, place, used)?;
+    let reference = ref_in(alloc, text, named, used)?;
     let linked = link_ref(
         alloc,
         project,
@@ -387,36 +379,29 @@ fn link_place(
     linked
 }
 
-/// Takes up the references by name at places of a unit.
-pub fn link_places(
+/// Takes up the references of a unit by name.
+pub fn link_refs(
     alloc: Global,
     project: &Project,
     tables: &Tables,
     id: UnitId,
     file: &FileName,
     text: &[u8],
-    tokens: &Tokens,
-    roles: &[Role],
-    places: &[RefPlace],
+    refs: &[NamedRef],
     scratch: &mut Scratch,
     row: &mut PositionSet,
 ) -> Result<(), LinkFault>
     requires places { ArePlacesOfFiles FILE_LIMIT tables.now.index }
     requires file { id.file < length tables.now.sets.starts }
-    requires tokens { AreTokensOf text.now tokens.now }
-    requires roles { roles.now ≡ roles_of text.now tokens.now.list }
-    requires found { AreRefPlaces roles.now places.now }
+    requires lie { All (NamedLiesIn text.now) refs.now }
     requires known { IsLooked tables.now id file.now.library scratch.old.looked }
     ensures { (units : List LinkUnit) (unit : LinkUnit) → Knows project.now units tables.now →
         Stands units tables.now id file.now unit →
         LinksRefs project.now units unit
-        (map (λ place. ref_at text.now tokens.now.list place.at) places.now)
-        row.old row.new result }
+        (map (named_ref text.now) refs.now) row.old row.new result }
 {
-    for place in places {
-        link_place(
-            alloc, project, tables, id, file, text, tokens, roles, *place, scratch, row,
-        )?;
+    for named in refs {
+        link_named(alloc, project, tables, id, file, text, named, scratch, row)?;
     }
     Ok(())
 }

@@ -1,26 +1,22 @@
 //! What the design units of a file refer to.
 
-ghost use Rattle.std.specs.Prelude.{◌≡◌, ◌<◌, ◌≤◌, Some, List, length, slice_get};
-ghost use Rattle.vr_base.specs.declared.design.Unit.{Unit as DesignUnit};
+ghost use Rattle.std.specs.Prelude.{◌≡◌, ◌<◌, ◌≤◌, ◌++◌, Some, List, length, map, slice_get};
+ghost use Rattle.vr_base.specs.declared.design.Scan.{Scan};
 ghost use Rattle.vr_base.specs.declared.project.ProjectFile.{ProjectFile};
-ghost use Rattle.scan_spec.specs.Units.{roles_of};
-ghost use Rattle.scan_spec.specs.References.{refs_of};
-ghost use Rattle.scan_spec.specs.Scans.{IsScanOf};
 ghost use Rattle.scan_spec.specs.Dependencies.{LinkUnit, link_unit};
+ghost use Rattle.vhdl_refs.specs.Mentions.{MentionsLieIn, named_ref, structural_of};
+ghost use Rattle.file_outlines.specs.Outlines.{IsOutlineOf, OutlineLiesIn};
 ghost use Rattle.file_graph.specs.Indexes.{ArePlacesOfFiles, GivesOrFaults};
 ghost use Rattle.file_graph.specs.Linking.{FileGives, Knows, StandAll, Stands, unit_lacks, refers_from};
 ghost use Rattle.file_graph.specs.Rows.{HasAdded};
 
-use crate::seen::{Scratch, Tables, hand_back, link_places, link_structural};
-use crate::warnings::note_unit;
+use crate::seen::{Scratch, Tables, link_refs, link_structural};
+use crate::warnings::note_uses;
+use file_outlines::FileOutline;
 use position_set::PositionSet;
 use std::alloc::Global;
-use std::mem::replace;
-use vhdl_refs::ref_places;
-use vr_base::{
-    FILE_LIMIT, FileName, Items, LinkFault, Project, RoleList, Scan, TEXT_LIMIT, UnitId,
-    WarningList,
-};
+use vhdl_refs::Mentions;
+use vr_base::{FILE_LIMIT, FileName, LinkFault, Project, TEXT_LIMIT, Unit, UnitId, WarningList};
 
 /// Takes up the references of a unit.
 fn link_unit(
@@ -30,44 +26,43 @@ fn link_unit(
     id: UnitId,
     file: &FileName,
     text: &[u8],
-    scan: &Scan,
-    roles: &RoleList,
+    design: &Unit,
+    mentions: &Mentions,
     scratch: &mut Scratch,
     row: &mut PositionSet,
 ) -> Result<(), LinkFault>
     requires places { ArePlacesOfFiles FILE_LIMIT tables.now.index }
     requires file { id.file < length tables.now.sets.starts }
-    requires scan { IsScanOf text.now scan.now }
-    requires small { length text.now ≤ TEXT_LIMIT }
-    requires roles { roles.now ≡ roles_of text.now scan.now.tokens.list }
-    requires unit { id.unit < length scan.now.units }
-    ensures { (units : List LinkUnit) (unit : LinkUnit) (design : DesignUnit) →
+    requires lie { MentionsLieIn text.now mentions.now }
+    ensures { (units : List LinkUnit) (unit : LinkUnit) →
         Knows project.now units tables.now → Stands units tables.now id file.now unit →
-        slice_get scan.now.units id.unit ≡ Some design →
-        unit.refs ≡ refs_of text.now scan.now.tokens.list design →
+        unit.refs ≡ structural_of mentions.now.configured design.now design.now.kind
+        ++ map (named_ref text.now) mentions.now.refs →
         GivesOrFaults (unit_lacks project.now units unit)
         (λ value. HasAdded (refers_from project.now units unit unit.refs) row.old row.new) result }
 {
     link_structural(
-        alloc, project, tables, id, file, text, scan, roles, scratch, row,
+        alloc,
+        project,
+        tables,
+        id,
+        file,
+        design,
+        &mentions.configured,
+        scratch,
+        row,
     )?;
-    let used = replace(&mut scratch.places, Items::new(alloc));
-    let places = ref_places(text, scan, roles, id.unit, used)?;
-    let linked = link_places(
+    link_refs(
         alloc,
         project,
         tables,
         id,
         file,
         text,
-        &scan.tokens,
-        roles.as_slice(),
-        places.as_slice(),
+        mentions.refs.as_slice(),
         scratch,
         row,
-    );
-    hand_back(&mut scratch.places, places);
-    linked
+    )
 }
 
 /// Takes up the references of a file's units, and notes their uses of whole libraries.
@@ -77,8 +72,7 @@ pub fn link_file(
     tables: &Tables,
     file: u32,
     text: &[u8],
-    scan: &Scan,
-    roles: &RoleList,
+    outline: &FileOutline,
     scratch: &mut Scratch,
     row: &mut PositionSet,
     warnings: &mut WarningList,
@@ -86,25 +80,28 @@ pub fn link_file(
     requires places { ArePlacesOfFiles FILE_LIMIT tables.now.index }
     requires file { file < length project.now.files }
     requires each { length tables.now.sets.starts ≡ length project.now.files }
-    requires scan { IsScanOf text.now scan.now }
     requires small { length text.now ≤ TEXT_LIMIT }
-    requires roles { roles.now ≡ roles_of text.now scan.now.tokens.list }
-    ensures { (units : List LinkUnit) (named : ProjectFile) → Knows project.now units tables.now →
+    requires lies { OutlineLiesIn text.now outline.now }
+    ensures { (units : List LinkUnit) (named : ProjectFile) (scan : Scan) →
+        IsOutlineOf text.now scan outline.now → Knows project.now units tables.now →
         slice_get project.now.files file ≡ Some named →
-        StandAll units tables.now file named text.now scan.now →
-        FileGives project.now units (link_unit file named text.now scan.now) scan.now.units
+        StandAll units tables.now file named text.now scan →
+        FileGives project.now units (link_unit file named text.now scan) scan.units
         row.old row.new warnings.old warnings.new result }
 {
     let name = &project.files.get(file as u64).name;
-    for number in 0..scan.units.len() {
+    for number in 0..outline.units.len() {
         let id = UnitId {
             file,
             unit: number as u32,
         };
+        let design = outline.units.get(number);
+        let mentions = outline.mentions.get(number);
         link_unit(
-            alloc, project, tables, id, name, text, scan, roles, scratch, row,
+            alloc, project, tables, id, name, text, design, mentions, scratch, row,
         )?;
-        note_unit(alloc, tables, id, name, text, scan, roles, warnings)?;
+        let whole = mentions.whole.as_slice();
+        note_uses(alloc, tables, id, name, text, whole, warnings)?;
     }
     Ok(())
 }

@@ -1,16 +1,16 @@
 -- A reference counts where its library is seen and looked into.
 use Rattle.std.proofs.Common.{◌∙◌, sym, subst}
 use Rattle.vr_base.specs.declared.refs.Ref.{Ref}
-use Rattle.scan_spec.specs.References.{ref_at}
 use Rattle.scan_spec.specs.Dependencies.{missing_of, names_unit}
+use Rattle.vhdl_refs.specs.Mentions.{named_ref}
 use Rattle.file_graph.specs.Indexes.{GivesOrFaults}
 use Rattle.file_graph.specs.Rows.{HasAdded, stands_at}
 use Rattle.file_graph.proofs.InsideLemmas.{linked_outside}
-use Rattle.file_graph.proofs.seen.link_place.Goals as goal
+use Rattle.file_graph.proofs.seen.link_named.Goals as goal
 
 pub returns-then-not-branch-clause-links : goal.returns-then-not-branch-clause-links
 returns-then-not-branch-clause-links c units unit known stands =
-    linked_outside c.args.project.now units unit (ref_at c.args.text.now c.args.tokens.now.list c.args.place.at) c.args.tables.now c.args.id c.args.file.now known stands c.args.row.now (sym c.in_ok-look_at.ensures.inside ∙ c.if-not-branch.true)
+    linked_outside c.args.project.now units unit (named_ref c.args.text.now c.args.named.now) c.args.tables.now c.args.id c.args.file.now known stands c.args.row.now (sym c.in_ok-look_at.ensures.inside ∙ c.if-not-branch.true)
 
 pub returns-clause-links : goal.returns-clause-links
 returns-clause-links c units unit known stands =
