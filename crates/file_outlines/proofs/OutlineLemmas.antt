@@ -7,14 +7,14 @@ use Rattle.std.proofs.lemmas.List.{append-nil, length-map, length_push}
 use Rattle.std.proofs.lemmas.Option.{slice_get-get_or, slice_get_within}
 use Rattle.vr_base.specs.declared.design.Scan.{Scan}
 use Rattle.scan_spec.specs.Units.{role_of, roles_of}
-use Rattle.scan_spec.specs.Scans.{IsScanOf}
+use Rattle.scan_spec.specs.Scans.{AreScansOf, IsScanOf}
 use Rattle.scan_spec.proofs.Lying.{tokens_few}
 use Rattle.scan_spec.proofs.Placed.{units_few}
 use Rattle.vhdl_refs.specs.Mentions.{MentionsLieIn}
 use Rattle.file_outlines.specs.declared.outlines.FileOutline.{FileOutline}
 use Rattle.file_outlines.specs.declared.outlines.Outlines.{Outlines}
 use Rattle.file_outlines.specs.declared.outlines.UnitScope.{UnitScope}
-use Rattle.file_outlines.specs.Outlines.{AreOutlinesOf, FilesAreOf, FilesLieIn, HasAdded, IsOutlineOf, MentionsAreOf, OutlineLiesIn, scope_of, scopes_of}
+use Rattle.file_outlines.specs.Outlines.{AreOutlined, AreOutlinesOf, FilesAreOf, FilesLieIn, HasAdded, IsOutlineOf, MentionsAreOf, OutlineLiesIn, scope_of, scopes_of}
 
 pub few_units : (text : List ℕ) (scan : Scan) → IsScanOf text scan → length scan.units ≤ length text
 few_units text scan is =
@@ -122,3 +122,30 @@ got_file texts scans files at file are is =
     let in_texts = slice_get-get_or texts at [] (omega (arith, within, are.each)) in
     let in_scans = slice_get-get_or scans at no_scan (omega (arith, within, are.each, are.scanned)) in
     (get_or texts at [], get_or scans at no_scan, in_texts, in_scans, are.are at (get_or texts at []) (get_or scans at no_scan) file in_texts in_scans is)
+
+-- one scan more
+pub scans_more : (texts : List (List ℕ)) (scans : List Scan) (text : List ℕ) (scan : Scan) → AreScansOf texts scans → IsScanOf text scan → AreScansOf (texts ++ text ∷ []) (scans ++ scan ∷ [])
+scans_more texts scans text scan are is = record {
+  each = length_push scans scan ∙ (ap (λ (n : ℕ). n + 1) are.each ∙ sym (length_push texts text));
+  are = λ i t s in_texts in_scans. by_place i t s (got_push texts text i t in_texts) (got_push scans scan i s in_scans);
+} where
+  by_place : (i : ℕ) (t : List ℕ) (s : Scan) → (slice_get texts i ≡ Some t) ⊎ ((i ≡ length texts) × (text ≡ t)) → (slice_get scans i ≡ Some s) ⊎ ((i ≡ length scans) × (scan ≡ s)) → IsScanOf t s
+  by_place i t s (inl a) (inl b) = are.are i t s a b
+  by_place i t s (inl a) (inr b) = absurd (omega (arith, slice_get_within texts i t a, b.0, are.each))
+  by_place i t s (inr a) (inl b) = absurd (omega (arith, slice_get_within scans i s b, a.0, are.each))
+  by_place i t s (inr a) (inr b) = subst (λ (q : List ℕ). IsScanOf q s) a.1 (subst (IsScanOf text) b.1 is)
+
+pub no_scans : AreScansOf [] []
+no_scans = record { each = refl; are = λ i text scan in_texts in_scans. let never : ⊥ = cc in absurd never }
+
+pub none_outlined : AreOutlined [] (record { scopes = []; files = [] })
+none_outlined = record { scans = []; scanned = no_scans; are = no_outlines; lie = none_lie }
+
+-- the outline of one text more
+pub outlined_more : (texts : List (List ℕ)) (text : List ℕ) (scan : Scan) (old new : Outlines) (are : AreOutlined texts old) → IsScanOf text scan → HasAdded text scan old new → AreOutlined (texts ++ text ∷ []) new
+outlined_more texts text scan old new are is added = record {
+  scans = are.scans ++ scan ∷ [];
+  scanned = scans_more texts are.scans text scan are.scanned is;
+  are = outlines_more texts are.scans text scan old new are.are added;
+  lie = lie_more texts text scan old new are.lie added;
+}

@@ -4,6 +4,7 @@ use Rattle.std.specs.List.{All}
 use Rattle.vr_base.specs.declared.design.Scan.{Scan}
 use Rattle.vr_base.specs.declared.design.Unit.{Unit as DesignUnit}
 use Rattle.scan_spec.specs.References.{library_names}
+use Rattle.scan_spec.specs.Scans.{AreScansOf, IsScanOf}
 use Rattle.vhdl_refs.specs.declared.mentions.Mentions.{Mentions}
 use Rattle.vhdl_refs.specs.Mentions.{AreMentionsOf, MentionsLieIn}
 use Rattle.file_outlines.specs.declared.outlines.FileOutline.{FileOutline}
@@ -52,9 +53,10 @@ pub record AreOutlinesOf (texts : List (List ℕ)) (scans : List Scan) (outlines
   pub files : FilesAreOf texts scans outlines.files
   pub scopes : outlines.scopes ≡ scopes_of texts scans
 
--- these are outlines of files of these texts
+-- these are the outlines of the files of these texts, which have scans
 pub record AreOutlined (texts : List (List ℕ)) (outlines : Outlines) : Type 0 where
   pub scans : List Scan
+  pub scanned : AreScansOf texts scans
   pub are : AreOutlinesOf texts scans outlines
   pub lie : FilesLieIn texts outlines.files
 
@@ -65,3 +67,9 @@ pub record HasAdded (text : List ℕ) (scan : Scan) (old new : Outlines) : Type 
   pub lies : OutlineLiesIn text file
   pub files : new.files ≡ old.files ++ file ∷ []
   pub scopes : new.scopes ≡ old.scopes ++ map (scope_of text scan) scan.units
+
+-- the outline of a text that has a scan was added
+pub record HasOutlined (text : List ℕ) (old new : Outlines) : Type 0 where
+  pub scan : Scan
+  pub is : IsScanOf text scan
+  pub added : HasAdded text scan old new

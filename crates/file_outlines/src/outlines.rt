@@ -131,7 +131,7 @@ impl Outlines {
     }
 
     /// The same for a scan that is lent: its units are copied.
-    fn push_copy(
+    pub fn push_copy(
         &mut self,
         alloc: Global,
         text: &[u8],

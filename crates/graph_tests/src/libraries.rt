@@ -3,7 +3,7 @@
 ghost use Rattle.std.specs.Prelude.{◌≡◌, ◌<◌, ◌≤◌, length, IfOk, IsTrue};
 ghost use Rattle.std.specs.List.{All};
 ghost use Rattle.scan_spec.specs.Scans.{AreScansOf};
-ghost use Rattle.name_scope.specs.Scopes.{IsTextSmall};
+ghost use Rattle.file_outlines.specs.Roles.{IsTextSmall};
 
 use crate::projects::{add, are_small, files_of, project_with, scans_of};
 use name_scope::{VisibleLibraries, visible_libraries, visible_sets};

@@ -3,7 +3,7 @@
 ghost use Rattle.std.specs.Prelude.{◌≡◌, ◌≤◌, length, IfOk, IsTrue};
 ghost use Rattle.std.specs.List.{All};
 ghost use Rattle.scan_spec.specs.Scans.{AreScansOf, IsScanOf};
-ghost use Rattle.name_scope.specs.Scopes.{IsTextSmall};
+ghost use Rattle.file_outlines.specs.Roles.{IsTextSmall};
 
 use std::alloc::Global;
 use std::test::Fail;

@@ -1,8 +1,8 @@
 -- The scans of the files of a project, one after the other.
-use Rattle.std.proofs.Common.{◌≡◌, ℕ, zero, suc, ◌+◌, ◌<◌, ◌≤◌, List, [], ◌∷◌, ◌++◌, length, get_or, drop, Some, Result, Ok, Err, sym, ap, subst, ◌∙◌, arith}
+use Rattle.std.proofs.Common.{◌≡◌, ℕ, zero, suc, ◌+◌, ◌<◌, ◌≤◌, Bool, true, List, [], ◌∷◌, ◌++◌, length, get_or, drop, take, Some, Result, Ok, Err, refl, sym, ap, subst, ◌∙◌, arith}
 use Rattle.std.specs.Prelude.{slice_get}
-use Rattle.std.proofs.lemmas.List.{append-nil, drop_more, drop_all}
-use Rattle.std.proofs.lemmas.Option.{none-some, same_Some}
+use Rattle.std.proofs.lemmas.List.{append-nil, drop_more, drop_all, take_all}
+use Rattle.std.proofs.lemmas.Option.{slice_get-get_or}
 use Rattle.vr_base.specs.declared.file.FileName.{FileName}
 use Rattle.vr_base.specs.declared.project.ProjectFile.{ProjectFile}
 use Rattle.vr_base.specs.declared.lexical.LexFault.{LexFault}
@@ -13,10 +13,13 @@ use Rattle.vr_base.specs.declared.outcome.Refusal.{Refusal}
 use Rattle.vr_base.specs.declared.outcome.Refusal.TheVariants as refusal
 use Rattle.scan_spec.specs.Tokens.{HasFault}
 use Rattle.scan_spec.specs.Units.{HasUnitFault, AreTokensOf}
-use Rattle.scan_spec.specs.Scans.{Finding, Clean, Lexical, Grammatical, IsFinding, IsScanner, IsScanOf}
+use Rattle.file_outlines.specs.declared.outlines.Outlines.{Outlines}
+use Rattle.file_outlines.specs.Outlines.{AreOutlinesOf, FilesLieIn, HasAdded}
+use Rattle.file_outlines.proofs.OutlineLemmas.{lie_more, no_outlines, no_scans, none_lie, outlines_more, scans_more, take_got}
+use Rattle.scan_spec.specs.Scans.{AreScansOf, Finding, Clean, Lexical, Grammatical, IsFinding, IsScanner, IsScanOf}
 use Rattle.scan_spec.proofs.OneFinding.{one_finding}
 use Rattle.project_reading.specs.Reading.{SourceReading, Stops, scan_of, scans_of, and_others}
-use Rattle.project_reading.specs.Scanning.{GivesScan}
+use Rattle.project_reading.specs.Scanning.{AreScanned, GivesScan}
 use Rattle.project_reading.specs.Sources.{Gives}
 use Rattle.project_reading.specs.declared.stops.ReadStop.{ReadStop}
 use Rattle.project_reading.specs.declared.stops.ReadStop.TheVariants as stop
@@ -68,17 +71,50 @@ unfolding scans_of
 all_scans scan files texts i scans whole le h =
     sym h ∙ ap (λ (fs : List ProjectFile). after scans (scans_of scan fs (drop i texts))) (drop_all i files le) ∙ ap (λ (ss : List Scan). Ok ss) (append-nil scans)
 
-abbrev pub AreFirst : List (List ℕ) → List Scan → Type 0
-AreFirst texts scans = (k : ℕ) (text : List ℕ) (scan : Scan) → slice_get texts k ≡ Some text → slice_get scans k ≡ Some scan → IsScanOf text scan
+-- the files up to a position are scanned
+pub record AreFirst (files : List ProjectFile) (texts : List (List ℕ)) (keep : Bool) (count : ℕ) (outlines : Outlines) (kept : List Scan) : Type 0 where
+  pub scans : List Scan
+  pub scanned : AreScansOf (take count texts) scans
+  pub are : AreOutlinesOf (take count texts) scans outlines
+  pub lie : FilesLieIn (take count texts) outlines.files
+  pub kept_are : keep ≡ true → kept ≡ scans
+  pub given : (scan : List ℕ → Finding) → IsScanner scan → after scans (scans_of scan (drop count files) (drop count texts)) ≡ scans_of scan files texts
 
--- an item of a list with one more at its end
-in_pushed : {X : Type 0} (P : ℕ → X → Type 0) (xs : List X) (x : X) → ((k : ℕ) (y : X) → slice_get xs k ≡ Some y → P k y) → P (length xs) x → (k : ℕ) (y : X) → slice_get (xs ++ x ∷ []) k ≡ Some y → P k y
-in_pushed P [] x old last zero y e = subst (P 0) (same_Some x y e) last
-in_pushed P [] x old last (suc k) y e = absurd (none-some y e)
-in_pushed P (z ∷ zs) x old last zero y e = old 0 y e
-in_pushed P (z ∷ zs) x old last (suc k) y e = in_pushed (λ j w. P (suc j) w) zs x (λ j w f. old (suc j) w f) last k y e
+pub none_first : (files : List ProjectFile) (texts : List (List ℕ)) (keep : Bool) → AreFirst files texts keep 0 (record { scopes = []; files = [] }) []
+none_first files texts keep = record {
+  scans = [];
+  scanned = no_scans;
+  are = no_outlines;
+  lie = none_lie;
+  kept_are = λ told. refl;
+  given = λ scan is. after_none (scans_of scan files texts);
+} where
+  after_none : (whole : Result (List Scan) SourceReading) → after [] whole ≡ whole
+  after_none (Ok more) = refl
+  after_none (Err reading) = refl
 
--- one more scan
-pub one_more : (texts : List (List ℕ)) (scans : List Scan) (text : List ℕ) (scan : Scan) → AreFirst texts scans → slice_get texts (length scans) ≡ Some text → IsScanOf text scan → AreFirst texts (scans ++ scan ∷ [])
-one_more texts scans text scan are at is = λ k t s text_at scan_at.
-    in_pushed (λ j w. (u : List ℕ) → slice_get texts j ≡ Some u → IsScanOf u w) scans scan (λ j w e u f. are j u w f e) (λ u f. subst (λ (v : List ℕ). IsScanOf v scan) (same_Some text u (sym at ∙ f)) is) k s scan_at t text_at
+-- one file more
+pub one_more : (files : List ProjectFile) (texts : List (List ℕ)) (keep : Bool) (i : ℕ) (file : ProjectFile) (text : List ℕ) (one : Scan) (old new : Outlines) (kept more : List Scan) → length texts ≡ length files → i < length files → file ≡ get_or files i file → text ≡ get_or texts i text → AreFirst files texts keep i old kept → IsScanOf text one → HasAdded text one old new → (keep ≡ true → more ≡ kept ++ one ∷ []) → AreFirst files texts keep (i + 1) new more
+one_more files texts keep i file text one old new kept more all lt file_is text_is first is added adds =
+    let got : slice_get texts i ≡ Some text = slice_get-get_or texts i text (omega (arith, all, lt)) ∙ ap (λ (t : List ℕ). Some t) (sym text_is) in
+    let next : take (i + 1) texts ≡ take i texts ++ text ∷ [] = take_got texts i text got in
+    record {
+      scans = first.scans ++ one ∷ [];
+      scanned = subst (λ (some : List (List ℕ)). AreScansOf some (first.scans ++ one ∷ [])) (sym next) (scans_more (take i texts) first.scans text one first.scanned is);
+      are = subst (λ (some : List (List ℕ)). AreOutlinesOf some (first.scans ++ one ∷ []) new) (sym next) (outlines_more (take i texts) first.scans text one old new first.are added);
+      lie = subst (λ (some : List (List ℕ)). FilesLieIn some new.files) (sym next) (lie_more (take i texts) text one old new first.lie added);
+      kept_are = λ told. adds told ∙ ap (λ (some : List Scan). some ++ one ∷ []) (first.kept_are told);
+      given = λ scan scanner. scan_then scan scanner files texts i file text first.scans _ all lt file_is text_is (first.given scan scanner) one is;
+    }
+
+pub all_first : (files : List ProjectFile) (texts : List (List ℕ)) (keep : Bool) (i : ℕ) (outlines : Outlines) (kept : List Scan) → length texts ≡ length files → length files ≤ i → AreFirst files texts keep i outlines kept → AreScanned files texts keep (record { outlines = outlines; kept = kept })
+all_first files texts keep i outlines kept all le first =
+    let whole : take i texts ≡ texts = take_all i texts (omega (arith, all, le)) in
+    record {
+      scans = first.scans;
+      scanned = subst (λ (some : List (List ℕ)). AreScansOf some first.scans) whole first.scanned;
+      are = subst (λ (some : List (List ℕ)). AreOutlinesOf some first.scans outlines) whole first.are;
+      lie = subst (λ (some : List (List ℕ)). FilesLieIn some outlines.files) whole first.lie;
+      kept = first.kept_are;
+      given = λ scan scanner. all_scans scan files texts i first.scans _ le (first.given scan scanner);
+    }

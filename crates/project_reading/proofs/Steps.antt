@@ -34,15 +34,12 @@ stops_there next whole stop.NoMemory none = tt
 pub goes_on : {T : Type 0} (next : T → SourceReading) (whole : Result T SourceReading) (value : T) (result : Result ReadProject ReadStop) → whole ≡ Ok value → LeadsTo (next value) result → LeadsTo (then_read next whole) result
 goes_on {T} next whole value result is then = subst (λ (step : Result T SourceReading). LeadsTo (then_read next step) result) (sym is) then
 
-abbrev HasParts : Project → List Scan → ReadProject → Type 0
-HasParts project scans read = (project ≡ read.project) × (scans ≡ read.scans)
-
-has_parts : (mine read : ReadProject) → Found mine ≡ Found read → HasParts mine.project mine.scans read
-has_parts mine read same = (cc, cc)
+same_project : (mine read : ReadProject) → Found mine ≡ Found read → mine.project ≡ read.project
+same_project mine read same = cc
 
 module _ (project : Project) (texts : List (List ℕ)) (scans : List Scan) (read : ReadProject) where
-  module _ (found : List Bench → SourceReading) (has : (tests : List Bench) → found tests ≡ Found read → HasParts project scans read) where
-    of_benches : (said : Result (List Bench) TestFault) → then_read found (tests_or said) ≡ Found read → HasParts project scans read
+  module _ (found : List Bench → SourceReading) (has : (tests : List Bench) → found tests ≡ Found read → project ≡ read.project) where
+    of_benches : (said : Result (List Bench) TestFault) → then_read found (tests_or said) ≡ Found read → project ≡ read.project
     of_benches (Ok tests) is =
         elim (cases_Bool (nat_le (count_of_tests tests) CASE_LIMIT)) [
           | inl few ↦ has tests (sym (ap (then_read found) (cond-true (nat_le (count_of_tests tests) CASE_LIMIT) (Ok tests) (Err (Over limit.Tests CASE_LIMIT)) few)) ∙ is)
@@ -51,25 +48,25 @@ module _ (project : Project) (texts : List (List ℕ)) (scans : List Scan) (read
         ]
     of_benches (Err fault) is = let nothing : ⊥ = cc in absurd nothing
 
-    of_tests : (wanted : Bool) → then_read found (wanted_tests wanted project texts scans) ≡ Found read → HasParts project scans read
+    of_tests : (wanted : Bool) → then_read found (wanted_tests wanted project texts scans) ≡ Found read → project ≡ read.project
     unfolding wanted_tests
     of_tests true is = of_benches (tests_of (sources_of project texts scans)) is
     of_tests false is = has [] is
 
   module _ (wanted : Bool) where
-    of_order : (links : Linked) (said : FileOrder) → then_read (order_reading wanted project texts scans links) (order_or project.files said) ≡ Found read → HasParts project scans read
-    of_order links (Ordered order) is = of_tests (ordered_reading project texts scans links order) (λ tests same. has_parts _ read same) wanted is
+    of_order : (links : Linked) (said : FileOrder) → then_read (order_reading wanted project texts scans links) (order_or project.files said) ≡ Found read → project ≡ read.project
+    of_order links (Ordered order) is = of_tests (ordered_reading project texts links order) (λ tests same. same_project _ read same) wanted is
     of_order links (Cyclic cycle) is = let nothing : ⊥ = cc in absurd nothing
 
-    of_links : (said : Result Linked LinkFault) → then_read (linked_reading wanted project texts scans) (linked_or said) ≡ Found read → HasParts project scans read
+    of_links : (said : Result Linked LinkFault) → then_read (linked_reading wanted project texts scans) (linked_or said) ≡ Found read → project ≡ read.project
     of_links (Ok links) is = of_order links (file_order links.edges) is
     of_links (Err fault) is = let nothing : ⊥ = cc in absurd nothing
 
-    parts : scanned_reading wanted project texts scans ≡ Found read → HasParts project scans read
+    parts : scanned_reading wanted project texts scans ≡ Found read → project ≡ read.project
     unfolding scanned_reading
     parts is =
         elim (cases_Bool project.listed) [
-          | inl listed ↦ of_tests (found_reading project texts scans) (λ tests same. has_parts _ read same) wanted (sym (cond-true project.listed (listed_reading wanted project texts scans) (then_read (linked_reading wanted project texts scans) (links_of project texts scans)) listed) ∙ is)
+          | inl listed ↦ of_tests (found_reading project texts) (λ tests same. same_project _ read same) wanted (sym (cond-true project.listed (listed_reading wanted project texts scans) (then_read (linked_reading wanted project texts scans) (links_of project texts scans)) listed) ∙ is)
           | inr unlisted ↦ of_links (link_of project (link_units 0 project.files texts scans)) (sym (cond-false project.listed (listed_reading wanted project texts scans) (then_read (linked_reading wanted project texts scans) (links_of project texts scans)) unlisted) ∙ is)
         ]
 
@@ -78,10 +75,11 @@ pub is_read : (wanted : Bool) (project : Project) (texts : List (List ℕ)) (sca
 is_read wanted project texts scans proper few fit are (Err e) leads = tt
 is_read wanted project texts scans proper few fit are (Ok read) leads =
     let same = parts project texts scans read wanted leads in record {
-      project = subst IsProject same.0 proper;
-      few = subst (λ (p : Project). length p.files ≤ FILE_LIMIT) same.0 few;
+      project = subst IsProject same proper;
+      few = subst (λ (p : Project). length p.files ≤ FILE_LIMIT) same few;
       texts = texts;
-      fit = subst (λ (p : Project). FitTexts p.files texts) same.0 fit;
-      scans = subst (AreScansOf texts) same.1 are;
-      whole = subst (λ (p : Project). scanned_reading wanted p texts read.scans ≡ Found read) same.0 (subst (λ (ss : List Scan). scanned_reading wanted project texts ss ≡ Found read) same.1 leads);
+      fit = subst (λ (p : Project). FitTexts p.files texts) same fit;
+      scans = scans;
+      scanned = are;
+      whole = subst (λ (p : Project). scanned_reading wanted p texts scans ≡ Found read) same leads;
     }

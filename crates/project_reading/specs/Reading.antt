@@ -149,21 +149,21 @@ wanted_tests wanted project texts scans = if wanted then tests_or (tests_of (sou
 -- ## All
 
 -- a linked project, its graph in compile order
-abbrev pub ordered_reading : Project → List (List ℕ) → List Scan → Linked → List ℕ → List Bench → SourceReading
-ordered_reading project texts scans links order tests = Found (record { project = project; graph = linked project.files texts links.edges order; scans = scans; warnings = links.warnings; tests = tests })
+abbrev pub ordered_reading : Project → List (List ℕ) → Linked → List ℕ → List Bench → SourceReading
+ordered_reading project texts links order tests = Found (record { project = project; graph = linked project.files texts links.edges order; warnings = links.warnings; tests = tests })
 
 abbrev pub order_reading : Bool → Project → List (List ℕ) → List Scan → Linked → List ℕ → SourceReading
-order_reading wanted project texts scans links order = then_read (ordered_reading project texts scans links order) (wanted_tests wanted project texts scans)
+order_reading wanted project texts scans links order = then_read (ordered_reading project texts links order) (wanted_tests wanted project texts scans)
 
 abbrev pub linked_reading : Bool → Project → List (List ℕ) → List Scan → Linked → SourceReading
 linked_reading wanted project texts scans links = then_read (order_reading wanted project texts scans links) (order_or project.files (file_order links.edges))
 
 -- a listed project, its graph in listed order
-abbrev pub found_reading : Project → List (List ℕ) → List Scan → List Bench → SourceReading
-found_reading project texts scans tests = Found (record { project = project; graph = listed project.files texts; scans = scans; warnings = []; tests = tests })
+abbrev pub found_reading : Project → List (List ℕ) → List Bench → SourceReading
+found_reading project texts tests = Found (record { project = project; graph = listed project.files texts; warnings = []; tests = tests })
 
 abbrev pub listed_reading : Bool → Project → List (List ℕ) → List Scan → SourceReading
-listed_reading wanted project texts scans = then_read (found_reading project texts scans) (wanted_tests wanted project texts scans)
+listed_reading wanted project texts scans = then_read (found_reading project texts) (wanted_tests wanted project texts scans)
 
 -- The reading of a project of these texts and scans, with its tests where they are wanted. What is wrong with the names of
 -- its units or with their order comes first.

@@ -1,6 +1,7 @@
 -- What the steps of reading give, and what each answer comes of.
 use Rattle.std.specs.Prelude.{◌≡◌, ℕ, ◌≤◌, Bool, List, length, Result, Ok, Err}
 use Rattle.vr_base.specs.Projects.{IsProject}
+use Rattle.vr_base.specs.declared.design.Scan.{Scan}
 use Rattle.vr_outside.specs.Counts.{Counted}
 use Rattle.order_spec.specs.LinkedGraph.{FitTexts}
 use Rattle.scan_spec.specs.Scans.{AreScansOf}
@@ -42,12 +43,13 @@ IsPlain (Err (stop.Over limit number)) = ⊥
 IsPlain (Err stop.Failed) = Unit {0}
 IsPlain (Err stop.NoMemory) = Unit {0}
 
--- What was read is a project, some text for each of its files, the scans of these texts, and what they give, with tests or
+-- What was read is a project, and what some text for each of its files and the scans of these texts give, with tests or
 -- without, whatever the tree tells.
 pub record IsReadProject (wanted : Bool) (read : ReadProject) : Type 0 where
   pub project : IsProject read.project
   pub few : length read.project.files ≤ FILE_LIMIT
   pub texts : List (List ℕ)
   pub fit : FitTexts read.project.files texts
-  pub scans : AreScansOf texts read.scans
-  pub whole : scanned_reading wanted read.project texts read.scans ≡ Found read
+  pub scans : List Scan
+  pub scanned : AreScansOf texts scans
+  pub whole : scanned_reading wanted read.project texts scans ≡ Found read

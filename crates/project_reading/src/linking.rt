@@ -1,6 +1,7 @@
-//! The graph of a project whose texts and scans are there.
+//! The graph of a project whose texts and outlines are there.
 
 ghost use Rattle.std.specs.Prelude.{◌≡◌, ◌≤◌, ℕ, List, nat_lt, true, false, ◌∷◌, ◌++◌, [], length, Result, Err, IfOk, OnOk};
+ghost use Rattle.vr_base.specs.declared.design.Scan.{Scan};
 ghost use Rattle.vr_base.specs.declared.linking.Linked.{Linked as Links};
 ghost use Rattle.vr_base.specs.declared.linking.LinkFault.{LinkFault as Fault};
 ghost use Rattle.vr_base.specs.Projects.{IsProject};
@@ -10,22 +11,22 @@ ghost use Rattle.test_select.specs.Selection.{count_of_tests};
 ghost use Rattle.test_scan.specs.Benches.{GivesTests, sources_of, tests_of};
 ghost use Rattle.order_spec.specs.BuildOrder.{AreEdges, IsBuildOrder, file_order};
 ghost use Rattle.order_spec.specs.LinkedGraph.{FitTexts};
-ghost use Rattle.name_scope.specs.Scopes.{AreRolesOf};
+ghost use Rattle.file_outlines.specs.Outlines.{AreOutlined, AreOutlinesOf};
 ghost use Rattle.file_graph.specs.Results.{GivesLinks};
 ghost use Rattle.project_reading.specs.Reading.{linked_or, links_of, names_at, order_or, wanted_tests, tests_or, listed_reading, order_reading, linked_reading, then_read, scanned_reading};
 ghost use Rattle.project_reading.specs.Sources.{Gives, LeadsTo, ReadCounts};
 
 use crate::stops::ReadStop;
 use build_order::order;
-use file_graph::link_by_roles;
+use file_graph::link_by_outlines;
+use file_outlines::Outlines;
 use present_graph::graph_of;
 use source_view::listed_graph;
 use std::alloc::Global;
 use test_scan::benches;
 use vr_base::{
-    CASE_LIMIT, Edges, FILE_LIMIT, FileList, Graph, Items, Limit, LinkFault, Linked, NoMemory,
-    Order, OrderFault, Project, ProjectFile, Refusal, RoleList, Scans, TestFault, Tests, TextList,
-    WarningList,
+    CASE_LIMIT, Edges, FILE_LIMIT, FileList, Graph, Limit, LinkFault, Linked, NoMemory, Order,
+    OrderFault, Project, ProjectFile, Refusal, Scans, TestFault, Tests, TextList, WarningList,
 };
 
 /// The most cases of all benches.
@@ -37,8 +38,6 @@ pub struct ReadProject {
     pub project: Project,
     /// Its files in compile order, each with its text and the files that it depends on.
     pub graph: Graph,
-    /// The scans of its files, in project order.
-    pub scans: Scans,
     /// The uses of whole libraries that give no dependency, in project order.
     pub warnings: WarningList,
     /// Its tests, where they were wanted, in project order; else none.
@@ -90,19 +89,18 @@ fn links_of(
     alloc: Global,
     project: &Project,
     texts: &TextList,
-    scans: &Scans,
-    roles: &Items<RoleList>,
+    outlines: &Outlines,
 ) -> Result<Linked, ReadStop>
     requires few { length project.now.files ≤ FILE_LIMIT }
     requires texts { FitTexts project.now.files texts.now }
-    requires scans { AreScansOf texts.now scans.now }
-    requires roles { AreRolesOf texts.now scans.now roles.now }
-    ensures links { Gives (links_of project.now texts.now scans.now) result }
+    requires outlined { AreOutlined texts.now outlines.now }
+    ensures links { (scans : List Scan) → AreOutlinesOf texts.now scans outlines.now →
+        Gives (links_of project.now texts.now scans) result }
     ensures edges { IfOk result (λ links. AreEdges links.edges) }
     ensures count { IfOk result (λ links. length links.edges ≡ length project.now.files) }
     ensures cause { (count : ℕ) → ReadCounts result count count }
 {
-    match link_by_roles(alloc, project, texts, scans, roles) {
+    match link_by_outlines(alloc, project, texts, outlines) {
         Ok(links) => Ok(links),
         Err(fault) => Err(link_stop(fault)),
     }
@@ -217,18 +215,19 @@ fn wanted_tests(
     wanted: bool,
     project: &Project,
     texts: &TextList,
-    scans: &Scans,
+    kept: &Scans,
 ) -> Result<Tests, ReadStop>
     requires few { length project.now.files ≤ FILE_LIMIT }
     requires texts { FitTexts project.now.files texts.now }
-    requires scans { AreScansOf texts.now scans.now }
-    ensures tests { Gives (wanted_tests wanted project.now texts.now scans.now) result }
+    requires kept { wanted ≡ true → AreScansOf texts.now kept.now }
+    ensures tests { (scans : List Scan) → (wanted ≡ true → kept.now ≡ scans) →
+        Gives (wanted_tests wanted project.now texts.now scans) result }
     ensures cause { (count : ℕ) → ReadCounts result count count }
 {
     if !wanted {
         return Ok(Tests::new(alloc));
     }
-    found_tests(alloc, project, texts, scans)
+    found_tests(alloc, project, texts, kept)
 }
 
 /// A listed project, its graph in listed order.
@@ -237,22 +236,22 @@ fn listed_project(
     wanted: bool,
     project: Project,
     texts: TextList,
-    scans: Scans,
+    kept: &Scans,
 ) -> Result<ReadProject, ReadStop>
     requires project { IsProject project }
     requires few { length project.files ≤ FILE_LIMIT }
     requires texts { FitTexts project.files texts }
-    requires scans { AreScansOf texts scans }
-    ensures reading { LeadsTo (listed_reading wanted project texts scans) result }
+    requires kept { wanted ≡ true → AreScansOf texts kept.now }
+    ensures reading { (scans : List Scan) → (wanted ≡ true → kept.now ≡ scans) →
+        LeadsTo (listed_reading wanted project texts scans) result }
     ensures cause { (count : ℕ) → ReadCounts result count count }
 {
-    let tests = wanted_tests(alloc, wanted, &project, &texts, &scans)?;
+    let tests = wanted_tests(alloc, wanted, &project, &texts, kept)?;
     let graph = listed_graph(alloc, &project, texts)?;
     let warnings = WarningList::new(alloc);
     Ok(ReadProject {
         project,
         graph,
-        scans,
         warnings,
         tests,
     })
@@ -264,27 +263,27 @@ fn ordered_project(
     wanted: bool,
     project: Project,
     texts: TextList,
-    scans: Scans,
+    kept: &Scans,
     links: Linked,
     order: &Order,
 ) -> Result<ReadProject, ReadStop>
     requires project { IsProject project }
     requires few { length project.files ≤ FILE_LIMIT }
     requires texts { FitTexts project.files texts }
-    requires scans { AreScansOf texts scans }
+    requires kept { wanted ≡ true → AreScansOf texts kept.now }
     requires edges { AreEdges links.edges }
     requires count { length links.edges ≡ length project.files }
     requires sorted { IsBuildOrder links.edges order.now }
-    ensures reading { LeadsTo (order_reading wanted project texts scans links order.now) result }
+    ensures reading { (scans : List Scan) → (wanted ≡ true → kept.now ≡ scans) →
+        LeadsTo (order_reading wanted project texts scans links order.now) result }
     ensures cause { (count : ℕ) → ReadCounts result count count }
 {
-    let tests = wanted_tests(alloc, wanted, &project, &texts, &scans)?;
+    let tests = wanted_tests(alloc, wanted, &project, &texts, kept)?;
     let Linked { edges, warnings } = links;
     let graph = graph_of(alloc, &project, texts, &edges, order)?;
     Ok(ReadProject {
         project,
         graph,
-        scans,
         warnings,
         tests,
     })
@@ -296,44 +295,47 @@ fn linked_project(
     wanted: bool,
     project: Project,
     texts: TextList,
-    scans: Scans,
+    kept: &Scans,
     links: Linked,
 ) -> Result<ReadProject, ReadStop>
     requires project { IsProject project }
     requires few { length project.files ≤ FILE_LIMIT }
     requires texts { FitTexts project.files texts }
-    requires scans { AreScansOf texts scans }
+    requires kept { wanted ≡ true → AreScansOf texts kept.now }
     requires edges { AreEdges links.edges }
     requires count { length links.edges ≡ length project.files }
-    ensures reading { LeadsTo (linked_reading wanted project texts scans links) result }
+    ensures reading { (scans : List Scan) → (wanted ≡ true → kept.now ≡ scans) →
+        LeadsTo (linked_reading wanted project texts scans links) result }
     ensures cause { (count : ℕ) → ReadCounts result count count }
 {
     let order = order_of(alloc, project.files.as_slice(), &links.edges)?;
-    ordered_project(alloc, wanted, project, texts, scans, links, &order)
+    ordered_project(alloc, wanted, project, texts, kept, links, &order)
 }
 
-/// A project of these texts and scans, with the roles of their tokens. Texts exist once: they are lent until it is known
-/// what depends on what and which tests there are, and then moved into the graph.
+/// A project of these texts, with the outlines of its files, and their scans where tests are wanted. Texts exist once: they
+/// are lent until it is known what depends on what and which tests there are, and then moved into the graph.
 #[tactic(auto, unfolding(crate::specs::Reading::scanned_reading))]
 pub(crate) fn scanned_project(
     alloc: Global,
     wanted: bool,
     project: Project,
     texts: TextList,
-    scans: Scans,
-    roles: &Items<RoleList>,
+    outlines: &Outlines,
+    kept: &Scans,
 ) -> Result<ReadProject, ReadStop>
     requires project { IsProject project }
     requires few { length project.files ≤ FILE_LIMIT }
     requires texts { FitTexts project.files texts }
-    requires scans { AreScansOf texts scans }
-    requires roles { AreRolesOf texts scans roles.now }
-    ensures reading { LeadsTo (scanned_reading wanted project texts scans) result }
+    requires outlined { AreOutlined texts outlines.now }
+    requires kept { wanted ≡ true → AreScansOf texts kept.now }
+    ensures reading { (scans : List Scan) → AreOutlinesOf texts scans outlines.now →
+        (wanted ≡ true → kept.now ≡ scans) →
+        LeadsTo (scanned_reading wanted project texts scans) result }
     ensures cause { (count : ℕ) → ReadCounts result count count }
 {
     if project.listed {
-        return listed_project(alloc, wanted, project, texts, scans);
+        return listed_project(alloc, wanted, project, texts, kept);
     }
-    let links = links_of(alloc, &project, &texts, &scans, roles)?;
-    linked_project(alloc, wanted, project, texts, scans, links)
+    let links = links_of(alloc, &project, &texts, outlines)?;
+    linked_project(alloc, wanted, project, texts, kept, links)
 }

@@ -1,4 +1,4 @@
-//! What is read of a tree: the project in it, with its texts, scans and graph; or why nothing is compiled.
+//! What is read of a tree: the project in it, with its graph; or why nothing is compiled.
 
 ghost use Rattle.std.specs.Prelude.{◌≡◌, ◌≤◌, length, List, ℕ, IfOk};
 ghost use Rattle.vr_base.specs.Projects.{IsProject};
@@ -10,11 +10,11 @@ ghost use Rattle.project_reading.specs.Asked.{file_paths, source_paths, project_
 
 use crate::linking::{ReadProject, scanned_project};
 use crate::projects::find_project;
-use crate::scanning::scans_of;
+use crate::scanning::{Scanning, scan_all};
 use crate::stops::ReadStop;
 use crate::texts::texts_of;
 use std::alloc::Global;
-use vr_base::{FILE_LIMIT, Items, Limit, Project, TextList};
+use vr_base::{FILE_LIMIT, Limit, Project, TextList};
 use vr_outside::Tree;
 
 /// The most files of a project.
@@ -35,14 +35,13 @@ fn scan_texts(
     ensures form { IfOk result (IsReadProject wanted) }
     ensures cause { (count : ℕ) → ReadCounts result count count }
 {
-    let mut roles = Items::new(alloc);
-    let scans = scans_of(
+    let Scanning { outlines, kept } = scan_all(
         alloc,
         project.files.as_slice(),
         texts.as_slice(),
-        &mut roles,
+        wanted,
     )?;
-    scanned_project(alloc, wanted, project, texts, scans, &roles)
+    scanned_project(alloc, wanted, project, texts, &outlines, &kept)
 }
 
 /// What is read of a project of few files over the files of a tree.

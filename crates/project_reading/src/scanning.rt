@@ -1,24 +1,23 @@
-//! The scans of the files of a project, or the refusal of the first file that has a fault.
+//! The outlines of the files of a project, by their scans, or the refusal of the first file that has a fault.
 
-ghost use Rattle.std.specs.Prelude.{◌≡◌, ◌≤◌, ℕ, List, [], ◌∷◌, ◌++◌, length, Err, IfOk};
+ghost use Rattle.std.specs.Prelude.{◌≡◌, ◌≤◌, ℕ, List, [], ◌∷◌, ◌++◌, length, Err, IfOk, OnOk, true};
 ghost use Rattle.vr_base.specs.declared.design.Scan.{Scan as Scanned};
 ghost use Rattle.scan_spec.specs.Tokens.{Scans};
 ghost use Rattle.scan_spec.specs.Units.{AreTokensOf, roles_of};
-ghost use Rattle.scan_spec.specs.Scans.{Finding, IsScanner, AreScansOf};
+ghost use Rattle.scan_spec.specs.Scans.{IsScanOf};
 ghost use Rattle.order_spec.specs.LinkedGraph.{FitTexts};
-ghost use Rattle.name_scope.specs.Scopes.{AreRolesOf};
-ghost use Rattle.project_reading.specs.Reading.{scan_of, scans_of};
-ghost use Rattle.project_reading.specs.Sources.{Gives, ReadCounts};
-ghost use Rattle.project_reading.specs.Scanning.{GivesScan};
+ghost use Rattle.file_outlines.specs.Outlines.{HasAdded};
+ghost use Rattle.project_reading.specs.Sources.{ReadCounts};
+ghost use Rattle.project_reading.specs.Scanning.{GivesScan, GivesScanning};
 
 use crate::stops::ReadStop;
+use file_outlines::Outlines;
 use std::alloc::Global;
-use std::mem::replace;
 use vhdl_lex::scan_with_roles;
 use vhdl_units::outline_by_roles;
 use vr_base::{
-    FileName, Items, LexFault, NoMemory, ProjectFile, Refusal, RoleList, Scan, Scans, TEXT_LIMIT,
-    Text, Tokens, UnitFault,
+    FileName, LexFault, NoMemory, ProjectFile, Refusal, RoleList, Scan, Scans, TEXT_LIMIT, Text,
+    Tokens, UnitFault,
 };
 
 /// A refusal of a file for a lexical fault.
@@ -72,28 +71,6 @@ fn scan_units(
     }
 }
 
-/// The same, where the roles are added to those of the files before.
-fn scan_cut(
-    alloc: Global,
-    file: &FileName,
-    text: &[u8],
-    tokens: Tokens,
-    own: &mut RoleList,
-    roles: &mut Items<RoleList>,
-) -> Result<Scan, ReadStop>
-    requires tokens { AreTokensOf text.now tokens }
-    requires small { length text.now ≤ TEXT_LIMIT }
-    requires own { own.old ≡ roles_of text.now tokens.list }
-    ensures scan { GivesScan file.now text.now result }
-    ensures roles { IfOk result (λ scan.
-        roles.new ≡ roles.old ++ roles_of text.now scan.tokens.list ∷ []) }
-    ensures cause { (count : ℕ) → ReadCounts result count count }
-{
-    let scan = scan_units(alloc, file, text, tokens, own)?;
-    roles.push(replace(own, RoleList::new(alloc)))?;
-    Ok(scan)
-}
-
 /// Why a text with a lexical fault has no scan.
 fn lexical_stop(alloc: Global, file: &FileName, fault: LexFault) -> Result<ReadStop, NoMemory>
     ensures scan { IfOk result (λ stop. (text : List ℕ) →
@@ -121,47 +98,73 @@ fn lexical_stop(alloc: Global, file: &FileName, fault: LexFault) -> Result<ReadS
     }
 }
 
-/// The scan of a file, and the roles of its tokens after those of the files before; or its refusal for its lexical fault
-/// or its fault of the unit grammar.
+/// The scan of a file, and the roles of its tokens; or its refusal for its lexical fault or its fault of the unit grammar.
 fn scan_file(
     alloc: Global,
     file: &FileName,
     text: &[u8],
-    roles: &mut Items<RoleList>,
+    roles: &mut RoleList,
 ) -> Result<Scan, ReadStop>
     requires { length text.now ≤ TEXT_LIMIT }
     ensures scan { GivesScan file.now text.now result }
-    ensures roles { IfOk result (λ scan.
-        roles.new ≡ roles.old ++ roles_of text.now scan.tokens.list ∷ []) }
+    ensures roles { IfOk result (λ scan. roles.new ≡ roles_of text.now scan.tokens.list) }
     ensures cause { (count : ℕ) → ReadCounts result count count }
 {
-    let mut own = RoleList::new(alloc);
-    match scan_with_roles(alloc, text, &mut own) {
-        Ok(tokens) => scan_cut(alloc, file, text, tokens, &mut own, roles),
+    match scan_with_roles(alloc, text, roles) {
+        Ok(tokens) => scan_units(alloc, file, text, tokens, roles),
         Err(fault) => Err(lexical_stop(alloc, file, fault)?),
     }
 }
 
-/// The scans of the files, one a file, in project order, and the roles of the tokens of each; or the refusal of the first
-/// file that has a fault.
-pub(crate) fn scans_of(
+/// Adds the outline of a file, and its scan where scans are kept.
+fn keep_scan(
+    alloc: Global,
+    text: &[u8],
+    scan: Scan,
+    roles: &RoleList,
+    keep: bool,
+    outlines: &mut Outlines,
+    kept: &mut Scans,
+) -> Result<(), NoMemory>
+    requires scan { IsScanOf text.now scan }
+    requires small { length text.now ≤ TEXT_LIMIT }
+    requires roles { roles.now ≡ roles_of text.now scan.tokens.list }
+    ensures added { OnOk result (HasAdded text.now scan outlines.old outlines.new) }
+    ensures kept { OnOk result (keep ≡ true → kept.new ≡ kept.old ++ scan ∷ []) }
+{
+    if !keep {
+        return outlines.push(alloc, text, scan, roles);
+    }
+    outlines.push_copy(alloc, text, &scan, roles)?;
+    kept.push(scan)
+}
+
+/// The outlines of the files of a project, in project order, and where they are kept the scans of these.
+#[derive(Drop)]
+pub(crate) struct Scanning {
+    pub outlines: Outlines,
+    pub kept: Scans,
+}
+
+/// The outlines of the files, and their scans where these are kept; or the refusal of the first file that has a fault. What
+/// isn't kept takes no more memory than one file does.
+pub(crate) fn scan_all(
     alloc: Global,
     files: &[ProjectFile],
     texts: &[Text],
-    roles: &mut Items<RoleList>,
-) -> Result<Scans, ReadStop>
+    keep: bool,
+) -> Result<Scanning, ReadStop>
     requires fit { FitTexts files.now texts.now }
-    requires none { roles.old ≡ [] }
-    ensures are { IfOk result (AreScansOf texts.now) }
-    ensures roles { IfOk result (λ scans. AreRolesOf texts.now scans roles.new) }
-    ensures scans { (scan : List ℕ → Finding) → IsScanner scan →
-        Gives (scans_of scan files.now texts.now) result }
+    ensures scans { GivesScanning files.now texts.now keep result }
     ensures cause { (count : ℕ) → ReadCounts result count count }
 {
-    let mut scans = Scans::new(alloc);
+    let mut outlines = Outlines::new(alloc);
+    let mut kept = Scans::new(alloc);
+    let mut roles = RoleList::new(alloc);
     for i in 0..files.len() {
-        let scan = scan_file(alloc, &files[i].name, texts[i].bytes(), roles)?;
-        scans.push(scan)?;
+        let text = texts[i].bytes();
+        let scan = scan_file(alloc, &files[i].name, text, &mut roles)?;
+        keep_scan(alloc, text, scan, &roles, keep, &mut outlines, &mut kept)?;
     }
-    Ok(scans)
+    Ok(Scanning { outlines, kept })
 }

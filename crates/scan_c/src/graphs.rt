@@ -8,15 +8,13 @@ ghost use Rattle.project_file.specs.Csv.{csv_project};
 ghost use Rattle.scan_c.specs.Projects.{parts_at};
 ghost use Rattle.scan_c.specs.Graphs.{IsGraphed, IsTold, TellsLinks, last_deps};
 
-use crate::scopes::{NothingTold, parts_of, scans_of};
+use crate::scopes::{NothingTold, outlines_of, parts_of};
 use build_order::order;
-use file_graph::link_by_roles;
+use file_graph::link_by_outlines;
 use present_graph::{fit_texts, graph_of};
 use project_file::read_csv_project;
 use std::alloc::Global;
-use vr_base::{
-    Edges, FILE_LIMIT, Graph, Items, LinkFault, OrderFault, Project, ProjectFault, TextList,
-};
+use vr_base::{Edges, FILE_LIMIT, Graph, LinkFault, OrderFault, Project, ProjectFault, TextList};
 
 /// What was told of a project: whether there is a graph, and then how many files it has and how many of them its last file
 /// depends on; or whether files depend on each other in a cycle. Where neither is so, nothing is told.
@@ -94,9 +92,8 @@ fn told_of_texts(alloc: Global, project: &Project, texts: TextList) -> Result<Gr
     if project.files.len() > FILE_LIMIT as u64 {
         return Err(NothingTold);
     }
-    let mut roles = Items::new(alloc);
-    let scans = scans_of(alloc, &texts, &mut roles)?;
-    let linked = link_by_roles(alloc, project, &texts, &scans, &roles)?;
+    let outlines = outlines_of(alloc, &texts)?;
+    let linked = link_by_outlines(alloc, project, &texts, &outlines)?;
     if linked.edges.len() != project.files.len() {
         return Err(NothingTold);
     }

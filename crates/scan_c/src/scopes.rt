@@ -1,19 +1,19 @@
 //! The visible libraries of a project that is handed over as one text, with the places where its files end.
 
-ghost use Rattle.std.specs.Prelude.{◌≡◌, ◌-◌, ◌<◌, ◌≤◌, [], ◌∷◌, ◌++◌, IfOk, codes, drop, false, length, take, true};
+ghost use Rattle.std.specs.Prelude.{◌≡◌, ◌-◌, ◌<◌, ◌≤◌, [], ◌∷◌, ◌++◌, IfOk, OnOk, codes, drop, false, length, take, true};
 ghost use Rattle.std.specs.List.{All};
-ghost use Rattle.scan_spec.specs.Scans.{AreScansOf, IsScanOf};
-ghost use Rattle.scan_spec.specs.Units.{roles_of};
-ghost use Rattle.name_scope.specs.Scopes.{AreRolesOf, IsTextSmall};
+ghost use Rattle.file_outlines.specs.Outlines.{AreOutlined, HasOutlined};
+ghost use Rattle.file_outlines.specs.Roles.{IsTextSmall};
 ghost use Rattle.scan_c.specs.Projects.{HasLibraries, HasScans, parts_at};
 
-use name_scope::visible_libraries_by_roles;
+use file_outlines::Outlines;
+use name_scope::visible_libraries_by_outlines;
 use std::alloc::Global;
 use vhdl_lex::scan_with_roles;
 use vhdl_units::outline_by_roles;
 use vr_base::{
-    FileName, Items, LexFault, NoMemory, Project, ProjectFile, RoleList, Scan, Scans, TEXT_LIMIT,
-    Text, TextList, UnitFault, UnitId,
+    FileName, Items, LexFault, NoMemory, Project, ProjectFile, RoleList, Scan, TEXT_LIMIT, Text,
+    TextList, UnitFault, UnitId,
 };
 
 /// Nothing is told of a project: its ends don't rise within the text, a file is too long or has a fault, or there was no
@@ -73,36 +73,28 @@ pub fn parts_of(alloc: Global, text: &[u8], ends: &[usize]) -> Result<TextList, 
     Ok(parts)
 }
 
-/// The scan of a text, and the roles of its tokens after those of the texts before.
-fn scan_of(alloc: Global, text: &[u8], roles: &mut Items<RoleList>) -> Result<Scan, NothingTold>
+/// Adds the outline of a text to those of the texts before.
+fn outline_text(alloc: Global, text: &[u8], outlines: &mut Outlines) -> Result<(), NothingTold>
     requires { length text.now ≤ TEXT_LIMIT }
-    ensures scan { IfOk result (IsScanOf text.now) }
-    ensures roles { IfOk result (λ scan.
-        roles.new ≡ roles.old ++ roles_of text.now scan.tokens.list ∷ []) }
+    ensures { OnOk result (HasOutlined text.now outlines.old outlines.new) }
 {
-    let mut own = RoleList::new(alloc);
-    let tokens = scan_with_roles(alloc, text, &mut own)?;
-    let units = outline_by_roles(alloc, text, &tokens, &own)?;
-    roles.push(own)?;
-    Ok(Scan { tokens, units })
+    let mut roles = RoleList::new(alloc);
+    let tokens = scan_with_roles(alloc, text, &mut roles)?;
+    let units = outline_by_roles(alloc, text, &tokens, &roles)?;
+    outlines.push(alloc, text, Scan { tokens, units }, &roles)?;
+    Ok(())
 }
 
-/// The scans of texts, in order, and the roles of their tokens.
-pub fn scans_of(
-    alloc: Global,
-    texts: &TextList,
-    roles: &mut Items<RoleList>,
-) -> Result<Scans, NothingTold>
-    requires small { All IsTextSmall texts.now }
-    requires none { roles.old ≡ [] }
-    ensures scans { IfOk result (AreScansOf texts.now) }
-    ensures roles { IfOk result (λ scans. AreRolesOf texts.now scans roles.new) }
+/// The outlines of texts, in order.
+pub fn outlines_of(alloc: Global, texts: &TextList) -> Result<Outlines, NothingTold>
+    requires { All IsTextSmall texts.now }
+    ensures { IfOk result (AreOutlined texts.now) }
 {
-    let mut scans = Scans::new(alloc);
+    let mut outlines = Outlines::new(alloc);
     for at in 0..texts.len() {
-        scans.push(scan_of(alloc, texts.get(at).bytes(), roles)?)?;
+        outline_text(alloc, texts.get(at).bytes(), &mut outlines)?;
     }
-    Ok(scans)
+    Ok(outlines)
 }
 
 /// A file of the library, without a path.
@@ -149,8 +141,7 @@ pub fn scan_files(alloc: Global, text: &[u8], ends: &[usize]) -> Result<(), Noth
     ensures { IfOk result (λ done. HasScans text.now ends.now) }
 {
     let texts = parts_of(alloc, text, ends)?;
-    let mut roles = Items::new(alloc);
-    scans_of(alloc, &texts, &mut roles)?;
+    outlines_of(alloc, &texts)?;
     Ok(())
 }
 
@@ -159,13 +150,12 @@ pub fn library_count(alloc: Global, text: &[u8], ends: &[usize]) -> Result<u64, 
     ensures { IfOk result (HasLibraries text.now ends.now) }
 {
     let texts = parts_of(alloc, text, ends)?;
-    let mut roles = Items::new(alloc);
-    let scans = scans_of(alloc, &texts, &mut roles)?;
+    let outlines = outlines_of(alloc, &texts)?;
     let project = project_of(alloc, files_of(alloc, texts.len())?);
     if texts.is_empty() {
         return Err(NothingTold);
     }
     let first = UnitId { file: 0, unit: 0 };
-    let names = visible_libraries_by_roles(alloc, &project, &texts, &scans, &roles, first)?;
+    let names = visible_libraries_by_outlines(alloc, &project, &texts, &outlines, first)?;
     Ok(names.len())
 }

@@ -10,7 +10,7 @@ use Rattle.vr_base.specs.declared.lexical.Tokens.{Tokens}
 use Rattle.vr_base.specs.declared.limits.TheConstants.{TEXT_LIMIT}
 use Rattle.vr_base.specs.declared.project.ProjectFile.{ProjectFile}
 use Rattle.vr_base.specs.declared.refs.UnitId.{UnitId}
-use Rattle.name_scope.specs.Scopes.{IsTextSmall}
+use Rattle.file_outlines.specs.Roles.{IsTextSmall}
 use Rattle.scan_spec.specs.Units.{AreTokensOf, role_of, roles_of}
 use Rattle.scan_spec.specs.Scans.{IsScanOf}
 use Rattle.scan_spec.specs.UnitPlaces.{IsPlaced}

@@ -4,7 +4,7 @@ use Rattle.vr_base.specs.declared.limits.TheConstants.{FILE_LIMIT, TEXT_LIMIT}
 use Rattle.vr_base.specs.declared.refs.UnitId.{UnitId}
 use Rattle.scan_spec.specs.Scans.{AreScansOf}
 use Rattle.scan_spec.specs.Units.{AreTokensOf, roles_of}
-use Rattle.name_scope.specs.Scopes.{AreRolesOf, IsTextSmall}
+use Rattle.file_outlines.specs.Roles.{AreRolesOf, IsTextSmall}
 use Rattle.test_scan.specs.Benches.{ScannedFiles, design_unit, is_entity_kind, unit_library, unit_scan, unit_text}
 use Rattle.test_scan.specs.declared.files.Files.{Files}
 use Rattle.test_scan.specs.declared.files.Found.{Found}

@@ -2,7 +2,7 @@
 
 ghost use Rattle.std.specs.Prelude.{◌≡◌, ◌≤◌, ℕ, List, All, IfOk, length, map, true};
 ghost use Rattle.scan_spec.specs.Scans.{AreScansOf};
-ghost use Rattle.name_scope.specs.Scopes.{AreRolesOf, IsTextSmall};
+ghost use Rattle.file_outlines.specs.Roles.{AreRolesOf, IsTextSmall};
 ghost use Rattle.test_scan.specs.Benches.{GivesTests, bench_at, design_unit, is_entity_kind, sources_of, tests_found, tests_of, unit_numbers};
 ghost use Rattle.test_scan.specs.Files.{AreEntities, AreFiles, AreInFiles, IsInFiles, scanned};
 ghost use Rattle.test_scan.specs.Architectures.{AreFoundInFiles, HoldsArchitectures};
@@ -13,7 +13,7 @@ use crate::bench::bench_at;
 use crate::files::Files;
 use crate::names::{Names, take_names};
 use crate::numbers::{bench_numbers, unit_numbers};
-use name_scope::roles_of_files;
+use file_outlines::roles_of_files;
 use std::alloc::Global;
 use vr_base::{
     FILE_LIMIT, Items, NoMemory, Project, RoleList, Scans, TestFault, Tests, TextList, UnitId,

@@ -23,7 +23,8 @@ told text ends parts files scans names count same each library are exactly count
 
 pub returns : goal.returns
 returns c =
-    told c.args.text.now c.args.ends.now c.in_ok-texts.texts c.project_of-project.result.files c.in_ok-scans.scans c.in_ok-names.names c.len-2.result c.in_ok-texts.ensures.parts
+    let outlined = c.in_ok-outlines.ensures in
+    told c.args.text.now c.args.ends.now c.in_ok-texts.texts c.project_of-project.result.files outlined.scans c.in_ok-names.names c.len-2.result c.in_ok-texts.ensures.parts
     (ap length c.project_of-project.ensures ∙ (c.in_ok-files_of.ensures.each ∙ c.len.ensures))
     (subst (All (λ (file : ProjectFile). file.name.library ≡ codes "l")) (sym c.project_of-project.ensures) c.in_ok-files_of.ensures.library)
-    c.in_ok-scans.ensures.scans c.in_ok-names.ensures c.len-2.ensures
+    outlined.scanned (λ user unit. c.in_ok-names.ensures outlined.scans user outlined.are unit) c.len-2.ensures

@@ -1,7 +1,7 @@
 -- So far the files before the index; the others follow.
 use Rattle.std.proofs.Common.{◌≡◌, ◌++◌, drop}
 use Rattle.std.specs.List.{All}
-use Rattle.name_scope.specs.Scopes.{IsTextSmall}
+use Rattle.file_outlines.specs.Roles.{IsTextSmall}
 use Rattle.scan_c.specs.Projects.{parts_at}
 use Rattle.scan_c.proofs.scopes.parts_of.Given as goal
 
