@@ -34,6 +34,17 @@ stops_there next whole stop.NoMemory none = tt
 pub goes_on : {T : Type 0} (next : T → SourceReading) (whole : Result T SourceReading) (value : T) (result : Result ReadProject ReadStop) → whole ≡ Ok value → LeadsTo (next value) result → LeadsTo (then_read next whole) result
 goes_on {T} next whole value result is then = subst (λ (step : Result T SourceReading). LeadsTo (then_read next step) result) (sym is) then
 
+-- a listed project, or one whose files are linked
+pub listed_first : (wanted : Bool) (project : Project) (texts : List (List ℕ)) (scans : List Scan) (result : Result ReadProject ReadStop) → project.listed ≡ true → LeadsTo (listed_reading wanted project texts scans) result → LeadsTo (scanned_reading wanted project texts scans) result
+unfolding scanned_reading
+listed_first wanted project texts scans result is leads =
+    subst (λ (reading : SourceReading). LeadsTo reading result) (sym (cond-true project.listed (listed_reading wanted project texts scans) (then_read (linked_reading wanted project texts scans) (links_of project texts scans)) is)) leads
+
+pub linked_then : (wanted : Bool) (project : Project) (texts : List (List ℕ)) (scans : List Scan) (result : Result ReadProject ReadStop) → project.listed ≡ false → LeadsTo (then_read (linked_reading wanted project texts scans) (links_of project texts scans)) result → LeadsTo (scanned_reading wanted project texts scans) result
+unfolding scanned_reading
+linked_then wanted project texts scans result is leads =
+    subst (λ (reading : SourceReading). LeadsTo reading result) (sym (cond-false project.listed (listed_reading wanted project texts scans) (then_read (linked_reading wanted project texts scans) (links_of project texts scans)) is)) leads
+
 same_project : (mine read : ReadProject) → Found mine ≡ Found read → mine.project ≡ read.project
 same_project mine read same = cc
 

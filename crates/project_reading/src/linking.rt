@@ -314,7 +314,6 @@ fn linked_project(
 
 /// A project of these texts, with the outlines of its files, and their scans where tests are wanted. Texts exist once: they
 /// are lent until it is known what depends on what and which tests there are, and then moved into the graph.
-#[tactic(auto, unfolding(crate::specs::Reading::scanned_reading))]
 pub(crate) fn scanned_project(
     alloc: Global,
     wanted: bool,

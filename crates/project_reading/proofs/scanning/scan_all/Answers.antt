@@ -1,16 +1,19 @@
 -- One file more is scanned, or is the first that has a fault.
-use Rattle.std.proofs.Common.{◌≡◌, ℕ, List, Err, get_or, subst, sym}
+use Rattle.std.proofs.Common.{◌≡◌, ℕ, List, [], Err, get_or, subst, sym}
 use Rattle.std.proofs.lemmas.Result.{err_from_is_err_and}
 use Rattle.vr_base.specs.declared.design.Scan.{Scan}
 use Rattle.vr_base.specs.declared.project.ProjectFile.{ProjectFile}
 use Rattle.scan_spec.specs.Scans.{IsScanOf}
+use Rattle.file_outlines.specs.declared.outlines.Outlines.{Outlines}
 use Rattle.file_outlines.specs.Outlines.{HasAdded}
 use Rattle.project_reading.specs.Scanning.{GivesScan}
 use Rattle.project_reading.proofs.ScanLemmas.{AreFirst, all_first, no_scan_then, none_first, one_more}
 use Rattle.project_reading.proofs.scanning.scan_all.Goals as goal
 
 pub loop-i-init : goal.loop-i-init
-loop-i-init c = ?
+loop-i-init c =
+    subst (AreFirst c.args.files.now c.args.texts.now c.args.keep 0 c.new-outlines.result) (sym c.new-kept.ensures)
+    (subst (λ (outlines : Outlines). AreFirst c.args.files.now c.args.texts.now c.args.keep 0 outlines []) (sym c.new-outlines.ensures) (none_first c.args.files.now c.args.texts.now c.args.keep))
 
 pub returns-in_err-scan-clause-scans : goal.returns-in_err-scan-clause-scans
 returns-in_err-scan-clause-scans c =
