@@ -49,7 +49,7 @@ fn mentions_of_units(
     ensures lie { IfOk result (All (MentionsLieIn text.now)) }
 {
     let mut room = Vec::new(alloc);
-    let mut all = Vec::new(alloc);
+    let mut all = Vec::with_capacity(alloc, scan.units.len() as usize)?;
     for number in 0..scan.units.len() {
         all.push(mentions_of(alloc, text, scan, roles, number as u32, &mut room)?)?;
     }

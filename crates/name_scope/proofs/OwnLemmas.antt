@@ -77,6 +77,21 @@ row_is names some words row put = record {
   by_row number (inl told) = let never : false ≡ true = sym (nothing words number) ∙ told in let impossible : ⊥ = cc in absurd impossible
   by_row number (inr there) = there
 
+-- more names were put into a row
+pub row_more : (names some more : List (List ℕ)) (words : ℕ) (old new : List ℕ) → IsRowOf names words old some → HasPut names more old new → IsRowOf names words new (some ++ more)
+row_more names some more words old new is put = record {
+  even = put.even ∙ is.even;
+  put = λ (name : List ℕ) (there : Contains (some ++ more) name). by_part name (Contains-append_cases some more name there);
+  only = λ (number : ℕ) (told : row_has new number ≡ true). by_row number (put.only number told);
+} where
+  by_part : (name : List ℕ) → Contains some name ⊎ Contains more name → row_has new (number_of names name) ≡ true
+  by_part name (inl there) = put.unchanged (number_of names name) (is.put name there)
+  by_part name (inr there) = put.put name there
+
+  by_row : (number : ℕ) → (row_has old number ≡ true) ⊎ Contains more (name_of_number names number) → Contains (some ++ more) (name_of_number names number)
+  by_row number (inl told) = Contains-append_left some more (name_of_number names number) (is.only number told)
+  by_row number (inr there) = Contains-append_right some more (name_of_number names number) there
+
 -- one list more
 pub zip_more : {X Y Z : Type 0} (R : X → Y → Type 0) (f : Z → Y) (rows : List X) (row : X) (zs : List Z) (i : ℕ) (d : Z) → i < length zs → AllZip R rows (map f (take i zs)) → R row (f (get_or zs i d)) → AllZip R (rows ++ row ∷ []) (map f (take (i + 1) zs))
 zip_more {X} {Y} R f rows row zs i d within so_far one =

@@ -34,16 +34,33 @@ fn put_all(names: &Names, more: &[Text], row: &mut Row)
     }
 }
 
-/// The row of `work`, `std` and further names.
-fn row_of(alloc: Global, names: &Names, more: &[Text], words: usize) -> Result<Row, NoMemory>
+/// The row of `work` and `std`.
+fn implicit_row(alloc: Global, names: &Names, words: usize) -> Result<Row, NoMemory>
     requires implicit { AreNamed (keys_of names.now) implicit }
+    requires room { length (keys_of names.now) ≤ 64 * words }
+    ensures { IfOk result (λ row. IsRowOf (keys_of names.now) words row implicit) }
+{
+    let mut row = Row::new(alloc, words)?;
+    put(names, WORK.as_slice(), &mut row);
+    put(names, STD.as_slice(), &mut row);
+    Ok(row)
+}
+
+/// The row of `work` and `std`, which the first row has, and of further names.
+fn row_of(
+    alloc: Global,
+    names: &Names,
+    first: &Row,
+    more: &[Text],
+    words: usize,
+) -> Result<Row, NoMemory>
+    requires first { IsRowOf (keys_of names.now) words first.now implicit }
     requires known { AreNamed (keys_of names.now) more.now }
     requires room { length (keys_of names.now) ≤ 64 * words }
     ensures { IfOk result (λ row. IsRowOf (keys_of names.now) words row (implicit ++ more.now)) }
 {
     let mut row = Row::new(alloc, words)?;
-    put(names, WORK.as_slice(), &mut row);
-    put(names, STD.as_slice(), &mut row);
+    row.copy_from(first);
     put_all(names, more, &mut row);
     Ok(row)
 }
@@ -62,12 +79,13 @@ pub fn rows_of(
     ensures { IfOk result (λ rows. AllZip (IsRowOf (keys_of names.now) words) rows.items
         (map (λ unit. implicit ++ unit.names) units.now ++ replicate groups (implicit ++ []))) }
 {
+    let first = implicit_row(alloc, names, words)?;
     let mut rows = Vec::new(alloc);
     for unit in units {
-        rows.push(row_of(alloc, names, unit.names.as_slice(), words)?)?;
+        rows.push(row_of(alloc, names, &first, unit.names.as_slice(), words)?)?;
     }
     for _ in 0..groups {
-        rows.push(row_of(alloc, names, &[], words)?)?;
+        rows.push(row_of(alloc, names, &first, &[], words)?)?;
     }
     Ok(rows)
 }

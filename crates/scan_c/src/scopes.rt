@@ -73,15 +73,19 @@ pub fn parts_of(alloc: Global, text: &[u8], ends: &[usize]) -> Result<TextList, 
     Ok(parts)
 }
 
-/// Adds the outline of a text to those of the texts before.
-fn outline_text(alloc: Global, text: &[u8], outlines: &mut Outlines) -> Result<(), NothingTold>
+/// Adds the outline of a text to those of the texts before. What roles were there is lost.
+fn outline_text(
+    alloc: Global,
+    text: &[u8],
+    roles: &mut RoleList,
+    outlines: &mut Outlines,
+) -> Result<(), NothingTold>
     requires { length text.now ≤ TEXT_LIMIT }
     ensures { OnOk result (HasOutlined text.now outlines.old outlines.new) }
 {
-    let mut roles = RoleList::new(alloc);
-    let tokens = scan_with_roles(alloc, text, &mut roles)?;
-    let units = outline_by_roles(alloc, text, &tokens, &roles)?;
-    outlines.push(alloc, text, Scan { tokens, units }, &roles)?;
+    let tokens = scan_with_roles(alloc, text, roles)?;
+    let units = outline_by_roles(alloc, text, &tokens, roles)?;
+    outlines.push(alloc, text, Scan { tokens, units }, roles)?;
     Ok(())
 }
 
@@ -91,8 +95,9 @@ pub fn outlines_of(alloc: Global, texts: &TextList) -> Result<Outlines, NothingT
     ensures { IfOk result (AreOutlined texts.now) }
 {
     let mut outlines = Outlines::new(alloc);
+    let mut roles = RoleList::new(alloc);
     for at in 0..texts.len() {
-        outline_text(alloc, texts.get(at).bytes(), &mut outlines)?;
+        outline_text(alloc, texts.get(at).bytes(), &mut roles, &mut outlines)?;
     }
     Ok(outlines)
 }

@@ -13,6 +13,7 @@ use crate::piece::{Found, next_piece};
 use crate::roles::role_of;
 use crate::stops::{gap_stops, word_stops};
 use std::alloc::Global;
+use std::mem::replace;
 use vr_base::{Items, LexFault, NoMemory, Role, RoleList, Span, TEXT_LIMIT, Token, Tokens};
 
 /// The tokens and the line comments of a text of at most 4,194,304 bytes, or its lexical fault, in time in
@@ -128,23 +129,27 @@ fn cut<const ROLES: bool>(
     while at < text.len() {
         at = cut_on::<ROLES>(text, &mut list, roles, &mut comments, at)?;
     }
-    // Scans are kept while a project is read, so the room that was reserved and not used goes back.
-    list.shrink_to_fit();
+    // Who asks for no roles keeps the tokens, so the room that was reserved and not used goes back.
+    if !ROLES {
+        list.shrink_to_fit();
+    }
     Ok(Tokens {
         list: Items::from_vec(list),
         comments: Items::from_vec(comments),
     })
 }
 
-/// The cut of a text with the roles of its tokens, which take the place of those that were there.
+/// The cut of a text with the roles of its tokens, which take the place of those that were there, in
+/// their memory where that has room.
 fn cut_with_roles(alloc: Global, text: &[u8], roles: &mut RoleList) -> Result<Tokens, LexFault>
     requires { length text.now ≤ TEXT_LIMIT }
     ensures right { Scans text.now result }
     ensures roles { IfOk result (λ tokens. roles.new ≡ roles_of text.now tokens.list) }
 {
-    let mut list = Vec::with_capacity(alloc, text.len() / 4 + 1)?;
+    let mut list = replace(roles, RoleList::new(alloc)).into_vec();
+    list.clear();
+    list.reserve(text.len() / 4 + 1)?;
     let tokens = cut::<true>(alloc, text, &mut list)?;
-    list.shrink_to_fit();
     *roles = Items::from_vec(list);
     Ok(tokens)
 }

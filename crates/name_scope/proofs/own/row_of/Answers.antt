@@ -1,15 +1,13 @@
--- Three parts are put, one after another.
-use Rattle.std.proofs.Common.{◌∷◌, ℕ, List, [], codes, replicate, subst}
-use Rattle.scan_spec.specs.References.{work}
-use Rattle.name_scope.specs.Names.{keys_of}
+-- More names are put into a row of the first ones.
+use Rattle.std.proofs.Common.{◌≡◌, ◌∙◌, ℕ, List, length, replicate, ap, subst, sym}
+use Rattle.std.proofs.lemmas.List.{length-replicate}
+use Rattle.name_scope.specs.Names.{implicit, keys_of}
 use Rattle.name_scope.specs.Graph.{HasPut}
-use Rattle.name_scope.proofs.OwnLemmas.{put_both, row_is}
+use Rattle.name_scope.proofs.OwnLemmas.{row_more}
 use Rattle.name_scope.proofs.own.row_of.Goals as goal
 
+pub copy_from-requires : goal.copy_from-requires
+copy_from-requires c = c.requires.first.even ∙ sym (ap length c.in_ok-row.ensures ∙ length-replicate {A = ℕ} c.args.words 0)
+
 pub returns : goal.returns
-returns c =
-    let first = subst (λ (x : List ℕ). HasPut (keys_of c.args.names.now) (x ∷ []) (replicate c.args.words 0) c.put.new.row) c.as_slice.ensures (subst (λ (row : List ℕ). HasPut (keys_of c.args.names.now) (c.as_slice.result.now ∷ []) row c.put.new.row) c.in_ok-row.ensures c.put.ensures) in
-    let second = subst (λ (x : List ℕ). HasPut (keys_of c.args.names.now) (x ∷ []) c.put.new.row c.put-2.new.row) c.as_slice-2.ensures c.put-2.ensures in
-    row_is (keys_of c.args.names.now) (work ∷ (codes "std" ∷ c.args.more.now)) c.args.words c.put_all.new.row
-    (put_both (keys_of c.args.names.now) (work ∷ []) (codes "std" ∷ c.args.more.now) (replicate c.args.words 0) c.put.new.row c.put_all.new.row first
-    (put_both (keys_of c.args.names.now) (codes "std" ∷ []) c.args.more.now c.put.new.row c.put-2.new.row c.put_all.new.row second c.put_all.ensures))
+returns c = row_more (keys_of c.args.names.now) implicit c.args.more.now c.args.words c.args.first.now c.put_all.new.row c.requires.first (subst (λ (row : List ℕ). HasPut (keys_of c.args.names.now) c.args.more.now row c.put_all.new.row) c.copy_from.ensures c.put_all.ensures)
