@@ -13,7 +13,7 @@ use crate::copies::copy_units;
 use std::alloc::Global;
 use vhdl_refs::{Mentions, library_names, mentions_of};
 use vhdl_units::roles_of;
-use vr_base::{Items, NoMemory, RoleList, Scan, Scans, TEXT_LIMIT, TextList, UnitList};
+use vr_base::{Items, NoMemory, RoleList, Scan, Scans, TEXT_LIMIT, TextList, Tokens, UnitList};
 
 /// What a design unit names: the libraries of its library clauses (IEEE Std 1076-2008, clause 13.2).
 #[derive(Drop)]
@@ -107,30 +107,28 @@ impl Outlines {
         }
     }
 
-    /// Adds the outline of one more file, whose tokens aren't kept. `roles` are those of its tokens.
+    /// Adds the outline of one more file, whose tokens aren't kept: they come back, since others can use their memory.
+    /// `roles` are those of the tokens.
     pub fn push(
         &mut self,
         alloc: Global,
         text: &[u8],
         scan: Scan,
         roles: &RoleList,
-    ) -> Result<(), NoMemory>
+    ) -> Result<Tokens, NoMemory>
         requires scan { IsScanOf text.now scan }
         requires small { length text.now ≤ TEXT_LIMIT }
         requires roles { roles.now ≡ roles_of text.now scan.tokens.list }
-        ensures { OnOk result (HasAdded text.now scan self.old self.new) }
+        ensures { IfOk result (λ used. HasAdded text.now scan self.old self.new) }
     {
         let mentions = mentions_of_units(alloc, text, &scan, roles)?;
         push_scopes(alloc, text, &scan, roles, &mut self.scopes)?;
-        let Scan {
-            tokens: _tokens,
-            units,
-        } = scan;
+        let Scan { tokens, units } = scan;
         self.files.push(FileOutline { units, mentions })?;
-        Ok(())
+        Ok(tokens)
     }
 
-    /// The same for a scan that is lent: its units are copied.
+    /// Adds the outline of a file whose scan is lent: its units are copied.
     pub fn push_copy(
         &mut self,
         alloc: Global,

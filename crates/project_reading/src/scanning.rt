@@ -1,6 +1,6 @@
 //! The outlines of the files of a project, by their scans, or the refusal of the first file that has a fault.
 
-ghost use Rattle.std.specs.Prelude.{◌≡◌, ◌≤◌, ℕ, List, [], ◌∷◌, ◌++◌, length, Err, IfOk, OnOk, true};
+ghost use Rattle.std.specs.Prelude.{◌≡◌, ◌≤◌, ℕ, List, [], ◌∷◌, ◌++◌, length, Err, IfOk, true};
 ghost use Rattle.vr_base.specs.declared.design.Scan.{Scan as Scanned};
 ghost use Rattle.scan_spec.specs.Tokens.{Scans};
 ghost use Rattle.scan_spec.specs.Units.{AreTokensOf, roles_of};
@@ -13,7 +13,7 @@ ghost use Rattle.project_reading.specs.Scanning.{GivesScan, GivesScanning};
 use crate::stops::ReadStop;
 use file_outlines::Outlines;
 use std::alloc::Global;
-use vhdl_lex::scan_with_roles;
+use vhdl_lex::{no_tokens, scan_with_roles};
 use vhdl_units::outline_by_roles;
 use vr_base::{
     FileName, LexFault, NoMemory, ProjectFile, Refusal, RoleList, Scan, Scans, TEXT_LIMIT, Text,
@@ -98,25 +98,27 @@ fn lexical_stop(alloc: Global, file: &FileName, fault: LexFault) -> Result<ReadS
     }
 }
 
-/// The scan of a file, and the roles of its tokens; or its refusal for its lexical fault or its fault of the unit grammar.
+/// The scan of a file, in the memory of tokens that aren't used any more, and the roles of its tokens; or its refusal for
+/// its lexical fault or its fault of the unit grammar.
 fn scan_file(
     alloc: Global,
     file: &FileName,
     text: &[u8],
     roles: &mut RoleList,
+    used: Tokens,
 ) -> Result<Scan, ReadStop>
     requires { length text.now ≤ TEXT_LIMIT }
     ensures scan { GivesScan file.now text.now result }
     ensures roles { IfOk result (λ scan. roles.new ≡ roles_of text.now scan.tokens.list) }
     ensures cause { (count : ℕ) → ReadCounts result count count }
 {
-    match scan_with_roles(alloc, text, roles) {
+    match scan_with_roles(alloc, text, roles, used) {
         Ok(tokens) => scan_units(alloc, file, text, tokens, roles),
         Err(fault) => Err(lexical_stop(alloc, file, fault)?),
     }
 }
 
-/// Adds the outline of a file, and its scan where scans are kept.
+/// Adds the outline of a file, and its scan where scans are kept; and gives what the next scan can use.
 fn keep_scan(
     alloc: Global,
     text: &[u8],
@@ -125,18 +127,19 @@ fn keep_scan(
     keep: bool,
     outlines: &mut Outlines,
     kept: &mut Scans,
-) -> Result<(), NoMemory>
+) -> Result<Tokens, NoMemory>
     requires scan { IsScanOf text.now scan }
     requires small { length text.now ≤ TEXT_LIMIT }
     requires roles { roles.now ≡ roles_of text.now scan.tokens.list }
-    ensures added { OnOk result (HasAdded text.now scan outlines.old outlines.new) }
-    ensures kept { OnOk result (keep ≡ true → kept.new ≡ kept.old ++ scan ∷ []) }
+    ensures added { IfOk result (λ used. HasAdded text.now scan outlines.old outlines.new) }
+    ensures kept { IfOk result (λ used. keep ≡ true → kept.new ≡ kept.old ++ scan ∷ []) }
 {
     if !keep {
         return outlines.push(alloc, text, scan, roles);
     }
     outlines.push_copy(alloc, text, &scan, roles)?;
-    kept.push(scan)
+    kept.push(scan)?;
+    Ok(no_tokens(alloc))
 }
 
 /// The outlines of the files of a project, in project order, and where they are kept the scans of these.
@@ -161,10 +164,11 @@ pub(crate) fn scan_all(
     let mut outlines = Outlines::new(alloc);
     let mut kept = Scans::new(alloc);
     let mut roles = RoleList::new(alloc);
+    let mut used = no_tokens(alloc);
     for i in 0..files.len() {
         let text = texts[i].bytes();
-        let scan = scan_file(alloc, &files[i].name, text, &mut roles)?;
-        keep_scan(alloc, text, scan, &roles, keep, &mut outlines, &mut kept)?;
+        let scan = scan_file(alloc, &files[i].name, text, &mut roles, used)?;
+        used = keep_scan(alloc, text, scan, &roles, keep, &mut outlines, &mut kept)?;
     }
     Ok(Scanning { outlines, kept })
 }

@@ -16,7 +16,7 @@ ghost use Rattle.scan_c.specs.Counts.{HasTokens, HasUnits, HasLexicalFault, IsFa
 use crate::graphs::{Graphed, sources_of, told_of};
 use crate::scopes::{library_count, scan_files};
 use std::alloc::Global;
-use vhdl_lex::{scan_tokens, scan_with_roles};
+use vhdl_lex::{no_tokens, scan_tokens, scan_with_roles};
 use vhdl_refs::find_refs;
 use vhdl_units::{outline, outline_by_roles};
 use vr_base::{LexFault, NoMemory, RoleList, Scan, TEXT_LIMIT, Tokens, UnitFault};
@@ -172,7 +172,7 @@ fn refer_text(alloc: Global, text: &[u8]) -> Referred
     ensures { IsReferred text.now result }
 {
     let mut roles = RoleList::new(alloc);
-    match scan_with_roles(alloc, text, &mut roles) {
+    match scan_with_roles(alloc, text, &mut roles, no_tokens(alloc)) {
         Ok(tokens) => refer_tokens(alloc, text, tokens, &roles),
         Err(LexFault::NoMemory) => unknown(),
         Err(_fault) => fault_found(),

@@ -1,6 +1,6 @@
 //! The visible libraries of a project that is handed over as one text, with the places where its files end.
 
-ghost use Rattle.std.specs.Prelude.{◌≡◌, ◌-◌, ◌<◌, ◌≤◌, [], ◌∷◌, ◌++◌, IfOk, OnOk, codes, drop, false, length, take, true};
+ghost use Rattle.std.specs.Prelude.{◌≡◌, ◌-◌, ◌<◌, ◌≤◌, [], ◌∷◌, ◌++◌, IfOk, codes, drop, false, length, take, true};
 ghost use Rattle.std.specs.List.{All};
 ghost use Rattle.file_outlines.specs.Outlines.{AreOutlined, HasOutlined};
 ghost use Rattle.file_outlines.specs.Roles.{IsTextSmall};
@@ -9,11 +9,11 @@ ghost use Rattle.scan_c.specs.Projects.{HasLibraries, HasScans, parts_at};
 use file_outlines::Outlines;
 use name_scope::visible_libraries_by_outlines;
 use std::alloc::Global;
-use vhdl_lex::scan_with_roles;
+use vhdl_lex::{no_tokens, scan_with_roles};
 use vhdl_units::outline_by_roles;
 use vr_base::{
     FileName, Items, LexFault, NoMemory, Project, ProjectFile, RoleList, Scan, TEXT_LIMIT, Text,
-    TextList, UnitFault, UnitId,
+    TextList, Tokens, UnitFault, UnitId,
 };
 
 /// Nothing is told of a project: its ends don't rise within the text, a file is too long or has a fault, or there was no
@@ -73,20 +73,20 @@ pub fn parts_of(alloc: Global, text: &[u8], ends: &[usize]) -> Result<TextList, 
     Ok(parts)
 }
 
-/// Adds the outline of a text to those of the texts before. What roles were there is lost.
+/// Adds the outline of a text to those of the texts before, in memory that isn't used any more, and gives it back.
 fn outline_text(
     alloc: Global,
     text: &[u8],
     roles: &mut RoleList,
+    used: Tokens,
     outlines: &mut Outlines,
-) -> Result<(), NothingTold>
+) -> Result<Tokens, NothingTold>
     requires { length text.now ≤ TEXT_LIMIT }
-    ensures { OnOk result (HasOutlined text.now outlines.old outlines.new) }
+    ensures { IfOk result (λ used. HasOutlined text.now outlines.old outlines.new) }
 {
-    let tokens = scan_with_roles(alloc, text, roles)?;
+    let tokens = scan_with_roles(alloc, text, roles, used)?;
     let units = outline_by_roles(alloc, text, &tokens, roles)?;
-    outlines.push(alloc, text, Scan { tokens, units }, roles)?;
-    Ok(())
+    Ok(outlines.push(alloc, text, Scan { tokens, units }, roles)?)
 }
 
 /// The outlines of texts, in order.
@@ -96,8 +96,10 @@ pub fn outlines_of(alloc: Global, texts: &TextList) -> Result<Outlines, NothingT
 {
     let mut outlines = Outlines::new(alloc);
     let mut roles = RoleList::new(alloc);
+    let mut used = no_tokens(alloc);
     for at in 0..texts.len() {
-        outline_text(alloc, texts.get(at).bytes(), &mut roles, &mut outlines)?;
+        let text = texts.get(at).bytes();
+        used = outline_text(alloc, text, &mut roles, used, &mut outlines)?;
     }
     Ok(outlines)
 }

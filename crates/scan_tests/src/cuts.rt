@@ -4,7 +4,7 @@ use crate::tables::{halves, unfolded};
 use std::alloc::Global;
 use std::process::Abort;
 use std::test::Fail;
-use vhdl_lex::{scan_tokens, scan_with_roles};
+use vhdl_lex::{no_tokens, scan_tokens, scan_with_roles};
 use vr_base::{LexFault, Role, RoleList, TokenKind, Tokens};
 
 /// A letter for the kind of a token.
@@ -300,7 +300,7 @@ fn roled(alloc: Global, text: &[u8]) -> Result<(u64, RoleList), Fail> {
         return Err(Fail::from("a small text"));
     }
     let mut roles = RoleList::new(alloc);
-    let tokens = scan_with_roles(alloc, text, &mut roles)?;
+    let tokens = scan_with_roles(alloc, text, &mut roles, no_tokens(alloc))?;
     Ok((tokens.list.len(), roles))
 }
 

@@ -27,18 +27,24 @@ pub fn scan_tokens(alloc: Global, text: &[u8]) -> Result<Tokens, LexFault>
     // Where there is a fault it is given, unless memory runs out.
     ensures fault { (fault : LexFault) → HasFault text.now fault → GivesFault fault result }
 {
-    cut::<false>(alloc, text, &mut Vec::new(alloc))
+    cut::<false>(text, &mut Vec::new(alloc), no_tokens(alloc))
 }
 
-/// `scan_tokens`, and in the same pass the roles of the tokens, in order: one byte a token, for all who read the file.
-pub fn scan_with_roles(alloc: Global, text: &[u8], roles: &mut RoleList) -> Result<Tokens, LexFault>
+/// `scan_tokens` in the memory of tokens that aren't used any more, where that has room; and in the same pass the roles of the
+/// tokens, in order: one byte a token, for all who read the file.
+pub fn scan_with_roles(
+    alloc: Global,
+    text: &[u8],
+    roles: &mut RoleList,
+    used: Tokens,
+) -> Result<Tokens, LexFault>
     requires { length text.now ≤ TEXT_LIMIT }
     ensures right { Scans text.now result }
     ensures cut { (pieces : List Piece) → IsCut text.now pieces → GivesTokens pieces result }
     ensures fault { (fault : LexFault) → HasFault text.now fault → GivesFault fault result }
     ensures roles { IfOk result (λ tokens. roles.new ≡ roles_of text.now tokens.list) }
 {
-    cut_with_roles(alloc, text, roles)
+    cut_with_roles(alloc, text, roles, used)
 }
 
 /// How many bytes are gone over with one look at 64 of them: a word that begins before there mostly ends within the 64.
@@ -111,11 +117,32 @@ fn cut_on<const ROLES: bool>(
     Ok(at)
 }
 
+/// No tokens, which take no memory: others are made in what some that aren't used any more leave.
+pub fn no_tokens(alloc: Global) -> Tokens {
+    Tokens {
+        list: Items::new(alloc),
+        comments: Items::new(alloc),
+    }
+}
+
+/// What tokens that aren't used any more leave.
+fn room_of(used: Tokens) -> (Vec<Token>, Vec<Span>)
+    ensures tokens { result.0.items ≡ [] }
+    ensures comments { result.1.items ≡ [] }
+{
+    let Tokens { list, comments } = used;
+    let mut list = list.into_vec();
+    let mut comments = comments.into_vec();
+    list.clear();
+    comments.clear();
+    (list, comments)
+}
+
 /// The cut of a text, and the roles of its tokens, where these are kept.
 fn cut<const ROLES: bool>(
-    alloc: Global,
     text: &[u8],
     roles: &mut Vec<Role>,
+    used: Tokens,
 ) -> Result<Tokens, LexFault>
     requires small { length text.now ≤ TEXT_LIMIT }
     requires none { roles.old.items ≡ [] }
@@ -123,8 +150,8 @@ fn cut<const ROLES: bool>(
     ensures roles { IfOk result (λ tokens.
         ROLES ≡ true → roles.new.items ≡ roles_of text.now tokens.list) }
 {
-    let mut list = Vec::with_capacity(alloc, text.len() / 4 + 1)?;
-    let mut comments = Vec::new(alloc);
+    let (mut list, mut comments) = room_of(used);
+    list.reserve(text.len() / 4 + 1)?;
     let mut at = 0;
     while at < text.len() {
         at = cut_on::<ROLES>(text, &mut list, roles, &mut comments, at)?;
@@ -141,7 +168,12 @@ fn cut<const ROLES: bool>(
 
 /// The cut of a text with the roles of its tokens, which take the place of those that were there, in
 /// their memory where that has room.
-fn cut_with_roles(alloc: Global, text: &[u8], roles: &mut RoleList) -> Result<Tokens, LexFault>
+fn cut_with_roles(
+    alloc: Global,
+    text: &[u8],
+    roles: &mut RoleList,
+    used: Tokens,
+) -> Result<Tokens, LexFault>
     requires { length text.now ≤ TEXT_LIMIT }
     ensures right { Scans text.now result }
     ensures roles { IfOk result (λ tokens. roles.new ≡ roles_of text.now tokens.list) }
@@ -149,7 +181,7 @@ fn cut_with_roles(alloc: Global, text: &[u8], roles: &mut RoleList) -> Result<To
     let mut list = replace(roles, RoleList::new(alloc)).into_vec();
     list.clear();
     list.reserve(text.len() / 4 + 1)?;
-    let tokens = cut::<true>(alloc, text, &mut list)?;
+    let tokens = cut::<true>(text, &mut list, used)?;
     *roles = Items::from_vec(list);
     Ok(tokens)
 }

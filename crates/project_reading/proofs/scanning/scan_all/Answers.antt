@@ -25,9 +25,9 @@ pub loop-i-preserved : goal.loop-i-preserved
 loop-i-preserved c =
     let text : List ℕ = c.index-texts-i.result in
     let is : IsScanOf text c.in_ok-scan.scan = subst (λ (t : List ℕ). IsScanOf t c.in_ok-scan.scan) c.bytes-text.ensures c.in_ok-scan.ensures.scan in
-    let added : HasAdded text c.in_ok-scan.scan c.loop-i.outlines c.keep_scan.new.outlines = subst (λ (t : List ℕ). HasAdded t c.in_ok-scan.scan c.loop-i.outlines c.keep_scan.new.outlines) c.bytes-text.ensures c.in_ok-keep_scan.ensures.added in
+    let added : HasAdded text c.in_ok-scan.scan c.loop-i.outlines c.keep_scan.new.outlines = subst (λ (t : List ℕ). HasAdded t c.in_ok-scan.scan c.loop-i.outlines c.keep_scan.new.outlines) c.bytes-text.ensures c.in_ok-used.ensures.added in
     one_more c.args.files.now c.args.texts.now c.args.keep c.loop-i.i c.index-files-i.result text c.in_ok-scan.scan c.loop-i.outlines c.keep_scan.new.outlines c.loop-i.kept c.keep_scan.new.kept
-    c.requires.fit.each c.loop-i-test.true c.index-files-i.is c.index-texts-i.is c.loop-i.invariant is added c.in_ok-keep_scan.ensures.kept
+    c.requires.fit.each c.loop-i-test.true c.index-files-i.is c.index-texts-i.is c.loop-i.invariant is added c.in_ok-used.ensures.kept
 
 pub returns-clause-scans : goal.returns-clause-scans
 returns-clause-scans c = all_first c.args.files.now c.args.texts.now c.args.keep c.loop-i.i c.loop-i.outlines c.loop-i.kept c.requires.fit.each c.loop-i-test.false c.loop-i.invariant

@@ -10,6 +10,6 @@ loop-at-init c = subst (AreOutlined []) (sym c.new-outlines.ensures) none_outlin
 
 pub loop-at-preserved : goal.loop-at-preserved
 loop-at-preserved c =
-    let it = c.in_ok-outline_text.ensures in
-    subst (λ (texts : List (List ℕ)). AreOutlined texts c.outline_text.new.outlines) (sym (take_got c.args.texts.now c.loop-at.at c.bytes.result.now (c.get.ensures ∙ ap Some (sym c.bytes.ensures))))
-    (outlined_more _ c.bytes.result.now it.scan c.loop-at.outlines c.outline_text.new.outlines c.loop-at.invariant it.is it.added)
+    let it = c.in_ok-used.ensures in
+    subst (λ (texts : List (List ℕ)). AreOutlined texts c.outline_text.new.outlines) (sym (take_got c.args.texts.now c.loop-at.at c.bytes-text.result.now (c.get.ensures ∙ ap Some (sym c.bytes-text.ensures))))
+    (outlined_more _ c.bytes-text.result.now it.scan c.loop-at.outlines c.outline_text.new.outlines c.loop-at.invariant it.is it.added)
