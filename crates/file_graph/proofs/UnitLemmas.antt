@@ -1,26 +1,17 @@
 -- What a unit uses and refers to, as it is read of its file.
-use Rattle.std.proofs.Common.{◌≡◌, ℕ, ◌-◌, ◌<◌, ◌≤◌, Bool, true, false, ◌&&◌, Option, Some, None, List, [], ◌∷◌, ◌++◌, length, map, refl, sym, ◌∙◌, ap, subst, arith}
-use Rattle.std.specs.Prelude.{All, slice_get, if◌then◌else◌}
-use Rattle.std.specs.List.{filter_map, flat_map, range_with_len}
-use Rattle.std.specs.Option.{option_map}
-use Rattle.std.proofs.lemmas.List.Elements.{All-filter, filter_map-append}
-use Rattle.std.proofs.lemmas.List.FromFn.{get_or-range_with_len, length-range_with_len}
+use Rattle.std.proofs.Common.{◌≡◌, ℕ, Bool, true, false, ◌&&◌, Option, Some, None, List, [], ◌∷◌, ◌++◌, map, refl, sym, ◌∙◌, ap}
+use Rattle.std.specs.Prelude.{if◌then◌else◌}
+use Rattle.std.specs.List.{filter_map, flat_map}
+use Rattle.std.proofs.lemmas.List.Elements.{filter_map-append}
 use Rattle.vr_base.specs.declared.child.MaybeText.TheVariants.{Nothing}
-use Rattle.vr_base.specs.declared.design.Scan.{Scan}
 use Rattle.vr_base.specs.declared.design.Unit.{Unit as DesignUnit}
 use Rattle.vr_base.specs.declared.design.UnitKind.TheVariants as kinds
 use Rattle.vr_base.specs.declared.file.FileName.{FileName}
 use Rattle.vr_base.specs.declared.linking.Warning.{Warning}
 use Rattle.vr_base.specs.declared.project.Project.{Project}
 use Rattle.vr_base.specs.declared.refs.UnitId.{UnitId}
-use Rattle.scan_spec.specs.Units.{roles_of}
-use Rattle.scan_spec.specs.References.{is_use_of_all, places, uses_of_all}
-use Rattle.scan_spec.specs.Scans.{IsScanOf}
 use Rattle.scan_spec.specs.Visibility.{resolved, sees}
 use Rattle.scan_spec.specs.Dependencies.{LinkUnit, has_files, warnings_of}
-use Rattle.scan_spec.specs.UnitPlaces.{IsPlaced}
-use Rattle.scan_spec.proofs.Placed.{all_placed}
-use Rattle.std.proofs.lemmas.Option.{get_or_from_slice_get, slice_get_within}
 use Rattle.name_scope.specs.Tables.{table_sees}
 use Rattle.file_graph.specs.declared.seen.Tables.{Tables}
 use Rattle.file_graph.specs.Libraries.{knows}

@@ -1,6 +1,6 @@
 -- The table of a project says exactly what its units see.
 use Rattle.std.proofs.Common.{◌≡◌, ℕ, zero, suc, ◌+◌, ◌<◌, ◌≤◌, Bool, true, false, cond, Vec, Global, List, [], ◌∷◌, ◌++◌, Contains, IsTrue, Option, Some, None, length, map, filter, take, get_or, ◌⊎◌, inl, inr, refl, sym, ◌∙◌, ap, subst, arith, length-append}
-use Rattle.std.specs.List.{AllZip, list_any, slice_get}
+use Rattle.std.specs.List.{list_any, slice_get}
 use Rattle.std.specs.Str.{bytes_eq}
 use Rattle.std.proofs.Math.ListN.{get_or-append}
 use Rattle.std.proofs.lemmas.Bool.{cases_lt}
@@ -24,7 +24,6 @@ use Rattle.vr_base.specs.declared.refs.UnitId.{UnitId}
 use Rattle.scan_spec.specs.Visibility.{ScopeUnit, scope_unit, scope_units, sees}
 use Rattle.scan_spec.proofs.SomeTests.{some_of, Contains-later}
 use Rattle.name_scope.specs.declared.scope.Scopes.{Scopes}
-use Rattle.file_outlines.specs.declared.outlines.UnitScope.{UnitScope}
 use Rattle.name_scope.specs.Bits.{row_has}
 use Rattle.name_scope.specs.Links.{place_row}
 use Rattle.name_scope.specs.Names.{name_of_number, number_of}

@@ -1,6 +1,6 @@
 -- The units of one file more are added, or have the first fault.
 use Rattle.std.proofs.Common.{◌≡◌, ◌∙◌, ◌++◌, ℕ, ◌+◌, ◌<◌, ◌≤◌, Some, None, List, [], append-nil, length, map, get_or, take, ap, sym, subst, arith}
-use Rattle.std.specs.Prelude.{Result, slice_get}
+use Rattle.std.specs.Prelude.{slice_get}
 use Rattle.std.proofs.lemmas.Option.{slice_get-get_or}
 use Rattle.std.proofs.lemmas.Result.{err_from_is_err_and}
 use Rattle.vr_base.specs.declared.design.Scan.{Scan}
@@ -8,7 +8,7 @@ use Rattle.vr_base.specs.declared.design.Unit.{Unit as DesignUnit}
 use Rattle.vr_base.specs.declared.project.ProjectFile.{ProjectFile}
 use Rattle.scan_spec.specs.Dependencies.{LinkUnit, first_duplicate, link_unit, link_units}
 use Rattle.file_outlines.proofs.OutlineLemmas.{got_file}
-use Rattle.file_graph.specs.Indexes.{AddsAll, IsIndex}
+use Rattle.file_graph.specs.Indexes.{IsIndex}
 use Rattle.file_graph.proofs.IndexLemmas.{all_units, file_fault, files_more, files_after, no_file, none_more}
 use Rattle.file_graph.proofs.index.index_of.Goals as goal
 

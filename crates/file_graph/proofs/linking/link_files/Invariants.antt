@@ -1,7 +1,5 @@
 -- So far the files up to the position are linked.
-use Rattle.std.proofs.Common.{◌≡◌, None, List, map, length, take}
-use Rattle.std.specs.Prelude.{filter}
-use Rattle.std.specs.List.{flat_map}
+use Rattle.std.proofs.Common.{List}
 use Rattle.vr_base.specs.declared.design.Scan.{Scan}
 use Rattle.file_outlines.specs.Outlines.{AreOutlinesOf}
 use Rattle.file_graph.proofs.FileLemmas.{AreLinked}

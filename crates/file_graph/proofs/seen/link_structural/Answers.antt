@@ -1,5 +1,5 @@
 -- The one reference is that of the unit.
-use Rattle.std.proofs.Common.{◌≡◌, ◌∙◌, ◌∷◌, [], Bool, List, cond, sym, ap, subst}
+use Rattle.std.proofs.Common.{◌∙◌, ◌∷◌, [], Bool, List, cond, sym, ap, subst}
 use Rattle.vr_base.specs.declared.refs.Ref.{Ref}
 use Rattle.file_graph.specs.Linking.{LinksRefs}
 use Rattle.file_graph.proofs.InsideLemmas.{links_one}

@@ -1,8 +1,8 @@
 -- One unit more is taken up, or is the first that lacks something.
-use Rattle.std.proofs.Common.{◌≡◌, ◌∙◌, ◌++◌, ℕ, ◌<◌, Some, List, length, get_or, map, take, refl, sym, ap, subst, arith, append_assoc}
+use Rattle.std.proofs.Common.{◌≡◌, ◌∙◌, ◌++◌, ℕ, ◌<◌, Some, List, length, get_or, map, take, sym, ap, subst, arith, append_assoc}
 use Rattle.std.specs.Prelude.{⊤, All, Ok, slice_get}
 use Rattle.std.specs.List.{flat_map}
-use Rattle.std.proofs.lemmas.List.{get_or_default, take_all}
+use Rattle.std.proofs.lemmas.List.{take_all}
 use Rattle.std.proofs.lemmas.Option.{get_or_from_slice_get, slice_get_within}
 use Rattle.std.proofs.lemmas.Result.{err_from_is_err_and}
 use Rattle.vr_base.specs.declared.design.Unit.{Unit as DesignUnit}
@@ -11,14 +11,12 @@ use Rattle.vr_base.specs.declared.project.ProjectFile.{ProjectFile}
 use Rattle.vr_base.specs.declared.refs.UnitId.{UnitId}
 use Rattle.scan_spec.specs.Dependencies.{LinkUnit, link_unit, warnings_of}
 use Rattle.scan_spec.specs.References.{named_refs, refs_of}
-use Rattle.vr_base.specs.declared.design.Scan.{Scan}
 use Rattle.vr_base.specs.declared.lexical.Token.{Token}
 use Rattle.vr_base.specs.declared.refs.Ref.{Ref}
 use Rattle.vhdl_lex.specs.Pieces.{LiesIn}
 use Rattle.vhdl_units.specs.Names.{token_name}
 use Rattle.vhdl_refs.specs.declared.mentions.Mentions.{Mentions}
 use Rattle.vhdl_refs.specs.Mentions.{AreMentionsOf, MentionsLieIn, named_ref, structural_of}
-use Rattle.file_outlines.specs.Outlines.{IsOutlineOf}
 use Rattle.name_scope.proofs.KeyLemmas.{part_more}
 use Rattle.file_graph.specs.Linking.{FileGives, Stands, unit_lacks, noted, refers_from}
 use Rattle.file_graph.proofs.LinkLemmas.{added_more, first_here, first_more}

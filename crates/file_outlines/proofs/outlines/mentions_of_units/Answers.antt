@@ -1,10 +1,9 @@
 -- One unit more.
-use Rattle.std.proofs.Common.{◌≡◌, ◌∙◌, ◌+◌, ℕ, ◌⊎◌, inl, inr, List, Some, length, sym, ap, subst, arith}
+use Rattle.std.proofs.Common.{◌∙◌, ◌+◌, ℕ, inl, inr, List, length, sym, ap, subst, arith}
 use Rattle.std.specs.Prelude.{slice_get}
 use Rattle.std.specs.List.{All}
 use Rattle.std.proofs.lemmas.List.{length_push}
 use Rattle.std.proofs.lemmas.List.Elements.{All-push}
-use Rattle.vr_base.specs.declared.design.Unit.{Unit as DesignUnit}
 use Rattle.vhdl_refs.specs.declared.mentions.Mentions.{Mentions}
 use Rattle.vhdl_refs.specs.Mentions.{AreMentionsOf, MentionsLieIn}
 use Rattle.file_outlines.specs.Outlines.{MentionsAreOf}

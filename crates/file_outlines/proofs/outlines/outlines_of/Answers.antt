@@ -1,14 +1,11 @@
 -- The outline of one file more.
-use Rattle.std.proofs.Common.{◌≡◌, ◌∙◌, ◌+◌, ◌++◌, ◌∷◌, ◌<◌, ◌≤◌, ℕ, List, [], Some, length, take, sym, ap, subst, arith}
-use Rattle.std.specs.Prelude.{slice_get}
-use Rattle.std.proofs.lemmas.List.{take_all}
+use Rattle.std.proofs.Common.{◌≡◌, ◌∙◌, ◌+◌, ◌++◌, ◌∷◌, ◌≤◌, ℕ, List, [], Some, length, take, sym, ap, subst}
 use Rattle.std.proofs.lemmas.Option.{get_or_from_slice_get, slice_get_within}
 use Rattle.vr_base.specs.declared.design.Scan.{Scan}
 use Rattle.vr_base.specs.declared.limits.TheConstants.{TEXT_LIMIT}
-use Rattle.scan_spec.specs.Units.{AreTokensOf}
 use Rattle.scan_spec.specs.Scans.{IsScanOf}
 use Rattle.file_outlines.specs.Outlines.{AreOutlinesOf, FilesLieIn}
-use Rattle.file_outlines.proofs.OutlineLemmas.{lie_more, no_outlines, none_lie, outlines_more, take_got}
+use Rattle.file_outlines.proofs.OutlineLemmas.{lie_more, outlines_more, take_got}
 use Rattle.file_outlines.proofs.outlines.outlines_of.Goals as goal
 
 scanned : (c : goal.After-get-scan) → IsScanOf c.bytes-text.result.now c.get-scan.result.now

@@ -1,5 +1,5 @@
 -- More names are put into a row of the first ones.
-use Rattle.std.proofs.Common.{◌≡◌, ◌∙◌, ℕ, List, length, replicate, ap, subst, sym}
+use Rattle.std.proofs.Common.{◌∙◌, ℕ, List, length, ap, subst, sym}
 use Rattle.std.proofs.lemmas.List.{length-replicate}
 use Rattle.name_scope.specs.Names.{implicit, keys_of}
 use Rattle.name_scope.specs.Graph.{HasPut}

@@ -1,13 +1,10 @@
 -- One file more.
-use Rattle.std.proofs.Common.{◌≡◌, ◌∙◌, List, [], Some, length, ap, sym, subst, take, arith}
-use Rattle.std.specs.List.{AllZip, flat_map}
+use Rattle.std.proofs.Common.{◌∙◌, List, sym, subst, take, arith}
 use Rattle.vr_base.specs.declared.design.Unit.{Unit as DesignUnit}
 use Rattle.scan_spec.specs.Visibility.{ScopeUnit, scope_units}
 use Rattle.file_outlines.proofs.OutlineLemmas.{got_file}
 use Rattle.name_scope.specs.Scopes.{AreGrouped, units_before}
-use Rattle.name_scope.specs.Names.{HasAll}
 use Rattle.name_scope.specs.Owned.{AddsOwned, IsOwnedBy}
-use Rattle.name_scope.specs.Wants.{user_groups}
 use Rattle.name_scope.proofs.OwnedLemmas.{grouped_more}
 use Rattle.name_scope.proofs.ScopeLemmas.{all_units, as_long, file_more, starts_more}
 use Rattle.name_scope.proofs.scope.scopes_of.Goals as goal

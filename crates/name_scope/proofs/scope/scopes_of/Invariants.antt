@@ -1,13 +1,7 @@
 -- So far the units of the files up to the position.
-use Rattle.std.proofs.Common.{◌≡◌, ℕ, ◌<◌, List, [], get_or, length, take}
-use Rattle.std.specs.List.{AllZip, flat_map}
+use Rattle.std.proofs.Common.{◌≡◌, ℕ, List, length}
 use Rattle.vr_base.specs.declared.design.Scan.{Scan}
-use Rattle.scan_spec.specs.Visibility.{scope_units}
 use Rattle.file_outlines.specs.Outlines.{FilesAreOf}
-use Rattle.name_scope.specs.Scopes.{units_before}
-use Rattle.name_scope.specs.Names.{HasAll}
-use Rattle.name_scope.specs.Owned.{IsOwnedBy}
-use Rattle.name_scope.specs.Wants.{user_groups}
 use Rattle.name_scope.proofs.ScopeLemmas.{AreFirst}
 use Rattle.name_scope.proofs.scope.scopes_of.Given as goal
 

@@ -1,7 +1,6 @@
 -- One file more is scanned, or is the first that has a fault.
-use Rattle.std.proofs.Common.{◌≡◌, ℕ, List, [], Err, get_or, subst, sym}
+use Rattle.std.proofs.Common.{ℕ, List, [], Err, get_or, subst, sym}
 use Rattle.std.proofs.lemmas.Result.{err_from_is_err_and}
-use Rattle.vr_base.specs.declared.design.Scan.{Scan}
 use Rattle.vr_base.specs.declared.project.ProjectFile.{ProjectFile}
 use Rattle.scan_spec.specs.Scans.{IsScanOf}
 use Rattle.file_outlines.specs.declared.outlines.Outlines.{Outlines}

@@ -1,6 +1,5 @@
 -- One text more.
 use Rattle.std.proofs.Common.{◌∙◌, List, ℕ, [], Some, ap, subst, sym}
-use Rattle.file_outlines.specs.declared.outlines.Outlines.{Outlines}
 use Rattle.file_outlines.specs.Outlines.{AreOutlined}
 use Rattle.file_outlines.proofs.OutlineLemmas.{none_outlined, outlined_more, take_got}
 use Rattle.scan_c.proofs.scopes.outlines_of.Goals as goal
