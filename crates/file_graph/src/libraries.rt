@@ -26,10 +26,28 @@ pub struct Libraries {
     pub external: Names,
 }
 
+/// So many names are compared one after the other in less time than the bytes of one take to be hashed.
+const FEW: usize = 8;
+
+/// Whether a name is among few names.
+fn is_among(names: &[Vec<u8>], name: &[u8]) -> bool
+    ensures { result ≡ list_any (λ key. bytes_eq name.now key.items) names.now }
+{
+    for key in names {
+        if name == key.as_slice() {
+            return true;
+        }
+    }
+    false
+}
+
 /// Whether a name is among names.
 pub fn has_name(names: &Names, name: &[u8]) -> bool
     ensures { result ≡ knows names.now name.now }
 {
+    if names.len() <= FEW {
+        return is_among(names.as_slice(), name);
+    }
     names.contains(name)
 }
 
