@@ -16,9 +16,8 @@ use Rattle.vr_base.specs.declared.linking.LinkFault.{LinkFault}
 use Rattle.vr_base.specs.declared.linking.LinkFault.TheVariants.{NoMemory, DuplicateUnit, MissingUnit, MissingArchitecture}
 use Rattle.vr_base.specs.declared.project.ProjectFile.{ProjectFile}
 use Rattle.scan_spec.specs.Dependencies.{LinkUnit, first_duplicate, is_alike, is_package_kind, link_unit, link_units}
-use Rattle.file_graph.specs.declared.key.UnitKey.{UnitKey}
 use Rattle.file_graph.specs.declared.index.Place.{Place}
-use Rattle.file_graph.specs.Keys.{is_same_key, key_of, unit_key}
+use Rattle.file_graph.specs.Keys.{UnitKey, is_same_key, key_of, unit_key}
 use Rattle.file_graph.specs.Indexes.{AreDistinct, ArePlacesOfFiles, GivesOrFaults, HoldsUnits, IsFaultOf, IsIndex, IsOfFile, IsUnitOf, Refuses, fault_before, unit_place, unit_named}
 use Rattle.file_graph.proofs.KeyLemmas.{alike_is, same_key, told_key}
 

@@ -8,8 +8,7 @@ use Rattle.scan_spec.specs.References.{owner_name}
 use Rattle.scan_spec.specs.Dependencies.{LinkUnit, in_library, is_alike, is_architecture, is_architecture_kind, is_body, is_body_kind, is_primary}
 use Rattle.scan_spec.specs.Visibility.{is_secondary}
 use Rattle.scan_spec.proofs.SomeTests.{and_both, and_cases}
-use Rattle.file_graph.specs.declared.key.UnitKey.{UnitKey}
-use Rattle.file_graph.specs.Keys.{architecture_key, body_key, is_same_flag, is_same_key, key_of, primary_key, unit_key}
+use Rattle.file_graph.specs.Keys.{UnitKey, architecture_key, body_key, is_same_flag, is_same_key, key_of, primary_key, unit_key}
 
 same_bytes : (a b : List ℕ) → bytes_eq a b ≡ true → a ≡ b
 same_bytes a b told = (bytes_eq-Decides a b).0 told

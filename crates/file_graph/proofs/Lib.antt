@@ -1,5 +1,6 @@
 -- The lemmas of this crate.
 pub mod KeyLemmas
+pub mod JoinedLemmas
 pub mod IndexLemmas
 pub mod RowLemmas
 pub mod MeaningLemmas

@@ -13,9 +13,8 @@ use Rattle.scan_spec.proofs.SomeTests.{and_both, and_cases, some_of}
 use Rattle.name_scope.proofs.Exact.{any_by}
 use Rattle.name_scope.proofs.TableLemmas.{both_ways}
 use Rattle.file_graph.specs.declared.index.Place.{Place}
-use Rattle.file_graph.specs.declared.key.UnitKey.{UnitKey}
 use Rattle.file_graph.specs.Indexes.{AreDistinct, unit_place, unit_named}
-use Rattle.file_graph.specs.Keys.{is_same_key, key_of}
+use Rattle.file_graph.specs.Keys.{UnitKey, is_same_key, key_of}
 use Rattle.file_graph.specs.Rows.{HasAdded, has_package, is_named_at, stands_at}
 use Rattle.file_graph.proofs.KeyLemmas.{same_key}
 

@@ -8,9 +8,8 @@ use Rattle.vr_base.specs.declared.linking.LinkFault.{LinkFault}
 use Rattle.vr_base.specs.declared.linking.LinkFault.TheVariants.{NoMemory}
 use Rattle.vr_base.specs.declared.project.ProjectFile.{ProjectFile}
 use Rattle.scan_spec.specs.Dependencies.{LinkUnit, duplicate_of, first_duplicate, is_alike, is_package_kind}
-use Rattle.file_graph.specs.declared.key.UnitKey.{UnitKey}
 use Rattle.file_graph.specs.declared.index.Place.{Place}
-use Rattle.file_graph.specs.Keys.{is_same_key, key_of}
+use Rattle.file_graph.specs.Keys.{UnitKey, is_same_key, key_of}
 
 -- the fault is the one that is said, unless memory ran out
 abbrev pub IsFaultOf : Option LinkFault → LinkFault → Type 0

@@ -6,7 +6,14 @@ use Rattle.vr_base.specs.declared.design.UnitKind.{UnitKind}
 use Rattle.vr_base.specs.declared.design.UnitKind.TheVariants as kinds
 use Rattle.scan_spec.specs.References.{owner_name}
 use Rattle.scan_spec.specs.Dependencies.{LinkUnit}
-use Rattle.file_graph.specs.declared.key.UnitKey.{UnitKey}
+
+-- what names a design unit
+pub record UnitKey : Type 0 where
+  pub primary : Bool
+  pub body : Bool
+  pub library : List ℕ
+  pub entity : List ℕ
+  pub name : List ℕ
 
 -- both are true, or both false
 abbrev pub is_same_flag : Bool → Bool → Bool

@@ -6,8 +6,7 @@ use Rattle.vr_base.specs.declared.project.Pair.{Pair}
 use Rattle.position_set.specs.declared.set.PositionSet.{PositionSet}
 use Rattle.position_set.specs.Positions.{has}
 use Rattle.scan_spec.specs.Dependencies.{LinkUnit, is_package_kind}
-use Rattle.file_graph.specs.declared.key.UnitKey.{UnitKey}
-use Rattle.file_graph.specs.Keys.{is_same_key, key_of}
+use Rattle.file_graph.specs.Keys.{UnitKey, is_same_key, key_of}
 
 -- the positions that pass a test were put into a set
 abbrev pub HasAdded : (ℕ → Bool) → PositionSet → PositionSet → Type 0

@@ -1,6 +1,6 @@
 //! The names of design units, by which they are found.
 
-ghost use Rattle.std.specs.Prelude.{◌≡◌, [], ◌∷◌, IfOk, OnOk};
+ghost use Rattle.std.specs.Prelude.{◌≡◌, [], ◌∷◌, ◌++◌, IfOk, OnOk};
 ghost use Rattle.std.specs.Cmp.Rules.{comparing, hashing};
 ghost use Rattle.std.proofs.Common.{rules};
 ghost use Rattle.scan_spec.specs.References.{owner_name};
@@ -8,20 +8,39 @@ ghost use Rattle.file_graph.specs.Keys.{is_same_key, primary_key, architecture_k
 
 use std::alloc::Global;
 use std::hash::{Hash, Hasher};
+use std::marker::Model;
 use std::mem::replace;
 use vr_base::{MaybeText, NoMemory, Text, Unit, UnitKind};
 
 static NOTHING: [u8; 0] = *b"";
 
+/// What a key is of, and how many bytes its first two names have.
+#[derive(Clone, Copy, PartialEq, Eq)]
+pub struct Head {
+    primary: bool,
+    body: bool,
+    library: usize,
+    entity: usize,
+}
+
 /// What names a design unit of a project (IEEE Std 1076-2008, clause 13.1): a primary unit of any kind by its library and
-/// name, an architecture by its entity too, and the body of a package by the name of the package.
+/// name, an architecture by its entity too, and the body of a package by the name of the package. The three names stand one
+/// after another in one buffer, so that a key takes one allocation. Contracts see the names.
 #[derive(Drop)]
 pub struct UnitKey {
-    pub primary: bool,
-    pub body: bool,
-    pub library: Text,
-    pub entity: Text,
-    pub name: Text,
+    head: Head,
+    letters: Vec<u8>,
+}
+
+impl Model for UnitKey {
+    ghost use Rattle.file_graph.specs.Joined.{AreJoined, joined_key};
+    ghost use Rattle.file_graph.specs.Keys.{UnitKey as Named};
+
+    ghost Value = { Named };
+
+    ghost view = { λ a. joined_key a.head a.letters.items };
+
+    ghost invariant = { λ a. AreJoined a.head a.letters.items };
 }
 
 impl PartialEq for UnitKey {
@@ -30,11 +49,7 @@ impl PartialEq for UnitKey {
     ghost laws = { Prim.search (comparing, rules) };
 
     fn eq(&self, other: &UnitKey) -> bool {
-        self.primary == other.primary
-            && self.body == other.body
-            && self.library.same(&other.library)
-            && self.entity.same(&other.entity)
-            && self.name.same(&other.name)
+        self.head == other.head && self.letters.as_slice() == other.letters.as_slice()
     }
 }
 
@@ -42,27 +57,28 @@ impl Eq for UnitKey {
     ghost laws = { Prim.search (comparing, rules) };
 }
 
-/// Each name is handed over whole.
+/// The names are handed over as one.
 impl Hash for UnitKey {
-    ghost hash_input = { λ a. a.library ∷ (a.entity ∷ (a.name ∷ [])) };
+    ghost hash_input = { λ a. (a.library ++ (a.entity ++ a.name)) ∷ [] };
 
     ghost respects_eq = { Prim.search (hashing, rules) };
 
     fn hash<H: Hasher>(&self, state: &mut H) {
-        state.write(self.library.bytes());
-        state.write(self.entity.bytes());
-        state.write(self.name.bytes());
+        state.write(self.letters.as_slice());
     }
 }
 
 /// No name of a unit, which takes no memory: others are put in its place.
 pub fn no_key(alloc: Global) -> UnitKey {
-    UnitKey {
+    let head = Head {
         primary: false,
         body: false,
-        library: Text::new(alloc),
-        entity: Text::new(alloc),
-        name: Text::new(alloc),
+        library: 0,
+        entity: 0,
+    };
+    UnitKey {
+        head,
+        letters: Vec::new(alloc),
     }
 }
 
@@ -75,6 +91,37 @@ pub fn fill(alloc: Global, text: &mut Text, bytes: &[u8]) -> Result<(), NoMemory
     room.extend_from_slice(bytes)?;
     *text = Text::from_vec(room);
     Ok(())
+}
+
+/// A name, in the memory of one that isn't used any more.
+fn joined(
+    used: UnitKey,
+    primary: bool,
+    body: bool,
+    library: &[u8],
+    entity: &[u8],
+    name: &[u8],
+) -> Result<UnitKey, NoMemory>
+    ensures { IfOk result (λ key. key ≡ record {
+      primary = primary;
+      body = body;
+      library = library.now;
+      entity = entity.now;
+      name = name.now;
+    }) }
+{
+    let mut letters = used.letters;
+    letters.clear();
+    letters.extend_from_slice(library)?;
+    letters.extend_from_slice(entity)?;
+    letters.extend_from_slice(name)?;
+    let head = Head {
+        primary,
+        body,
+        library: library.len(),
+        entity: entity.len(),
+    };
+    Ok(UnitKey { head, letters })
 }
 
 /// Puts a name in the place of another, in its memory.
@@ -95,11 +142,9 @@ fn put_key(
       name = name.now;
     }) }
 {
-    key.primary = primary;
-    key.body = body;
-    fill(alloc, &mut key.library, library)?;
-    fill(alloc, &mut key.entity, entity)?;
-    fill(alloc, &mut key.name, name)
+    let used = replace(key, no_key(alloc));
+    *key = joined(used, primary, body, library, entity, name)?;
+    Ok(())
 }
 
 /// Puts the name of a primary unit of a library in the place of another.

@@ -1,8 +1,7 @@
 -- By its key.
 use Rattle.std.proofs.Common.{◌∙◌, ap}
 use Rattle.std.specs.List.{list_any}
-use Rattle.file_graph.specs.declared.key.UnitKey.{UnitKey}
-use Rattle.file_graph.specs.Keys.{is_same_key, key_of}
+use Rattle.file_graph.specs.Keys.{UnitKey, is_same_key, key_of}
 use Rattle.file_graph.proofs.MeaningLemmas.{primary_any}
 use Rattle.file_graph.proofs.check.has_primary.Goals as goal
 

@@ -3,9 +3,8 @@ use Rattle.std.proofs.Common.{◌≡◌, ◌∙◌, Option, Some, None, ap, sym,
 use Rattle.std.specs.Option.{option_map}
 use Rattle.indexmap.specs.IndexMap.{Updates}
 use Rattle.scan_spec.specs.Dependencies.{LinkUnit, duplicate_of}
-use Rattle.file_graph.specs.declared.key.UnitKey.{UnitKey}
 use Rattle.file_graph.specs.declared.index.Place.{Place}
-use Rattle.file_graph.specs.Keys.{is_same_key, key_of}
+use Rattle.file_graph.specs.Keys.{UnitKey, is_same_key, key_of}
 use Rattle.file_graph.specs.Indexes.{fault_before, unit_place, unit_named}
 use Rattle.file_graph.proofs.IndexLemmas.{alike_named, index_more, key_is, named_none, named_some, of_named, placed, refused}
 use Rattle.file_graph.proofs.index.add_unit.Goals as goal

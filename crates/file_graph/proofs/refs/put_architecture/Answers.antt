@@ -3,7 +3,7 @@ use Rattle.std.proofs.Common.{◌∙◌, sym, ap, subst}
 use Rattle.vr_base.specs.declared.child.MaybeText.{MaybeText}
 use Rattle.vr_base.specs.declared.child.MaybeText.TheVariants.{Nothing, Given}
 use Rattle.scan_spec.specs.Dependencies.{is_given_architecture}
-use Rattle.file_graph.specs.declared.key.UnitKey.{UnitKey}
+use Rattle.file_graph.specs.Keys.{UnitKey}
 use Rattle.file_graph.specs.Rows.{HasAdded, is_named_at, stands_at}
 use Rattle.file_graph.proofs.RowLemmas.{added_none, added_same, stands_never}
 use Rattle.file_graph.proofs.MeaningLemmas.{architecture_at}

@@ -1,7 +1,7 @@
 -- By its key.
 use Rattle.std.proofs.Common.{◌∙◌, ap}
 use Rattle.scan_spec.specs.Dependencies.{is_body}
-use Rattle.file_graph.specs.declared.key.UnitKey.{UnitKey}
+use Rattle.file_graph.specs.Keys.{UnitKey}
 use Rattle.file_graph.specs.Rows.{is_named_at, stands_at}
 use Rattle.file_graph.proofs.RowLemmas.{added_same}
 use Rattle.file_graph.proofs.MeaningLemmas.{body_at}

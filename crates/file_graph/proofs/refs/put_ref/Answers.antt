@@ -2,8 +2,7 @@
 use Rattle.std.proofs.Common.{◌≡◌, ◌∙◌, ◌&&◌, ◌||◌, ℕ, Bool, List, sym, ap, refl}
 use Rattle.std.proofs.lemmas.Result.{on_ok_weaker}
 use Rattle.scan_spec.specs.Dependencies.{is_body, is_given_architecture}
-use Rattle.file_graph.specs.declared.key.UnitKey.{UnitKey}
-use Rattle.file_graph.specs.Keys.{primary_key}
+use Rattle.file_graph.specs.Keys.{UnitKey, primary_key}
 use Rattle.file_graph.specs.Meanings.{names_in}
 use Rattle.file_graph.specs.Rows.{has_package, is_named_at, stands_at}
 use Rattle.file_graph.proofs.RowLemmas.{added_both, added_same, or_none}
