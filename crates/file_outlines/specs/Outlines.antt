@@ -4,7 +4,7 @@ use Rattle.std.specs.List.{All}
 use Rattle.vr_base.specs.declared.design.Scan.{Scan}
 use Rattle.vr_base.specs.declared.design.Unit.{Unit as DesignUnit}
 use Rattle.scan_spec.specs.References.{library_names}
-use Rattle.scan_spec.specs.Scans.{AreScansOf, IsScanOf}
+use Rattle.scan_spec.specs.Scans.{AreScansOf}
 use Rattle.vhdl_refs.specs.declared.mentions.Mentions.{Mentions}
 use Rattle.vhdl_refs.specs.Mentions.{AreMentionsOf, MentionsLieIn}
 use Rattle.file_outlines.specs.declared.outlines.FileOutline.{FileOutline}
@@ -67,9 +67,3 @@ pub record HasAdded (text : List ℕ) (scan : Scan) (old new : Outlines) : Type 
   pub lies : OutlineLiesIn text file
   pub files : new.files ≡ old.files ++ file ∷ []
   pub scopes : new.scopes ≡ old.scopes ++ map (scope_of text scan) scan.units
-
--- the outline of a text that has a scan was added
-pub record HasOutlined (text : List ℕ) (old new : Outlines) : Type 0 where
-  pub scan : Scan
-  pub is : IsScanOf text scan
-  pub added : HasAdded text scan old new

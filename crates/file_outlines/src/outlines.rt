@@ -119,7 +119,8 @@ impl Outlines {
         requires scan { IsScanOf text.now scan }
         requires small { length text.now ≤ TEXT_LIMIT }
         requires roles { roles.now ≡ roles_of text.now scan.tokens.list }
-        ensures { IfOk result (λ used. HasAdded text.now scan self.old self.new) }
+        ensures added { IfOk result (λ used. HasAdded text.now scan self.old self.new) }
+        ensures used { IfOk result (λ used. used ≡ scan.tokens) }
     {
         let mentions = mentions_of_units(alloc, text, &scan, roles)?;
         push_scopes(alloc, text, &scan, roles, &mut self.scopes)?;

@@ -171,7 +171,7 @@ fn is_right(alloc: Global, options: &str, files: &str, wanted: &str) -> Result<b
     Ok(found.as_slice() == wanted.as_bytes())
 }
 
-/// The same of a line, or it has no arrow.
+/// The same of a line. One without an arrow is a remark, or empty.
 fn check(alloc: Global, line: &str) -> Result<bool, Fail> {
     let Some((project, wanted)) = line.split_once(" => ") else {
         return Ok(line.is_empty() || line.starts_with("--"));

@@ -3,8 +3,10 @@ use Rattle.std.specs.Prelude.{◌≡◌, ℕ, ◌-◌, List, [], ◌∷◌, code
 use Rattle.std.specs.List.{All}
 use Rattle.vr_base.specs.declared.design.Scan.{Scan}
 use Rattle.vr_base.specs.declared.project.ProjectFile.{ProjectFile}
-use Rattle.scan_spec.specs.Scans.{AreScansOf}
+use Rattle.scan_spec.specs.Scans.{AreScansOf, IsScanOf}
 use Rattle.scan_spec.specs.Visibility.{ScopeUnit, scope_units}
+use Rattle.file_outlines.specs.declared.outlines.Outlines.{Outlines}
+use Rattle.file_outlines.specs.Outlines.{HasAdded}
 use Rattle.name_scope.specs.Tables.{AreExactly, IsUnitAt}
 
 -- the files of a text from a place on, which end at places
@@ -27,3 +29,9 @@ pub record HasLibraries (text ends : List ℕ) (count : ℕ) : Type 0 where
   pub names : List (List ℕ)
   pub exactly : (user : ScopeUnit) → IsUnitAt files (parts_at text 0 ends) scans (record { file = 0; unit = 0 }) user → AreExactly (scope_units files (parts_at text 0 ends) scans) user names
   pub counted : count ≡ length names
+
+-- the outline of a text that has a scan was added
+pub record HasOutlined (text : List ℕ) (old new : Outlines) : Type 0 where
+  pub scan : Scan
+  pub is : IsScanOf text scan
+  pub added : HasAdded text scan old new

@@ -197,9 +197,9 @@ pub struct Seen {
     pub libraries: u64,
 }
 
-/// Scans and outlines each file of a project, which is one text with the places where its files end, all of library `l`.
-/// Nothing is told where the places don't rise within the text, where a file is longer than 4,194,304 bytes or has a
-/// fault, or where there was no memory. C declares it as
+/// Scans and outlines each file of a project, which is one text with the places where its files end, all of library `l`,
+/// and keeps what later passes ask of it. Nothing is told where the places don't rise within the text, where a file is
+/// longer than 4,194,304 bytes or has a fault, or where there was no memory. C declares it as
 /// `void bench_files(const uint8_t *text, size_t length, const size_t *ends, size_t count, struct seen *out)`.
 #[unsafe(no_mangle)]
 pub extern "C" fn bench_files(alloc: Global, text: &[u8], ends: &[usize], out: &mut Seen)

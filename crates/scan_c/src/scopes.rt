@@ -2,9 +2,9 @@
 
 ghost use Rattle.std.specs.Prelude.{◌≡◌, ◌-◌, ◌<◌, ◌≤◌, [], ◌∷◌, ◌++◌, IfOk, codes, drop, false, length, take, true};
 ghost use Rattle.std.specs.List.{All};
-ghost use Rattle.file_outlines.specs.Outlines.{AreOutlined, HasOutlined};
+ghost use Rattle.file_outlines.specs.Outlines.{AreOutlined};
 ghost use Rattle.file_outlines.specs.Roles.{IsTextSmall};
-ghost use Rattle.scan_c.specs.Projects.{HasLibraries, HasScans, parts_at};
+ghost use Rattle.scan_c.specs.Projects.{HasLibraries, HasOutlined, HasScans, parts_at};
 
 use file_outlines::Outlines;
 use name_scope::visible_libraries_by_outlines;

@@ -1,7 +1,9 @@
 -- What is known of the clause of a token by the tokens before it.
-use Rattle.std.specs.Prelude.{◌≡◌, ℕ, ◌≤◌, List}
+use Rattle.std.specs.Prelude.{◌≡◌, ℕ, ◌<◌, ◌≤◌, List, length}
 use Rattle.std.specs.List.{list_any}
 use Rattle.vr_base.specs.declared.design.Role.{Role}
+use Rattle.vr_base.specs.declared.design.Unit.{Unit as DesignUnit}
+use Rattle.vr_base.specs.declared.limits.TheConstants.{TEXT_LIMIT}
 use Rattle.scan_spec.specs.References.{back_to, clause_start, ends_item, is_context_word, is_in_name_list, is_library_word, is_semicolon}
 use Rattle.vhdl_refs.specs.declared.clause.Clause.{Clause}
 use Rattle.vhdl_refs.specs.declared.clause.Reached.{Reached}
@@ -12,6 +14,15 @@ pub record IsClauseAt (roles : List Role) (at : ℕ) (clause : Clause) : Type 0 
   pub has_library : clause.has_library ≡ list_any is_library_word (back_to is_semicolon roles at)
   pub start : clause.start ≡ clause_start roles at
   pub within : clause.start ≤ at
+
+-- a unit is among the tokens of a file that isn't too long, and a clause begins with its first one
+pub record BeginsUnit (roles : List Role) (unit : DesignUnit) (clause : Clause) : Type 0 where
+  pub led : unit.lead ≤ unit.first
+  pub ordered : unit.first < unit.last
+  pub within : unit.last < length roles
+  pub small : length roles ≤ TEXT_LIMIT
+  pub start : clause.start ≡ unit.lead
+  pub at_start : IsClauseAt roles clause.start clause
 
 -- clauses were followed up to a token, or to one before it
 pub record HasReached (roles : List Role) (at : ℕ) (reached : Reached) : Type 0 where

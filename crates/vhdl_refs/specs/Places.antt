@@ -14,10 +14,6 @@ ref_place roles at = record { at = at; strict = is_strict roles at }
 abbrev pub refs_between : List Role → ℕ → ℕ → List RefPlace
 refs_between roles start end = map (ref_place roles) (places (is_reference roles) start end)
 
--- those of a unit
-abbrev pub ref_places : List Role → DesignUnit → List RefPlace
-ref_places roles unit = refs_between roles unit.lead unit.last
-
 -- those of a unit to context declarations
 abbrev pub context_places : List Role → DesignUnit → List RefPlace
 context_places roles unit = map (ref_place roles) (places (is_context_ref roles) unit.lead (context_end unit))

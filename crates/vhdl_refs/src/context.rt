@@ -5,7 +5,7 @@ ghost use Rattle.std.specs.Option.{option_map};
 ghost use Rattle.scan_spec.specs.Units.{AreTokensOf, name_of, roles_of};
 ghost use Rattle.scan_spec.specs.Scans.{IsScanOf};
 ghost use Rattle.scan_spec.specs.References.{context_end, context_refs, is_context_ref, is_in_library_clause, is_library_name, library_names, places};
-ghost use Rattle.vhdl_refs.specs.Clauses.{IsClauseAt};
+ghost use Rattle.vhdl_refs.specs.Clauses.{BeginsUnit, IsClauseAt};
 ghost use Rattle.vhdl_refs.specs.Places.{AreRefPlaces, context_places, ref_place};
 
 use crate::clause::{Clause, clause_after};
@@ -100,12 +100,7 @@ pub fn push_contexts(
     clause: Clause,
     found: &mut Vec<RefPlace>,
 ) -> Result<(), NoMemory>
-    requires led { unit.now.lead ≤ unit.now.first }
-    requires ordered { unit.now.first < unit.now.last }
-    requires within { unit.now.last < length roles.now }
-    requires small { length roles.now ≤ TEXT_LIMIT }
-    requires start { clause.start ≡ unit.now.lead }
-    requires clause { IsClauseAt roles.now clause.start clause }
+    requires begins { BeginsUnit roles.now unit.now clause }
     requires before { AreRefPlaces roles.now found.old.items }
     ensures found { OnOk result (found.new.items ≡
         found.old.items ++ context_places roles.now unit.now) }

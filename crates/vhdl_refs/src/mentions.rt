@@ -9,7 +9,7 @@ ghost use Rattle.scan_spec.specs.Scans.{IsScanOf};
 ghost use Rattle.scan_spec.specs.References.{architecture_at, context_refs, named_refs, ref_at, uses_of_all};
 ghost use Rattle.vhdl_lex.specs.Pieces.{LiesIn};
 ghost use Rattle.vhdl_units.specs.Names.{token_name};
-ghost use Rattle.vhdl_refs.specs.Clauses.{IsClauseAt};
+ghost use Rattle.vhdl_refs.specs.Clauses.{BeginsUnit};
 ghost use Rattle.vhdl_refs.specs.Mentions.{AreMentionsOf, MentionsLieIn, NamedLiesIn, SomeLiesIn, named_architecture, named_ref};
 ghost use Rattle.vhdl_refs.specs.Places.{AreRefPlaces, IsRefPlace};
 
@@ -114,12 +114,7 @@ fn contexts_of(
 ) -> Result<Items<NamedRef>, NoMemory>
     requires tokens { AreTokensOf text.now tokens.now }
     requires roles { roles.now ≡ roles_of text.now tokens.now.list }
-    requires led { unit.now.lead ≤ unit.now.first }
-    requires ordered { unit.now.first < unit.now.last }
-    requires within { unit.now.last < length roles.now }
-    requires small { length roles.now ≤ TEXT_LIMIT }
-    requires start { clause.start ≡ unit.now.lead }
-    requires clause { IsClauseAt roles.now clause.start clause }
+    requires begins { BeginsUnit roles.now unit.now clause }
     ensures are { IfOk result (λ found.
         map (named_ref text.now) found ≡ context_refs text.now tokens.now.list unit.now) }
     ensures lie { IfOk result (All (NamedLiesIn text.now)) }
@@ -141,12 +136,7 @@ fn refs_of(
 ) -> Result<Items<NamedRef>, NoMemory>
     requires tokens { AreTokensOf text.now tokens.now }
     requires roles { roles.now ≡ roles_of text.now tokens.now.list }
-    requires led { unit.now.lead ≤ unit.now.first }
-    requires ordered { unit.now.first < unit.now.last }
-    requires within { unit.now.last < length roles.now }
-    requires small { length roles.now ≤ TEXT_LIMIT }
-    requires start { clause.start ≡ unit.now.lead }
-    requires clause { IsClauseAt roles.now clause.start clause }
+    requires begins { BeginsUnit roles.now unit.now clause }
     ensures are { IfOk result (λ found. map (named_ref text.now) found
         ≡ named_refs text.now tokens.now.list unit.now.lead unit.now.last) }
     ensures lie { IfOk result (All (NamedLiesIn text.now)) }
