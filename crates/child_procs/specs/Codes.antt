@@ -14,3 +14,7 @@ abbrev pub child_code : Option ℤ → Bool → MaybeText → ℕ
 child_code None more results = 256
 child_code (Some (pos code)) more results = cut_code code more results
 child_code (Some (negsuc code)) more results = 256
+
+-- the code of a child that has no answer to give
+abbrev pub no_answer : ℕ
+no_answer = 75

@@ -1,17 +1,22 @@
-//! One child: how it is started and given its input, and how its output, its end and its results are taken.
+//! One child: how it is started, and how its output, its end and its results are taken.
 
-ghost use Rattle.std.specs.Prelude.{◌≡◌, ◌<◌, ◌≤◌, length, IfOk, MatchResult, option_map, string_bytes};
+ghost use Rattle.std.specs.Prelude.{◌≡◌, ◌≢◌, ◌<◌, ◌≤◌, length, IfOk, MatchResult, option_map, string_bytes};
 ghost use Rattle.std.specs.Str.{IsUtf8};
 ghost use Rattle.std.specs.Process.{exit_code};
 ghost use Rattle.vr_outside.specs.Children.{FitsExit, IsShort, AnswersPath};
-ghost use Rattle.child_procs.specs.Codes.{child_code};
+ghost use Rattle.limited_reading.specs.Faults.{IsFailed};
+ghost use Rattle.child_procs.specs.Codes.{child_code, no_answer};
 ghost use Rattle.child_procs.specs.Commands.{IsProgram, IsCommandOf};
 
-use limited_reading::{IoFault, Prefix, drain, read_file, read_prefix};
+use crate::printed::Printed;
+use libc::net::POLLIN;
+use libc::types::pollfd;
+use limited_reading::{IoFault, read_file};
 use std::alloc::Global;
 use std::fs::Files;
-use std::io::{ErrorKind, Write};
-use std::process::{Child, Command, ExitStatus, OpenProcess, Processes, Stdio};
+use std::io::{ErrorKind, Read};
+use std::os::fd::AsRawFd;
+use std::process::{Child, ChildStdin, Command, ExitStatus, Processes, Stdio, SystemProcess};
 use std::{fs, io};
 use vr_base::{ARTEFACT_LIMIT, Exit, MaybeText, RESULTS_LIMIT, Request, Text};
 use vr_outside::ReadEnd;
@@ -22,37 +27,47 @@ const SIGNAL_CODE: u32 = 256;
 /// The code of a child that ended well but printed more than is kept, and was to leave no results.
 const CUT_CODE: u32 = 257;
 
+/// The code of a child that has no answer to give, as one whose node is lost, or whose licence isn't free: `EX_TEMPFAIL`.
+const NO_ANSWER_CODE: u32 = 75;
+
 /// The first command word that denotes the program itself.
 const OWN_WORD: &[u8] = b"@self";
 
-/// A child that was started and has its whole input, and the path where it leaves its results, if anywhere.
+/// A child that runs, what it has printed so far, and the path where it leaves its results, if anywhere.
 #[derive(Drop)]
-pub struct Running<P: OpenProcess + Drop> {
-    child: Child<P>,
+pub struct Running {
+    // its output is there until its end was read, or until it was given up
+    child: Child<SystemProcess>,
+    printed: Printed,
+    fault: Option<IoFault>,
     results: MaybeText,
 }
 
-/// Starts a child: clears the place of its results, starts its command, writes its whole input and closes it. Where
-/// the input can't be written whole, the child's pipes are closed and it is waited for.
-pub fn start_child<R: Processes + Files>(
+/// Starts a child: clears the place of its results, and starts its command. Its input is still to be written.
+pub fn start_child<R: Processes<Started = SystemProcess> + Files>(
     runtime: &R,
     alloc: Global,
     own_path: &Option<String>,
     request: &Request,
-) -> Result<Running<R::Started>, IoFault> {
+) -> Result<(Running, Option<ChildStdin>), IoFault> {
     clear_results(runtime, &request.results)?;
     let results = request.results.copy(alloc)?;
     let mut command = command_of(alloc, own_path, request.command.as_slice())?;
     command.stdin(Stdio::piped()).stdout(Stdio::piped());
-    let mut child = command.spawn(runtime)?;
-    match feed(&mut child, request.input.bytes()) {
-        Ok(()) => Ok(Running { child, results }),
-        Err(fault) => {
-            drop(child.stdout.take());
-            let _ = child.wait();
-            Err(fault)
-        }
-    }
+    let mut child = match command.spawn(runtime) {
+        Ok(child) => child,
+        Err(error) => return Err(IoFault::of("start", error)),
+    };
+    let stdin = child.stdin.take();
+    Ok((
+        Running {
+            child,
+            printed: Printed::new(alloc),
+            fault: None,
+            results,
+        },
+        stdin,
+    ))
 }
 
 /// Makes the folder of a results path, and removes an old file there.
@@ -62,23 +77,25 @@ fn clear_results(files: &impl Files, results: &MaybeText) -> Result<(), IoFault>
     };
     let path = utf8(path)?;
     if let Some((folder, _)) = path.rsplit_once('/') {
-        fs::create_dir_all(files, folder)?;
+        if let Err(error) = fs::create_dir_all(files, folder) {
+            return Err(IoFault::of("make the folder of its results", error));
+        }
     }
     match fs::remove_file(files, path) {
         Ok(()) => Ok(()),
         Err(error) if error.kind() == ErrorKind::NotFound => Ok(()),
-        Err(error) => Err(IoFault::from(error)),
+        Err(error) => Err(IoFault::of("remove its old results", error)),
     }
 }
 
 fn utf8(text: &Text) -> Result<&str, IoFault>
     ensures { MatchResult result
         (λ same. (same.now ≡ text.now) × IsUtf8 text.now)
-        (λ fault. (fault ≡ IoFault.Failed) × (¬ (IsUtf8 text.now))) }
+        (λ fault. IsFailed fault × (¬ (IsUtf8 text.now))) }
 {
     match str::from_utf8(text.bytes()) {
         Ok(text) => Ok(text),
-        Err(_) => Err(IoFault::Failed),
+        Err(_) => Err(IoFault::failed("start", "a word or a path isn't UTF-8")),
     }
 }
 
@@ -87,7 +104,7 @@ fn command_of(alloc: Global, own_path: &Option<String>, words: &[Text]) -> Resul
     ensures { IfOk result (IsCommandOf (option_map string_bytes own_path.now) words.now) }
 {
     let [first, rest @ ..] = words else {
-        return Err(IoFault::Failed);
+        return Err(IoFault::failed("start", "it has no word"));
     };
     let mut command = Command::new(alloc, program_of(own_path, first)?)?;
     for word in rest {
@@ -106,60 +123,105 @@ fn program_of<'a>(own_path: &'a Option<String>, word: &'a Text) -> Result<&'a st
     }
     match own_path {
         Some(path) => Ok(path.as_str()),
-        None => Err(IoFault::Failed),
+        None => Err(IoFault::failed("start", "the program's own path isn't known")),
     }
 }
 
-/// Writes the whole input and closes it.
-fn feed<P: OpenProcess>(child: &mut Child<P>, input: &[u8]) -> Result<(), IoFault> {
-    match child.stdin.take() {
-        Some(mut stdin) => Ok(stdin.write_all(input)?),
-        None => Err(IoFault::Failed),
+impl Running {
+    /// What the system is asked of its output. A number below 0, of one that is at its end, is passed over.
+    pub fn asked(&self) -> pollfd {
+        let fd = match &self.child.stdout {
+            Some(stdout) => stdout.as_raw_fd(),
+            None => -1,
+        };
+        pollfd {
+            fd,
+            events: POLLIN,
+            revents: 0,
+        }
+    }
+
+    /// Whether its output is at its end.
+    pub fn is_at_end(&self) -> bool {
+        self.child.stdout.is_none()
+    }
+
+    /// One read of its output, which doesn't wait where the system said so. Where there is no memory for what comes, the
+    /// rest is read and not kept.
+    pub fn read_on(&mut self, buffer: &mut [u8]) {
+        let Some(stdout) = &mut self.child.stdout else {
+            return;
+        };
+        match stdout.read(buffer) {
+            Ok(0) => self.child.stdout = None,
+            Ok(count) => self.keep(&buffer[..count]),
+            Err(error) if error.kind() == ErrorKind::Interrupted => {}
+            Err(error) => self.give_up(IoFault::of("read", error)),
+        }
+    }
+
+    fn keep(&mut self, bytes: &[u8]) {
+        if self.fault.is_some() {
+            return;
+        }
+        if let Err(fault) = self.printed.add(bytes) {
+            self.fault = Some(IoFault::from(fault));
+        }
+    }
+
+    /// Closes its output, and keeps why.
+    pub fn give_up(&mut self, fault: IoFault) {
+        self.child.stdout = None;
+        self.fault = Some(fault);
+    }
+
+    /// Closes its pipes and waits for it, whatever comes of it.
+    pub fn abandon(self) {
+        let Running { mut child, .. } = self;
+        drop(child.stdout.take());
+        let _ = child.wait();
     }
 }
 
-/// Reads a child's output to its end, waits for the child, and takes its results. The child is waited for whatever
-/// fails before.
-pub fn end_child<P: OpenProcess + Drop>(
+/// Waits for a child, and takes its results. The child is waited for whatever failed before. One that says that it has no
+/// answer is lost.
+pub fn end_child(
     files: &impl Files,
     buffer: &mut [u8],
     alloc: Global,
-    running: Running<P>,
+    running: Running,
 ) -> Result<Exit, IoFault>
     requires { 0 < length buffer.old }
     ensures sizes { IfOk result FitsExit }
     ensures named { IfOk result (λ exit. AnswersPath running.results exit.results) }
+    ensures answered { IfOk result (λ exit. exit.code ≢ no_answer) }
 {
-    let Running { mut child, results } = running;
-    let output = take_output(&mut child, buffer, alloc);
+    let Running {
+        mut child,
+        printed,
+        fault,
+        results,
+    } = running;
+    drop(child.stdout.take());
     let status = child.wait();
-    let output = output?;
-    let code = code_of(status?, output.more, &results);
+    if let Some(fault) = fault {
+        return Err(fault);
+    }
+    let output = printed.into_prefix();
+    let status = match status {
+        Ok(status) => status,
+        Err(error) => return Err(IoFault::of("wait", error)),
+    };
+    let code = code_of(status, output.more, &results);
+    if code == NO_ANSWER_CODE {
+        return Err(IoFault::failed("end", "its code, 75, says that it has no answer"));
+    }
     let results = take_results(files, buffer, alloc, results)?;
     Ok(Exit {
         code,
         output: Text::from_vec(output.kept),
         results,
     })
-}
-
-/// Reads the output to its end, keeps the prefix of it, and closes the pipe.
-fn take_output<P: OpenProcess>(
-    child: &mut Child<P>,
-    buffer: &mut [u8],
-    alloc: Global,
-) -> Result<Prefix, IoFault>
-    requires { 0 < length buffer.old }
-    ensures { IfOk result (λ prefix. length prefix.kept.items ≤ ARTEFACT_LIMIT) }
-{
-    let Some(mut stdout) = child.stdout.take() else {
-        return Err(IoFault::Failed);
-    };
-    let prefix = read_prefix(&mut stdout, buffer, alloc, ARTEFACT_LIMIT as u64)?;
-    if prefix.more {
-        drain(&mut stdout, buffer)?;
-    }
-    Ok(prefix)
 }
 
 fn code_of(status: ExitStatus, more: bool, results: &MaybeText) -> u32

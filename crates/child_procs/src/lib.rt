@@ -2,6 +2,8 @@
 #![tactic(auto)]
 
 mod child;
+mod printed;
 mod procs;
+mod tickets;
 
 pub use procs::ChildProcs;

@@ -1,39 +1,51 @@
 //! The children that run, by their tickets.
 
-ghost use Rattle.std.specs.Prelude.{◌≡◌, ◌<◌, ◌++◌, ◌∷◌, [], vec_len, ◌⊎◌, Contains, IfOk, OnErr, MatchResult};
+ghost use Rattle.std.specs.Prelude.{◌≡◌, ◌<◌, ◌++◌, ◌∷◌, [], vec_len, ◌⊎◌, length, Contains, IfOk, OnErr, MatchResult};
 ghost use Rattle.vr_base.specs.declared.child.MaybeText.TheVariants.{Nothing};
 
 use crate::child::{Running, end_child, start_child};
+use crate::tickets::leave;
+use fault_causes::Cause;
+use libc::net::{POLLOUT, poll};
+use libc::types::pollfd;
 use limited_reading::IoFault;
 use std::alloc::Global;
 use std::fs::Files;
-use std::io::ErrorKind;
-use std::process::Processes;
+use std::io::{ErrorKind, Write};
+use std::os::fd::{AsRawFd, RawFd};
+use std::process::{ChildStdin, Processes, SystemProcess};
 use std::{env, io};
-use vr_base::{NoMemory, Request};
+use vr_base::{NoMemory, Request, Text};
 use vr_outside::{Ended, Procs, StartFault, WaitFault, counted};
 
-/// The bytes that one read takes at most.
-const CHUNK: usize = 4096;
+/// The bytes that one read takes at most: what a pipe holds.
+const CHUNK: usize = 65_536;
 
 /// Children of this process. It counts its failures, and tells nothing but its running tickets. A command whose first
 /// word is `@self` starts the program itself.
 #[derive(Drop)]
-pub struct ChildProcs<R: Processes> {
+pub struct ChildProcs<R: Processes<Started = SystemProcess>> {
     runtime: R,
     own_path: Option<String>,
     next_ticket: u64,
     // the running children and, apart from them, their tickets, both in order of start
-    children: Vec<Running<R::Started>>,
+    children: Vec<Running>,
     tickets: Vec<u64>,
     failed_starts: u64,
     lost_children: u64,
+    // why the first start failed that did, with its command where there was memory for it
+    start_cause: Option<Cause>,
+    start_command: Option<Text>,
+    // why the first child was lost that was
+    child_cause: Option<Cause>,
+    // what the system is asked, kept for its room
+    asked: Vec<pollfd>,
     buffer: Vec<u8>,
     ghost has_room: { 0 < vec_len buffer },
     ghost together: { vec_len children ≡ vec_len tickets },
 }
 
-impl<R: Processes + Files + AllocGlobal + Drop> ChildProcs<R> {
+impl<R: Processes<Started = SystemProcess> + Files + AllocGlobal + Drop> ChildProcs<R> {
     /// No child runs. Where the program's own path isn't known, only commands with `@self` fail.
     pub fn new(alloc: Global, runtime: R) -> Result<ChildProcs<R>, NoMemory>
         ensures { IfOk result (λ procs. procs.tickets.items ≡ []) }
@@ -47,8 +59,59 @@ impl<R: Processes + Files + AllocGlobal + Drop> ChildProcs<R> {
             tickets: Vec::new(alloc),
             failed_starts: 0,
             lost_children: 0,
+            start_cause: None,
+            start_command: None,
+            child_cause: None,
+            asked: Vec::new(alloc),
             buffer: vec![in alloc; 0; CHUNK]?,
         })
+    }
+
+    /// The tickets of the running children, in order of start.
+    pub fn running(&self) -> &[u64]
+        ensures { result.now ≡ self.now.tickets.items }
+    {
+        self.tickets.as_slice()
+    }
+
+    /// Why the first start failed that did, and its command.
+    pub fn start_cause(&self) -> Option<(&[u8], Cause)> {
+        let cause = self.start_cause?;
+        match &self.start_command {
+            Some(command) => Some((command.bytes(), cause)),
+            None => Some((b"a command", cause)),
+        }
+    }
+
+    /// Why the first child was lost that was.
+    pub fn child_cause(&self) -> Option<Cause> {
+        self.child_cause
+    }
+
+    /// Keeps why a start failed, if none did before.
+    fn note_start(&mut self, alloc: Global, request: &Request, cause: Cause)
+        ensures tickets { self.new.tickets.items ≡ self.old.tickets.items }
+        ensures starts { self.new.failed_starts ≡ self.old.failed_starts }
+        ensures children { self.new.lost_children ≡ self.old.lost_children }
+    {
+        if self.start_cause.is_none() {
+            self.start_cause = Some(cause);
+            self.start_command = match joined(alloc, request.command.as_slice()) {
+                Ok(command) => Some(command),
+                Err(_) => None,
+            };
+        }
+    }
+
+    /// Keeps why a child was lost, if none was before.
+    fn note_loss(&mut self, cause: Cause)
+        ensures tickets { self.new.tickets.items ≡ self.old.tickets.items }
+        ensures starts { self.new.failed_starts ≡ self.old.failed_starts }
+        ensures children { self.new.lost_children ≡ self.old.lost_children }
+    {
+        if self.child_cause.is_none() {
+            self.child_cause = Some(cause);
+        }
     }
 
     /// A ticket that no earlier start gave and that doesn't run. There is none once all numbers were given.
@@ -60,10 +123,10 @@ impl<R: Processes + Files + AllocGlobal + Drop> ChildProcs<R> {
     {
         let ticket = self.next_ticket;
         if ticket == u64::MAX {
-            return Err(IoFault::Failed);
+            return Err(IoFault::failed("start", "no ticket is left"));
         }
         if self.tickets.contains(&ticket) {
-            return Err(IoFault::Failed);
+            return Err(IoFault::failed("start", "no ticket is left"));
         }
         Ok(ticket)
     }
@@ -81,12 +144,135 @@ impl<R: Processes + Files + AllocGlobal + Drop> ChildProcs<R> {
         let ticket = self.fresh_ticket()?;
         self.tickets.reserve(1)?;
         self.children.reserve(1)?;
-        let child = start_child(&self.runtime, alloc, &self.own_path, request)?;
-        self.next_ticket = ticket + 1;
+        let (child, stdin) = start_child(&self.runtime, alloc, &self.own_path, request)?;
         self.tickets.push_reserved(ticket);
         self.children.push_reserved(child);
-        Ok(ticket)
+        match self.feed(stdin, request.input.bytes()) {
+            Ok(()) => {
+                self.next_ticket = ticket + 1;
+                Ok(ticket)
+            }
+            Err(fault) => {
+                self.tickets.pop();
+                if let Some(child) = self.children.pop() {
+                    child.abandon();
+                }
+                Err(fault)
+            }
+        }
     }
+
+    /// Writes the whole input and closes it, and reads what children print meanwhile, so that neither waits for the
+    /// other.
+    fn feed(&mut self, stdin: Option<ChildStdin>, input: &[u8]) -> Result<(), IoFault>
+        ensures tickets { self.new.tickets.items ≡ self.old.tickets.items }
+        ensures starts { self.new.failed_starts ≡ self.old.failed_starts }
+        ensures children { self.new.lost_children ≡ self.old.lost_children }
+    {
+        let Some(mut stdin) = stdin else {
+            return Err(IoFault::failed("write", "it has no input"));
+        };
+        if os::set_nonblocking(stdin.as_raw_fd(), true) != 0 {
+            return Err(last_fault("ioctl"));
+        }
+        let mut rest = input;
+        for _ in 0..u64::MAX {
+            if rest.is_empty() {
+                return Ok(());
+            }
+            match stdin.write(rest) {
+                Ok(count) => rest = &rest[count..],
+                Err(error) if error.kind() == ErrorKind::WouldBlock => {
+                    self.turn(stdin.as_raw_fd())?;
+                }
+                Err(error) if error.kind() == ErrorKind::Interrupted => {}
+                Err(error) => return Err(IoFault::of("write", error)),
+            }
+        }
+        Err(IoFault::failed("write", "it has no end"))
+    }
+
+    /// Waits until some output can be read on, or more can be written to this pipe, and reads each output that can. A
+    /// number below 0 is no pipe.
+    fn turn(&mut self, stdin: RawFd) -> Result<(), IoFault>
+        ensures tickets { self.new.tickets.items ≡ self.old.tickets.items }
+        ensures starts { self.new.failed_starts ≡ self.old.failed_starts }
+        ensures children { self.new.lost_children ≡ self.old.lost_children }
+    {
+        ask(&mut self.asked, self.children.as_slice(), stdin)?;
+        if poll(self.asked.as_mut_slice(), -1) >= 0 {
+            let buffer = self.buffer.as_mut_slice();
+            read_ready(self.children.as_mut_slice(), self.asked.as_slice(), buffer);
+            return Ok(());
+        }
+        if os::errno() == libc::EINTR {
+            return Ok(());
+        }
+        Err(last_fault("poll"))
+    }
+
+    /// The place of the first child, in order of start, whose output is at its end; it waits until there is one. Where
+    /// the system can't be asked the oldest child is given up.
+    fn first_at_end(&mut self) -> usize
+        requires { 0 < length self.old.tickets.items }
+        ensures place { result < length self.new.tickets.items }
+        ensures tickets { self.new.tickets.items ≡ self.old.tickets.items }
+        ensures starts { self.new.failed_starts ≡ self.old.failed_starts }
+        ensures children { self.new.lost_children ≡ self.old.lost_children }
+    {
+        for _ in 0..u64::MAX {
+            if let Some(at) = self.children.iter().position(|child| child.is_at_end()) {
+                return at;
+            }
+            if let Err(fault) = self.turn(-1) {
+                self.children[0].give_up(fault);
+                return 0;
+            }
+        }
+        self.children[0].give_up(IoFault::failed("poll", "it has no end"));
+        0
+    }
+}
+
+/// What the system said of its last call, which failed.
+fn last_fault(call: &'static str) -> IoFault {
+    let error = io::Error::from_raw_os_error(os::errno());
+    IoFault::Failed(Cause { call, error })
+}
+
+/// Writes down what the system is to be asked of the children, and of a pipe that is written.
+fn ask(asked: &mut Vec<pollfd>, children: &[Running], stdin: RawFd) -> Result<(), IoFault> {
+    asked.clear();
+    for child in children {
+        asked.push(child.asked())?;
+    }
+    asked.push(pollfd {
+        fd: stdin,
+        events: POLLOUT,
+        revents: 0,
+    })?;
+    Ok(())
+}
+
+/// Reads once from each child of which the system has something to tell.
+fn read_ready(children: &mut [Running], asked: &[pollfd], buffer: &mut [u8]) {
+    for (child, asked) in children.iter_mut().zip(asked) {
+        if asked.revents != 0 {
+            child.read_on(buffer);
+        }
+    }
+}
+
+/// The words of a command, with blanks between them.
+fn joined(alloc: Global, words: &[Text]) -> Result<Text, NoMemory> {
+    let mut line = Vec::new(alloc);
+    for word in words {
+        if !line.is_empty() {
+            line.push(b' ')?;
+        }
+        line.extend_from_slice(word.bytes())?;
+    }
+    Ok(Text::from_vec(line))
 }
 
 fn own_path<R: Files + AllocGlobal>(runtime: &R) -> Result<Option<String>, NoMemory> {
@@ -97,7 +283,7 @@ fn own_path<R: Files + AllocGlobal>(runtime: &R) -> Result<Option<String>, NoMem
     }
 }
 
-impl<R: Processes + Files + AllocGlobal + Drop> Procs for ChildProcs<R> {
+impl<R: Processes<Started = SystemProcess> + Files + AllocGlobal + Drop> Procs for ChildProcs<R> {
     ghost tells = { ⊥ };
 
     ghost running = { λ a. a.tickets.items };
@@ -114,7 +300,8 @@ impl<R: Processes + Files + AllocGlobal + Drop> Procs for ChildProcs<R> {
         match self.start_next(alloc, request) {
             Ok(ticket) => Ok(ticket),
             Err(IoFault::NoMemory) => Err(StartFault::NoMemory),
-            Err(IoFault::Failed) => {
+            Err(IoFault::Failed(cause)) => {
+                self.note_start(alloc, request, cause);
                 self.failed_starts = counted(self.failed_starts);
                 Err(StartFault::Failed)
             }
@@ -122,13 +309,16 @@ impl<R: Processes + Files + AllocGlobal + Drop> Procs for ChildProcs<R> {
     }
 
     fn wait_any(&mut self, alloc: Global) -> Result<Ended, WaitFault> {
-        let ticket = self.tickets.remove(0);
-        let running = self.children.remove(0);
+        let at = self.first_at_end();
+        let ticket = self.tickets[at];
+        let place = leave(&mut self.tickets, ticket);
+        let running = self.children.remove(place);
         let buffer = self.buffer.as_mut_slice();
         match end_child(&self.runtime, buffer, alloc, running) {
             Ok(exit) => Ok(Ended { ticket, exit }),
             Err(IoFault::NoMemory) => Err(WaitFault::NoMemory { ticket }),
-            Err(IoFault::Failed) => {
+            Err(IoFault::Failed(cause)) => {
+                self.note_loss(cause);
                 self.lost_children = counted(self.lost_children);
                 Err(WaitFault::Lost { ticket })
             }

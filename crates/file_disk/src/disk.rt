@@ -4,8 +4,9 @@ ghost use Rattle.std.specs.Prelude.{◌≡◌, ◌<◌, ◌+◌, ◌^◌, [], le
 ghost use Rattle.vr_outside.specs.Counts.{DiskCounts};
 ghost use Rattle.file_disk.specs.Untold.{nothing_so_far, nothing_is_sound};
 
-use crate::opening::{Paths, Sides, open_sides};
+use crate::opening::{Part, PartFault, Paths, Sides, open_sides};
 use crate::storage::Storage;
+use fault_causes::Cause;
 use std::alloc::Global;
 use std::io;
 use vr_base::{DiskFailed, NoMemory};
@@ -30,6 +31,8 @@ pub struct FileDisk {
     paths: Paths,
     state: State,
     failures: u64,
+    // the first call of the system that failed
+    fault: Option<PartFault>,
 }
 
 impl FileDisk {
@@ -42,7 +45,14 @@ impl FileDisk {
             paths: Paths::new(alloc, folder)?,
             state: State::Fresh,
             failures: 0,
+            fault: None,
         })
+    }
+
+    /// Why the first call of the system failed that did, and the path that it was of.
+    pub fn cause(&self) -> Option<(&[u8], Cause)> {
+        let fault = self.fault?;
+        Some((self.paths.path_of(fault.part).as_bytes(), fault.cause))
     }
 
     /// Opens the files at the first call.
@@ -50,26 +60,55 @@ impl FileDisk {
         ensures { self.new.failures ≡ self.old.failures }
     {
         if let State::Fresh = &self.state {
-            self.state = match open_sides(self.runtime, &self.paths) {
-                Ok(sides) => State::Open(sides),
-                Err(_) => State::Failed,
-            };
+            match open_sides(self.runtime, &self.paths) {
+                Ok(sides) => self.state = State::Open(sides),
+                Err(fault) => {
+                    self.fault = Some(fault);
+                    self.state = State::Failed;
+                }
+            }
         }
     }
 
-    /// The answer of a call, with a failure counted.
-    fn answered<T: Drop>(&mut self, answer: io::Result<T>) -> Result<T, DiskFailed>
+    /// Keeps why a call failed, if none did before.
+    fn note(&mut self, side: Side, cause: Cause)
+        ensures { self.new.failures ≡ self.old.failures }
+    {
+        if self.fault.is_none() {
+            self.fault = Some(PartFault {
+                part: part_of(side),
+                cause,
+            });
+        }
+    }
+
+    /// The answer of a call on a side, with a failure counted.
+    fn answered<T: Drop>(
+        &mut self,
+        side: Side,
+        call: &'static str,
+        answer: io::Result<T>,
+    ) -> Result<T, DiskFailed>
         ensures same { IfOk result (λ value. answer ≡ Ok value) }
         ensures cause { DiskCounts result self.old.failures self.new.failures }
     {
         match answer {
             Ok(value) => Ok(value),
-            Err(_) => {
+            Err(error) => {
+                self.note(side, Cause { call, error });
                 self.state = State::Failed;
                 self.failures = counted(self.failures);
                 Err(DiskFailed)
             }
         }
+    }
+}
+
+/// The part that is a side.
+fn part_of(side: Side) -> Part {
+    match side {
+        Side::A => Part::A,
+        Side::B => Part::B,
     }
 }
 
@@ -120,30 +159,30 @@ impl Disk for FileDisk {
     fn len(&mut self, side: Side) -> Result<u64, DiskFailed> {
         self.open();
         let answer = len(&mut self.state, side);
-        self.answered(answer)
+        self.answered(side, "stat", answer)
     }
 
     fn read(&mut self, side: Side, at: u64, into: &mut [u8]) -> Result<(), DiskFailed> {
         self.open();
         let answer = read(&mut self.state, side, at, into);
-        self.answered(answer)
+        self.answered(side, "read", answer)
     }
 
     fn write(&mut self, side: Side, at: u64, bytes: &[u8]) -> Result<(), DiskFailed> {
         self.open();
         let answer = write(&mut self.state, side, at, bytes);
-        self.answered(answer)
+        self.answered(side, "write", answer)
     }
 
     fn cut(&mut self, side: Side, len: u64) -> Result<(), DiskFailed> {
         self.open();
         let answer = cut(&mut self.state, side, len);
-        self.answered(answer)
+        self.answered(side, "cut", answer)
     }
 
     fn sync(&mut self, side: Side) -> Result<(), DiskFailed> {
         self.open();
         let answer = sync(&mut self.state, side);
-        self.answered(answer)
+        self.answered(side, "sync", answer)
     }
 }

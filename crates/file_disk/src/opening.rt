@@ -1,8 +1,9 @@
 //! The two files, opened or made.
 
 use crate::storage::Storage;
+use fault_causes::{Cause, named};
 use std::alloc::{AllocError, Global};
-use std::fs::{File, OpenOptions};
+use std::fs::{File, OpenOptions, TryLockError};
 use std::io::ErrorKind;
 use std::os::fd::AsRawFd;
 use std::os::unix::fs::MetadataExt;
@@ -24,6 +25,32 @@ impl Paths {
             b: in_folder(alloc, folder, "store_b")?,
         })
     }
+
+    pub fn path_of(&self, part: Part) -> &str {
+        match part {
+            Part::Around => folder_of(self.folder.as_str()),
+            Part::Folder => self.folder.as_str(),
+            Part::A => self.a.as_str(),
+            Part::B => self.b.as_str(),
+        }
+    }
+}
+
+/// What a call was of.
+#[derive(Clone, Copy)]
+pub enum Part {
+    /// The folder that the folder of the files is in.
+    Around,
+    Folder,
+    A,
+    B,
+}
+
+/// A call that failed.
+#[derive(Clone, Copy)]
+pub struct PartFault {
+    pub part: Part,
+    pub cause: Cause,
 }
 
 fn in_folder(alloc: Global, folder: &str, name: &str) -> Result<String, AllocError> {
@@ -49,20 +76,53 @@ struct Opened {
 
 /// Opens both files, and makes those that are missing. The lock of the first one is asked for before anything else is
 /// done with either, and is held until the file is closed.
-pub fn open_sides(runtime: HostRuntime, paths: &Paths) -> io::Result<Sides> {
-    make_folder(runtime, paths.folder.as_str())?;
-    let a = open_side(runtime, paths.a.as_str())?;
-    a.file.try_lock()?;
-    test_named(runtime, &a.file, paths.a.as_str())?;
-    let b = open_side(runtime, paths.b.as_str())?;
-    test_named(runtime, &b.file, paths.b.as_str())?;
-    if is_to_be_named(&a, &b)? {
-        sync_names(runtime, paths.folder.as_str())?;
+pub fn open_sides(runtime: HostRuntime, paths: &Paths) -> Result<Sides, PartFault> {
+    let folder = paths.folder.as_str();
+    of(Part::Folder, "make", make_folder(runtime, folder))?;
+    let a = of(Part::A, "open", open_side(runtime, paths.a.as_str()))?;
+    of(Part::A, "lock", lock(&a.file))?;
+    of(
+        Part::A,
+        "open",
+        test_named(runtime, &a.file, paths.a.as_str()),
+    )?;
+    let b = of(Part::B, "open", open_side(runtime, paths.b.as_str()))?;
+    of(
+        Part::B,
+        "open",
+        test_named(runtime, &b.file, paths.b.as_str()),
+    )?;
+    if of(Part::B, "stat", is_to_be_named(&a, &b))? {
+        of(Part::Folder, "sync", sync_folder(runtime, folder))?;
+        of(
+            Part::Around,
+            "sync",
+            sync_folder(runtime, folder_of(folder)),
+        )?;
     }
     Ok(Sides {
         a: Storage::new(a.file),
         b: Storage::new(b.file),
     })
+}
+
+/// The answer of a call, which was of this part.
+fn of<T: Drop>(part: Part, call: &'static str, answer: io::Result<T>) -> Result<T, PartFault> {
+    match named(call, answer) {
+        Ok(value) => Ok(value),
+        Err(cause) => Err(PartFault { part, cause }),
+    }
+}
+
+fn lock(file: &File) -> io::Result<()> {
+    match file.try_lock() {
+        Ok(()) => Ok(()),
+        Err(TryLockError::WouldBlock) => Err(io::Error::new(
+            ErrorKind::WouldBlock,
+            "another run has locked it",
+        )),
+        Err(TryLockError::Error(error)) => Err(error),
+    }
 }
 
 /// Makes the folder if nothing has its name. A link to a folder is one.
@@ -98,7 +158,7 @@ fn open_or_make(runtime: HostRuntime, path: &str) -> io::Result<Opened> {
 
 fn open_there(runtime: HostRuntime, path: &str) -> io::Result<Opened> {
     if !fs::symlink_metadata(&runtime, path)?.is_file() {
-        return Err(ErrorKind::Unsupported.into());
+        return Err(not_a_file());
     }
     let file = OpenOptions::new()
         .read(true)
@@ -117,9 +177,16 @@ fn test_named(runtime: HostRuntime, file: &File, path: &str) -> io::Result<()> {
     let named = fs::symlink_metadata(&runtime, path)?;
     let is_named = found.dev() == named.dev() && found.ino() == named.ino();
     if !is_named || !found.is_file() || found.nlink() != 1 {
-        return Err(ErrorKind::Unsupported.into());
+        return Err(not_a_file());
     }
     Ok(())
+}
+
+fn not_a_file() -> io::Error {
+    io::Error::new(
+        ErrorKind::Unsupported,
+        "it isn't a regular file with one name",
+    )
 }
 
 /// Whether the names of the files may not be on the device yet: a file was made, or nothing was ever written.
@@ -130,10 +197,8 @@ fn is_to_be_named(a: &Opened, b: &Opened) -> io::Result<bool> {
     Ok(a.file.metadata()?.len() == 0 && b.file.metadata()?.len() == 0)
 }
 
-/// Syncs the folder of the files, and the one that it is in.
-fn sync_names(runtime: HostRuntime, folder: &str) -> io::Result<()> {
-    File::open(&runtime, folder)?.sync_all()?;
-    File::open(&runtime, folder_of(folder))?.sync_all()
+fn sync_folder(runtime: HostRuntime, folder: &str) -> io::Result<()> {
+    File::open(&runtime, folder)?.sync_all()
 }
 
 /// The folder that a path is in.

@@ -1,5 +1,6 @@
 //! A file beside the one that it is to replace.
 
+use fault_causes::{Cause, named};
 use std::fs::{File, Metadata, OpenOptions};
 use std::io::{ErrorKind, Write};
 use std::{fs, io};
@@ -22,11 +23,14 @@ pub fn write_beside(
     path: &str,
     there: Option<Metadata>,
     bytes: &[u8],
-) -> io::Result<()> {
-    let Beside { path: beside, file } = make_beside(runtime, folder)?;
-    let moved = match fill(file, there, bytes) {
-        Ok(()) => fs::rename(&runtime, beside.as_str(), path),
-        Err(error) => Err(error),
+) -> Result<(), Cause> {
+    let Beside { path: beside, file } = named(
+        "make a file beside it",
+        make_beside(runtime, folder),
+    )?;
+    let moved = match named("write", fill(file, there, bytes)) {
+        Ok(()) => named("move", fs::rename(&runtime, beside.as_str(), path)),
+        Err(cause) => Err(cause),
     };
     if moved.is_err() {
         // That the path is as it was doesn't depend on it.

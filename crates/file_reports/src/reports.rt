@@ -4,6 +4,7 @@ ghost use Rattle.std.specs.Prelude.{◌≡◌};
 ghost use Rattle.file_reports.specs.NoReports.{no_report};
 
 use crate::writing::write_report;
+use fault_causes::Cause;
 use report_files::{ReportFault, Reports};
 use vr_base::Text;
 use vr_outside::counted;
@@ -14,6 +15,9 @@ use vr_outside::counted;
 pub struct FileReports {
     runtime: HostRuntime,
     failures: u64,
+    // why the first write failed that did, and its path where there was memory for it
+    cause: Option<Cause>,
+    path: Option<Text>,
 }
 
 impl FileReports {
@@ -24,6 +28,27 @@ impl FileReports {
         FileReports {
             runtime,
             failures: 0,
+            cause: None,
+            path: None,
+        }
+    }
+
+    /// Why the first report couldn't be written that couldn't, and its path.
+    pub fn cause(&self) -> Option<(&[u8], Cause)> {
+        let cause = self.cause?;
+        match &self.path {
+            Some(path) => Some((path.bytes(), cause)),
+            None => Some((b"a report", cause)),
+        }
+    }
+
+    /// Keeps why a write failed, if none did before.
+    fn note(&mut self, path: &Text, cause: Cause)
+        ensures { self.new.failures ≡ self.old.failures }
+    {
+        if self.cause.is_none() {
+            self.cause = Some(cause);
+            self.path = path.copy(self.runtime.alloc()).ok();
         }
     }
 }
@@ -38,7 +63,8 @@ impl Reports for FileReports {
     fn write(&mut self, path: &Text, bytes: &[u8]) -> Result<(), ReportFault> {
         match write_report(self.runtime, path.bytes(), bytes) {
             Ok(()) => Ok(()),
-            Err(_) => {
+            Err(cause) => {
+                self.note(path, cause);
                 self.failures = counted(self.failures);
                 Err(ReportFault::Failed)
             }

@@ -27,15 +27,16 @@ struct Walk {
 }
 
 /// The listing of the present folder, if it has at most `limit` names. Its form is tested, and a listing that hasn't
-/// this form fails.
+/// this form fails. Where it fails in a folder, the path of this is left.
 pub fn list_names<R: Files + AllocGlobal + Clone + Drop>(
     files: &R,
     alloc: Global,
     limit: u64,
+    failed_in: &mut Option<String>,
 ) -> Result<NamesEnd, IoFault>
     ensures { IfOk result (IsListing limit) }
 {
-    let mut found = find_files(files, alloc, limit as usize)?;
+    let mut found = find_files(files, alloc, limit as usize, failed_in)?;
     if found.len() as u64 > limit {
         return Ok(NamesEnd::TooMany);
     }
@@ -44,7 +45,7 @@ pub fn list_names<R: Files + AllocGlobal + Clone + Drop>(
     if names.len() as u64 <= limit && is_listing(names.as_slice()) {
         Ok(NamesEnd::Got(Items::from_vec(names)))
     } else {
-        Err(IoFault::Failed)
+        Err(IoFault::failed("list", "a name that isn't one of a file"))
     }
 }
 
@@ -63,6 +64,7 @@ fn find_files<R: Files + AllocGlobal + Clone + Drop>(
     files: &R,
     alloc: Global,
     limit: usize,
+    failed_in: &mut Option<String>,
 ) -> Result<Vec<String>, IoFault> {
     let mut walk = Walk {
         folders: vec![in alloc; String::new(alloc)]?,
@@ -75,9 +77,12 @@ fn find_files<R: Files + AllocGlobal + Clone + Drop>(
         let Some(folder) = walk.folders.pop() else {
             return Ok(walk.found);
         };
-        read_folder(files, alloc, folder.as_str(), limit, &mut walk)?;
+        if let Err(fault) = read_folder(files, alloc, folder.as_str(), limit, &mut walk) {
+            *failed_in = Some(folder);
+            return Err(fault);
+        }
     }
-    Err(IoFault::Failed)
+    Err(IoFault::failed("list", "it has no end"))
 }
 
 /// Takes the entries of one folder. The present folder has the empty path. A folder that has gone since it was seen has
@@ -93,7 +98,7 @@ fn read_folder<R: Files + AllocGlobal + Clone + Drop>(
     let entries = match fs::read_dir(files, if is_present { "." } else { folder }) {
         Ok(entries) => entries,
         Err(error) if !is_present && means_absent(&error) => return Ok(()),
-        Err(error) => return Err(IoFault::from(error)),
+        Err(error) => return Err(IoFault::of("list", error)),
     };
     for entry in entries {
         if walk.found.len() > limit {
@@ -102,7 +107,7 @@ fn read_folder<R: Files + AllocGlobal + Clone + Drop>(
         match entry {
             Ok(entry) => take_entry(files, alloc, folder, &entry, walk)?,
             Err(error) if !is_present && means_absent(&error) => return Ok(()),
-            Err(error) => return Err(IoFault::from(error)),
+            Err(error) => return Err(IoFault::of("list", error)),
         }
     }
     Ok(())
@@ -168,7 +173,7 @@ fn or_absent(data: io::Result<fs::Metadata>) -> Result<Option<fs::Metadata>, IoF
     match data {
         Ok(data) => Ok(Some(data)),
         Err(error) if means_absent(&error) => Ok(None),
-        Err(error) => Err(IoFault::from(error)),
+        Err(error) => Err(IoFault::of("look at an entry", error)),
     }
 }
 
@@ -178,7 +183,7 @@ fn or_unseen(data: io::Result<fs::Metadata>) -> Result<Option<fs::Metadata>, IoF
         Ok(data) => Ok(Some(data)),
         Err(error) if is_closed(&error) => Ok(None),
         Err(error) if means_absent(&error) => Ok(None),
-        Err(error) => Err(IoFault::from(error)),
+        Err(error) => Err(IoFault::of("look at an entry", error)),
     }
 }
 

@@ -4,6 +4,7 @@ ghost use Rattle.std.specs.Prelude.{◌≡◌, ◌<◌, ◌++◌, [], ◌∷◌,
 ghost use Rattle.file_tree.specs.Untold.{no_file, lists_nothing};
 
 use crate::listing::list_names;
+use fault_causes::Cause;
 use limited_reading::{IoFault, read_file};
 use std::alloc::Global;
 use std::fs::Files;
@@ -20,6 +21,9 @@ pub struct FileTree<R> {
     // the paths that were read or tried, in order: as long as the program runs, which asks for each path once
     asked: TextList,
     failures: u64,
+    // why a call failed, and the folder where that was in a listing
+    cause: Option<Cause>,
+    failed_in: Option<String>,
     buffer: Vec<u8>,
     ghost has_room: { 0 < vec_len buffer },
 }
@@ -34,8 +38,21 @@ impl<R: Files> FileTree<R> {
             files,
             asked: TextList::new(alloc),
             failures: 0,
+            cause: None,
+            failed_in: None,
             buffer: vec![in alloc; 0; CHUNK]?,
         })
+    }
+
+    /// Why a call failed, and the path that it was of, if one failed.
+    pub fn cause(&self) -> Option<(&[u8], Cause)> {
+        let cause = self.cause?;
+        match (&self.failed_in, self.asked.as_slice().last()) {
+            (Some(folder), _) if folder.is_empty() => Some((b".", cause)),
+            (Some(folder), _) => Some((folder.as_bytes(), cause)),
+            (None, Some(path)) => Some((path.bytes(), cause)),
+            (None, None) => Some((b".", cause)),
+        }
     }
 
     /// Puts a path at the end of what was asked for.
@@ -62,10 +79,11 @@ impl<R: Files + AllocGlobal + Clone + Drop> Tree for FileTree<R> {
     ghost lists = { λ _. lists_nothing };
 
     fn names(&mut self, alloc: Global, limit: u64) -> Result<NamesEnd, TreeFault> {
-        match list_names(&self.files, alloc, limit) {
+        match list_names(&self.files, alloc, limit, &mut self.failed_in) {
             Ok(end) => Ok(end),
             Err(IoFault::NoMemory) => Err(TreeFault::NoMemory),
-            Err(IoFault::Failed) => {
+            Err(IoFault::Failed(cause)) => {
+                self.cause = Some(cause);
                 self.failures = counted(self.failures);
                 Err(TreeFault::Failed)
             }
@@ -80,7 +98,8 @@ impl<R: Files + AllocGlobal + Clone + Drop> Tree for FileTree<R> {
         match read_file(&self.files, buffer, alloc, path.bytes(), limit) {
             Ok(end) => Ok(end),
             Err(IoFault::NoMemory) => Err(TreeFault::NoMemory),
-            Err(IoFault::Failed) => {
+            Err(IoFault::Failed(cause)) => {
+                self.cause = Some(cause);
                 self.failures = counted(self.failures);
                 Err(TreeFault::Failed)
             }

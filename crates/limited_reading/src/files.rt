@@ -24,7 +24,7 @@ pub fn read_file<R: Files>(
     ensures { IfOk result (FitsReadLimit limit) }
 {
     let Ok(path) = str::from_utf8(path) else {
-        return Err(IoFault::Failed);
+        return Err(IoFault::failed("open", "the path isn't UTF-8"));
     };
     match fs::open(files, path) {
         Ok(mut file) => {
@@ -35,7 +35,7 @@ pub fn read_file<R: Files>(
             Ok(ReadEnd::Got(Text::from_vec(prefix.kept)))
         }
         Err(error) if means_absent(&error) => Ok(ReadEnd::Absent),
-        Err(error) => Err(IoFault::from(error)),
+        Err(error) => Err(IoFault::of("open", error)),
     }
 }
 

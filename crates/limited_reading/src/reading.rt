@@ -4,21 +4,45 @@ ghost use Rattle.std.specs.Prelude.{◌≡◌, ◌≢◌, ◌<◌, ◌≤◌, le
 ghost use Rattle.std.specs.Io.KnownBytes.{Consumes, Keeps, IsAtEnd};
 ghost use Rattle.std.specs.IoError.{error_kind};
 ghost use Rattle.std.specs.declared.io.ErrorKind.TheVariants.{OutOfMemory};
+ghost use Rattle.limited_reading.specs.Faults.{IsFailed};
 ghost use Rattle.limited_reading.specs.Prefixes.{IsPrefix};
-ghost use Rattle.limited_reading.specs.declared.reading.IoFault.TheVariants.{NoMemory, Failed};
+ghost use Rattle.limited_reading.specs.declared.reading.IoFault.TheVariants.{NoMemory};
 
+use fault_causes::Cause;
 use std::alloc::{AllocError, AllocFailed, Global};
 use std::io;
 use std::io::{ErrorKind, Read};
 use vr_base::NoMemory;
 
 /// Why a call of the system gave nothing.
-#[derive(Clone, Copy, Debug, PartialEq, Eq)]
+#[derive(Clone, Copy)]
 pub enum IoFault {
     /// There was no memory for it.
     NoMemory,
     /// Anything else that the system says, and what it isn't asked for, such as a path that isn't UTF-8.
-    Failed,
+    Failed(Cause),
+}
+
+impl IoFault {
+    /// What it means that the system answered a call with this error.
+    pub fn of(call: &'static str, error: io::Error) -> IoFault
+        ensures no_memory { error_kind error ≡ OutOfMemory → result ≡ IoFault.NoMemory }
+        ensures failed { error_kind error ≢ OutOfMemory → IsFailed result }
+    {
+        if error.kind() == ErrorKind::OutOfMemory {
+            IoFault::NoMemory
+        } else {
+            IoFault::Failed(Cause { call, error })
+        }
+    }
+
+    /// A call that gives nothing for a reason of the program's own.
+    pub fn failed(call: &'static str, why: &str) -> IoFault
+        ensures { IsFailed result }
+    {
+        let error = io::Error::other(why);
+        IoFault::Failed(Cause { call, error })
+    }
 }
 
 impl From<AllocError> for IoFault {
@@ -42,19 +66,6 @@ impl From<NoMemory> for IoFault {
 
     fn from(_: NoMemory) -> IoFault {
         IoFault::NoMemory
-    }
-}
-
-impl From<io::Error> for IoFault {
-    ghost from_gives = { λ error fault. (error_kind error ≡ OutOfMemory → fault ≡ NoMemory)
-        × (error_kind error ≢ OutOfMemory → fault ≡ Failed) };
-
-    fn from(error: io::Error) -> IoFault {
-        if error.kind() == ErrorKind::OutOfMemory {
-            IoFault::NoMemory
-        } else {
-            IoFault::Failed
-        }
     }
 }
 
@@ -94,7 +105,7 @@ pub fn read_prefix<R: Read>(
         }
         kept.extend_from_slice(&buffer[..count])?;
     }
-    Err(IoFault::Failed)
+    Err(IoFault::failed("read", "it has no end"))
 }
 
 /// Reads to the end and keeps nothing. The buffer is what one read takes at most.
@@ -107,7 +118,7 @@ pub fn drain<R: Read>(reader: &mut R, buffer: &mut [u8]) -> Result<(), IoFault>
             return Ok(());
         }
     }
-    Err(IoFault::Failed)
+    Err(IoFault::failed("read", "it has no end"))
 }
 
 /// One read, tried again where a signal interrupts it. 0 is the end.
@@ -123,8 +134,8 @@ fn read_some<R: Read>(reader: &mut R, buffer: &mut [u8]) -> Result<usize, IoFaul
         match reader.read(buffer) {
             Ok(count) => return Ok(count),
             Err(error) if error.kind() == ErrorKind::Interrupted => {}
-            Err(error) => return Err(IoFault::from(error)),
+            Err(error) => return Err(IoFault::of("read", error)),
         }
     }
-    Err(IoFault::Failed)
+    Err(IoFault::failed("read", "it has no end"))
 }

@@ -10,7 +10,7 @@ use std::path::PathBuf;
 use std::test::Fail;
 use std::{env, fs, io};
 use vr_base::{Exit, Items, MaybeText, NoMemory, Request, Text};
-use vr_outside::{NamesEnd, Procs, ReadEnd, StartFault, Tree, TreeFault};
+use vr_outside::{Ended, NamesEnd, Procs, ReadEnd, StartFault, Tree, TreeFault, WaitFault};
 
 /// The path of a test's own folder.
 fn folder_of(rt: &HostRuntime, name: &str) -> Result<PathBuf, Fail> {
@@ -55,6 +55,25 @@ fn request(
         input: text(alloc, input)?,
         results,
     })
+}
+
+/// Starts a script over an input.
+fn start(
+    rt: &HostRuntime,
+    procs: &mut ChildProcs<HostRuntime>,
+    script: &str,
+    input: &[u8],
+) -> Result<u64, Fail> {
+    let request = request(rt.alloc(), &["sh", "-c", script], input, MaybeText::Nothing)?;
+    Ok(procs.start(rt.alloc(), &request)?)
+}
+
+/// The next end of the children that run.
+fn next_end(rt: &HostRuntime, procs: &mut ChildProcs<HostRuntime>) -> Result<Ended, Fail> {
+    if procs.running().is_empty() {
+        return Err(Fail::new("no child runs"));
+    }
+    Ok(procs.wait_any(rt.alloc())?)
 }
 
 /// The end of a child that runs alone.
@@ -217,17 +236,17 @@ impl Read for Breaking {
 
 #[test]
 fn a_read_that_breaks_gives_its_own_fault(rt: HostRuntime) -> Result<(), Fail> {
-    for (kind, wanted) in [
-        (ErrorKind::Other, IoFault::Failed),
-        (ErrorKind::OutOfMemory, IoFault::NoMemory),
-    ] {
+    for (kind, is_memory) in [(ErrorKind::Other, false), (ErrorKind::OutOfMemory, true)] {
         let mut reader = Breaking {
             has_begun: false,
             kind,
         };
         match read_prefix(&mut reader, &mut [0; 8], rt.alloc(), 5) {
             Ok(_) => return Err(Fail::new("a prefix")),
-            Err(fault) => assert_eq!(rt; fault, wanted),
+            Err(IoFault::NoMemory) => assert!(rt; is_memory),
+            Err(IoFault::Failed(cause)) => {
+                assert!(rt; !is_memory && cause.call == "read" && cause.error.kind() == kind);
+            }
         }
     }
     Ok(())
@@ -302,6 +321,11 @@ fn a_start_that_cannot_be_made_fails(rt: HostRuntime) -> Result<(), Fail> {
         (["./no-such-program"].as_slice(), b"".as_slice()),
         ([].as_slice(), b"".as_slice()),
         (["true"].as_slice(), long.as_slice()),
+        (
+            ["sh", "-c", "exec <&-; sleep 0.2"].as_slice(),
+            long.as_slice(),
+        ),
+        (["sleep", "0.2"].as_slice(), long.as_slice()),
     ] {
         let request = request(rt.alloc(), words, input, MaybeText::Nothing)?;
         assert!(rt; procs.start(rt.alloc(), &request) == Err(StartFault::Failed));
@@ -335,9 +359,102 @@ fn two_children_run_at_the_same_time(rt: HostRuntime) -> Result<(), Fail> {
     let two = meeting(rt.alloc(), "two", "one")?;
     let _ = procs.start(rt.alloc(), &one)?;
     let _ = procs.start(rt.alloc(), &two)?;
-    let first = procs.wait_any(rt.alloc())?;
-    let second = procs.wait_any(rt.alloc())?;
-    assert_eq!(rt; (first.ticket, first.exit.code), (0, 0));
-    assert_eq!(rt; (second.ticket, second.exit.code), (1, 0));
+    let mut seen = [false; 2];
+    for _ in 0..2 {
+        let end = next_end(&rt, &mut procs)?;
+        assert_eq!(rt; end.exit.code, 0);
+        seen[end.ticket as usize % 2] = true;
+    }
+    assert!(rt; seen == [true, true]);
     leave_folder(&rt, "two")
+}
+
+/// The oldest child ends last: it waits for a file that the third makes, which is started after the second's end.
+#[test]
+fn takes_whichever_ends_first(rt: HostRuntime) -> Result<(), Fail> {
+    enter_new_folder(&rt, "first")?;
+    let mut procs = ChildProcs::new(rt.alloc(), rt)?;
+    let waits =
+        "n=0; until [ -e go ] || [ $n -gt 2000 ]; do n=$((n+1)); sleep 0.01; done; [ -e go ]";
+    let _ = start(&rt, &mut procs, waits, b"")?;
+    let _ = start(&rt, &mut procs, "echo quick", b"")?;
+    let quick = next_end(&rt, &mut procs)?;
+    assert_eq!(rt; (quick.ticket, quick.exit.code), (1, 0));
+    let _ = start(&rt, &mut procs, "> go", b"")?;
+    for _ in 0..2 {
+        let end = next_end(&rt, &mut procs)?;
+        assert_eq!(rt; end.exit.code, 0);
+    }
+    leave_folder(&rt, "first")
+}
+
+/// Each prints more than a pipe holds before it reads an input that is longer than a pipe holds.
+#[test]
+fn children_that_print_before_they_read_end(rt: HostRuntime) -> Result<(), Fail> {
+    let mut procs = ChildProcs::new(rt.alloc(), rt)?;
+    let input = vec![in rt.alloc(); b'x'; 1_048_576]?;
+    for _ in 0..64 {
+        let _ = start(
+            &rt,
+            &mut procs,
+            "head -c 200000 /dev/zero; cat",
+            input.as_slice(),
+        )?;
+    }
+    for _ in 0..64 {
+        let end = next_end(&rt, &mut procs)?;
+        let length = end.exit.output.bytes().len();
+        assert_eq!(rt; (end.exit.code, length), (257, 262_144));
+        let first = end
+            .exit
+            .output
+            .bytes()
+            .iter()
+            .position(|byte| *byte == b'x');
+        assert_eq!(rt; first, Some(200_000));
+    }
+    Ok(())
+}
+
+/// All of a long input arrives, whatever the child prints meanwhile.
+#[test]
+fn a_child_gets_its_whole_input(rt: HostRuntime) -> Result<(), Fail> {
+    let input = vec![in rt.alloc(); b'x'; 1_048_576]?;
+    for script in ["wc -c", "head -c 200000 /dev/zero ; wc -c"] {
+        let command = ["sh", "-c", script];
+        let end = exit_of(&rt, &command, input.as_slice(), MaybeText::Nothing)?;
+        assert!(rt; end.code == 0 && end.output.bytes().ends_with(b"1048576\n"));
+    }
+    Ok(())
+}
+
+/// A child that says so has no answer, and so is lost; one that was started after it isn't.
+#[test]
+fn a_child_without_an_answer_is_lost(rt: HostRuntime) -> Result<(), Fail> {
+    let mut procs = ChildProcs::new(rt.alloc(), rt)?;
+    let ticket = start(&rt, &mut procs, "cat; exit 75", b"input")?;
+    if procs.running().is_empty() {
+        return Err(Fail::new("no child runs"));
+    }
+    match procs.wait_any(rt.alloc()) {
+        Err(WaitFault::Lost { ticket: lost }) => assert_eq!(rt; lost, ticket),
+        _ => return Err(Fail::new("it has an answer")),
+    }
+    let _ = start(&rt, &mut procs, "cat; exit 76", b"input")?;
+    let end = next_end(&rt, &mut procs)?;
+    assert_eq!(rt; end.exit.code, 76);
+    Ok(())
+}
+
+/// Who keeps an output open holds up its own child alone.
+#[test]
+fn one_that_is_left_behind_holds_up_no_other(rt: HostRuntime) -> Result<(), Fail> {
+    let mut procs = ChildProcs::new(rt.alloc(), rt)?;
+    let _ = start(&rt, &mut procs, "(sleep 1; echo late) & echo soon", b"")?;
+    let _ = start(&rt, &mut procs, "echo other", b"")?;
+    let other = next_end(&rt, &mut procs)?;
+    assert_eq!(rt; other.ticket, 1);
+    let late = next_end(&rt, &mut procs)?;
+    assert!(rt; late.exit.output.bytes() == b"soon\nlate\n".as_slice());
+    Ok(())
 }

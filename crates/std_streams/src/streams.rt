@@ -4,6 +4,7 @@ ghost use Rattle.std.specs.Prelude.{◌<◌, length, vec_len, IfOk};
 ghost use Rattle.vr_outside.specs.Streams.{IsTaken};
 ghost use Rattle.std_streams.specs.Takes.{IsTakenOf};
 
+use fault_causes::{Cause, named};
 use limited_reading::{IoFault, drain, read_prefix};
 use std::alloc::Global;
 use std::io;
@@ -19,6 +20,7 @@ const CHUNK: usize = 65536;
 pub struct StdSource<R> {
     input: R,
     failures: u64,
+    cause: Option<Cause>,
     buffer: Vec<u8>,
     ghost has_room: { 0 < vec_len buffer },
 }
@@ -32,8 +34,14 @@ impl<R: Input> StdSource<R> {
         Ok(StdSource {
             input,
             failures: 0,
+            cause: None,
             buffer: vec![in alloc; 0; CHUNK]?,
         })
+    }
+
+    /// Why the input couldn't be taken, if it couldn't.
+    pub fn cause(&self) -> Option<Cause> {
+        self.cause
     }
 }
 
@@ -70,7 +78,8 @@ impl<R: Input> Source for StdSource<R> {
         match take_whole(&mut reader, self.buffer.as_mut_slice(), alloc, limit) {
             Ok(end) => Ok(end),
             Err(IoFault::NoMemory) => Err(SourceFault::NoMemory),
-            Err(IoFault::Failed) => {
+            Err(IoFault::Failed(cause)) => {
+                self.cause = Some(cause);
                 self.failures = counted(self.failures);
                 Err(SourceFault::Failed)
             }
@@ -83,6 +92,7 @@ impl<R: Input> Source for StdSource<R> {
 pub struct StdSink<R> {
     output: R,
     failures: u64,
+    cause: Option<Cause>,
 }
 
 impl<R: Print> StdSink<R> {
@@ -91,7 +101,13 @@ impl<R: Print> StdSink<R> {
         StdSink {
             output,
             failures: 0,
+            cause: None,
         }
+    }
+
+    /// Why something couldn't be put, if something couldn't.
+    pub fn cause(&self) -> Option<Cause> {
+        self.cause
     }
 }
 
@@ -112,9 +128,10 @@ impl<R: Print> Sink for StdSink<R> {
     ghost failed_puts = { λ a. a.failures };
 
     fn put(&mut self, bytes: &[u8]) -> Result<(), SinkFault> {
-        match put_whole(&self.output, bytes) {
+        match named("write", put_whole(&self.output, bytes)) {
             Ok(()) => Ok(()),
-            Err(_) => {
+            Err(cause) => {
+                self.cause = Some(cause);
                 self.failures = counted(self.failures);
                 Err(SinkFault::Failed)
             }

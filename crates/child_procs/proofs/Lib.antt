@@ -1,0 +1,3 @@
+-- The lemmas.
+mod PrintedLemmas
+mod TicketLemmas
