@@ -1,0 +1,23 @@
+#!/bin/sh
+# wrappers/over_engine over engines that are scripts of this test: whatever these print, change, cut or end with, a command's
+# answer counts alone and only whole; whatever ends the wrapper leaves nothing behind; and the program over it builds what it
+# builds without. No engine is needed.
+for command in python3 flock setsid; do
+    command -v $command >/dev/null || { echo "$command is missing"; exit 77; }
+done
+PYTHONPATH=$TOP/tests/support
+PYTHONDONTWRITEBYTECODE=1
+export PYTHONPATH PYTHONDONTWRITEBYTECODE
+set -e
+# (they wait more than they work)
+parts=
+for part in engine_rows engine_ends engine_program; do
+    mkdir "$part"
+    (cd "$part" && exec python3 "$TOP/tests/support/$part.py") &
+    parts="$parts $!"
+done
+failed=0
+for part in $parts; do
+    wait "$part" || failed=1
+done
+exit $failed
