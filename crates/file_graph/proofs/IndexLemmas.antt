@@ -3,7 +3,7 @@ use Rattle.std.proofs.Common.{◌≡◌, ℕ, zero, suc, ◌+◌, ◌<◌, ◌�
 use Rattle.std.specs.Prelude.{slice_get, Result, Ok, Err}
 use Rattle.std.specs.List.{All, find}
 use Rattle.std.specs.Option.{option_map, option_or}
-use Rattle.indexmap.specs.IndexMap.{IndexMap, get, Updates}
+use Rattle.key_index.specs.Maps.{Entries, get}
 use Rattle.std.proofs.lemmas.Bool.{cond-true, cond-false}
 use Rattle.std.proofs.lemmas.Grind.{common_steps}
 use Rattle.std.proofs.lemmas.List.Folds.{find-append}
@@ -18,7 +18,7 @@ use Rattle.vr_base.specs.declared.project.ProjectFile.{ProjectFile}
 use Rattle.scan_spec.specs.Dependencies.{LinkUnit, first_duplicate, is_alike, is_package_kind, link_unit, link_units}
 use Rattle.file_graph.specs.declared.index.Place.{Place}
 use Rattle.file_graph.specs.Keys.{UnitKey, is_same_key, key_of, unit_key}
-use Rattle.file_graph.specs.Indexes.{AreDistinct, ArePlacesOfFiles, GivesOrFaults, HoldsUnits, IsFaultOf, IsIndex, IsOfFile, IsUnitOf, Refuses, fault_before, unit_place, unit_named}
+use Rattle.file_graph.specs.Indexes.{AreDistinct, ArePlacesOfFiles, GivesOrFaults, GivesPlace, HoldsUnits, IsFaultOf, IsIndex, IsOfFile, IsUnitOf, Refuses, fault_before, unit_place, unit_named}
 use Rattle.file_graph.proofs.KeyLemmas.{alike_is, same_key, told_key}
 
 pub one_of : {X : Type 0} (x y : X) → Contains (x ∷ []) y → x ≡ y
@@ -52,9 +52,9 @@ named_none units key told = by_unit (unit_named units key) refl where
 
 -- ## One unit more
 
-module _ {S : Type 0} (files : List ProjectFile) (units : List LinkUnit) (unit : LinkUnit) (old new : IndexMap UnitKey Place S) (is : IsIndex files units old) (of : IsOfFile files unit) (absent : unit_named units (key_of unit) ≡ None) (updates : Updates is_same_key old new (key_of unit) (Some (unit_place unit))) where
+module _ (files : List ProjectFile) (units : List LinkUnit) (unit : LinkUnit) (old new : Entries UnitKey Place) (is : IsIndex files units old) (of : IsOfFile files unit) (absent : unit_named units (key_of unit) ≡ None) (updates : GivesPlace old new (key_of unit) (unit_place unit)) where
   holds : HoldsUnits new (units ++ unit ∷ [])
-  holds key = (updates.0) key ∙ by_key (is_same_key (key_of unit) key) refl ∙ sym (ap (option_map unit_place) (find-append (λ u. is_same_key key (key_of u)) units (unit ∷ []))) where
+  holds key = updates key ∙ by_key (is_same_key (key_of unit) key) refl ∙ sym (ap (option_map unit_place) (find-append (λ u. is_same_key key (key_of u)) units (unit ∷ []))) where
     by_key : (b : Bool) → is_same_key (key_of unit) key ≡ b → cond b (Some (unit_place unit)) (get is_same_key old key) ≡ option_map unit_place (option_or (unit_named units key) (cond (is_same_key key (key_of unit)) (Some unit) None))
     by_key true told =
         let same : key_of unit ≡ key = same_key (key_of unit) key told in
@@ -93,11 +93,11 @@ module _ {S : Type 0} (files : List ProjectFile) (units : List LinkUnit) (unit :
     of_at = grind (arith, common_steps, is.of, of)
 
 -- places of one unit more
-pub places_more : {S : Type 0} (files : ℕ) (old new : IndexMap UnitKey Place S) (key : UnitKey) (place : Place) → ArePlacesOfFiles files old → place.file < files → Updates is_same_key old new key (Some place) → ArePlacesOfFiles files new
-places_more {S} files old new key place are within updates other found told = by_key (is_same_key key other) refl where
+pub places_more : (files : ℕ) (old new : Entries UnitKey Place) (key : UnitKey) (place : Place) → ArePlacesOfFiles files old → place.file < files → GivesPlace old new key place → ArePlacesOfFiles files new
+places_more files old new key place are within updates other found told = by_key (is_same_key key other) refl where
   by_key : (b : Bool) → is_same_key key other ≡ b → found.file < files
-  by_key true is = let e : Some place ≡ Some found = sym (cond-true (is_same_key key other) (Some place) (get is_same_key old other) is) ∙ (sym ((updates.0) other) ∙ told) in let same : place ≡ found = cc in subst (λ (p : Place). p.file < files) same within
-  by_key false is = are other found (sym (cond-false (is_same_key key other) (Some place) (get is_same_key old other) is) ∙ (sym ((updates.0) other) ∙ told))
+  by_key true is = let e : Some place ≡ Some found = sym (cond-true (is_same_key key other) (Some place) (get is_same_key old other) is) ∙ (sym (updates other) ∙ told) in let same : place ≡ found = cc in subst (λ (p : Place). p.file < files) same within
+  by_key false is = are other found (sym (cond-false (is_same_key key other) (Some place) (get is_same_key old other) is) ∙ (sym (updates other) ∙ told))
 
 -- ## Two units of one name
 
@@ -158,7 +158,7 @@ pub unit_of : (files : List ProjectFile) (file : ℕ) (named : ProjectFile) (tex
 unit_of files file named text scan design got = record { position = refl; is = refl; of = (got, refl) }
 
 -- one unit more was added
-pub added_more : {S : Type 0} (files : List ProjectFile) (units more : List LinkUnit) (unit : LinkUnit) (new : IndexMap UnitKey Place S) → (fault_before (units ++ more) unit ≡ None) × IsIndex files ((units ++ more) ++ unit ∷ []) new → ((rest : List LinkUnit) → first_duplicate units (more ++ rest) ≡ first_duplicate (units ++ more) rest) → (all : List LinkUnit) → all ≡ more ++ unit ∷ [] →
+pub added_more : (files : List ProjectFile) (units more : List LinkUnit) (unit : LinkUnit) (new : Entries UnitKey Place) → (fault_before (units ++ more) unit ≡ None) × IsIndex files ((units ++ more) ++ unit ∷ []) new → ((rest : List LinkUnit) → first_duplicate units (more ++ rest) ≡ first_duplicate (units ++ more) rest) → (all : List LinkUnit) → all ≡ more ++ unit ∷ [] →
     IsIndex files (units ++ all) new × ((rest : List LinkUnit) → first_duplicate units (all ++ rest) ≡ first_duplicate (units ++ all) rest)
 added_more files units more unit new told none all is =
     let longer : (units ++ more) ++ unit ∷ [] ≡ units ++ all = append_assoc units more (unit ∷ []) ∙ ap (λ (some : List LinkUnit). units ++ some) (sym is) in (
@@ -239,7 +239,7 @@ pub none_more : (before more : List LinkUnit) → ((rest : List LinkUnit) → fi
 none_more before more one two rest = ap (first_duplicate []) (append_assoc before more rest) ∙ (one (more ++ rest) ∙ two rest)
 
 -- the units of the files up to a position are added, and no two of them have one name
-pub record AreIndexed {S : Type 0} (files : List ProjectFile) (texts : List (List ℕ)) (scans : List Scan) (count : ℕ) (index : IndexMap UnitKey Place S) : Type 0 where
+pub record AreIndexed (files : List ProjectFile) (texts : List (List ℕ)) (scans : List Scan) (count : ℕ) (index : Entries UnitKey Place) : Type 0 where
   pub is : IsIndex files (link_units 0 (take count files) (take count texts) (take count scans)) index
   pub none : (rest : List LinkUnit) → first_duplicate [] (link_units 0 (take count files) (take count texts) (take count scans) ++ rest) ≡ first_duplicate (link_units 0 (take count files) (take count texts) (take count scans)) rest
 

@@ -1,10 +1,10 @@
 -- Keys whose names stand one after another are the same exactly where all of them is.
-use Rattle.std.proofs.Common.{◌≡◌, ℕ, Bool, true, false, ◌&&◌, List, ◌++◌, drop, length, nat_eq, take, refl, sym, ◌∙◌, ap, subst, arith, append_assoc, eq-eqb}
+use Rattle.std.proofs.Common.{◌≡◌, ℕ, ◌-◌, Bool, true, false, ◌&&◌, List, ◌++◌, drop, length, nat_eq, take, refl, sym, ◌∙◌, ap, subst, arith, append_assoc, eq-eqb}
 use Rattle.std.specs.Str.{bytes_eq}
 use Rattle.std.proofs.Math.Seq.{drop-append_seam, take-append_seam}
 use Rattle.std.proofs.Math.Bool.{beq}
 use Rattle.std.proofs.lemmas.Bool.{eqb-true}
-use Rattle.std.proofs.lemmas.List.{length-drop, length-take-le, take-append-drop}
+use Rattle.std.proofs.lemmas.List.{length-drop, length-take-le, take-append-drop, take_rest}
 use Rattle.std.proofs.lemmas.Slice.Eq.{bytes_eq-Decides}
 use Rattle.scan_spec.proofs.SomeTests.{and_cases}
 use Rattle.name_scope.proofs.TableLemmas.{both_ways}
@@ -15,6 +15,10 @@ use Rattle.file_graph.proofs.KeyLemmas.{same_key, told_key}
 
 abbrev key : Bool → Bool → List ℕ → List ℕ → List ℕ → UnitKey
 key primary body library entity name = record { primary = primary; body = body; library = library; entity = entity; name = name }
+
+-- a slice to the end has what comes after its start
+pub rest_is : {X : Type 0} (xs : List X) (at : ℕ) → take (length xs - at) (drop at xs) ≡ drop at xs
+rest_is xs at = take_rest xs at
 
 -- names that stand one after another are those of a key
 pub joined_is : (head : Head) (library entity name letters : List ℕ) → head.library ≡ length library → head.entity ≡ length entity → letters ≡ (library ++ entity) ++ name → joined_key head letters ≡ key head.primary head.body library entity name

@@ -1,59 +1,19 @@
 -- Units by name: the tests of kinds and names are those of keys.
-use Rattle.std.proofs.Common.{◌≡◌, ℕ, Bool, true, false, ◌&&◌, ◌||◌, not, List, refl, sym, ◌∙◌, ap, subst}
+use Rattle.std.proofs.Common.{◌≡◌, ℕ, Bool, true, false, ◌&&◌, ◌||◌, not, List, refl, ◌∙◌}
 use Rattle.std.specs.Str.{bytes_eq}
-use Rattle.std.proofs.lemmas.Slice.Eq.{bytes_eq-Decides}
 use Rattle.vr_base.specs.declared.design.UnitKind.{UnitKind}
 use Rattle.vr_base.specs.declared.design.UnitKind.TheVariants as kinds
 use Rattle.scan_spec.specs.References.{owner_name}
 use Rattle.scan_spec.specs.Dependencies.{LinkUnit, in_library, is_alike, is_architecture, is_architecture_kind, is_body, is_body_kind, is_primary}
 use Rattle.scan_spec.specs.Visibility.{is_secondary}
-use Rattle.scan_spec.proofs.SomeTests.{and_both, and_cases}
-use Rattle.file_graph.specs.Keys.{UnitKey, architecture_key, body_key, is_same_flag, is_same_key, key_of, primary_key, unit_key}
-
-same_bytes : (a b : List ℕ) → bytes_eq a b ≡ true → a ≡ b
-same_bytes a b told = (bytes_eq-Decides a b).0 told
-
-told_same : (a b : List ℕ) → a ≡ b → bytes_eq a b ≡ true
-told_same a b same = (bytes_eq-Decides a b).1 same
-
-same_flag : (a b : Bool) → is_same_flag a b ≡ true → a ≡ b
-same_flag true b told = sym told
-same_flag false true told = let never : ⊥ = cc in absurd never
-same_flag false false told = refl
-
-itself : (a : Bool) → is_same_flag a a ≡ true
-itself true = refl
-itself false = refl
-
-abbrev key : Bool → Bool → List ℕ → List ℕ → List ℕ → UnitKey
-key primary body library entity name = record { primary = primary; body = body; library = library; entity = entity; name = name }
+use Rattle.file_graph.specs.Keys.{UnitKey, architecture_key, body_key, is_same_key, key_of, primary_key, unit_key}
+use Rattle.file_graph.specs.KeyOrder.{keys_decide}
 
 pub same_key : (a b : UnitKey) → is_same_key a b ≡ true → a ≡ b
-same_key a b told =
-    let one = and_cases (is_same_flag a.primary b.primary) _ told in
-    let two = and_cases (is_same_flag a.body b.body) _ (one.1) in
-    let three = and_cases (bytes_eq b.library a.library) _ (two.1) in
-    let four = and_cases (bytes_eq b.entity a.entity) (bytes_eq b.name a.name) (three.1) in
-    let primary : a.primary ≡ b.primary = same_flag a.primary b.primary (one.0) in
-    let body : a.body ≡ b.body = same_flag a.body b.body (two.0) in
-    let library : a.library ≡ b.library = sym (same_bytes b.library a.library (three.0)) in
-    let entity : a.entity ≡ b.entity = sym (same_bytes b.entity a.entity (four.0)) in
-    let name : a.name ≡ b.name = sym (same_bytes b.name a.name (four.1)) in
-    ap (λ (x : Bool). key x a.body a.library a.entity a.name) primary
-    ∙ (ap (λ (x : Bool). key b.primary x a.library a.entity a.name) body
-    ∙ (ap (λ (x : List ℕ). key b.primary b.body x a.entity a.name) library
-    ∙ (ap (λ (x : List ℕ). key b.primary b.body b.library x a.name) entity
-    ∙ ap (λ (x : List ℕ). key b.primary b.body b.library b.entity x) name)))
-
-pub key_itself : (a : UnitKey) → is_same_key a a ≡ true
-key_itself a =
-    and_both (is_same_flag a.primary a.primary) _ (itself a.primary)
-    (and_both (is_same_flag a.body a.body) _ (itself a.body)
-    (and_both (bytes_eq a.library a.library) _ (told_same a.library a.library refl)
-    (and_both (bytes_eq a.entity a.entity) (bytes_eq a.name a.name) (told_same a.entity a.entity refl) (told_same a.name a.name refl))))
+same_key a b told = (keys_decide a b).0 told
 
 pub told_key : (a b : UnitKey) → a ≡ b → is_same_key a b ≡ true
-told_key a b same = subst (λ (k : UnitKey). is_same_key a k ≡ true) same (key_itself a)
+told_key a b same = (keys_decide a b).1 same
 
 -- ## The tests of units, by kind
 

@@ -1,8 +1,8 @@
 -- The units of a project by name: an index of them, and what it is to add one.
-use Rattle.std.specs.Prelude.{◌≡◌, ℕ, ◌<◌, Option, Some, None, Result, Ok, Err, List, [], ◌∷◌, ◌++◌, Contains, slice_get}
+use Rattle.std.specs.Prelude.{◌≡◌, ℕ, ◌<◌, Option, Some, None, Result, Ok, Err, List, [], ◌∷◌, ◌++◌, Contains, slice_get, if◌then◌else◌}
 use Rattle.std.specs.List.{All, find}
 use Rattle.std.specs.Option.{option_map}
-use Rattle.indexmap.specs.IndexMap.{IndexMap, get}
+use Rattle.key_index.specs.Maps.{Entries, get}
 use Rattle.vr_base.specs.declared.design.Unit.{Unit as DesignUnit}
 use Rattle.vr_base.specs.declared.linking.LinkFault.{LinkFault}
 use Rattle.vr_base.specs.declared.linking.LinkFault.TheVariants.{NoMemory}
@@ -35,8 +35,12 @@ abbrev pub unit_named : List LinkUnit → UnitKey → Option LinkUnit
 unit_named units key = find (λ unit. is_same_key key (key_of unit)) units
 
 -- the place of each name is that of its unit
-abbrev pub HoldsUnits : {S : Type 0} → IndexMap UnitKey Place S → List LinkUnit → Type 0
+abbrev pub HoldsUnits : Entries UnitKey Place → List LinkUnit → Type 0
 HoldsUnits index units = (key : UnitKey) → get is_same_key index key ≡ option_map unit_place (unit_named units key)
+
+-- a name has another place, and the others have theirs
+abbrev pub GivesPlace : Entries UnitKey Place → Entries UnitKey Place → UnitKey → Place → Type 0
+GivesPlace old new key place = (other : UnitKey) → get is_same_key new other ≡ (if is_same_key key other then Some place else get is_same_key old other)
 
 -- no two units have one name
 abbrev pub AreDistinct : List LinkUnit → Type 0
@@ -47,13 +51,13 @@ abbrev pub IsOfFile : List ProjectFile → LinkUnit → Type 0
 IsOfFile files unit = (slice_get files unit.position ≡ Some unit.file) × (unit.scope.library ≡ unit.file.name.library)
 
 -- an index of units of files, which have distinct names
-pub record IsIndex {S : Type 0} (files : List ProjectFile) (units : List LinkUnit) (index : IndexMap UnitKey Place S) : Type 0 where
+pub record IsIndex (files : List ProjectFile) (units : List LinkUnit) (index : Entries UnitKey Place) : Type 0 where
   pub holds : HoldsUnits index units
   pub distinct : AreDistinct units
   pub of : All (IsOfFile files) units
 
 -- each place is that of a file
-abbrev pub ArePlacesOfFiles : {S : Type 0} → ℕ → IndexMap UnitKey Place S → Type 0
+abbrev pub ArePlacesOfFiles : ℕ → Entries UnitKey Place → Type 0
 ArePlacesOfFiles files index = (key : UnitKey) (place : Place) → get is_same_key index key ≡ Some place → place.file < files
 
 -- a design unit of a file
@@ -67,10 +71,10 @@ abbrev pub fault_before : List LinkUnit → LinkUnit → Option LinkFault
 fault_before units unit = option_map (λ first. duplicate_of first unit) (find (is_alike unit) units)
 
 -- a unit was added, unless there is one of its name
-abbrev pub AddsUnit : {T S : Type 0} → List ProjectFile → List LinkUnit → LinkUnit → IndexMap UnitKey Place S → Result T LinkFault → Type 0
+abbrev pub AddsUnit : {T : Type 0} → List ProjectFile → List LinkUnit → LinkUnit → Entries UnitKey Place → Result T LinkFault → Type 0
 AddsUnit files units unit new result = GivesOrFaults (fault_before units unit) (λ value. IsIndex files (units ++ unit ∷ []) new) result
 
 -- the units of a file were added, unless there is one of the name of one before
-abbrev pub AddsAll : {T S : Type 0} → List ProjectFile → List LinkUnit → List LinkUnit → IndexMap UnitKey Place S → Result T LinkFault → Type 0
+abbrev pub AddsAll : {T : Type 0} → List ProjectFile → List LinkUnit → List LinkUnit → Entries UnitKey Place → Result T LinkFault → Type 0
 AddsAll files units more new (Ok value) = IsIndex files (units ++ more) new × ((rest : List LinkUnit) → first_duplicate units (more ++ rest) ≡ first_duplicate (units ++ more) rest)
 AddsAll files units more new (Err fault) = (rest : List LinkUnit) → IsFaultOf (first_duplicate units (more ++ rest)) fault

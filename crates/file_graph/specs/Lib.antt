@@ -1,5 +1,6 @@
 -- The definitions of this crate.
 pub mod Keys
+pub mod KeyOrder
 pub mod Joined
 pub mod Indexes
 pub mod Libraries

@@ -2,7 +2,7 @@
 
 ghost use Rattle.std.specs.Prelude.{◌≡◌, ⊤, List, IfOk, Some, None, false, if◌then◌else◌};
 ghost use Rattle.std.specs.List.{list_any};
-ghost use Rattle.indexmap.specs.IndexMap.{get};
+ghost use Rattle.key_index.specs.Maps.{get};
 ghost use Rattle.vr_base.specs.declared.linking.LinkFault.TheVariants.{MissingUnit, MissingArchitecture};
 ghost use Rattle.scan_spec.specs.References.{owner_name};
 ghost use Rattle.scan_spec.specs.Dependencies.{LinkUnit, is_architecture, is_primary, lacks_given};

@@ -1,7 +1,7 @@
 //! The design units of a project by name.
 
 ghost use Rattle.std.specs.Prelude.{◌≡◌, ℕ, ◌<◌, ◌≤◌, List, [], Some, IfOk, OnOk, length, map, slice_get};
-ghost use Rattle.indexmap.specs.IndexMap.{get};
+ghost use Rattle.key_index.specs.Maps.{get};
 ghost use Rattle.vr_base.specs.declared.design.Scan.{Scan};
 ghost use Rattle.vr_base.specs.declared.project.ProjectFile.{ProjectFile};
 ghost use Rattle.vr_base.specs.declared.linking.LinkFault.TheVariants.{DuplicateUnit};
@@ -13,7 +13,7 @@ ghost use Rattle.file_graph.specs.Indexes.{AddsAll, AddsUnit, ArePlacesOfFiles, 
 use crate::key::{UnitKey, unit_key};
 use crate::spelling::spelled;
 use file_outlines::FileOutline;
-use indexmap::IndexMap;
+use key_index::KeyMap;
 use std::alloc::Global;
 use vr_base::{FILE_LIMIT, FileName, Items, LinkFault, NoMemory, Project, Unit, UnitKind};
 
@@ -25,16 +25,13 @@ pub struct Place {
 }
 
 /// The units by name, in project and unit order.
-pub type Index = IndexMap<UnitKey, Place>;
+pub type Index = KeyMap<UnitKey, Place>;
 
 /// Where the unit of a name is.
 pub fn place_of(index: &Index, key: &UnitKey) -> Option<Place>
     ensures { result ≡ get is_same_key index.now key.now }
 {
-    match index.get(key) {
-        Some(place) => Some(*place),
-        None => None,
-    }
+    index.get(key)
 }
 
 /// A unit is package or not.

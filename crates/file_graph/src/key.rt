@@ -1,12 +1,18 @@
 //! The names of design units, by which they are found.
 
-ghost use Rattle.std.specs.Prelude.{◌≡◌, [], ◌∷◌, ◌++◌, IfOk, OnOk};
+ghost use Rattle.std.specs.Prelude.{◌≡◌, ◌+◌, ◌≤◌, [], ◌∷◌, ◌++◌, drop, length, IfOk, OnOk};
 ghost use Rattle.std.specs.Cmp.Rules.{comparing, hashing};
-ghost use Rattle.std.proofs.Common.{rules};
+ghost use Rattle.std.proofs.Common.{refl, rules};
 ghost use Rattle.scan_spec.specs.References.{owner_name};
+ghost use Rattle.std.specs.Cmp.{partial_order_from_agreeing_total};
+ghost use Rattle.std.specs.Cmp.Lexicographic.{slice_cmp};
+ghost use Rattle.std.specs.Ordering.{as_partial_cmp, nat_cmp};
+ghost use Rattle.file_graph.specs.KeyOrder.{entities_cmp, flags_cmp, key_cmp, key_ties, key_total, keys_decide, libraries_cmp};
 ghost use Rattle.file_graph.specs.Keys.{is_same_key, primary_key, architecture_key, body_key, unit_key};
 
+use key_index::Key;
 use std::alloc::Global;
+use std::cmp::Ordering;
 use std::hash::{Hash, Hasher};
 use std::marker::Model;
 use std::mem::replace;
@@ -65,6 +71,132 @@ impl Hash for UnitKey {
 
     fn hash<H: Hasher>(&self, state: &mut H) {
         state.write(self.letters.as_slice());
+    }
+}
+
+/// What comes after so many bytes.
+#[tactic(auto, using(crate::proofs::JoinedLemmas::rest_is))]
+fn after(bytes: &[u8], count: usize) -> &[u8]
+    requires { count ≤ length bytes.now }
+    ensures rest { result.now ≡ drop count bytes.now }
+    ensures length { length result.now + count ≡ length bytes.now }
+{
+    &bytes[count..]
+}
+
+impl UnitKey {
+    #[tactic(auto, unfolding(crate::specs::Joined::joined_key))]
+    fn is_primary(&self) -> bool
+        ensures { result ≡ self.now.primary }
+    {
+        self.head.primary
+    }
+
+    #[tactic(auto, unfolding(crate::specs::Joined::joined_key))]
+    fn is_body(&self) -> bool
+        ensures { result ≡ self.now.body }
+    {
+        self.head.body
+    }
+
+    #[tactic(auto, unfolding(crate::specs::Joined::joined_key))]
+    fn library(&self) -> &[u8]
+        ensures { result.now ≡ self.now.library }
+    {
+        &self.letters[..self.head.library]
+    }
+
+    #[tactic(auto, unfolding(crate::specs::Joined::joined_key))]
+    fn entity(&self) -> &[u8]
+        ensures { result.now ≡ self.now.entity }
+    {
+        &after(self.letters.as_slice(), self.head.library)[..self.head.entity]
+    }
+
+    #[tactic(auto, unfolding(crate::specs::Joined::joined_key))]
+    fn name(&self) -> &[u8]
+        ensures { result.now ≡ self.now.name }
+    {
+        after(
+            after(self.letters.as_slice(), self.head.library),
+            self.head.entity,
+        )
+    }
+}
+
+fn order<'a>(one: &'a [u8], other: &'a [u8]) -> Ordering
+    ensures { result ≡ slice_cmp nat_cmp one.now other.now }
+{
+    Ord::cmp(&one, &other)
+}
+
+/// The order by what keys are of.
+fn order_of_flags(one: &UnitKey, other: &UnitKey) -> Ordering
+    ensures { result ≡ flags_cmp one.now other.now }
+{
+    let rest = one.is_primary().cmp(&other.is_primary());
+    one.is_body().cmp(&other.is_body()).then(rest)
+}
+
+/// The order by libraries, and then by what keys are of.
+fn order_of_libraries(one: &UnitKey, other: &UnitKey) -> Ordering
+    ensures { result ≡ libraries_cmp one.now other.now }
+{
+    match order(one.library(), other.library()) {
+        Ordering::Less => Ordering::Less,
+        Ordering::Equal => order_of_flags(one, other),
+        Ordering::Greater => Ordering::Greater,
+    }
+}
+
+/// The order by entities, and then by the rest.
+fn order_of_entities(one: &UnitKey, other: &UnitKey) -> Ordering
+    ensures { result ≡ entities_cmp one.now other.now }
+{
+    match order(one.entity(), other.entity()) {
+        Ordering::Less => Ordering::Less,
+        Ordering::Equal => order_of_libraries(one, other),
+        Ordering::Greater => Ordering::Greater,
+    }
+}
+
+/// Names come first, since nearly all keys differ in them: nothing else is then looked at.
+impl Ord for UnitKey {
+    ghost cmp = { key_cmp };
+
+    ghost total = { key_total };
+
+    ghost matches_partial_cmp = { λ one other. refl };
+
+    ghost matches_eq = { key_ties };
+
+    fn cmp(&self, other: &UnitKey) -> Ordering {
+        match order(self.name(), other.name()) {
+            Ordering::Less => Ordering::Less,
+            Ordering::Equal => order_of_entities(self, other),
+            Ordering::Greater => Ordering::Greater,
+        }
+    }
+}
+
+impl PartialOrd for UnitKey {
+    ghost partial_cmp = { as_partial_cmp key_cmp };
+
+    ghost laws = { partial_order_from_agreeing_total key_cmp key_total (λ one other. refl) key_ties };
+
+    fn partial_cmp(&self, other: &UnitKey) -> Option<Ordering> {
+        Some(self.cmp(other))
+    }
+}
+
+impl Key for UnitKey {
+    ghost decides = { keys_decide };
+
+    fn copy(&self, alloc: Global) -> Result<UnitKey, NoMemory> {
+        Ok(UnitKey {
+            head: self.head,
+            letters: Vec::from_slice(alloc, self.letters.as_slice())?,
+        })
     }
 }
 

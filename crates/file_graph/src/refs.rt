@@ -2,7 +2,7 @@
 
 ghost use Rattle.std.specs.Prelude.{◌≡◌, ◌&&◌, ◌≤◌, Bool, true, List, OnOk};
 ghost use Rattle.std.specs.List.{list_any};
-ghost use Rattle.indexmap.specs.IndexMap.{get};
+ghost use Rattle.key_index.specs.Maps.{get};
 ghost use Rattle.vr_base.specs.declared.project.ProjectFile.{ProjectFile};
 ghost use Rattle.scan_spec.specs.Dependencies.{LinkUnit, is_body, is_given_architecture, is_package_kind, is_primary};
 ghost use Rattle.file_graph.specs.Indexes.{ArePlacesOfFiles, IsIndex, HoldsUnits};

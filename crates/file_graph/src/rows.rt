@@ -2,7 +2,7 @@
 
 ghost use Rattle.std.specs.Prelude.{◌≡◌, ◌<◌, ◌≤◌, ◌==◌, false, List, IfSome};
 ghost use Rattle.std.specs.Option.{option_map_or};
-ghost use Rattle.indexmap.specs.IndexMap.{get};
+ghost use Rattle.key_index.specs.Maps.{get};
 ghost use Rattle.vr_base.specs.declared.project.ProjectFile.{ProjectFile};
 ghost use Rattle.scan_spec.specs.Dependencies.{LinkUnit};
 ghost use Rattle.file_graph.specs.Indexes.{ArePlacesOfFiles, IsIndex};

@@ -11,6 +11,8 @@ use Rattle.scan_spec.specs.Scans.{AreScansOf, IsScanOf}
 use Rattle.scan_spec.proofs.Lying.{tokens_few}
 use Rattle.scan_spec.proofs.Placed.{units_few}
 use Rattle.vhdl_refs.specs.Mentions.{MentionsLieIn}
+use Rattle.vhdl_runs.specs.declared.runs.FileRuns.{FileRuns}
+use Rattle.vhdl_runs.specs.Runs.{UnitRunsLieIn, file_runs, unit_runs}
 use Rattle.file_outlines.specs.declared.outlines.FileOutline.{FileOutline}
 use Rattle.file_outlines.specs.declared.outlines.Outlines.{Outlines}
 use Rattle.file_outlines.specs.declared.outlines.UnitScope.{UnitScope}
@@ -56,12 +58,18 @@ scopes_more (t ∷ texts) (s ∷ scans) text scan each =
     ap (λ (rest : List UnitScope). map (scope_of t s) s.units ++ rest) (scopes_more texts scans text scan fewer)
     ∙ sym (append_assoc (map (scope_of t s) s.units) (scopes_of texts scans) (map (scope_of text scan) scan.units))
 
--- a file with what its units mention was added
-pub added : (text : List ℕ) (scan : Scan) (old new : Outlines) (file : FileOutline) → IsScanOf text scan → file.units ≡ scan.units → MentionsAreOf text scan file.mentions → All (MentionsLieIn text) file.mentions → new.files ≡ old.files ++ file ∷ [] → new.scopes ≡ old.scopes ++ map (scope_of text scan) scan.units → HasAdded text scan old new
-added text scan old new file is units are lie files scopes = record {
+-- a file with what is kept of its units was added
+pub added : (text : List ℕ) (scan : Scan) (old new : Outlines) (file : FileOutline) → IsScanOf text scan → file.units ≡ scan.units → MentionsAreOf text scan file.mentions → All (MentionsLieIn text) file.mentions → file.runs ≡ file_runs text scan → All (UnitRunsLieIn text) file.runs.units → new.files ≡ old.files ++ file ∷ [] → new.scopes ≡ old.scopes ++ map (scope_of text scan) scan.units → HasAdded text scan old new
+added text scan old new file is units are lie runs runs_lie files scopes = record {
   file = file;
-  is = record { units = units; mentions = are };
-  lies = record { each = are.each ∙ ap length (sym units); few = let few = few_units text scan is in omega (arith, few, ap length units); mentions = lie };
+  is = record { units = units; mentions = are; runs = runs };
+  lies = record {
+    each = are.each ∙ ap length (sym units);
+    few = let few = few_units text scan is in omega (arith, few, ap length units);
+    mentions = lie;
+    each_runs = ap (λ (r : FileRuns). length r.units) runs ∙ length-map scan.units (unit_runs text scan.tokens.list) ∙ ap length (sym units);
+    runs = runs_lie;
+  };
   files = files;
   scopes = scopes;
 }

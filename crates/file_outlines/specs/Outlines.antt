@@ -1,4 +1,4 @@
--- The outlines of files: their design units, and what each mentions.
+-- The outlines of files: their design units, what each mentions, and what it says of tests.
 use Rattle.std.specs.Prelude.{◌≡◌, ℕ, ◌≤◌, List, [], ◌∷◌, ◌++◌, length, map, slice_get, Some}
 use Rattle.std.specs.List.{All}
 use Rattle.vr_base.specs.declared.design.Scan.{Scan}
@@ -7,6 +7,7 @@ use Rattle.scan_spec.specs.References.{library_names}
 use Rattle.scan_spec.specs.Scans.{AreScansOf}
 use Rattle.vhdl_refs.specs.declared.mentions.Mentions.{Mentions}
 use Rattle.vhdl_refs.specs.Mentions.{AreMentionsOf, MentionsLieIn}
+use Rattle.vhdl_runs.specs.Runs.{UnitRunsLieIn, file_runs}
 use Rattle.file_outlines.specs.declared.outlines.FileOutline.{FileOutline}
 use Rattle.file_outlines.specs.declared.outlines.Outlines.{Outlines}
 use Rattle.file_outlines.specs.declared.outlines.UnitScope.{UnitScope}
@@ -30,12 +31,15 @@ pub record MentionsAreOf (text : List ℕ) (scan : Scan) (mentions : List Mentio
 pub record IsOutlineOf (text : List ℕ) (scan : Scan) (file : FileOutline) : Type 0 where
   pub units : file.units ≡ scan.units
   pub mentions : MentionsAreOf text scan file.mentions
+  pub runs : file.runs ≡ file_runs text scan
 
--- what is mentioned can be read of a text, and there are no more units than bytes
+-- what is kept of each unit can be read of a text, and there are no more units than bytes
 pub record OutlineLiesIn (text : List ℕ) (file : FileOutline) : Type 0 where
   pub each : length file.mentions ≡ length file.units
   pub few : length file.units ≤ length text
   pub mentions : All (MentionsLieIn text) file.mentions
+  pub each_runs : length file.runs.units ≡ length file.units
+  pub runs : All (UnitRunsLieIn text) file.runs.units
 
 -- the outlines of files of these texts and scans
 pub record FilesAreOf (texts : List (List ℕ)) (scans : List Scan) (files : List FileOutline) : Type 0 where

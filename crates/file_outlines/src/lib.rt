@@ -3,7 +3,5 @@
 
 mod copies;
 mod outlines;
-mod roles;
 
 pub use outlines::{FileOutline, Outlines, UnitScope, outlines_of};
-pub use roles::roles_of_files;

@@ -1,4 +1,4 @@
-//! What is kept of scanned files: their design units, and what each of these names and mentions.
+//! What is kept of scanned files: their design units, what each of these names and mentions, and what it says of tests.
 
 ghost use Rattle.std.specs.Prelude.{◌≡◌, ◌<◌, ◌≤◌, ◌++◌, [], IfOk, OnOk, Some, length, map, slice_get};
 ghost use Rattle.std.specs.List.{All};
@@ -12,6 +12,7 @@ ghost use Rattle.file_outlines.specs.Roles.{IsTextSmall};
 use crate::copies::copy_units;
 use std::alloc::Global;
 use vhdl_refs::{Mentions, library_names, mentions_of};
+use vhdl_runs::{FileRuns, runs_of};
 use vhdl_units::roles_of;
 use vr_base::{Items, NoMemory, RoleList, Scan, Scans, TEXT_LIMIT, TextList, Tokens, UnitList};
 
@@ -21,11 +22,12 @@ pub struct UnitScope {
     pub names: TextList,
 }
 
-/// The design units of a file, and what each mentions.
+/// The design units of a file, what each mentions, and what it says of tests.
 #[derive(Drop)]
 pub struct FileOutline {
     pub units: UnitList,
     pub mentions: Items<Mentions>,
+    pub runs: FileRuns,
 }
 
 /// The outlines of files, in order, and what their units name, file by file.
@@ -123,14 +125,19 @@ impl Outlines {
         ensures used { IfOk result (λ used. used ≡ scan.tokens) }
     {
         let mentions = mentions_of_units(alloc, text, &scan, roles)?;
+        let runs = runs_of(alloc, text, &scan, roles)?;
         push_scopes(alloc, text, &scan, roles, &mut self.scopes)?;
         let Scan { tokens, units } = scan;
-        self.files.push(FileOutline { units, mentions })?;
+        self.files.push(FileOutline {
+            units,
+            mentions,
+            runs,
+        })?;
         Ok(tokens)
     }
 
     /// Adds the outline of a file whose scan is lent: its units are copied.
-    pub fn push_copy(
+    fn push_copy(
         &mut self,
         alloc: Global,
         text: &[u8],
@@ -143,14 +150,20 @@ impl Outlines {
         ensures { OnOk result (HasAdded text.now scan.now self.old self.new) }
     {
         let mentions = mentions_of_units(alloc, text, scan, roles)?;
+        let runs = runs_of(alloc, text, scan, roles)?;
         push_scopes(alloc, text, scan, roles, &mut self.scopes)?;
         let units = copy_units(alloc, scan.units.as_slice())?;
-        self.files.push(FileOutline { units, mentions })?;
+        self.files.push(FileOutline {
+            units,
+            mentions,
+            runs,
+        })?;
         Ok(())
     }
 }
 
-/// The outlines of files whose scans are kept. There is one text and one scan for each file, in order.
+/// The outlines of files whose scans are kept, as tests and benches have them; the program makes outlines by `push`. There
+/// is one text and one scan for each file, in order.
 pub fn outlines_of(alloc: Global, texts: &TextList, scans: &Scans) -> Result<Outlines, NoMemory>
     requires scans { AreScansOf texts.now scans.now }
     requires small { All IsTextSmall texts.now }

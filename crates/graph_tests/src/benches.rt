@@ -6,14 +6,13 @@ ghost use Rattle.scan_spec.specs.Scans.{AreScansOf};
 ghost use Rattle.file_outlines.specs.Roles.{IsTextSmall};
 
 use crate::projects::{add, are_small, scans_of};
+use file_outlines::outlines_of;
 use std::alloc::Global;
 use std::process::Abort;
 use std::test::Fail;
 use test_scan::benches;
-use vr_base::{
-    Bench, FILE_LIMIT, Items, PairList, Project, ProjectFile, Scans, TestFault, Tests, Text,
-    TextList,
-};
+use vhdl_benches::{Bench, TestFault, Tests};
+use vr_base::{FILE_LIMIT, Items, OrMemory, PairList, Project, ProjectFile, Scans, Text, TextList};
 
 static ENTITY: &str = "entity e is generic (runner_cfg : string); end;";
 
@@ -116,7 +115,6 @@ fn shown_text(alloc: Global, word: &str, text: &Text) -> Result<Vec<u8>, Fail> {
 
 fn shown_fault(alloc: Global, fault: &TestFault) -> Result<Vec<u8>, Fail> {
     match fault {
-        TestFault::NoMemory => shown_text(alloc, "memory", &Text::new(alloc)),
         TestFault::TwoArchitectures { bench } => shown_text(alloc, "two ", bench),
         TestFault::NoArchitecture { bench } => shown_text(alloc, "none ", bench),
         TestFault::DuplicateTest { name } => shown_text(alloc, "twice ", name),
@@ -136,9 +134,11 @@ fn shown_answer(
     requires scans { AreScansOf texts.now scans.now }
     requires small { All IsTextSmall texts.now }
 {
-    match benches(alloc, project, texts, scans) {
+    let outlines = outlines_of(alloc, texts, scans)?;
+    match benches(alloc, project, texts, &outlines) {
         Ok(tests) => shown_tests(alloc, &tests, places),
-        Err(fault) => shown_fault(alloc, &fault),
+        Err(OrMemory::NoMemory) => shown_text(alloc, "memory", &Text::new(alloc)),
+        Err(OrMemory::Fault(fault)) => shown_fault(alloc, &fault),
     }
 }
 

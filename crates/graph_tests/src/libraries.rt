@@ -98,6 +98,14 @@ l%%context m.c, work.n; package p is end;#l%%context n is library m; end;#m%%con
 l%%library a; entity e is end;#l%%library b; package e is end;#l%%library c; package body e is end; package body q is end;#m%%library d; entity e is end; => a,std,work,|b,std,work,|a,b,c,std,work,|std,work,|d,std,work,|
 -- a package named as a context hands nothing on, and a secondary unit is no primary unit
 l%%library a; package c is end;#l%%context work.c; package p is end;#l%%library b; package body p is end; architecture z of p is begin end; => a,std,work,|std,work,|b,std,work,|std,work,|
+-- a configuration sees what its entity sees, and the architecture that its first `for` names
+l%%library a; entity e is end;#l%%library b; architecture r of e is begin end; library d; architecture s of e is begin end;#l%%configuration c of e is for r end for; end; => a,std,work,|a,b,std,work,|a,d,std,work,|a,b,std,work,|
+-- not that of a later one, nor one that isn't there, nor one of another entity or library
+l%%library a; entity e is end; library b; architecture r of e is begin end;#l%%library d; architecture r of f is begin end;#l%%library g; configuration c of e is for q for r end for; end for; end;#m%%configuration c of e is for r end for; end; => a,std,work,|a,b,std,work,|d,std,work,|a,g,std,work,|std,work,|
+-- by contexts of both, and no unit sees what the configuration names
+l%%context k is library a; end;#l%%context work.k; entity e is end;#l%%context n is library b; end; context work.n; architecture r of e is begin end;#l%%library d; configuration c of e is for r end for; end; => a,std,work,|a,std,work,|b,std,work,|a,b,std,work,|a,b,d,std,work,|
+-- more names than are looked through one after the other
+l%%library j, c, h, a, e; package p is end;#l%%library g, b, i, d, f, a, J; package q is end; => a,c,e,h,j,std,work,|a,b,d,f,g,i,j,std,work,|
 -- words in other case, names that are no words, and names that repeat
 l%%library B, a, \X\, a; context C is end;#l%%CONTEXT WORK.c; package p is end; => \X\,a,b,std,work,|\X\,a,b,std,work,|
 "#;

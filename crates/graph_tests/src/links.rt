@@ -140,6 +140,9 @@ static PROJECTS: &str = r#"
 - lib%c%context ctx is library other; use other.q.all; end context ctx;#lib%w%context work.ctx; package w is constant k : integer := other.q.c; end;#other%q%package q is end; => 2|02||
 -- an architecture on its entity, by whose library clause it sees another library
 - lib%e%library other; entity e is end;#lib%a%architecture rtl of e is constant k : integer := other.q.c; begin end;#other%q%package q is end; => |02||
+-- a configuration on what its entity and its architecture may name
+- tb%top%library oth; use oth.y; entity top is end; architecture a of top is component x is end component; begin u : x; end;#tb%c%configuration c of top is for a for u : x use entity oth.x(r); end for; end for; end;#oth%x%entity x is end; architecture r of x is begin end;#oth%y%package y is end; => 3|02|||
+- tb%top%entity top is end;#tb%a%library oth; architecture a of top is component x is end component; begin u : x; end;#tb%b%architecture b of top is begin end;#tb%c%configuration c of top is for a for u : x use entity oth.x; end for; end for; end;#tb%d%configuration d of top is for b for u : x use entity oth.x; end for; end for; end;#oth%x%entity x is end; => |0|0|015|02||
 - lib%top%entity top is end; architecture a of top is begin u : entity work.missing; end; => U top lib missing
 -- a loose reference to what isn't there
 - lib%a%library rec; package a is constant k : integer := rec.field; end;#rec%b%package b is end; => ||
@@ -155,6 +158,13 @@ b l%u%use work.p.all; package u is end;#l%p%package p is end;#l%b%package body p
 -- architectures
 - l%u%entity t is end; architecture a of t is begin i : entity work.e(r); end;#l%e%entity e is end;#l%r%architecture r of e is begin end;#l%s%architecture s of e is begin end; => 12||1|1|
 - l%u%entity t is end; architecture a of t is begin i : entity work.e(q); end;#l%e%entity e is end;#l%r%architecture r of e is begin end; => A u l e q
+-- the architecture of a block configuration, in a configuration declaration alone, and where the name is no label
+- l%c%configuration c of e is for a for u : s use entity work.s; for r end for; end for; end for; end;#l%e%entity e is end; architecture a of e is begin end;#l%s%entity s is end;#l%r%architecture r of s is begin end;#l%q%architecture q of s is begin end; => 123|||2|2|
+- l%c%configuration c of e is for a for u : s use entity work.s; for q end for; end for; end for; end;#l%e%entity e is end; architecture a of e is begin end;#l%s%entity s is end;#l%r%architecture r of s is begin end; => A c l s q
+- l%c%configuration c of e is for a for u : s use entity work.s; for r : t use open; end for; end for; end for; end;#l%e%entity e is end; architecture a of e is begin end;#l%s%entity s is end;#l%r%architecture r of s is begin end; => 12|||2|
+- l%c%configuration c of e is for a for u : s use entity work.s; for r, t : t use open; end for; end for; end for; end;#l%e%entity e is end; architecture a of e is begin end;#l%s%entity s is end;#l%r%architecture r of s is begin end; => 12|||2|
+- l%c%architecture c of e is for u : s use entity work.s; for r end for; begin end;#l%e%entity e is end;#l%s%entity s is end;#l%r%architecture r of s is begin end; => 12|||2|
+- l%c%library m; configuration c of e is for a for u : s use entity m.s; for r for v : t use entity m.t; for q end for; end for; end for; end for; end for; end;#l%e%entity e is end; architecture a of e is begin end;#m%s%entity s is end; architecture r of s is begin end;#m%t%entity t is end;#m%q%architecture q of t is begin end; => 1234||||3|
 -- the project's own pairs
 d l%a%#l%b%package b is end;#l%c% => 2|||
 -- duplicates come before what is missing
@@ -163,6 +173,7 @@ d l%a%#l%b%package b is end;#l%c% => 2|||
 - l%a%package p is end; package body p is end;#l%b%package body p is end; => D body l.p a b
 -- uses of whole libraries, in text order
 - l%a%library m, n; use m.all; use work.all; use n.all; package a is end;#m%b%package b is end; => ||0m 0l 
+- l%a%library m, n; use m.all, work.all, n.all; use m.b, m.all; package a is end;#m%b%package b is end; => 1||0m 0l 0m 
 "#;
 
 /// Whether the answer of a line is what is found.

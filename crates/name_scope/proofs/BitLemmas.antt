@@ -55,56 +55,6 @@ with_bit row number within other = by_word (eqb_tells (other / 64) (number / 64)
   by_word (inr (told, differ)) =
       rw (other_word other number differ, get_or-set_other row (number / 64) (other / 64) (bit_or (get_or row (number / 64) 0) (1 * 2 ^ (number % 64) % 18446744073709551616)) 0 differ) refl
 
--- what a word that is joined at an index leaves
-module _ (row first other : List ℕ) (i : ℕ) (within : i < length row) (fresh : get_or row i 0 ≡ get_or first i 0) where
-  word : ℕ
-  word = bit_or (get_or row i 0) (get_or other i 0)
-
-  pub done_more : ((k : ℕ) → k < i → get_or row k 0 ≡ bit_or (get_or first k 0) (get_or other k 0)) → (k : ℕ) → k < i + 1 → get_or (slice_set row i (bit_or (get_or row i 0) (get_or other i 0))) k 0 ≡ bit_or (get_or first k 0) (get_or other k 0)
-  done_more before = below_more _ _ earlier here where
-    earlier : (k : ℕ) → k < i → get_or (slice_set row i (bit_or (get_or row i 0) (get_or other i 0))) k 0 ≡ bit_or (get_or first k 0) (get_or other k 0)
-    earlier k below = let ne : k ≢ i = omega arith in rw get_or-set_other (before k below)
-
-    here : get_or (slice_set row i (bit_or (get_or row i 0) (get_or other i 0))) i 0 ≡ bit_or (get_or first i 0) (get_or other i 0)
-    here = rw get_or-set_same (ap (λ n. bit_or n (get_or other i 0)) fresh)
-
-  pub rest_more : ((k : ℕ) → i ≤ k → get_or row k 0 ≡ get_or first k 0) → (k : ℕ) → i + 1 ≤ k → get_or (slice_set row i (bit_or (get_or row i 0) (get_or other i 0))) k 0 ≡ get_or first k 0
-  rest_more rest k above = let ne : k ≢ i = omega arith in rw get_or-set_other (rest k (omega arith))
-
-  sum_more : weight (slice_set row i (bit_or (get_or row i 0) (get_or other i 0))) + get_or row i 0 ≡ weight row + bit_or (get_or row i 0) (get_or other i 0)
-  sum_more = sum_by-set (λ (n : ℕ). n) row i (bit_or (get_or row i 0) (get_or other i 0)) 0 within
-
-  pub least_more : weight first ≤ weight row → weight first ≤ weight (slice_set row i (bit_or (get_or row i 0) (get_or other i 0)))
-  least_more so_far = omega (arith, sum_more, le_or_l (get_or row i 0) (get_or other i 0))
-
-  pub same_more : (grown : Bool) → (grown ≡ false → row ≡ first) → (grown || not (nat_eq (bit_or (get_or row i 0) (get_or other i 0)) (get_or row i 0))) ≡ false → slice_set row i (bit_or (get_or row i 0) (get_or other i 0)) ≡ first
-  same_more true before told = let never : ⊥ = cc in absurd never
-  same_more false before told = by_word (eqb_tells (bit_or (get_or row i 0) (get_or other i 0)) (get_or row i 0)) told where
-    by_word : ((nat_eq (bit_or (get_or row i 0) (get_or other i 0)) (get_or row i 0) ≡ true) × (bit_or (get_or row i 0) (get_or other i 0) ≡ get_or row i 0)) ⊎ ((nat_eq (bit_or (get_or row i 0) (get_or other i 0)) (get_or row i 0) ≡ false) × (bit_or (get_or row i 0) (get_or other i 0) ≢ get_or row i 0)) → not (nat_eq (bit_or (get_or row i 0) (get_or other i 0)) (get_or row i 0)) ≡ false → slice_set row i (bit_or (get_or row i 0) (get_or other i 0)) ≡ first
-    by_word (inl (yes_it, same)) told = rw same (rw (set-get_or row i 0) (before refl))
-    by_word (inr (no_it, differ)) told = let never : true ≡ false = rw no_it at told in let impossible : ⊥ = cc in absurd impossible
-
-  pub grows_more : (grown : Bool) → weight first ≤ weight row → (grown ≡ true → weight first < weight row) → (grown || not (nat_eq (bit_or (get_or row i 0) (get_or other i 0)) (get_or row i 0))) ≡ true → weight first < weight (slice_set row i (bit_or (get_or row i 0) (get_or other i 0)))
-  grows_more true least before told = omega (arith, before refl, sum_more, le_or_l (get_or row i 0) (get_or other i 0))
-  grows_more false least before told = by_word (eqb_tells (bit_or (get_or row i 0) (get_or other i 0)) (get_or row i 0)) told where
-    by_word : ((nat_eq (bit_or (get_or row i 0) (get_or other i 0)) (get_or row i 0) ≡ true) × (bit_or (get_or row i 0) (get_or other i 0) ≡ get_or row i 0)) ⊎ ((nat_eq (bit_or (get_or row i 0) (get_or other i 0)) (get_or row i 0) ≡ false) × (bit_or (get_or row i 0) (get_or other i 0) ≢ get_or row i 0)) → not (nat_eq (bit_or (get_or row i 0) (get_or other i 0)) (get_or row i 0)) ≡ true → weight first < weight (slice_set row i (bit_or (get_or row i 0) (get_or other i 0)))
-    by_word (inl (yes_it, same)) told = let never : false ≡ true = rw yes_it at told in let impossible : ⊥ = cc in absurd impossible
-    by_word (inr (no_it, differ)) told = omega (arith, differ, sum_more, least, le_or_l (get_or row i 0) (get_or other i 0))
-
-  pub fits_more : ((k : ℕ) → get_or row k 0 < 18446744073709551616) → get_or other i 0 < 18446744073709551616 → (k : ℕ) → get_or (slice_set row i (bit_or (get_or row i 0) (get_or other i 0))) k 0 < 18446744073709551616
-  fits_more fits fit k = by_place (eqb_tells k i) where
-    by_place : ((nat_eq k i ≡ true) × (k ≡ i)) ⊎ ((nat_eq k i ≡ false) × (k ≢ i)) → get_or (slice_set row i (bit_or (get_or row i 0) (get_or other i 0))) k 0 < 18446744073709551616
-    by_place (inl (told, same)) = rw (same, get_or-set_same row i (bit_or (get_or row i 0) (get_or other i 0)) 0 within) (or_lt 64 _ _ (fits i) fit)
-    by_place (inr (told, differ)) = rw (get_or-set_other row i k (bit_or (get_or row i 0) (get_or other i 0)) 0 differ) (fits k)
-
-pub joined_all : (row other all : List ℕ) (end : ℕ) → ((k : ℕ) → k < end → get_or all k 0 ≡ bit_or (get_or row k 0) (get_or other k 0)) → ((k : ℕ) → end ≤ k → get_or all k 0 ≡ get_or row k 0) → length other ≤ end → (number : ℕ) → row_has all number ≡ (row_has row number || row_has other number)
-joined_all row other all end done rest past_other = joined row other all each where
-  far : (i : ℕ) → end ≤ i → get_or all i 0 ≡ bit_or (get_or row i 0) (get_or other i 0)
-  far i after = let none : get_or other i 0 ≡ 0 = get_or_past other i 0 (omega arith) in rw none (rw or_zero_r (rest i after))
-
-  each : (i : ℕ) → get_or all i 0 ≡ bit_or (get_or row i 0) (get_or other i 0)
-  each i = elim (cases_lt i end) [ inl before ↦ done i before | inr after ↦ far i after ]
-
 top_of : (words : List ℕ) → ((k : ℕ) → k < length words → get_or words k 0 < 18446744073709551616) → weight words ≤ length words * 18446744073709551616
 top_of [] below = omega arith
 top_of (word ∷ words) below =

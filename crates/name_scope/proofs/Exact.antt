@@ -1,5 +1,5 @@
 -- Rows that were grown from what units say have exactly the libraries that the units see.
-use Rattle.std.proofs.Common.{◌≡◌, ℕ, zero, suc, ◌+◌, ◌-◌, ◌<◌, ◌≤◌, Bool, true, false, cond, ◌&&◌, ◌||◌, not, List, [], ◌∷◌, ◌++◌, IsTrue, Contains, length, map, get_or, replicate, nat_lt, ◌⊎◌, inl, inr, refl, sym, ◌∙◌, ap, subst, arith, length-append}
+use Rattle.std.proofs.Common.{◌≡◌, ℕ, zero, suc, ◌+◌, ◌-◌, ◌<◌, ◌≤◌, Bool, true, false, if◌then◌else◌, cond, ◌&&◌, ◌||◌, not, List, [], ◌∷◌, ◌++◌, IsTrue, Contains, length, map, get_or, replicate, nat_lt, ◌⊎◌, inl, inr, refl, sym, ◌∙◌, ap, subst, arith, length-append}
 use Rattle.std.specs.List.{flat_map, list_any}
 use Rattle.std.specs.Prelude.{codes}
 use Rattle.std.specs.Str.{bytes_eq}
@@ -8,10 +8,9 @@ use Rattle.std.proofs.Math.ListN.{get_or-append}
 use Rattle.std.proofs.lemmas.Bool.{cases_lt}
 use Rattle.std.proofs.lemmas.List.{get_or_default, get_or-append-add, get_or-map, get_or-replicate, get_or_past, length-map, length-replicate}
 use Rattle.std.proofs.lemmas.List.Elements.{Contains-append_cases, Contains-append_left, Contains-append_right, Contains-get_or}
-use Rattle.vr_base.specs.declared.child.MaybeText.TheVariants.{Given}
 use Rattle.vr_base.specs.declared.refs.Ref.{Ref}
 use Rattle.scan_spec.specs.References.{work}
-use Rattle.scan_spec.specs.Visibility.{AreClosed, ScopeUnit, enough_steps, grown, has_by_context, has_by_primary, is_context_of, is_implicit, is_own, is_primary_of, primary_name, seen_after, sees}
+use Rattle.scan_spec.specs.Visibility.{AreClosed, ScopeUnit, enough_steps, grown, belongs_to, has_by_context, has_by_owner, is_configured_by, is_context_of, is_implicit, is_own, is_primary_of, seen_after, sees}
 use Rattle.scan_spec.proofs.SomeTests.{and_both, and_cases, or_cases, or_first, or_second, some_of, Contains-first, Contains-later}
 use Rattle.scan_spec.proofs.Seeing.{closed}
 use Rattle.name_scope.specs.declared.links.Link.{Link}
@@ -22,7 +21,7 @@ use Rattle.name_scope.specs.Bits.{AreWithin, has, row_has}
 use Rattle.name_scope.specs.Groups.{is_same_group}
 use Rattle.name_scope.specs.Links.{AreTaken, links_at, place_row}
 use Rattle.name_scope.specs.Names.{group_number, implicit, name_of_number, number_of}
-use Rattle.name_scope.specs.Wants.{context_want, gate_of, group_of, own_groups, user_groups, wants_of}
+use Rattle.name_scope.specs.Wants.{architecture_want, architectures_of, context_want, gate_of, group_of, own_groups, primary_want, unit_wants, user_groups}
 use Rattle.name_scope.specs.Scopes.{as_scope}
 use Rattle.name_scope.specs.Graph.{IsRowOf}
 use Rattle.name_scope.specs.Joins.{IsLinkFor, IsLinked, IsLinkedFor, IsOneOf, groups_at, link_for, no_user}
@@ -31,7 +30,7 @@ use Rattle.name_scope.proofs.BitLemmas.{past}
 use Rattle.name_scope.proofs.KeyLemmas.{numbered}
 use Rattle.name_scope.proofs.NameLemmas.{Contains-map, same_bytes, same_group, told_group, told_same}
 use Rattle.name_scope.proofs.ScopeLemmas.{as_long, at_place}
-use Rattle.name_scope.proofs.OwnGroups.{context_wanted, gate_is, is_context, is_primary, primary_wanted, want_cases, want_of_context, want_of_primary}
+use Rattle.name_scope.proofs.OwnGroups.{Wants, a_context, a_primary, an_architecture, configured_wanted, context_wanted, gate_is, is_configured, is_context, is_primary, primary_wanted, want_cases, want_of_configured, want_of_context, want_of_primary}
 
 abbrev pub no_unit : ScopeUnit
 no_unit = no_user
@@ -78,7 +77,7 @@ abbrev own_list : UnitScope → List (List ℕ)
 own_list unit = implicit ++ unit.names
 
 abbrev wants_at : List ScopeUnit → ℕ → List Want
-wants_at units at = wants_of (unit_at units at).library (unit_at units at).unit (unit_at units at).contexts
+wants_at units at = unit_wants (unit_at units at)
 
 module _ (units : List ScopeUnit) (names : List (List ℕ)) (rows : List (List ℕ)) (is : AreGrown (map as_scope units) units names rows) where
   abbrev links : List (List Link)
@@ -178,13 +177,13 @@ module _ (units : List ScopeUnit) (names : List (List ℕ)) (rows : List (List �
   own_seen : (user : ScopeUnit) (name : List ℕ) → Contains units user → is_own user name ≡ true → sees units user name ≡ true
   own_seen user name there own = is_closed.own user name there own
 
-  -- a primary unit hands on what it sees, and so does a context declaration
-  by_primary : (user v : ScopeUnit) (name : List ℕ) → Contains units user → Contains units v → is_primary_of user v ≡ true → sees units v name ≡ true → sees units user name ≡ true
-  by_primary user v name there v_there primary seen =
+  -- a unit that another belongs to hands on what it sees, and so does a context declaration
+  by_owner : (user v : ScopeUnit) (name : List ℕ) → Contains units user → Contains units v → belongs_to user v ≡ true → sees units v name ≡ true → sees units user name ≡ true
+  by_owner user v name there v_there owner seen =
       is_closed.grown user name there
-      (or_first (sees units user name || has_by_primary units (sees units) user name) (has_by_context units (sees units) user name)
-      (or_second (sees units user name) (has_by_primary units (sees units) user name)
-      (any_by (λ (p : ScopeUnit). is_primary_of user p && sees units p name) units v v_there (and_both (is_primary_of user v) (sees units v name) primary seen))))
+      (or_first (sees units user name || has_by_owner units (sees units) user name) (has_by_context units (sees units) user name)
+      (or_second (sees units user name) (has_by_owner units (sees units) user name)
+      (any_by (λ (p : ScopeUnit). belongs_to user p && sees units p name) units v v_there (and_both (belongs_to user v) (sees units v name) owner seen))))
 
   by_context : (user v : ScopeUnit) (ref : Ref) (name : List ℕ) → Contains units user → Contains units v → Contains user.contexts ref → sees units user ref.library ≡ true → is_context_of user ref v ≡ true → sees units v name ≡ true → sees units user name ≡ true
   by_context user v ref name there v_there ref_there gate context seen = by_name (is_implicit name) refl where
@@ -197,21 +196,23 @@ module _ (units : List ScopeUnit) (names : List (List ℕ)) (rows : List (List �
     by_name true told = own_seen user name there (or_first (is_implicit name) (list_any (bytes_eq name) user.names) told)
     by_name false told =
         is_closed.grown user name there
-        (or_second (sees units user name || has_by_primary units (sees units) user name) (has_by_context units (sees units) user name)
+        (or_second (sees units user name || has_by_owner units (sees units) user name) (has_by_context units (sees units) user name)
         (subst (λ (b : Bool). (not b && list_any (λ (r : Ref). sees units user r.library && list_any (λ (c : ScopeUnit). is_context_of user r c && sees units c name) units) user.contexts) ≡ true) (sym told) some))
 
   -- what a group that is wanted has is seen
-  from_group : (user : ScopeUnit) (want : Want) (name : List ℕ) → Contains units user → Contains (wants_of user.library user.unit user.contexts) want → sees units user (gate_of want) ≡ true → in_group want.group name ≡ true → sees units user name ≡ true
+  from_group : (user : ScopeUnit) (want : Want) (name : List ℕ) → Contains units user → Contains (unit_wants user) want → sees units user (gate_of want) ≡ true → in_group want.group name ≡ true → sees units user name ≡ true
   from_group user want name there wanted gate handed = by_handed (or_cases (is_implicit name) (list_any (λ v. is_in want.group v && sees units v name) units) handed) where
     in_own_groups : (v : ScopeUnit) → is_in want.group v ≡ true → Contains (own_groups v.library v.unit) want.group
     in_own_groups v told =
         let found = some_of (is_same_group want.group) (own_groups v.library v.unit) told in
         subst (Contains (own_groups v.library v.unit)) (sym (same_group want.group found.0 found.2)) found.1
 
-    by_want : (v : ScopeUnit) → Contains units v → Contains (own_groups v.library v.unit) want.group → sees units v name ≡ true → (((given : List ℕ) × (primary_name user.unit.kind user.unit ≡ Given given) × (want ≡ record { own = true; group = group_of false user.library given })) ⊎ ((ref : Ref) × Contains user.contexts ref × (context_want user.library ref ≡ want))) → sees units user name ≡ true
-    by_want v v_there in_it seen (inl (given, given_is, same)) =
-        by_primary user v name there v_there (is_primary user v given given_is (subst (λ (w : Want). Contains (own_groups v.library v.unit) w.group) same in_it)) seen
-    by_want v v_there in_it seen (inr (ref, ref_there, same)) =
+    by_want : (v : ScopeUnit) → Contains units v → Contains (own_groups v.library v.unit) want.group → sees units v name ≡ true → Wants user want → sees units user name ≡ true
+    by_want v v_there in_it seen (a_primary given given_is same) =
+        by_owner user v name there v_there (or_first (is_primary_of user v) (is_configured_by user v) (is_primary user v given given_is (subst (λ (w : Want). Contains (own_groups v.library v.unit) w.group) same in_it))) seen
+    by_want v v_there in_it seen (an_architecture entity given entity_is given_is same) =
+        by_owner user v name there v_there (or_second (is_primary_of user v) (is_configured_by user v) (is_configured user v entity given entity_is given_is (subst (λ (w : Want). Contains (own_groups v.library v.unit) w.group) same in_it))) seen
+    by_want v v_there in_it seen (a_context ref ref_there same) =
         by_context user v ref name there v_there ref_there (subst (λ (n : List ℕ). sees units user n ≡ true) (gate_is user.library ref) (subst (λ (w : Want). sees units user (gate_of w) ≡ true) (sym same) gate))
         (is_context user ref v (subst (λ (w : Want). Contains (own_groups v.library v.unit) w.group) (sym same) in_it)) seen
 
@@ -220,7 +221,7 @@ module _ (units : List ScopeUnit) (names : List (List ℕ)) (rows : List (List �
     by_handed (inr told) =
         let found = some_of (λ v. is_in want.group v && sees units v name) units told in
         let parts = and_cases (is_in want.group found.0) (sees units found.0 name) found.2 in
-        by_want found.0 found.1 (in_own_groups found.0 (parts.0)) (parts.1) (want_cases user.library user.unit user.contexts want wanted)
+        by_want found.0 found.1 (in_own_groups found.0 (parts.0)) (parts.1) (want_cases user want wanted)
 
   -- each link hands on what is seen
   link_unit : (at : ℕ) → at < length units → (link : Link) → Contains (links_at is.of_units at) link → IsTrue (sets at link.gate) → (number : ℕ) → IsTrue (sets link.source number) → IsTrue (sets at number)
@@ -320,21 +321,37 @@ module _ (units : List ScopeUnit) (names : List (List ℕ)) (rows : List (List �
   abbrev HasSeen : ℕ → Type 0
   HasSeen steps = (at : ℕ) → at < length units → (name : List ℕ) → seen_after units steps (get_or units at no_unit) name ≡ true → Contains names name × (has rows at (number_of names name) ≡ true)
 
-  step_primary : (steps : ℕ) → HasSeen steps → (at : ℕ) → at < length units → (name : List ℕ) → has_by_primary units (seen_after units steps) (unit_at units at) name ≡ true → Contains names name × (has rows at (number_of names name) ≡ true)
-  step_primary steps before at within name told =
-      let found = some_of (λ (p : ScopeUnit). is_primary_of (unit_at units at) p && seen_after units steps p name) units told in
-      let parts = and_cases (is_primary_of (unit_at units at) found.0) (seen_after units steps found.0 name) found.2 in
-      let place = place_of found.0 found.1 in
-      let given = primary_wanted (unit_at units at) found.0 (parts.0) in
-      let seen = before place.0 (place.1) name (subst (λ (v : ScopeUnit). seen_after units steps v name ≡ true) (sym place.2) (parts.1)) in
-      let want : Want = record { own = true; group = group_of false (unit_at units at).library given.0 } in (
+  -- what another unit has reaches a unit that wants a group of it in its own library
+  from_owner : (steps : ℕ) → HasSeen steps → (at : ℕ) → at < length units → (name : List ℕ) → (v : ScopeUnit) → Contains units v → seen_after units steps v name ≡ true → (want : Want) → want.own ≡ true → Contains (wants_at units at) want → Contains (own_groups v.library v.unit) want.group → Contains names name × (has rows at (number_of names name) ≡ true)
+  from_owner steps before at within name v there told want own wanted owned =
+      let place = place_of v there in
+      let seen = before place.0 (place.1) name (subst (λ (u : ScopeUnit). seen_after units steps u name ≡ true) (sym place.2) told) in
+      let gate : gate_of want ≡ work = ap (λ (b : Bool). if b then work else want.group.library) own in (
         seen.0,
-        through at within place.0 (place.1) want
-            (want_of_primary (unit_at units at).library (unit_at units at).unit (unit_at units at).contexts given.0 given.1)
-            (subst (λ (v : ScopeUnit). Contains (own_groups v.library v.unit) (group_of false (unit_at units at).library given.0)) (sym place.2) given.2)
-            (in_first at within work (Contains-first work (codes "std" ∷ (unit_at units at).names)))
+        through at within place.0 (place.1) want wanted
+            (subst (λ (u : ScopeUnit). Contains (own_groups u.library u.unit) want.group) (sym place.2) owned)
+            (subst (λ (n : List ℕ). Contains names n × (has rows at (number_of names n) ≡ true)) (sym gate) (in_first at within work (Contains-first work (codes "std" ∷ (unit_at units at).names))))
             (number_of names name) (seen.1),
       )
+
+  step_owner : (steps : ℕ) → HasSeen steps → (at : ℕ) → at < length units → (name : List ℕ) → has_by_owner units (seen_after units steps) (unit_at units at) name ≡ true → Contains names name × (has rows at (number_of names name) ≡ true)
+  step_owner steps before at within name told = by_kind (or_cases (is_primary_of user found.0) (is_configured_by user found.0) (parts.0)) where
+    user : ScopeUnit
+    user = unit_at units at
+
+    found : (v : ScopeUnit) × Contains units v × ((belongs_to user v && seen_after units steps v name) ≡ true)
+    found = some_of (λ (p : ScopeUnit). belongs_to user p && seen_after units steps p name) units told
+
+    parts : (belongs_to user found.0 ≡ true) × (seen_after units steps found.0 name ≡ true)
+    parts = and_cases (belongs_to user found.0) (seen_after units steps found.0 name) found.2
+
+    by_kind : (is_primary_of user found.0 ≡ true) ⊎ (is_configured_by user found.0 ≡ true) → Contains names name × (has rows at (number_of names name) ≡ true)
+    by_kind (inl is_primary) =
+        let given = primary_wanted user found.0 is_primary in
+        from_owner steps before at within name found.0 found.1 (parts.1) (primary_want user.library given.0) refl (want_of_primary user given.0 given.1) given.2
+    by_kind (inr is_configured) =
+        let given = configured_wanted user found.0 is_configured in
+        from_owner steps before at within name found.0 found.1 (parts.1) (architecture_want user.library given.0 given.1) refl (want_of_configured user given.0 given.1 given.2 given.3) given.4
 
   step_context : (steps : ℕ) → HasSeen steps → (at : ℕ) → at < length units → (name : List ℕ) → has_by_context units (seen_after units steps) (unit_at units at) name ≡ true → Contains names name × (has rows at (number_of names name) ≡ true)
   step_context steps before at within name told =
@@ -348,20 +365,20 @@ module _ (units : List ScopeUnit) (names : List (List ℕ)) (rows : List (List �
       let seen = before place.0 (place.1) name (subst (λ (v : ScopeUnit). seen_after units steps v name ≡ true) (sym place.2) (parts.1)) in (
         seen.0,
         through at within place.0 (place.1) (context_want (unit_at units at).library ref.0)
-            (want_of_context (unit_at units at).library (unit_at units at).unit (unit_at units at).contexts ref.0 ref.1)
+            (want_of_context (unit_at units at) ref.0 ref.1)
             (subst (λ (v : ScopeUnit). Contains (own_groups v.library v.unit) (context_want (unit_at units at).library ref.0).group) (sym place.2) (context_wanted (unit_at units at) ref.0 found.0 (parts.0)))
             (subst (λ (n : List ℕ). Contains names n × (has rows at (number_of names n) ≡ true)) (sym (gate_is (unit_at units at).library ref.0)) gate)
             (number_of names name) (seen.1),
       )
 
   by_grown : (steps : ℕ) → HasSeen steps → (at : ℕ) → at < length units → (name : List ℕ) → grown units (seen_after units steps) (unit_at units at) name ≡ true → Contains names name × (has rows at (number_of names name) ≡ true)
-  by_grown steps before at within name told = by_part (or_cases (seen_after units steps (unit_at units at) name || has_by_primary units (seen_after units steps) (unit_at units at) name) (has_by_context units (seen_after units steps) (unit_at units at) name) told) where
-    by_first : (seen_after units steps (unit_at units at) name ≡ true) ⊎ (has_by_primary units (seen_after units steps) (unit_at units at) name ≡ true) → Contains names name × (has rows at (number_of names name) ≡ true)
+  by_grown steps before at within name told = by_part (or_cases (seen_after units steps (unit_at units at) name || has_by_owner units (seen_after units steps) (unit_at units at) name) (has_by_context units (seen_after units steps) (unit_at units at) name) told) where
+    by_first : (seen_after units steps (unit_at units at) name ≡ true) ⊎ (has_by_owner units (seen_after units steps) (unit_at units at) name ≡ true) → Contains names name × (has rows at (number_of names name) ≡ true)
     by_first (inl same) = before at within name same
-    by_first (inr primary) = step_primary steps before at within name primary
+    by_first (inr owner) = step_owner steps before at within name owner
 
-    by_part : ((seen_after units steps (unit_at units at) name || has_by_primary units (seen_after units steps) (unit_at units at) name) ≡ true) ⊎ (has_by_context units (seen_after units steps) (unit_at units at) name ≡ true) → Contains names name × (has rows at (number_of names name) ≡ true)
-    by_part (inl first) = by_first (or_cases (seen_after units steps (unit_at units at) name) (has_by_primary units (seen_after units steps) (unit_at units at) name) first)
+    by_part : ((seen_after units steps (unit_at units at) name || has_by_owner units (seen_after units steps) (unit_at units at) name) ≡ true) ⊎ (has_by_context units (seen_after units steps) (unit_at units at) name ≡ true) → Contains names name × (has rows at (number_of names name) ≡ true)
+    by_part (inl first) = by_first (or_cases (seen_after units steps (unit_at units at) name) (has_by_owner units (seen_after units steps) (unit_at units at) name) first)
     by_part (inr context) = step_context steps before at within name context
 
   steps_seen : (steps : ℕ) → HasSeen steps

@@ -1,8 +1,8 @@
 -- The number of a key, and keys that are added.
 use Rattle.std.proofs.Common.{◌≡◌, ℕ, zero, suc, ◌+◌, ◌<◌, ◌≤◌, Bool, true, false, cond, List, [], ◌∷◌, ◌++◌, Contains, Option, Some, None, length, take, get_or, nat_lt, not, ◌⊎◌, inl, inr, refl, sym, ◌∙◌, ap, subst, arith, append_assoc, append-nil}
-use Rattle.std.specs.Option.{IfNone}
+use Rattle.std.specs.Option.{IfNone, IfSome}
 use Rattle.std.specs.List.{flat_map, list_any, position, position_or_len}
-use borrow.Author.Tests.{ltb-false}
+use borrow.Author.Tests.{ltb-false, ltb-true}
 use Rattle.std.proofs.lemmas.List.{take_more}
 use Rattle.std.proofs.lemmas.List.Sums.{position_or_len_is}
 use Rattle.std.proofs.lemmas.Grind.{flat_map-append}
@@ -23,6 +23,12 @@ module _ {K : Type 0} (eq : K → K → Bool) (same : (a b : K) → eq a b ≡ t
     by_first : (b : Bool) → eq key first ≡ b → (eq key first ≡ false → (position_or_len (eq key) keys < length keys) × (get_or keys (position_or_len (eq key) keys) d ≡ key)) → (cond (not b) (1 + position_or_len (eq key) keys) 0 < length (first ∷ keys)) × (get_or (first ∷ keys) (cond (not b) (1 + position_or_len (eq key) keys) 0) d ≡ key)
     by_first true found rest = (omega arith, sym (same key first found))
     by_first false found rest = let h = rest found in let e : 1 + position_or_len (eq key) keys ≡ suc (position_or_len (eq key) keys) = omega arith in rw e (omega (arith, h.0), h.1)
+
+  pub found_key : (keys : List K) (key : K) (result : Option ℕ) → result ≡ position (eq key) keys → IfSome result (λ number. (number ≡ position_or_len (eq key) keys) × (number < length keys))
+  found_key keys key result is = subst (λ r. IfSome r (λ number. (number ≡ position_or_len (eq key) keys) × (number < length keys))) (sym is) (by_lt (nat_lt (position_or_len (eq key) keys) (length keys)) refl) where
+    by_lt : (b : Bool) → nat_lt (position_or_len (eq key) keys) (length keys) ≡ b → IfSome (cond b (Some (position_or_len (eq key) keys)) None) (λ number. (number ≡ position_or_len (eq key) keys) × (number < length keys))
+    by_lt true found = (refl, ltb-true _ _ found)
+    by_lt false found = tt
 
   pub missed_key : (keys : List K) (key : K) (result : Option ℕ) → result ≡ position (eq key) keys → IfNone result (Contains keys key → ⊥)
   missed_key keys key result is = subst (λ r. IfNone r (Contains keys key → ⊥)) (sym is) (by_lt (nat_lt (position_or_len (eq key) keys) (length keys)) refl) where

@@ -7,6 +7,7 @@ pub mod KeyLemmas
 pub mod NameLemmas
 pub mod ScopeLemmas
 pub mod OwnLemmas
+pub mod RowLemmas
 pub mod JoinLemmas
 pub mod OwnGroups
 pub mod OwnedLemmas

@@ -1,21 +1,28 @@
 -- Names among the keys of a set, and groups.
 use Rattle.std.proofs.Common.{◌≡◌, ℕ, zero, suc, ◌<◌, ◌≤◌, Bool, true, false, cond, List, [], ◌∷◌, ◌++◌, Contains, Vec, Global, Option, Some, None, length, map, nat_lt, not, ◌&&◌, refl, sym, ◌∙◌, ap, subst, arith}
-use Rattle.std.specs.Option.{IfSome, IfNone}
-use Rattle.std.specs.List.{list_any, position, position_or_len}
+use Rattle.std.specs.List.{position, position_or_len}
+use Rattle.std.specs.Bool.{Decides}
+use Rattle.std.specs.BTreeMap.{BTreeMap, UpdatesBy, get_by, is_at}
+use Rattle.std.specs.Map.{AreApart, IsKeyTest, KeepsOthers, lookup}
+use Rattle.std.specs.Cmp.{eq_by_cmp_equiv}
+use Rattle.std.specs.Cmp.Lexicographic.{nat_list_cmp_total, nat_list_eq_equiv, slice_cmp, texts_ties}
+use Rattle.std.specs.Ordering.{eq_by_cmp, is_eq, nat_cmp}
+use Rattle.std.specs.declared.cmp.Ordering.{Ordering}
 use Rattle.std.specs.Str.{bytes_eq}
-use borrow.Author.Tests.{ltb-true, ltb-false}
+use Rattle.std.proofs.lemmas.Bool.Decides.{nat_tests}
 use Rattle.std.proofs.lemmas.Slice.Eq.{bytes_eq-Decides}
-use Rattle.std.proofs.lemmas.List.{length-map, map-append}
-use Rattle.std.proofs.lemmas.List.Recursion.{is_position_or_len}
+use Rattle.std.proofs.lemmas.List.{length_push}
+use Rattle.std.proofs.lemmas.List.Folds.{position_or_len_push}
+use Rattle.std.proofs.lemmas.List.Sums.{prefix_len-le-length}
 use Rattle.std.proofs.lemmas.List.Elements.{Contains-append_left, Contains-append_right}
-use Rattle.indexmap.specs.IndexSet.{insert_key}
-use Rattle.scan_spec.proofs.SomeTests.{some_of, and_cases, and_both, Contains-first, Contains-later}
+use Rattle.key_index.proofs.Places.{placed_nowhere}
+use Rattle.scan_spec.proofs.SomeTests.{Contains-first, Contains-later}
 use Rattle.name_scope.specs.declared.want.Group.{Group}
-use Rattle.name_scope.specs.Groups.{is_same_bool, is_same_group}
-use Rattle.name_scope.specs.Wants.{group_of}
-use Rattle.name_scope.specs.Names.{HasAll, number_of}
+use Rattle.name_scope.specs.Groups.{is_same_group}
+use Rattle.name_scope.specs.GroupOrder.{groups_decide}
+use Rattle.name_scope.specs.Names.{AreFound, HasAll, number_of}
 use Rattle.name_scope.proofs.LookLemmas.{one_of}
-use Rattle.name_scope.proofs.KeyLemmas.{numbered, there_by}
+use Rattle.name_scope.proofs.KeyLemmas.{there_by}
 
 pub Contains-map : {X Y : Type 0} (f : X → Y) (xs : List X) (x : X) → Contains xs x → Contains (map f xs) (f x)
 Contains-map f [] x (k, within, is) = absurd (omega arith)
@@ -28,64 +35,62 @@ same_bytes a b told = (bytes_eq-Decides a b).0 told
 pub told_same : (a b : List ℕ) → a ≡ b → bytes_eq a b ≡ true
 told_same a b same = (bytes_eq-Decides a b).1 same
 
-same_bool : (a b : Bool) → is_same_bool a b ≡ true → a ≡ b
-same_bool true b told = sym told
-same_bool false true told = let never : ⊥ = cc in absurd never
-same_bool false false told = refl
-
-itself : (a : Bool) → is_same_bool a a ≡ true
-itself true = refl
-itself false = refl
-
 pub same_group : (a b : Group) → is_same_group a b ≡ true → a ≡ b
-same_group a b told =
-    let parts = and_cases (is_same_bool a.context b.context) (bytes_eq a.name b.name && bytes_eq a.library b.library) told in
-    let names = and_cases (bytes_eq a.name b.name) (bytes_eq a.library b.library) (parts.1) in
-    let context : a.context ≡ b.context = same_bool a.context b.context (parts.0) in
-    let name : a.name ≡ b.name = same_bytes a.name b.name (names.0) in
-    let library : a.library ≡ b.library = same_bytes a.library b.library (names.1) in
-    ap (λ (x : Bool). group_of x a.library a.name) context
-    ∙ (ap (λ (x : List ℕ). group_of b.context x a.name) library ∙ ap (λ (x : List ℕ). group_of b.context b.library x) name)
+same_group a b told = (groups_decide a b).0 told
 
 pub told_group : (a b : Group) → a ≡ b → is_same_group a b ≡ true
-told_group a b same =
-    subst (λ (g : Group). is_same_group a g ≡ true) same
-    (and_both (is_same_bool a.context a.context) (bytes_eq a.name a.name && bytes_eq a.library a.library) (itself a.context)
-    (and_both (bytes_eq a.name a.name) (bytes_eq a.library a.library) (told_same a.name a.name refl) (told_same a.library a.library refl)))
+told_group a b same = (groups_decide a b).1 same
 
-flip : (b : Bool) (n : ℕ) → cond (not b) n 0 ≡ cond b 0 n
-flip true n = refl
-flip false n = refl
+-- names are ordered by their bytes
+abbrev name_cmp : Vec ℕ Global → Vec ℕ Global → Ordering
+name_cmp x y = slice_cmp nat_cmp x.items y.items
 
--- what is found by a key is found among the names
-mapped : (keys : List (Vec ℕ Global)) (name : List ℕ) → position_or_len (λ key. bytes_eq name key.items) keys ≡ number_of (map (λ key. key.items) keys) name
-mapped keys name = sym (is_position_or_len (λ (ks : List (Vec ℕ Global)). number_of (map (λ key. key.items) ks) name) (λ key. bytes_eq name key.items) refl (λ key ks. flip (bytes_eq name key.items) _) keys)
+-- how a text compares to a name
+abbrev to_name : List ℕ → Vec ℕ Global → Ordering
+to_name text key = slice_cmp nat_cmp text key.items
 
-pub found_by : (keys : List (Vec ℕ Global)) (name : List ℕ) (result : Option ℕ) → result ≡ position (λ key. bytes_eq name key.items) keys → IfSome result (λ number. (number ≡ number_of (map (λ key. key.items) keys) name) × (number < length (map (λ key. key.items) keys)))
-found_by keys name result is = subst (λ r. IfSome r (λ number. (number ≡ number_of (map (λ key. key.items) keys) name) × (number < length (map (λ key. key.items) keys)))) (sym is) (by_lt (nat_lt (position_or_len (λ (key : Vec ℕ Global). bytes_eq name key.items) keys) (length keys)) refl) where
-  by_lt : (b : Bool) → nat_lt (position_or_len (λ (key : Vec ℕ Global). bytes_eq name key.items) keys) (length keys) ≡ b → IfSome (cond b (Some (position_or_len (λ (key : Vec ℕ Global). bytes_eq name key.items) keys)) None) (λ number. (number ≡ number_of (map (λ key. key.items) keys) name) × (number < length (map (λ key. key.items) keys)))
-  by_lt true told = (mapped keys name, (let within : position_or_len (λ (key : Vec ℕ Global). bytes_eq name key.items) keys < length keys = ltb-true _ _ told in omega (arith, length-map keys (λ (key : Vec ℕ Global). key.items))))
-  by_lt false told = tt
+others : (old new : List (Vec ℕ Global × ℕ)) (test other : Vec ℕ Global → Bool) → KeepsOthers (eq_by_cmp name_cmp) test old new → IsKeyTest (eq_by_cmp name_cmp) other → AreApart test other → lookup other new ≡ lookup other old
+unfolding KeepsOthers
+others old new test other kept is apart = kept other is apart
 
-pub missed_by : (keys : List (Vec ℕ Global)) (name : List ℕ) (result : Option ℕ) → result ≡ position (λ key. bytes_eq name key.items) keys → IfNone result (Contains (map (λ key. key.items) keys) name → ⊥)
-missed_by keys name result is = subst (λ r. IfNone r (Contains (map (λ key. key.items) keys) name → ⊥)) (sym is) (by_lt (nat_lt (position_or_len (λ (key : Vec ℕ Global). bytes_eq name key.items) keys) (length keys)) refl) where
-  by_lt : (b : Bool) → nat_lt (position_or_len (λ (key : Vec ℕ Global). bytes_eq name key.items) keys) (length keys) ≡ b → IfNone (cond b (Some (position_or_len (λ (key : Vec ℕ Global). bytes_eq name key.items) keys)) None) (Contains (map (λ key. key.items) keys) name → ⊥)
-  by_lt true told = tt
-  by_lt false told = λ (there : Contains (map (λ key. key.items) keys) name).
-      let past : length keys ≤ position_or_len (λ (key : Vec ℕ Global). bytes_eq name key.items) keys = ltb-false _ _ told in
-      let within : number_of (map (λ key. key.items) keys) name < length (map (λ key. key.items) keys) = (numbered bytes_eq same_bytes told_same (map (λ key. key.items) keys) name [] there).0 in
-      omega (arith, mapped keys name, length-map keys (λ (key : Vec ℕ Global). key.items))
+-- what a map of names has at a text, where a name was given a number
+pub put_at : (old new : BTreeMap (Vec ℕ Global) ℕ) (key : Vec ℕ Global) (number : Option ℕ) → UpdatesBy name_cmp (to_name key.items) old new number
+    → (name : List ℕ) → get_by (to_name name) new ≡ cond (bytes_eq key.items name) number (get_by (to_name name) old)
+put_at old new key number updates name = by_same (bytes_eq key.items name) refl where
+  apart : bytes_eq key.items name ≡ false → (k : Vec ℕ Global) → is_eq (slice_cmp nat_cmp key.items k.items) ≡ true → is_eq (slice_cmp nat_cmp name k.items) ≡ false
+  apart differ k same =
+      sym (texts_ties name k.items)
+      ∙ (nat_list_eq_equiv.symm name k.items ∙ (sym (nat_list_eq_equiv.congr key.items k.items name (texts_ties key.items k.items ∙ same)) ∙ differ))
 
-among_names : (keys : List (Vec ℕ Global)) (name : List ℕ) → list_any (λ key. bytes_eq name key.items) keys ≡ true → Contains (map (λ key. key.items) keys) name
-among_names keys name told =
-    let found = some_of (λ (key : Vec ℕ Global). bytes_eq name key.items) keys told in
-    subst (Contains (map (λ key. key.items) keys)) (sym (same_bytes name found.0.items found.2)) (Contains-map (λ key. key.items) keys found.0 found.1)
+  by_same : (b : Bool) → bytes_eq key.items name ≡ b → get_by (to_name name) new ≡ cond b number (get_by (to_name name) old)
+  by_same true told = subst (λ (text : List ℕ). get_by (to_name text) new ≡ number) (same_bytes key.items name told) updates.1
+  by_same false told = others old.entries new.entries (is_at (to_name key.items)) (is_at (to_name name)) updates.3 (λ x y. (eq_by_cmp_equiv nat_list_cmp_total).congr name x.items y.items) (apart told)
 
-pub named_already : (keys : List (Vec ℕ Global)) (name : List ℕ) → list_any (λ key. bytes_eq name key.items) keys ≡ true → HasAll (name ∷ []) (map (λ key. key.items) keys) (map (λ key. key.items) keys)
-named_already keys name told = record {
-  added = λ (other : List ℕ) (there : Contains (name ∷ []) other). subst (Contains (map (λ key. key.items) keys)) (one_of name other there) (among_names keys name told);
-  unchanged = λ (other : List ℕ) (there : Contains (map (λ key. key.items) keys) other). there;
-}
+bytes_decide : (a b : List ℕ) → Decides (bytes_eq a b) (a ≡ b)
+bytes_decide a b = bytes_eq-Decides a b
+
+-- the place of a text among names, one of which is new
+place_push : (names : List (List ℕ)) (last name : List ℕ) → ¬ Contains names last → position (bytes_eq name) (names ++ last ∷ []) ≡ cond (bytes_eq last name) (Some (length names)) (position (bytes_eq name) names)
+place_push names last name new = by_same (bytes_eq last name) refl where
+  by_same : (b : Bool) → bytes_eq last name ≡ b → position (bytes_eq name) (names ++ last ∷ []) ≡ cond b (Some (length names)) (position (bytes_eq name) names)
+  by_same true told =
+      let here : bytes_eq name last ≡ true = nat_list_eq_equiv.symm name last ∙ told in
+      let none : position_or_len (bytes_eq name) names ≡ length names = placed_nowhere bytes_decide names name (subst (λ (text : List ℕ). ¬ Contains names text) (same_bytes last name told) new) in
+      let pushed = position_or_len_push (bytes_eq name) names last in
+      let long = length_push names last in
+      grind (arith, nat_tests, here, none, pushed, long)
+  by_same false told =
+      let elsewhere : bytes_eq name last ≡ false = nat_list_eq_equiv.symm name last ∙ told in
+      let pushed = position_or_len_push (bytes_eq name) names last in
+      let long = length_push names last in
+      let most = prefix_len-le-length (λ (other : List ℕ). not (bytes_eq name other)) names in
+      grind (arith, nat_tests, elsewhere, pushed, long, most)
+
+-- each name is found, where a name that is new got the next number
+pub found_push : (find now : List ℕ → Option ℕ) (names : List (List ℕ)) (last : List ℕ) → ¬ Contains names last → AreFound find names
+    → ((name : List ℕ) → now name ≡ cond (bytes_eq last name) (Some (length names)) (find name)) → AreFound now (names ++ last ∷ [])
+found_push find now names last new found after name =
+    after name ∙ (ap (λ (o : Option ℕ). cond (bytes_eq last name) (Some (length names)) o) (found name) ∙ sym (place_push names last name new))
 
 pub known_already : (names : List (List ℕ)) (name : List ℕ) (number : ℕ) → number ≡ number_of names name → number < length names → HasAll (name ∷ []) names names
 known_already names name number is within = record {
@@ -93,14 +98,8 @@ known_already names name number is within = record {
   unchanged = λ (other : List ℕ) (there : Contains names other). there;
 }
 
-pub inserted : (keys : List (Vec ℕ Global)) (key : Vec ℕ Global) (name : List ℕ) → key.items ≡ name → HasAll (name ∷ []) (map (λ key. key.items) keys) (map (λ key. key.items) (insert_key (λ x y. bytes_eq x.items y.items) keys key))
-inserted keys key name is = by_any (list_any (λ other. bytes_eq key.items other.items) keys) refl where
-  last : Contains (map (λ key. key.items) (keys ++ key ∷ [])) name
-  last = subst (Contains (map (λ key. key.items) (keys ++ key ∷ []))) is (Contains-map (λ key. key.items) (keys ++ key ∷ []) key (Contains-append_right keys (key ∷ []) key (Contains-first key [])))
-
-  by_any : (b : Bool) → list_any (λ other. bytes_eq key.items other.items) keys ≡ b → HasAll (name ∷ []) (map (λ key. key.items) keys) (map (λ key. key.items) (cond b keys (keys ++ key ∷ [])))
-  by_any true told = subst (λ (n : List ℕ). HasAll (n ∷ []) (map (λ key. key.items) keys) (map (λ key. key.items) keys)) is (named_already keys key.items told)
-  by_any false told = record {
-    added = λ (other : List ℕ) (there : Contains (name ∷ []) other). subst (Contains (map (λ key. key.items) (keys ++ key ∷ []))) (one_of name other there) last;
-    unchanged = λ (other : List ℕ) (there : Contains (map (λ key. key.items) keys) other). subst (λ (all : List (List ℕ)). Contains all other) (sym (map-append (λ key. key.items) keys (key ∷ []))) (Contains-append_left (map (λ key. key.items) keys) (key.items ∷ []) other there);
-  }
+pub put_last : (names : List (List ℕ)) (name : List ℕ) → HasAll (name ∷ []) names (names ++ name ∷ [])
+put_last names name = record {
+  added = λ (other : List ℕ) (there : Contains (name ∷ []) other). subst (Contains (names ++ name ∷ [])) (one_of name other there) (Contains-append_right names (name ∷ []) name (Contains-first name []));
+  unchanged = λ (other : List ℕ) (there : Contains names other). Contains-append_left names (name ∷ []) other there;
+}

@@ -1,17 +1,16 @@
 -- Who is in a group, and who wants it.
-use Rattle.std.proofs.Common.{◌≡◌, ℕ, zero, suc, Bool, true, false, ◌&&◌, not, if◌then◌else◌, List, [], ◌∷◌, Contains, map, ◌⊎◌, inl, inr, refl, sym, ap, subst, arith}
+use Rattle.std.proofs.Common.{◌≡◌, ℕ, zero, suc, Bool, true, false, ◌&&◌, not, if◌then◌else◌, List, [], ◌∷◌, ◌++◌, Contains, map, ◌⊎◌, inl, inr, refl, sym, ap, subst, arith}
 use Rattle.std.specs.Str.{bytes_eq}
 use Rattle.std.proofs.lemmas.List.Elements.{Contains-append_cases, Contains-append_left, Contains-append_right}
 use Rattle.vr_base.specs.declared.child.MaybeText.{MaybeText}
 use Rattle.vr_base.specs.declared.child.MaybeText.TheVariants.{Nothing, Given}
-use Rattle.vr_base.specs.declared.design.Unit.{Unit as DesignUnit}
 use Rattle.vr_base.specs.declared.refs.Ref.{Ref}
-use Rattle.scan_spec.specs.References.{work, is_context_kind}
-use Rattle.scan_spec.specs.Visibility.{ScopeUnit, is_context_of, is_given, is_primary_of, is_secondary, primary_name, resolved}
+use Rattle.scan_spec.specs.References.{work, is_context_kind, owner_name}
+use Rattle.scan_spec.specs.Visibility.{ScopeUnit, configured_name, is_architecture_kind, is_configured_by, is_context_of, is_given, is_primary_of, is_secondary, primary_name, resolved}
 use Rattle.scan_spec.proofs.SomeTests.{and_both, and_cases, Contains-first, Contains-later}
 use Rattle.name_scope.specs.declared.want.Group.{Group}
 use Rattle.name_scope.specs.declared.want.Want.{Want}
-use Rattle.name_scope.specs.Wants.{context_want, gate_of, group_of, own_groups, primary_wants, wants_of}
+use Rattle.name_scope.specs.Wants.{architecture_want, architectures_of, configured_wants, context_want, gate_of, group_of, own_groups, primary_want, primary_wants, unit_wants}
 use Rattle.name_scope.proofs.LookLemmas.{one_of}
 use Rattle.name_scope.proofs.NameLemmas.{Contains-map, same_bytes, told_same}
 
@@ -39,17 +38,44 @@ not_true : (b : Bool) → b ≡ false → not b ≡ true
 not_true true told = let never : ⊥ = cc in absurd never
 not_true false told = refl
 
-own_cases : (v : ScopeUnit) (g : Group) → Contains (own_groups v.library v.unit) g → ((is_secondary v.unit.kind ≡ false) × (group_of false v.library v.unit.name ≡ g)) ⊎ ((is_context_kind v.unit.kind ≡ true) × (group_of true v.library v.unit.name ≡ g))
-own_cases v g there = by_part (Contains-append_cases (if is_secondary v.unit.kind then [] else group_of false v.library v.unit.name ∷ []) (if is_context_kind v.unit.kind then group_of true v.library v.unit.name ∷ [] else []) g there) where
-  by_part : Contains (if is_secondary v.unit.kind then [] else group_of false v.library v.unit.name ∷ []) g ⊎ Contains (if is_context_kind v.unit.kind then group_of true v.library v.unit.name ∷ [] else []) g → ((is_secondary v.unit.kind ≡ false) × (group_of false v.library v.unit.name ≡ g)) ⊎ ((is_context_kind v.unit.kind ≡ true) × (group_of true v.library v.unit.name ≡ g))
-  by_part (inl first) = inl (unless (is_secondary v.unit.kind) (group_of false v.library v.unit.name) g first)
-  by_part (inr second) = inr (where_true (is_context_kind v.unit.kind) (group_of true v.library v.unit.name) g second)
+-- the groups of a unit, by kind
+abbrev primary_part : ScopeUnit → List Group
+primary_part v = if is_secondary v.unit.kind then [] else group_of false v.library v.unit.name ∷ []
+
+abbrev context_part : ScopeUnit → List Group
+context_part v = if is_context_kind v.unit.kind then group_of true v.library v.unit.name ∷ [] else []
+
+abbrev architecture_part : ScopeUnit → List Group
+architecture_part v = if is_architecture_kind v.unit.kind then architectures_of v.library (owner_name v.unit.owner) v.unit.name ∷ [] else []
+
+-- a group that a unit is in is that of its primary units, of its context declarations, or of its architectures
+data GroupOf (v : ScopeUnit) (g : Group) : Type 0 where
+  of_primary : is_secondary v.unit.kind ≡ false → group_of false v.library v.unit.name ≡ g → GroupOf v g
+  of_context : is_context_kind v.unit.kind ≡ true → group_of true v.library v.unit.name ≡ g → GroupOf v g
+  of_architecture : is_architecture_kind v.unit.kind ≡ true → architectures_of v.library (owner_name v.unit.owner) v.unit.name ≡ g → GroupOf v g
+
+own_cases : (v : ScopeUnit) (g : Group) → Contains (own_groups v.library v.unit) g → GroupOf v g
+own_cases v g there = by_part (Contains-append_cases (primary_part v) (context_part v ++ architecture_part v) g there) where
+  by_rest : Contains (context_part v) g ⊎ Contains (architecture_part v) g → GroupOf v g
+  by_rest (inl second) = let is = where_true (is_context_kind v.unit.kind) (group_of true v.library v.unit.name) g second in of_context is.0 is.1
+  by_rest (inr third) = let is = where_true (is_architecture_kind v.unit.kind) (architectures_of v.library (owner_name v.unit.owner) v.unit.name) g third in of_architecture is.0 is.1
+
+  by_part : Contains (primary_part v) g ⊎ Contains (context_part v ++ architecture_part v) g → GroupOf v g
+  by_part (inl first) = let is = unless (is_secondary v.unit.kind) (group_of false v.library v.unit.name) g first in of_primary is.0 is.1
+  by_part (inr rest) = by_rest (Contains-append_cases (context_part v) (architecture_part v) g rest)
 
 primary_there : (v : ScopeUnit) → is_secondary v.unit.kind ≡ false → Contains (own_groups v.library v.unit) (group_of false v.library v.unit.name)
-primary_there v told = Contains-append_left (if is_secondary v.unit.kind then [] else group_of false v.library v.unit.name ∷ []) (if is_context_kind v.unit.kind then group_of true v.library v.unit.name ∷ [] else []) (group_of false v.library v.unit.name) (put_unless (is_secondary v.unit.kind) (group_of false v.library v.unit.name) told)
+primary_there v told = Contains-append_left (primary_part v) (context_part v ++ architecture_part v) (group_of false v.library v.unit.name) (put_unless (is_secondary v.unit.kind) (group_of false v.library v.unit.name) told)
 
 context_there : (v : ScopeUnit) → is_context_kind v.unit.kind ≡ true → Contains (own_groups v.library v.unit) (group_of true v.library v.unit.name)
-context_there v told = Contains-append_right (if is_secondary v.unit.kind then [] else group_of false v.library v.unit.name ∷ []) (if is_context_kind v.unit.kind then group_of true v.library v.unit.name ∷ [] else []) (group_of true v.library v.unit.name) (put_where (is_context_kind v.unit.kind) (group_of true v.library v.unit.name) told)
+context_there v told =
+    Contains-append_right (primary_part v) (context_part v ++ architecture_part v) (group_of true v.library v.unit.name)
+    (Contains-append_left (context_part v) (architecture_part v) (group_of true v.library v.unit.name) (put_where (is_context_kind v.unit.kind) (group_of true v.library v.unit.name) told))
+
+architecture_there : (v : ScopeUnit) → is_architecture_kind v.unit.kind ≡ true → Contains (own_groups v.library v.unit) (architectures_of v.library (owner_name v.unit.owner) v.unit.name)
+architecture_there v told =
+    Contains-append_right (primary_part v) (context_part v ++ architecture_part v) (architectures_of v.library (owner_name v.unit.owner) v.unit.name)
+    (Contains-append_right (context_part v) (architecture_part v) (architectures_of v.library (owner_name v.unit.owner) v.unit.name) (put_where (is_architecture_kind v.unit.kind) (architectures_of v.library (owner_name v.unit.owner) v.unit.name) told))
 
 -- a unit that a primary want reaches is a primary unit of the one that wants
 pub is_primary : (user v : ScopeUnit) (name : List ℕ) → primary_name user.unit.kind user.unit ≡ Given name → Contains (own_groups v.library v.unit) (group_of false user.library name) → is_primary_of user v ≡ true
@@ -60,9 +86,26 @@ is_primary user v name given there = by_case (own_cases v (group_of false user.l
       (and_both (not (is_secondary v.unit.kind)) (bytes_eq v.library user.library) (not_true (is_secondary v.unit.kind) plain) (told_same v.library user.library library))
       (subst (λ (m : MaybeText). is_given m v.unit.name ≡ true) (sym given) (told_same name v.unit.name (sym same)))
 
-  by_case : ((is_secondary v.unit.kind ≡ false) × (group_of false v.library v.unit.name ≡ group_of false user.library name)) ⊎ ((is_context_kind v.unit.kind ≡ true) × (group_of true v.library v.unit.name ≡ group_of false user.library name)) → is_primary_of user v ≡ true
-  by_case (inl (plain, same)) = tests plain (ap (λ (g : Group). g.library) same) (ap (λ (g : Group). g.name) same)
-  by_case (inr (_, same)) = let never : true ≡ false = ap (λ (g : Group). g.context) same in let impossible : ⊥ = cc in absurd impossible
+  by_case : GroupOf v (group_of false user.library name) → is_primary_of user v ≡ true
+  by_case (of_primary plain same) = tests plain (ap (λ (g : Group). g.library) same) (ap (λ (g : Group). g.name) same)
+  by_case (of_context _ same) = let never : true ≡ false = ap (λ (g : Group). g.context) same in let impossible : ⊥ = cc in absurd impossible
+  by_case (of_architecture _ same) = let never : true ≡ false = ap (λ (g : Group). g.architecture) same in let impossible : ⊥ = cc in absurd impossible
+
+-- one that the want of a configuration reaches is the architecture that it configures
+pub is_configured : (user v : ScopeUnit) (entity name : List ℕ) → user.unit.owner ≡ Given entity → configured_name user.unit.kind user.configured ≡ Given name → Contains (own_groups v.library v.unit) (architectures_of user.library entity name) → is_configured_by user v ≡ true
+is_configured user v entity name owner given there = by_case (own_cases v (architectures_of user.library entity name) there) where
+  tests : is_architecture_kind v.unit.kind ≡ true → v.library ≡ user.library → owner_name v.unit.owner ≡ entity → v.unit.name ≡ name → is_configured_by user v ≡ true
+  tests kind library of same =
+      and_both (is_architecture_kind v.unit.kind && bytes_eq v.library user.library && is_given user.unit.owner (owner_name v.unit.owner)) (is_given (configured_name user.unit.kind user.configured) v.unit.name)
+      (and_both (is_architecture_kind v.unit.kind && bytes_eq v.library user.library) (is_given user.unit.owner (owner_name v.unit.owner))
+      (and_both (is_architecture_kind v.unit.kind) (bytes_eq v.library user.library) kind (told_same v.library user.library library))
+      (subst (λ (m : MaybeText). is_given m (owner_name v.unit.owner) ≡ true) (sym owner) (told_same entity (owner_name v.unit.owner) (sym of))))
+      (subst (λ (m : MaybeText). is_given m v.unit.name ≡ true) (sym given) (told_same name v.unit.name (sym same)))
+
+  by_case : GroupOf v (architectures_of user.library entity name) → is_configured_by user v ≡ true
+  by_case (of_primary _ same) = let never : false ≡ true = ap (λ (g : Group). g.architecture) same in let impossible : ⊥ = cc in absurd impossible
+  by_case (of_context _ same) = let never : true ≡ false = ap (λ (g : Group). g.context) same in let impossible : ⊥ = cc in absurd impossible
+  by_case (of_architecture kind same) = tests kind (ap (λ (g : Group). g.library) same) (ap (λ (g : Group). g.owner) same) (ap (λ (g : Group). g.name) same)
 
 -- and one that a context reference reaches is a context declaration that it names
 pub is_context : (user : ScopeUnit) (ref : Ref) (v : ScopeUnit) → Contains (own_groups v.library v.unit) (context_want user.library ref).group → is_context_of user ref v ≡ true
@@ -73,9 +116,10 @@ is_context user ref v there = by_case (own_cases v (context_want user.library re
       (and_both (is_context_kind v.unit.kind) (bytes_eq v.library (resolved user ref.library)) kind (told_same v.library (resolved user ref.library) library))
       (told_same v.unit.name ref.name same)
 
-  by_case : ((is_secondary v.unit.kind ≡ false) × (group_of false v.library v.unit.name ≡ (context_want user.library ref).group)) ⊎ ((is_context_kind v.unit.kind ≡ true) × (group_of true v.library v.unit.name ≡ (context_want user.library ref).group)) → is_context_of user ref v ≡ true
-  by_case (inl (_, same)) = let never : false ≡ true = ap (λ (g : Group). g.context) same in let impossible : ⊥ = cc in absurd impossible
-  by_case (inr (kind, same)) = tests kind (ap (λ (g : Group). g.library) same) (ap (λ (g : Group). g.name) same)
+  by_case : GroupOf v (context_want user.library ref).group → is_context_of user ref v ≡ true
+  by_case (of_primary _ same) = let never : false ≡ true = ap (λ (g : Group). g.context) same in let impossible : ⊥ = cc in absurd impossible
+  by_case (of_context kind same) = tests kind (ap (λ (g : Group). g.library) same) (ap (λ (g : Group). g.name) same)
+  by_case (of_architecture _ same) = let never : false ≡ true = ap (λ (g : Group). g.context) same in let impossible : ⊥ = cc in absurd impossible
 
 -- back: the group of a primary unit is wanted
 pub primary_wanted : (user v : ScopeUnit) → is_primary_of user v ≡ true → (name : List ℕ) × (primary_name user.unit.kind user.unit ≡ Given name) × Contains (own_groups v.library v.unit) (group_of false user.library name)
@@ -97,6 +141,29 @@ primary_wanted user v told = by_name (primary_name user.unit.kind user.unit) ref
             (subst (λ (l : List ℕ). Contains (own_groups v.library v.unit) (group_of false l v.unit.name)) library (primary_there v (not_false (is_secondary v.unit.kind) (firsts.0)))),
       )
 
+-- what is given is a name
+given_name : (m : MaybeText) (name : List ℕ) → is_given m name ≡ true → m ≡ Given name
+given_name Nothing name told = let never : ⊥ = cc in absurd never
+given_name (Given other) name told = ap Given (same_bytes other name told)
+
+-- and so is that of the architecture that is configured
+pub configured_wanted : (user v : ScopeUnit) → is_configured_by user v ≡ true → (entity : List ℕ) × (name : List ℕ) × (user.unit.owner ≡ Given entity) × (configured_name user.unit.kind user.configured ≡ Given name) × Contains (own_groups v.library v.unit) (architectures_of user.library entity name)
+configured_wanted user v told = (
+  owner_name v.unit.owner,
+  v.unit.name,
+  given_name user.unit.owner (owner_name v.unit.owner) (owners.1),
+  given_name (configured_name user.unit.kind user.configured) v.unit.name (parts.1),
+  subst (λ (l : List ℕ). Contains (own_groups v.library v.unit) (architectures_of l (owner_name v.unit.owner) v.unit.name)) (same_bytes v.library user.library (firsts.1)) (architecture_there v (firsts.0)),
+) where
+  parts : ((is_architecture_kind v.unit.kind && bytes_eq v.library user.library && is_given user.unit.owner (owner_name v.unit.owner)) ≡ true) × (is_given (configured_name user.unit.kind user.configured) v.unit.name ≡ true)
+  parts = and_cases (is_architecture_kind v.unit.kind && bytes_eq v.library user.library && is_given user.unit.owner (owner_name v.unit.owner)) (is_given (configured_name user.unit.kind user.configured) v.unit.name) told
+
+  owners : ((is_architecture_kind v.unit.kind && bytes_eq v.library user.library) ≡ true) × (is_given user.unit.owner (owner_name v.unit.owner) ≡ true)
+  owners = and_cases (is_architecture_kind v.unit.kind && bytes_eq v.library user.library) (is_given user.unit.owner (owner_name v.unit.owner)) (parts.0)
+
+  firsts : (is_architecture_kind v.unit.kind ≡ true) × (bytes_eq v.library user.library ≡ true)
+  firsts = and_cases (is_architecture_kind v.unit.kind) (bytes_eq v.library user.library) (owners.0)
+
 pub context_wanted : (user : ScopeUnit) (ref : Ref) (v : ScopeUnit) → is_context_of user ref v ≡ true → Contains (own_groups v.library v.unit) (context_want user.library ref).group
 context_wanted user ref v told =
     let parts = and_cases (is_context_kind v.unit.kind && bytes_eq v.library (resolved user ref.library)) (bytes_eq v.unit.name ref.name) told in
@@ -112,27 +179,62 @@ gate_by false library named is = refl
 pub gate_is : (library : List ℕ) (ref : Ref) → gate_of (context_want library ref) ≡ ref.library
 gate_is library ref = gate_by (bytes_eq ref.library work) library ref.library (same_bytes ref.library work)
 
-pub want_of_primary : (library : List ℕ) (unit : DesignUnit) (contexts : List Ref) (name : List ℕ) → primary_name unit.kind unit ≡ Given name → Contains (wants_of library unit contexts) (record { own = true; group = group_of false library name })
-want_of_primary library unit contexts name given =
-    Contains-append_left (primary_wants library (primary_name unit.kind unit)) (map (context_want library) contexts) (record { own = true; group = group_of false library name })
-    (subst (λ (m : MaybeText). Contains (primary_wants library m) (record { own = true; group = group_of false library name })) (sym given) (Contains-first _ []))
+-- what a unit wants of others, by kind
+abbrev primary_side : ScopeUnit → List Want
+primary_side user = primary_wants user.library (primary_name user.unit.kind user.unit)
 
-pub want_of_context : (library : List ℕ) (unit : DesignUnit) (contexts : List Ref) (ref : Ref) → Contains contexts ref → Contains (wants_of library unit contexts) (context_want library ref)
-want_of_context library unit contexts ref there =
-    Contains-append_right (primary_wants library (primary_name unit.kind unit)) (map (context_want library) contexts) (context_want library ref) (Contains-map (context_want library) contexts ref there)
+abbrev configured_side : ScopeUnit → List Want
+configured_side user = configured_wants user.library user.unit.owner (configured_name user.unit.kind user.configured)
+
+abbrev context_side : ScopeUnit → List Want
+context_side user = map (context_want user.library) user.contexts
+
+pub want_of_primary : (user : ScopeUnit) (name : List ℕ) → primary_name user.unit.kind user.unit ≡ Given name → Contains (unit_wants user) (primary_want user.library name)
+want_of_primary user name given =
+    Contains-append_left (primary_side user) (configured_side user ++ context_side user) (primary_want user.library name)
+    (subst (λ (m : MaybeText). Contains (primary_wants user.library m) (primary_want user.library name)) (sym given) (Contains-first _ []))
+
+pub want_of_configured : (user : ScopeUnit) (entity name : List ℕ) → user.unit.owner ≡ Given entity → configured_name user.unit.kind user.configured ≡ Given name → Contains (unit_wants user) (architecture_want user.library entity name)
+want_of_configured user entity name owner given =
+    Contains-append_right (primary_side user) (configured_side user ++ context_side user) (architecture_want user.library entity name)
+    (Contains-append_left (configured_side user) (context_side user) (architecture_want user.library entity name)
+    (subst (λ (m : MaybeText). Contains (configured_wants user.library m (configured_name user.unit.kind user.configured)) (architecture_want user.library entity name)) (sym owner)
+    (subst (λ (m : MaybeText). Contains (configured_wants user.library (Given entity) m) (architecture_want user.library entity name)) (sym given) (Contains-first _ []))))
+
+pub want_of_context : (user : ScopeUnit) (ref : Ref) → Contains user.contexts ref → Contains (unit_wants user) (context_want user.library ref)
+want_of_context user ref there =
+    Contains-append_right (primary_side user) (configured_side user ++ context_side user) (context_want user.library ref)
+    (Contains-append_right (configured_side user) (context_side user) (context_want user.library ref) (Contains-map (context_want user.library) user.contexts ref there))
 
 from_map : {X Y : Type 0} (f : X → Y) (xs : List X) (y : Y) → Contains (map f xs) y → (x : X) × Contains xs x × (f x ≡ y)
 from_map f [] y (k, within, is) = absurd (omega arith)
 from_map f (x ∷ xs) y (zero, within, is) = (x, Contains-first x xs, is)
 from_map f (x ∷ xs) y (suc k, within, is) = let rest = from_map f xs y (k, omega arith, is) in (rest.0, Contains-later x rest.0 xs rest.1, rest.2)
 
--- what is wanted is a primary unit's or a context declaration's
-pub want_cases : (library : List ℕ) (unit : DesignUnit) (contexts : List Ref) (want : Want) → Contains (wants_of library unit contexts) want → ((name : List ℕ) × (primary_name unit.kind unit ≡ Given name) × (want ≡ record { own = true; group = group_of false library name })) ⊎ ((ref : Ref) × Contains contexts ref × (context_want library ref ≡ want))
-want_cases library unit contexts want there = by_part (Contains-append_cases (primary_wants library (primary_name unit.kind unit)) (map (context_want library) contexts) want there) where
-  by_name : (m : MaybeText) → primary_name unit.kind unit ≡ m → Contains (primary_wants library m) want → (name : List ℕ) × (primary_name unit.kind unit ≡ Given name) × (want ≡ record { own = true; group = group_of false library name })
-  by_name Nothing is none = absurd (omega (arith, none.1))
-  by_name (Given name) is one = (name, is, sym (one_of _ want one))
+-- what is wanted is a primary unit's, an architecture's that is configured, or a context declaration's
+pub data Wants (user : ScopeUnit) (want : Want) : Type 0 where
+  a_primary : (name : List ℕ) → primary_name user.unit.kind user.unit ≡ Given name → want ≡ primary_want user.library name → Wants user want
+  an_architecture : (entity name : List ℕ) → user.unit.owner ≡ Given entity → configured_name user.unit.kind user.configured ≡ Given name → want ≡ architecture_want user.library entity name → Wants user want
+  a_context : (ref : Ref) → Contains user.contexts ref → context_want user.library ref ≡ want → Wants user want
 
-  by_part : Contains (primary_wants library (primary_name unit.kind unit)) want ⊎ Contains (map (context_want library) contexts) want → ((name : List ℕ) × (primary_name unit.kind unit ≡ Given name) × (want ≡ record { own = true; group = group_of false library name })) ⊎ ((ref : Ref) × Contains contexts ref × (context_want library ref ≡ want))
-  by_part (inl first) = inl (by_name (primary_name unit.kind unit) refl first)
-  by_part (inr second) = inr (from_map (context_want library) contexts want second)
+pub want_cases : (user : ScopeUnit) (want : Want) → Contains (unit_wants user) want → Wants user want
+want_cases user want there = by_part (Contains-append_cases (primary_side user) (configured_side user ++ context_side user) want there) where
+  by_name : (m : MaybeText) → primary_name user.unit.kind user.unit ≡ m → Contains (primary_wants user.library m) want → Wants user want
+  by_name Nothing is none = absurd (omega (arith, none.1))
+  by_name (Given name) is one = a_primary name is (sym (one_of _ want one))
+
+  by_names : (owner name : MaybeText) → user.unit.owner ≡ owner → configured_name user.unit.kind user.configured ≡ name → Contains (configured_wants user.library owner name) want → Wants user want
+  by_names Nothing name is given none = absurd (omega (arith, none.1))
+  by_names (Given entity) Nothing is given none = absurd (omega (arith, none.1))
+  by_names (Given entity) (Given name) is given one = an_architecture entity name is given (sym (one_of _ want one))
+
+  by_ref : (ref : Ref) × Contains user.contexts ref × (context_want user.library ref ≡ want) → Wants user want
+  by_ref (ref, named, same) = a_context ref named same
+
+  by_rest : Contains (configured_side user) want ⊎ Contains (context_side user) want → Wants user want
+  by_rest (inl second) = by_names user.unit.owner (configured_name user.unit.kind user.configured) refl refl second
+  by_rest (inr third) = by_ref (from_map (context_want user.library) user.contexts want third)
+
+  by_part : Contains (primary_side user) want ⊎ Contains (configured_side user ++ context_side user) want → Wants user want
+  by_part (inl first) = by_name (primary_name user.unit.kind user.unit) refl first
+  by_part (inr rest) = by_rest (Contains-append_cases (configured_side user) (context_side user) want rest)

@@ -7,13 +7,13 @@ use Rattle.std.proofs.lemmas.Bool.{cases_lt, eqb-true}
 use Rattle.std.proofs.lemmas.List.{get_or_past, get_or-replicate, length-replicate, map-append, take_more}
 use Rattle.std.proofs.lemmas.List.Elements.{Contains-append_cases, Contains-append_left, Contains-append_right}
 use Rattle.std.proofs.lemmas.Nat.Bits.{bit_at-zero}
-use Rattle.indexmap.proofs.SetLemmas.{AllZip-push}
 use Rattle.name_scope.specs.Bits.{row_has}
 use Rattle.name_scope.specs.Names.{name_of_number, number_of}
 use Rattle.name_scope.specs.Graph.{HasPut, IsRowOf}
 use Rattle.name_scope.proofs.KeyLemmas.{numbered}
 use Rattle.name_scope.proofs.LookLemmas.{in_either, left_in, one_of, right_in}
 use Rattle.name_scope.proofs.NameLemmas.{same_bytes, told_same}
+use Rattle.name_scope.proofs.ScopeLemmas.{zip_push}
 
 -- one name was put
 pub put_one : (names : List (List ℕ)) (name : List ℕ) (old new : List ℕ) (number : ℕ) → Contains names name → number ≡ number_of names name → length new ≡ length old → ((other : ℕ) → row_has new other ≡ (nat_eq other number || row_has old other)) → HasPut names (name ∷ []) old new
@@ -59,7 +59,7 @@ put_both names first next old mid new one two = record {
   by_row number (inl told) = by_first number (one.only number told)
   by_row number (inr there) = inr (Contains-append_right first next (name_of_number names number) there)
 
-nothing : (words number : ℕ) → row_has (replicate words 0) number ≡ false
+pub nothing : (words number : ℕ) → row_has (replicate words 0) number ≡ false
 unfolding row_has
 nothing words number = by_place (cases_lt (number / 64) words) where
   by_place : (number / 64 < words) ⊎ (words ≤ number / 64) → nat_eq (bit_at (get_or (replicate words 0) (number / 64) 0) (number % 64)) 1 ≡ false
@@ -96,7 +96,7 @@ row_more names some more words old new is put = record {
 pub zip_more : {X Y Z : Type 0} (R : X → Y → Type 0) (f : Z → Y) (rows : List X) (row : X) (zs : List Z) (i : ℕ) (d : Z) → i < length zs → AllZip R rows (map f (take i zs)) → R row (f (get_or zs i d)) → AllZip R (rows ++ row ∷ []) (map f (take (i + 1) zs))
 zip_more {X} {Y} R f rows row zs i d within so_far one =
     subst (AllZip R (rows ++ row ∷ [])) (sym (ap (map f) (take_more zs i d within) ∙ map-append f (take i zs) (get_or zs i d ∷ [])))
-    (AllZip-push R rows (map f (take i zs)) row (f (get_or zs i d)) so_far one)
+    (zip_push R rows (map f (take i zs)) row (f (get_or zs i d)) so_far one)
 
 again : {X : Type 0} (k : ℕ) (x : X) → replicate (suc k) x ≡ replicate k x ++ x ∷ []
 again zero x = refl
@@ -107,4 +107,4 @@ pub zip_again : {X Y : Type 0} (R : X → Y → Type 0) (before : List Y) (rows 
 zip_again {X} {Y} R before rows row k y so_far one =
     let next : k + 1 ≡ suc k = omega arith in
     subst (AllZip R (rows ++ row ∷ [])) (append_assoc before (replicate k y) (y ∷ []) ∙ ap (λ (rest : List Y). before ++ rest) (sym (again k y) ∙ ap (λ (n : ℕ). replicate n y) (sym next)))
-    (AllZip-push R rows (before ++ replicate k y) row y so_far one)
+    (zip_push R rows (before ++ replicate k y) row y so_far one)

@@ -100,7 +100,7 @@ stays_numbered old new own None grown is = is
 stays_numbered old new own (Some number) grown is = stays_only old new own number grown is
 
 pub stays_owned : (old new : List Group) (library : List ℕ) (unit : DesignUnit) (owned : Owned) → HasGrown old new → IsOwned old library unit owned → IsOwned new library unit owned
-stays_owned old new library unit owned grown is = record { primary = stays_numbered old new _ owned.primary grown is.primary; context = stays_numbered old new _ owned.context grown is.context }
+stays_owned old new library unit owned grown is = record { primary = stays_numbered old new _ owned.primary grown is.primary; context = stays_numbered old new _ owned.context grown is.context; architecture = stays_numbered old new _ owned.architecture grown is.architecture }
 
 pub stay_owned : (old new : List Group) (owned : List Owned) (users : List ScopeUnit) → HasGrown old new → AllZip (IsOwnedBy old) owned users → AllZip (IsOwnedBy new) owned users
 stay_owned old new [] [] grown all = all

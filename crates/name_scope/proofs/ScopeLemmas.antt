@@ -5,21 +5,48 @@ use Rattle.std.proofs.lemmas.List.{map-append, append-nil, take_all, take_more}
 use Rattle.std.proofs.Math.ListN.{get_or-append}
 use Rattle.std.proofs.Math.Seq.{get_or-append_seam}
 use Rattle.std.proofs.lemmas.Option.{slice_get-get_or}
-use Rattle.indexmap.proofs.SetLemmas.{AllZip-push}
 use Rattle.vr_base.specs.declared.design.Scan.{Scan}
 use Rattle.vr_base.specs.declared.design.Unit.{Unit as DesignUnit}
 use Rattle.vr_base.specs.declared.design.UnitKind.TheVariants as kinds
+use Rattle.vr_base.specs.declared.design.UnitKind.{UnitKind}
+use Rattle.vr_base.specs.declared.child.MaybeText.{MaybeText}
 use Rattle.vr_base.specs.declared.child.MaybeText.TheVariants.{Nothing}
+use Rattle.vr_base.specs.declared.lexical.Token.{Token}
+use Rattle.vr_base.specs.declared.refs.Ref.{Ref}
 use Rattle.vr_base.specs.declared.project.ProjectFile.{ProjectFile}
-use Rattle.scan_spec.specs.Visibility.{ScopeUnit, scope_unit, scope_units}
+use Rattle.scan_spec.specs.References.{configured, structural_by}
+use Rattle.scan_spec.specs.Visibility.{ScopeUnit, configured_name, scope_unit, scope_units}
+use Rattle.vhdl_refs.specs.Mentions.{structural_of}
 use Rattle.file_outlines.specs.declared.outlines.UnitScope.{UnitScope}
 use Rattle.file_outlines.specs.Outlines.{scope_of, scopes_of}
 use Rattle.name_scope.specs.declared.groups.Owned.{Owned}
 use Rattle.name_scope.specs.declared.want.Group.{Group}
 use Rattle.name_scope.specs.Scopes.{AreGrouped, as_scope, units_before}
 
+-- one pair more
+pub zip_push : {A B : Type 0} (R : A → B → Type 0) (xs : List A) (ys : List B) (x : A) (y : B) → AllZip R xs ys → R x y → AllZip R (xs ++ x ∷ []) (ys ++ y ∷ [])
+zip_push R [] [] x y all one = (one, tt)
+zip_push R [] (b ∷ ys) x y all one = absurd all
+zip_push R (a ∷ xs) [] x y all one = absurd all
+zip_push R (a ∷ xs) (b ∷ ys) x y all one = (all.0, zip_push R xs ys x y all.1 one)
+
 no_unit : DesignUnit
 no_unit = record { kind = kinds.Entity; name = []; owner = Nothing; lead = 0; first = 0; last = 0 }
+
+first_architecture : List Ref → MaybeText
+first_architecture [] = Nothing
+first_architecture (ref ∷ refs) = ref.architecture
+
+-- a unit that mentions what its text says configures the architecture that its text says
+pub same_configured : (text : List ℕ) (tokens : List Token) (unit : DesignUnit) (kind : UnitKind) (found : MaybeText) → structural_of found unit kind ≡ structural_by text tokens unit kind → configured_name kind found ≡ configured_name kind (configured text tokens unit)
+unfolding first_architecture
+same_configured text tokens unit kinds.Entity found is = refl
+same_configured text tokens unit kinds.Architecture found is = refl
+same_configured text tokens unit kinds.Configuration found is = ap first_architecture is
+same_configured text tokens unit kinds.Package found is = refl
+same_configured text tokens unit kinds.PackageBody found is = refl
+same_configured text tokens unit kinds.PackageInstance found is = refl
+same_configured text tokens unit kinds.Context found is = refl
 
 -- one unit more of a file
 pub unit_more : {X : Type 0} (R : X → ScopeUnit → Type 0) (made : DesignUnit → ScopeUnit) (designs : List DesignUnit) (number : ℕ) (found : List X) (one : X) (units : List ScopeUnit) → number < length designs → ((unit : DesignUnit) → slice_get designs number ≡ Some unit → R one (made unit)) → AllZip R found (units ++ map made (take number designs)) → AllZip R (found ++ one ∷ []) (units ++ map made (take (number + 1) designs))
@@ -29,7 +56,7 @@ unit_more R made designs number found one units within is so_far =
     let all : units ++ map made (take (number + 1) designs) ≡ (units ++ done) ++ made unit ∷ [] =
     ap (λ (some : List DesignUnit). units ++ map made some) (take_more designs number no_unit within)
     ∙ (ap (λ (some : List ScopeUnit). units ++ some) (map-append made (take number designs) (unit ∷ [])) ∙ sym (append_assoc units done (made unit ∷ []))) in
-    subst (AllZip R (found ++ one ∷ [])) (sym all) (AllZip-push R found (units ++ done) one (made unit) so_far (is unit (slice_get-get_or designs number no_unit within)))
+    subst (AllZip R (found ++ one ∷ [])) (sym all) (zip_push R found (units ++ done) one (made unit) so_far (is unit (slice_get-get_or designs number no_unit within)))
 
 -- what the units of a project name is kept in their order
 scopes_of_units : (library text : List ℕ) (scan : Scan) (designs : List DesignUnit) → map (scope_of text scan) designs ≡ map as_scope (map (scope_unit library text scan) designs)

@@ -56,7 +56,7 @@ pub record HasMember (groups own : List Group) (link : Link) (old new : List (Li
 
 -- a unit for places where there is none
 pub no_user : ScopeUnit
-no_user = record { library = []; unit = record { kind = Entity; name = []; owner = Nothing; lead = 0; first = 0; last = 0 }; names = []; contexts = [] }
+no_user = record { library = []; unit = record { kind = Entity; name = []; owner = Nothing; lead = 0; first = 0; last = 0 }; names = []; contexts = []; configured = Nothing }
 
 -- the groups of the unit of a place
 abbrev pub groups_at : List ScopeUnit → ℕ → List Group

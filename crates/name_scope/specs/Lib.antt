@@ -10,6 +10,7 @@ pub mod Wants
 pub mod Owned
 pub mod Scopes
 pub mod Groups
+pub mod GroupOrder
 pub mod Graph
 pub mod Joins
 pub mod Exact

@@ -1,16 +1,22 @@
 -- Names and groups by number.
-use Rattle.std.specs.Prelude.{ℕ, List, [], ◌∷◌, map, slice_index_or, Vec, Contains, codes}
-use Rattle.std.specs.Global.{Global}
+use Rattle.std.specs.Prelude.{◌≡◌, ℕ, List, [], ◌∷◌, position, slice_index_or, Contains, Option, codes}
 use Rattle.std.specs.List.{position_or_len}
 use Rattle.std.specs.Str.{bytes_eq}
-use Rattle.indexmap.specs.IndexSet.{IndexSet}
 use Rattle.scan_spec.specs.References.{work}
 use Rattle.name_scope.specs.declared.want.Group.{Group}
 use Rattle.name_scope.specs.Groups.{is_same_group}
 
+-- a set of names
+pub record NameSet : Type 0 where
+  pub keys : List (List ℕ)
+
 -- the names of a set of names, in order
-abbrev pub keys_of : {S : Type 0} → IndexSet (Vec ℕ Global) S → List (List ℕ)
-keys_of set = map (λ key. key.items) set.keys
+abbrev pub keys_of : NameSet → List (List ℕ)
+keys_of set = set.keys
+
+-- each name is found by its number, and no other text is
+abbrev pub AreFound : (List ℕ → Option ℕ) → List (List ℕ) → Type 0
+AreFound find names = (name : List ℕ) → find name ≡ position (bytes_eq name) names
 
 -- the number of a name: its first position, or how many there are
 abbrev pub number_of : List (List ℕ) → List ℕ → ℕ

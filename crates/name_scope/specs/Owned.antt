@@ -7,7 +7,7 @@ use Rattle.scan_spec.specs.Visibility.{ScopeUnit, scope_unit}
 use Rattle.name_scope.specs.declared.groups.Owned.{Owned}
 use Rattle.name_scope.specs.declared.want.Group.{Group}
 use Rattle.name_scope.specs.Names.{HasAll, group_number}
-use Rattle.name_scope.specs.Wants.{context_group, own_groups, primary_group}
+use Rattle.name_scope.specs.Wants.{architecture_group, context_group, own_groups, primary_group}
 
 -- there is one group, and it has a number
 pub record IsOnly (groups own : List Group) (number : ℕ) : Type 0 where
@@ -24,6 +24,7 @@ IsNumbered groups own number = MatchOption number (own ≡ []) (IsOnly groups ow
 pub record IsOwned (groups : List Group) (library : List ℕ) (unit : DesignUnit) (owned : Owned) : Type 0 where
   pub primary : IsNumbered groups (primary_group library unit) owned.primary
   pub context : IsNumbered groups (context_group library unit) owned.context
+  pub architecture : IsNumbered groups (architecture_group library unit) owned.architecture
 
 abbrev pub IsOwnedBy : List Group → Owned → ScopeUnit → Type 0
 IsOwnedBy groups owned user = IsOwned groups user.library user.unit owned

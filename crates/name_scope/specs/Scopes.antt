@@ -29,7 +29,7 @@ pub record AreGrouped (units : List ScopeUnit) (groups : List Group) (owned : Li
 
 -- the groups of the units of all files, and where the units of each file begin
 pub record AreScopes (files : List ProjectFile) (texts : List (List ℕ)) (scans : List Scan) (scopes : Scopes) : Type 0 where
-  pub grouped : AreGrouped (scope_units files texts scans) scopes.groups.keys scopes.owned.items
+  pub grouped : AreGrouped (scope_units files texts scans) scopes.groups scopes.owned.items
   pub each : length scopes.starts.items ≡ length files
   pub starts : (file : ℕ) → file < length files → slice_index scopes.starts.items file ≡ units_before files texts scans file
 

@@ -5,13 +5,17 @@ use Rattle.vr_base.specs.declared.child.MaybeText.{MaybeText}
 use Rattle.vr_base.specs.declared.child.MaybeText.TheVariants.{Nothing, Given}
 use Rattle.vr_base.specs.declared.design.Unit.{Unit as DesignUnit}
 use Rattle.vr_base.specs.declared.refs.Ref.{Ref}
-use Rattle.scan_spec.specs.References.{work, is_context_kind}
-use Rattle.scan_spec.specs.Visibility.{ScopeUnit, is_secondary, primary_name}
+use Rattle.scan_spec.specs.References.{work, is_context_kind, owner_name}
+use Rattle.scan_spec.specs.Visibility.{ScopeUnit, configured_name, is_architecture_kind, is_secondary, primary_name}
 use Rattle.name_scope.specs.declared.want.Group.{Group}
 use Rattle.name_scope.specs.declared.want.Want.{Want}
 
 abbrev pub group_of : Bool → List ℕ → List ℕ → Group
-group_of context library name = record { context = context; library = library; name = name }
+group_of context library name = record { context = context; architecture = false; library = library; owner = []; name = name }
+
+-- the architectures of a name of an entity
+abbrev pub architectures_of : List ℕ → List ℕ → List ℕ → Group
+architectures_of library entity name = record { context = false; architecture = true; library = library; owner = entity; name = name }
 
 -- the group of the primary units of a name that a unit of a library is in, if it is in one
 abbrev pub primary_group : List ℕ → DesignUnit → List Group
@@ -21,9 +25,13 @@ primary_group library unit = if is_secondary unit.kind then [] else group_of fal
 abbrev pub context_group : List ℕ → DesignUnit → List Group
 context_group library unit = if is_context_kind unit.kind then group_of true library unit.name ∷ [] else []
 
+-- the group of the architectures of a name of one entity, in the same way
+abbrev pub architecture_group : List ℕ → DesignUnit → List Group
+architecture_group library unit = if is_architecture_kind unit.kind then architectures_of library (owner_name unit.owner) unit.name ∷ [] else []
+
 -- the groups that a unit of a library is in
 abbrev pub own_groups : List ℕ → DesignUnit → List Group
-own_groups library unit = primary_group library unit ++ context_group library unit
+own_groups library unit = primary_group library unit ++ (context_group library unit ++ architecture_group library unit)
 
 abbrev pub user_groups : ScopeUnit → List Group
 user_groups user = own_groups user.library user.unit
@@ -32,10 +40,20 @@ user_groups user = own_groups user.library user.unit
 abbrev pub primary_want : List ℕ → List ℕ → Want
 primary_want library name = record { own = true; group = group_of false library name }
 
--- a secondary unit wants the primary units that it belongs to
+-- a secondary unit wants the primary units that it belongs to, and a configuration those of its entity's name
 abbrev pub primary_wants : List ℕ → MaybeText → List Want
 primary_wants library Nothing = []
 primary_wants library (Given name) = primary_want library name ∷ []
+
+-- the architectures of a name of an entity are wanted
+abbrev pub architecture_want : List ℕ → List ℕ → List ℕ → Want
+architecture_want library entity name = record { own = true; group = architectures_of library entity name }
+
+-- a configuration of an entity wants the architecture that it configures
+abbrev pub configured_wants : List ℕ → MaybeText → MaybeText → List Want
+configured_wants library Nothing configured = []
+configured_wants library (Given entity) Nothing = []
+configured_wants library (Given entity) (Given name) = architecture_want library entity name ∷ []
 
 -- a reference to a context declaration wants the context declarations of its name, where its library is visible
 abbrev pub context_want : List ℕ → Ref → Want
@@ -45,8 +63,9 @@ context_want library ref = record { own = bytes_eq ref.library work; group = gro
 abbrev pub gate_of : Want → List ℕ
 gate_of want = if want.own then work else want.group.library
 
-abbrev pub wants_of : List ℕ → DesignUnit → List Ref → List Want
-wants_of library unit contexts = primary_wants library (primary_name unit.kind unit) ++ map (context_want library) contexts
+-- what a unit of a library wants; a configuration configures this architecture
+abbrev pub wants_of : List ℕ → DesignUnit → List Ref → MaybeText → List Want
+wants_of library unit contexts configured = primary_wants library (primary_name unit.kind unit) ++ (configured_wants library unit.owner (configured_name unit.kind configured) ++ map (context_want library) contexts)
 
 abbrev pub unit_wants : ScopeUnit → List Want
-unit_wants unit = wants_of unit.library unit.unit unit.contexts
+unit_wants unit = wants_of unit.library unit.unit unit.contexts unit.configured

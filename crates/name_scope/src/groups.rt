@@ -1,43 +1,60 @@
 //! Groups of units, numbered, and the numbers of the groups that each unit is in.
 
 ghost use Rattle.std.specs.Prelude.{◌≡◌, ◌<◌, ◌∷◌, [], Contains, IfOk, IfSome, IfNone, OnOk, length};
+ghost use Rattle.scan_spec.specs.References.{owner_name};
 ghost use Rattle.name_scope.specs.Names.{HasAll, group_number};
 ghost use Rattle.name_scope.specs.Owned.{AddsOwned, HasGrown, IsNumbered, IsOwned};
-ghost use Rattle.name_scope.specs.Wants.{context_group, own_groups, primary_group};
+ghost use Rattle.name_scope.specs.Wants.{architecture_group, context_group, own_groups, primary_group};
 
 use crate::want::Group;
-use crate::wants::{group_of, is_context_kind, is_secondary};
-use indexmap::IndexSet;
+use crate::wants::{
+    architectures_of, group_of, is_architecture_kind, is_context_kind, is_secondary,
+};
+use key_index::KeyNumbers;
 use std::alloc::Global;
-use vr_base::{NoMemory, Text, Unit};
+use vr_base::{MaybeText, NoMemory, Text, Unit};
 
 /// Groups, in the order in which they were met.
-pub type Groups = IndexSet<Group>;
+pub type Groups = KeyNumbers<Group>;
 
-/// The numbers of the groups that a unit is in: that of primary units of its name, and that of context declarations.
+/// The numbers of the groups that a unit is in: that of primary units of its name, that of context declarations, and that of
+/// architectures of its entity.
 #[derive(Clone, Copy)]
 pub struct Owned {
     pub primary: Option<usize>,
     pub context: Option<usize>,
+    pub architecture: Option<usize>,
+}
+
+static NOTHING: [u8; 0] = *b"";
+
+/// The name of an owner, and no letters where there is none.
+fn owner_name<'a>(owner: &'a MaybeText) -> &'a [u8]
+    ensures { result.now ≡ owner_name owner.entry.now }
+{
+    match owner {
+        MaybeText::Nothing => NOTHING.as_slice(),
+        MaybeText::Given(name) => name.bytes(),
+    }
 }
 
 /// The number of a group, if it has one.
 pub fn find(groups: &Groups, group: &Group) -> Option<usize>
-    ensures found { IfSome result (λ number. (number ≡ group_number groups.now.keys group.now)
-        × (number < length groups.now.keys)) }
-    ensures none { IfNone result (Contains groups.now.keys group.now → ⊥) }
+    ensures found { IfSome result (λ number. (number ≡ group_number groups.now group.now)
+        × (number < length groups.now)) }
+    ensures none { IfNone result (Contains groups.now group.now → ⊥) }
 {
-    groups.get_index_of(group)
+    groups.number(group)
 }
 
 /// Gives a group a number, where it has none, and says which it has.
 fn add(groups: &mut Groups, group: Group) -> Result<usize, NoMemory>
-    ensures number { IfOk result (λ number. (number ≡ group_number groups.new.keys group)
-        × (number < length groups.new.keys)) }
-    ensures all { OnOk result (HasAll (group ∷ []) groups.old.keys groups.new.keys) }
-    ensures grown { OnOk result (HasGrown groups.old.keys groups.new.keys) }
+    ensures number { IfOk result (λ number. (number ≡ group_number groups.new group)
+        × (number < length groups.new)) }
+    ensures all { OnOk result (HasAll (group ∷ []) groups.old groups.new) }
+    ensures grown { OnOk result (HasGrown groups.old groups.new) }
 {
-    let (number, _new) = groups.insert_full(group)?;
+    let number = groups.add(group)?;
     Ok(number)
 }
 
@@ -49,10 +66,10 @@ fn add_primary(
     unit: &Unit,
 ) -> Result<Option<usize>, NoMemory>
     ensures number { IfOk result
-        (IsNumbered groups.new.keys (primary_group library.now unit.now)) }
+        (IsNumbered groups.new (primary_group library.now unit.now)) }
     ensures all { OnOk result
-        (HasAll (primary_group library.now unit.now) groups.old.keys groups.new.keys) }
-    ensures grown { OnOk result (HasGrown groups.old.keys groups.new.keys) }
+        (HasAll (primary_group library.now unit.now) groups.old groups.new) }
+    ensures grown { OnOk result (HasGrown groups.old groups.new) }
 {
     if is_secondary(unit.kind) {
         return Ok(None);
@@ -69,15 +86,35 @@ fn add_context(
     unit: &Unit,
 ) -> Result<Option<usize>, NoMemory>
     ensures number { IfOk result
-        (IsNumbered groups.new.keys (context_group library.now unit.now)) }
+        (IsNumbered groups.new (context_group library.now unit.now)) }
     ensures all { OnOk result
-        (HasAll (context_group library.now unit.now) groups.old.keys groups.new.keys) }
-    ensures grown { OnOk result (HasGrown groups.old.keys groups.new.keys) }
+        (HasAll (context_group library.now unit.now) groups.old groups.new) }
+    ensures grown { OnOk result (HasGrown groups.old groups.new) }
 {
     if !is_context_kind(unit.kind) {
         return Ok(None);
     }
     let group = group_of(alloc, true, library, &unit.name)?;
+    Ok(Some(add(groups, group)?))
+}
+
+/// Gives the group of architectures that a unit is in a number, if it is in one.
+fn add_architecture(
+    alloc: Global,
+    groups: &mut Groups,
+    library: &Text,
+    unit: &Unit,
+) -> Result<Option<usize>, NoMemory>
+    ensures number { IfOk result
+        (IsNumbered groups.new (architecture_group library.now unit.now)) }
+    ensures all { OnOk result
+        (HasAll (architecture_group library.now unit.now) groups.old groups.new) }
+    ensures grown { OnOk result (HasGrown groups.old groups.new) }
+{
+    if !is_architecture_kind(unit.kind) {
+        return Ok(None);
+    }
+    let group = architectures_of(alloc, library, owner_name(&unit.owner), &unit.name)?;
     Ok(Some(add(groups, group)?))
 }
 
@@ -88,14 +125,19 @@ fn add_own(
     library: &Text,
     unit: &Unit,
 ) -> Result<Owned, NoMemory>
-    ensures owned { IfOk result (IsOwned groups.new.keys library.now unit.now) }
+    ensures owned { IfOk result (IsOwned groups.new library.now unit.now) }
     ensures all { OnOk result
-        (HasAll (own_groups library.now unit.now) groups.old.keys groups.new.keys) }
-    ensures grown { OnOk result (HasGrown groups.old.keys groups.new.keys) }
+        (HasAll (own_groups library.now unit.now) groups.old groups.new) }
+    ensures grown { OnOk result (HasGrown groups.old groups.new) }
 {
     let primary = add_primary(alloc, groups, library, unit)?;
     let context = add_context(alloc, groups, library, unit)?;
-    Ok(Owned { primary, context })
+    let architecture = add_architecture(alloc, groups, library, unit)?;
+    Ok(Owned {
+        primary,
+        context,
+        architecture,
+    })
 }
 
 /// Gives the groups of the units of one file numbers, where they have none, and lists those of each unit.
@@ -107,7 +149,7 @@ pub fn add_groups(
     owned: &mut Vec<Owned>,
 ) -> Result<(), NoMemory>
     ensures { OnOk result (AddsOwned library.now units.now
-        groups.old.keys owned.old.items groups.new.keys owned.new.items) }
+        groups.old owned.old.items groups.new owned.new.items) }
 {
     for number in 0..units.len() {
         owned.push(add_own(alloc, groups, library, &units[number])?)?;

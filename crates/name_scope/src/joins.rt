@@ -28,9 +28,9 @@ pub fn add_link(
     want: &Want,
     links: &mut LinkList,
 ) -> Result<(), NoMemory>
-    requires { places + length groups.now.keys ≤ usize.MAX }
+    requires { places + length groups.now ≤ usize.MAX }
     ensures { OnOk result
-        (HasLinked (keys_of names.now) groups.now.keys places (want.now ∷ []) links.old links.new) }
+        (HasLinked (keys_of names.now) groups.now places (want.now ∷ []) links.old links.new) }
 {
     let Some(gate) = names::find(names, gate_of(want)) else {
         return Ok(());
@@ -91,6 +91,7 @@ fn join_own(
 {
     join_group(alloc, owned.primary, link, members)?;
     join_group(alloc, owned.context, link, members)?;
+    join_group(alloc, owned.architecture, link, members)?;
     Ok(())
 }
 
@@ -113,8 +114,8 @@ pub fn group_links(
     gate: usize,
 ) -> Result<Vec<LinkList>, NoMemory>
     ensures { IfOk result (λ members. (users : List ScopeUnit) →
-        AllZip (IsOwnedBy groups.now.keys) owned.now users →
-        AreMembers groups.now.keys users gate members.items) }
+        AllZip (IsOwnedBy groups.now) owned.now users →
+        AreMembers groups.now users gate members.items) }
 {
     let mut members = no_links(alloc, groups.len())?;
     for at in 0..owned.len() {

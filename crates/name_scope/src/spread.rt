@@ -1,6 +1,6 @@
 //! The sets of all places, grown along links until each takes all that its links hand on.
 
-ghost use Rattle.std.specs.Prelude.{◌≡◌, ℕ, ◌+◌, ◌<◌, ◌∷◌, ◌++◌, [], Contains, false, length, IfOk, OnOk, slice_index};
+ghost use Rattle.std.specs.Prelude.{◌≡◌, ℕ, ◌+◌, ◌<◌, ◌∷◌, ◌++◌, [], Contains, false, length, IfOk, OnOk, slice_index, slice_set};
 ghost use Rattle.std.specs.List.{All};
 ghost use Rattle.name_scope.specs.Bits.{AreWithin, has, row_has};
 ghost use Rattle.name_scope.specs.Links.{AreBelow, AreEven, AreTaken, HasLookedAt, HasSpread};
@@ -9,128 +9,179 @@ ghost use Rattle.name_scope.specs.Work.{AreReaders, HasRevisited, IsSettling, Is
 use crate::links::LinkList;
 use crate::look::{look, look_up_to};
 use crate::order::order_of;
-use crate::row::Row;
+use crate::row::{Draft, Row};
 use crate::work::{list_all, list_one, readers_of};
 use std::alloc::Global;
 use vr_base::{Items, NoMemory};
 
+/// Puts a row in the place of one.
+fn put_back(rows: &mut [Row], at: usize, row: Row)
+    requires { at < length rows.old }
+    ensures { rows.new ≡ slice_set rows.old at row }
+{
+    rows[at] = row;
+}
+
 /// Looks at a place, and says whether its row has grown. What is in `room` is lost.
-fn look_at(links: &[LinkList], rows: &mut [Row], at: usize, room: &mut Row) -> bool
+fn look_at(
+    alloc: Global,
+    links: &[LinkList],
+    rows: &mut [Row],
+    at: usize,
+    room: &mut Draft,
+) -> Result<bool, NoMemory>
     requires at { at < length rows.old }
     requires each { length links.now ≡ length rows.old }
     requires even { AreEven (length room.old) rows.old }
     requires below { AreBelow (length rows.old) links.now }
     ensures room { length room.new ≡ length room.old }
-    ensures looked { HasLookedAt links.now at rows.old rows.new result }
+    ensures looked { IfOk result (HasLookedAt links.now at rows.old rows.new) }
 {
-    room.copy_from(&rows[at]);
-    let grown = look(links[at].as_slice(), rows, room);
+    room.load(&rows[at])?;
+    let grown = look(links[at].as_slice(), rows, room)?;
     if grown {
-        rows[at].copy_from(room);
+        put_back(rows, at, room.kept(alloc)?);
     }
-    grown
+    Ok(grown)
 }
 
 /// A row that has all numbers of all rows.
-fn top_of(alloc: Global, rows: &[Row], words: usize) -> Result<Row, NoMemory>
+fn top_of(alloc: Global, rows: &[Row], words: usize) -> Result<Draft, NoMemory>
     requires { AreEven words rows.now }
     ensures { IfOk result (λ top. AreWithin (has rows.now) (λ at. row_has top)) }
 {
-    let mut top = Row::new(alloc, words)?;
+    let mut top = Draft::new(alloc, words);
     for row in rows {
-        top.join(row);
+        top.join(row)?;
     }
     Ok(top)
 }
 
 /// Looks at a place, unless its row is one that has all numbers of all rows: then there is nothing to take.
-fn look_below(links: &[LinkList], rows: &mut [Row], at: usize, room: &mut Row, top: &Row) -> bool
+fn look_below(
+    alloc: Global,
+    links: &[LinkList],
+    rows: &mut [Row],
+    at: usize,
+    room: &mut Draft,
+    top: &Draft,
+) -> Result<bool, NoMemory>
     requires at { at < length rows.old }
     requires each { length links.now ≡ length rows.old }
     requires even { AreEven (length room.old) rows.old }
     requires below { AreBelow (length rows.old) links.now }
     requires inside { AreWithin (has rows.old) (λ place. row_has top.now) }
     ensures room { length room.new ≡ length room.old }
-    ensures looked { HasLookedAt links.now at rows.old rows.new result }
+    ensures looked { IfOk result (HasLookedAt links.now at rows.old rows.new) }
 {
     if rows[at].same(top) {
-        return false;
+        return Ok(false);
     }
-    room.copy_from(&rows[at]);
-    let grown = look_up_to(links[at].as_slice(), rows, room, top);
+    room.load(&rows[at])?;
+    let grown = look_up_to(links[at].as_slice(), rows, room, top)?;
     if grown {
-        rows[at].copy_from(room);
+        put_back(rows, at, room.kept(alloc)?);
     }
-    grown
+    Ok(grown)
 }
 
 /// Looks at places, in order. No row has a number that `top` doesn't have.
-fn sweep(links: &[LinkList], rows: &mut [Row], order: &[usize], room: &mut Row, top: &Row)
+fn sweep(
+    alloc: Global,
+    links: &[LinkList],
+    rows: &mut [Row],
+    order: &[usize],
+    room: &mut Draft,
+    top: &Draft,
+) -> Result<(), NoMemory>
     requires each { length links.now ≡ length rows.old }
     requires even { AreEven (length room.old) rows.old }
     requires below { AreBelow (length rows.old) links.now }
     requires inside { AreWithin (has rows.old) (λ place. row_has top.now) }
     requires within { All (λ at. at < length rows.old) order.now }
     ensures room { length room.new ≡ length room.old }
-    ensures spread { HasSpread links.now rows.old rows.new }
+    ensures spread { OnOk result (HasSpread links.now rows.old rows.new) }
 {
     for at in order {
-        look_below(links, rows, *at, room, top);
+        look_below(alloc, links, rows, *at, room, top)?;
     }
+    Ok(())
 }
 
 /// Looks at places, from the last on.
-fn sweep_back(links: &[LinkList], rows: &mut [Row], order: &[usize], room: &mut Row)
+fn sweep_back(
+    alloc: Global,
+    links: &[LinkList],
+    rows: &mut [Row],
+    order: &[usize],
+    room: &mut Draft,
+) -> Result<(), NoMemory>
     requires each { length links.now ≡ length rows.old }
     requires even { AreEven (length room.old) rows.old }
     requires below { AreBelow (length rows.old) links.now }
     requires within { All (λ at. at < length rows.old) order.now }
     ensures room { length room.new ≡ length room.old }
-    ensures spread { HasSpread links.now rows.old rows.new }
+    ensures spread { OnOk result (HasSpread links.now rows.old rows.new) }
 {
     for index in (0..order.len()).rev() {
-        look_at(links, rows, order[index], room);
+        look_at(alloc, links, rows, order[index], room)?;
     }
+    Ok(())
 }
 
 /// Looks at places twice, in order. No row has a number that `top` doesn't have.
-fn sweep_twice(links: &[LinkList], rows: &mut [Row], order: &[usize], room: &mut Row, top: &Row)
+fn sweep_twice(
+    alloc: Global,
+    links: &[LinkList],
+    rows: &mut [Row],
+    order: &[usize],
+    room: &mut Draft,
+    top: &Draft,
+) -> Result<(), NoMemory>
     requires each { length links.now ≡ length rows.old }
     requires even { AreEven (length room.old) rows.old }
     requires below { AreBelow (length rows.old) links.now }
     requires inside { AreWithin (has rows.old) (λ place. row_has top.now) }
     requires within { All (λ at. at < length rows.old) order.now }
     ensures room { length room.new ≡ length room.old }
-    ensures spread { HasSpread links.now rows.old rows.new }
+    ensures spread { OnOk result (HasSpread links.now rows.old rows.new) }
 {
-    sweep(links, rows, order, room, top);
-    sweep(links, rows, order, room, top);
+    sweep(alloc, links, rows, order, room, top)?;
+    sweep(alloc, links, rows, order, room, top)?;
+    Ok(())
 }
 
 /// Looks at each place once, and says whether a row has grown. No row has a number that `top` doesn't have.
-fn sweep_all(links: &[LinkList], rows: &mut [Row], room: &mut Row, top: &Row) -> bool
+fn sweep_all(
+    alloc: Global,
+    links: &[LinkList],
+    rows: &mut [Row],
+    room: &mut Draft,
+    top: &Draft,
+) -> Result<bool, NoMemory>
     requires each { length links.now ≡ length rows.old }
     requires even { AreEven (length room.old) rows.old }
     requires below { AreBelow (length rows.old) links.now }
     requires inside { AreWithin (has rows.old) (λ place. row_has top.now) }
     ensures room { length room.new ≡ length room.old }
-    ensures spread { HasSpread links.now rows.old rows.new }
-    ensures taken { result ≡ false → AreTaken links.now (has rows.new) }
+    ensures spread { OnOk result (HasSpread links.now rows.old rows.new) }
+    ensures taken { IfOk result (λ grown. grown ≡ false → AreTaken links.now (has rows.new)) }
 {
     let mut grown = false;
     for at in 0..rows.len() {
-        let more = look_below(links, rows, at, room, top);
+        let more = look_below(alloc, links, rows, at, room, top)?;
         grown |= more;
     }
-    grown
+    Ok(grown)
 }
 
 /// Looks at a place that was taken from the list of work. Where its row has grown, the place and its readers are listed.
 fn revisit(
+    alloc: Global,
     links: &[LinkList],
     readers: &[Items<usize>],
     rows: &mut [Row],
-    room: &mut Row,
+    room: &mut Draft,
     work: &mut Vec<usize>,
     marks: &mut [bool],
     at: usize,
@@ -149,7 +200,8 @@ fn revisit(
         rows.old work.old.items marks.old rows.new work.new.items marks.new) }
 {
     marks[at] = false;
-    if look_at(links, rows, at, room) {
+    let grown = look_at(alloc, links, rows, at, room)?;
+    if grown {
         list_one(work, marks, at)?;
         list_all(work, marks, readers[at].as_slice())?;
     }
@@ -158,10 +210,11 @@ fn revisit(
 
 /// Looks at places on the list of work until none is on it.
 fn settle(
+    alloc: Global,
     links: &[LinkList],
     readers: &[Items<usize>],
     rows: &mut [Row],
-    room: &mut Row,
+    room: &mut Draft,
     work: &mut Vec<usize>,
     marks: &mut [bool],
 ) -> Result<(), NoMemory>
@@ -176,7 +229,7 @@ fn settle(
     ensures taken { OnOk result (AreTaken links.now (has rows.new)) }
 {
     while let Some(at) = work.pop() {
-        revisit(links, readers, rows, room, work, marks, at)?;
+        revisit(alloc, links, readers, rows, room, work, marks, at)?;
     }
     Ok(())
 }
@@ -198,7 +251,7 @@ fn settle_all(
     alloc: Global,
     links: &[LinkList],
     rows: &mut [Row],
-    room: &mut Row,
+    room: &mut Draft,
 ) -> Result<(), NoMemory>
     requires each { length links.now ≡ length rows.old }
     requires even { AreEven (length room.old) rows.old }
@@ -210,6 +263,7 @@ fn settle_all(
     let mut work = all_places(alloc, rows.len())?;
     let mut marks = vec![in alloc; true; rows.len()]?;
     settle(
+        alloc,
         links,
         readers.as_slice(),
         rows,
@@ -234,13 +288,14 @@ pub fn spread(
     ensures spread { OnOk result (HasSpread links.now rows.old rows.new) }
     ensures taken { OnOk result (AreTaken links.now (has rows.new)) }
 {
-    let mut room = Row::new(alloc, words)?;
+    let mut room = Draft::new(alloc, words);
     let top = top_of(alloc, rows, words)?;
     let order = order_of(alloc, links)?;
-    sweep_twice(links, rows, order.as_slice(), &mut room, &top);
-    if !sweep_all(links, rows, &mut room, &top) {
+    sweep_twice(alloc, links, rows, order.as_slice(), &mut room, &top)?;
+    let grown = sweep_all(alloc, links, rows, &mut room, &top)?;
+    if !grown {
         return Ok(());
     }
-    sweep_back(links, rows, order.as_slice(), &mut room);
+    sweep_back(alloc, links, rows, order.as_slice(), &mut room)?;
     settle_all(alloc, links, rows, &mut room)
 }

@@ -43,7 +43,7 @@ fn grown_rows(
     requires named { HasAll (implicit ++ flat_map (λ unit. unit.names) outlines.now.scopes)
         [] (keys_of names.now) }
     requires grouped { (scans : List Scan) → AreOutlinesOf texts.now scans outlines.now →
-        AreGrouped (scope_units project.now.files texts.now scans) groups.now.keys owned.now }
+        AreGrouped (scope_units project.now.files texts.now scans) groups.now owned.now }
     ensures { IfOk result (λ rows. (scans : List Scan) →
         AreOutlinesOf texts.now scans outlines.now →
         AreGrown outlines.now.scopes (scope_units project.now.files texts.now scans)

@@ -1,11 +1,11 @@
 //! What one design unit is to others, and what it wants of them.
 
-ghost use Rattle.std.specs.Prelude.{◌≡◌, IfOk};
+ghost use Rattle.std.specs.Prelude.{◌≡◌, [], IfOk};
 ghost use Rattle.std.specs.Str.{bytes_eq};
 ghost use Rattle.scan_spec.specs.References.{work, is_context_kind};
-ghost use Rattle.scan_spec.specs.Visibility.{is_secondary};
+ghost use Rattle.scan_spec.specs.Visibility.{is_architecture_kind, is_secondary};
 ghost use Rattle.vhdl_refs.specs.Mentions.{NamedLiesIn, named_ref};
-ghost use Rattle.name_scope.specs.Wants.{context_want, gate_of, group_of, primary_want};
+ghost use Rattle.name_scope.specs.Wants.{architecture_want, architectures_of, context_want, gate_of, group_of, primary_want};
 
 use crate::want::{Group, Want};
 use std::alloc::Global;
@@ -42,6 +42,16 @@ pub fn is_context_kind(kind: UnitKind) -> bool
     }
 }
 
+/// Whether a unit is an architecture.
+pub fn is_architecture_kind(kind: UnitKind) -> bool
+    ensures { result ≡ is_architecture_kind kind }
+{
+    match kind {
+        UnitKind::Architecture => true,
+        _ => false,
+    }
+}
+
 /// The group of a name in a library.
 pub fn group_of(
     alloc: Global,
@@ -53,7 +63,28 @@ pub fn group_of(
 {
     Ok(Group {
         context,
+        architecture: false,
         library: library.copy(alloc)?,
+        owner: Text::new(alloc),
+        name: name.copy(alloc)?,
+    })
+}
+
+/// The group of the architectures of a name of an entity in a library.
+pub fn architectures_of(
+    alloc: Global,
+    library: &Text,
+    entity: &[u8],
+    name: &Text,
+) -> Result<Group, NoMemory>
+    ensures { IfOk result (λ group.
+        group ≡ architectures_of library.now entity.now name.now) }
+{
+    Ok(Group {
+        context: false,
+        architecture: true,
+        library: library.copy(alloc)?,
+        owner: Text::from_slice(alloc, entity)?,
         name: name.copy(alloc)?,
     })
 }
@@ -64,10 +95,21 @@ pub fn no_want(alloc: Global) -> Want {
         own: false,
         group: Group {
             context: false,
+            architecture: false,
             library: Text::new(alloc),
+            owner: Text::new(alloc),
             name: Text::new(alloc),
         },
     }
+}
+
+/// The empty text, in the memory of one that isn't used any more.
+fn emptied(used: Text) -> Text
+    ensures { result ≡ [] }
+{
+    let mut bytes = used.into_vec();
+    bytes.clear();
+    Text::from_vec(bytes)
 }
 
 /// A copy of a text, in the memory of one that isn't used any more, where that has room.
@@ -87,14 +129,49 @@ pub fn primary_want(library: &Text, name: &Text, used: Want) -> Result<Want, NoM
     let Want { own: _, group } = used;
     let Group {
         context: _,
+        architecture: _,
         library: first,
+        owner: third,
         name: second,
     } = group;
     Ok(Want {
         own: true,
         group: Group {
             context: false,
+            architecture: false,
             library: copy_in(library, first)?,
+            owner: emptied(third),
+            name: copy_in(name, second)?,
+        },
+    })
+}
+
+/// What a configuration of an entity of a library wants: the architectures of a name, in the memory of what isn't wanted any
+/// more.
+pub fn architecture_want(
+    library: &Text,
+    entity: &Text,
+    name: &Text,
+    used: Want,
+) -> Result<Want, NoMemory>
+    ensures { IfOk result (λ want.
+        want ≡ architecture_want library.now entity.now name.now) }
+{
+    let Want { own: _, group } = used;
+    let Group {
+        context: _,
+        architecture: _,
+        library: first,
+        owner: third,
+        name: second,
+    } = group;
+    Ok(Want {
+        own: true,
+        group: Group {
+            context: false,
+            architecture: true,
+            library: copy_in(library, first)?,
+            owner: copy_in(entity, third)?,
             name: copy_in(name, second)?,
         },
     })
@@ -114,7 +191,9 @@ pub fn context_want(
     let Want { own: _, group } = used;
     let Group {
         context: _,
+        architecture: _,
         library: first,
+        owner: third,
         name: second,
     } = group;
     let named = name_of_token(text, reference.library, first)?;
@@ -125,7 +204,9 @@ pub fn context_want(
         own,
         group: Group {
             context: true,
+            architecture: false,
             library,
+            owner: emptied(third),
             name,
         },
     })

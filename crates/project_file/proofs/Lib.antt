@@ -6,8 +6,11 @@ pub mod ReadItems
 pub mod PathSteps
 pub mod LibrarySteps
 pub mod MatchSteps
+pub mod TomlNames
+pub mod FewSteps
 pub mod LibrarySum
 pub mod PairSteps
-pub mod TomlNames
+pub mod FewFiles
+pub mod FewLinks
 pub mod TomlTables
 mod TomlValid

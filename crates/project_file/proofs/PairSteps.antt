@@ -11,6 +11,7 @@ use Rattle.numbering.specs.Numbers.{IsNumbered}
 use Rattle.numbering.specs.NameLaws.{names_decide}
 use Rattle.toml.specs.Data.{Members}
 use Rattle.vr_base.specs.declared.file.FileName.{FileName}
+use Rattle.vr_base.specs.declared.memory.OrMemory.{OrMemory}
 use Rattle.vr_base.specs.declared.project.Pair.{Pair}
 use Rattle.vr_base.specs.declared.project.ProjectFile.{ProjectFile}
 use Rattle.vr_base.specs.declared.project.ProjectFault.{ProjectFault}
@@ -33,7 +34,7 @@ all_fail p (x ∷ xs) past (suc k) d low = elim (cases_Bool (p x)) [
   | inr f ↦ let less : suc (length xs) ≤ 1 + position_or_len p xs = rw f at past in all_fail p xs (omega (arith, less)) k d (omega (arith, low))
 ]
 
-not_found : {X : Type 0} (p : X → Bool) (xs : List X) → position p xs ≡ None → (k : ℕ) (d : X) → k < length xs → p (get_or xs k d) ≡ false
+pub not_found : {X : Type 0} (p : X → Bool) (xs : List X) → position p xs ≡ None → (k : ℕ) (d : X) → k < length xs → p (get_or xs k d) ≡ false
 not_found p xs none = elim (cases_Bool (ltb (position_or_len p xs) (length xs))) [
   | inl t ↦ absurd (none-some (position_or_len p xs) (sym none ∙ cond-true (ltb (position_or_len p xs) (length xs)) (Some (position_or_len p xs)) None t))
   | inr f ↦ all_fail p xs (ltb-false _ _ f)
@@ -122,7 +123,7 @@ module _ {V : Type 0} (see : V → Members) (files : List ProjectFile) (tables :
       let rest = pairs_of files (map see (drop (i + 1) tables)) in
       ap (λ ps. then_read rest (λ more. Ok (ps ++ more))) grown ∙ joined pair rest ∙ ap (λ s. then_read s (λ more. Ok (pairs ++ more))) (sym (here ∙ ap (λ s. then_read s (λ pair. then_read rest (λ others. Ok (pair ∷ others)))) is)) ∙ kept
 
-  pub pair_fails : (fault : ProjectFault) → ReadsStep (pair_of files (see table)) (Err fault) → ReadsStep whole (Err fault)
+  pub pair_fails : (fault : OrMemory ProjectFault) → ReadsStep (pair_of files (see table)) (Err fault) → ReadsStep whole (Err fault)
   pair_fails fault is = reads_same _ _ (Err fault) kept (fault_ends _ (λ more. Ok (pairs ++ more)) fault (reads_same _ _ (Err fault) (sym here) (fault_ends _ _ fault is)))
 
 pub pairs_all : {V : Type 0} (see : V → Members) (files : List ProjectFile) (tables : List V) (i : ℕ) (pairs : List Pair) (whole : Result (List Pair) ProjectFault) → length tables ≤ i

@@ -18,6 +18,7 @@ use Rattle.project_file.specs.Csv.{then_read}
 use Rattle.project_file.specs.Paths.{matches_path}
 use Rattle.project_file.specs.Toml.{is_among, new_library, library_after, matching_names, file_in, library_files, files_of, required, optional, texts_of, text_of, library_in, words_of}
 use Rattle.project_file.specs.Pairs.{names_of}
+use Rattle.project_file.specs.Few.{library_name}
 
 -- what a step read, where all was read
 pub then_ok : {S T : Type 0} (said : Result S ProjectFault) (next : S → Result T ProjectFault) (y : T) → then_read said next ≡ Ok y → (x : S) × (said ≡ Ok x) × (next x ≡ Ok y)
@@ -80,6 +81,14 @@ named_new before table library h =
     let read = then_ok (required (text_of library_in) (codes "library.") (codes "name") table) (new_library before) library h in
     let is = new_by (bytes_eq read.0 (codes "work")) (is_among before read.0) read.0 library read.2 in
     subst (λ l. is_among before l ≡ false) is.0 is.1
+
+-- a library is named as its table says
+pub named_is : (before : List (List ℕ)) (table : Members) (library : List ℕ) → library_after before table ≡ Ok library → library_name table ≡ Ok library
+unfolding library_after new_library
+named_is before table library h =
+    let read = then_ok (required (text_of library_in) (codes "library.") (codes "name") table) (new_library before) library h in
+    let is = new_by (bytes_eq read.0 (codes "work")) (is_among before read.0) read.0 library read.2 in
+    read.1 ∙ ap Ok is.0
 
 -- what the files of a library are
 pub files_in : (names compiler : List (List ℕ)) (library : List ℕ) (table : Members) (files : List ProjectFile) → AllPairs (λ a b. a ≢ b) names → library_files names compiler library table ≡ Ok files

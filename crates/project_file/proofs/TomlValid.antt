@@ -1,6 +1,6 @@
 -- The project of a file in TOML is one: its names are distinct and fit, and so do its commands.
 use Rattle.std.proofs.Common.{◌≡◌, ◌≢◌, ℕ, zero, suc, ◌<◌, ◌≤◌, Bool, true, false, not, ◌&&◌, cond, List, [], ◌∷◌, ◌++◌, length, map, Option, Some, None, Result, Ok, Err, refl, sym, subst, ◌∙◌, arith, inl, inr}
-use Rattle.std.specs.Prelude.{All, AllPairs, filter, codes, option_map, option_and_then, nat_le, IfOk}
+use Rattle.std.specs.Prelude.{All, AllPairs, filter, codes, option_map, option_and_then, nat_le, IfOk, IfSome}
 use Rattle.std.specs.List.{list_any}
 use Rattle.std.specs.Option.{ok_or, option_map_or}
 use Rattle.std.specs.Char.{to_ascii_lowercase}
@@ -11,6 +11,7 @@ use Rattle.std.proofs.lemmas.List.Elements.{All-append, All-cons, All-nil, All-f
 use Rattle.std.proofs.lemmas.Option.{none-some, same_Some}
 use Rattle.toml.specs.Data.{Data, Members, as_array, as_bool, as_str, as_table, get_member}
 use Rattle.toml.specs.Parse.{parse_document}
+use Rattle.vr_base.specs.declared.memory.OrMemory.{OrMemory}
 use Rattle.vr_base.specs.declared.project.Project.{Project}
 use Rattle.vr_base.specs.declared.project.ProjectFile.{ProjectFile}
 use Rattle.vr_base.specs.declared.project.ProjectFault.{ProjectFault}
@@ -23,7 +24,9 @@ use Rattle.project_file.specs.Paths.{matches_path}
 use Rattle.project_file.specs.Pairs.{names_of}
 use Rattle.project_file.specs.Steps.{ReadsStep}
 use Rattle.project_file.specs.Toml.{all_read, array_of, few, file_in, files_of, files_project, is_among, library_after, library_files, library_in, linked_project, list_of, matching_names, new_library, optional, pairs_of, required, table_project, text_of, texts_of, toml_project, word_in, words_of}
+use Rattle.project_file.specs.Few.{few_said}
 use Rattle.project_file.proofs.CsvProject.{begins_not_empty}
+use Rattle.project_file.proofs.FewLinks.{few_project_is}
 use Rattle.project_file.proofs.TomlNames.{files_new, new_by, ok_same, then_ok}
 
 -- ## Values
@@ -225,6 +228,7 @@ module _ (names : List (List ℕ)) (names_once : AllPairs (λ a b. a ≢ b) name
       go true (Some table) e = table_valid table project e
 
   -- what is read is a project
-  pub read_valid : (bytes : List ℕ) (result : Result Project ProjectFault) → ReadsStep (toml_project bytes names) result → IfOk result IsProject
-  read_valid bytes (Ok project) h = toml_valid bytes project h
+  pub read_valid : (bytes : List ℕ) (result : Result (Option Project) (OrMemory ProjectFault)) → ReadsStep (few_said (toml_project bytes names)) result → IfOk result (λ read. IfSome read IsProject)
+  read_valid bytes (Ok (Some project)) h = toml_valid bytes project (few_project_is (toml_project bytes names) project h)
+  read_valid bytes (Ok None) h = tt
   read_valid bytes (Err fault) h = tt

@@ -7,4 +7,5 @@ pub mod Toml
 pub mod Forms
 pub mod PathRows
 pub mod Libraries
+pub mod Few
 pub mod Pairs

@@ -4,9 +4,10 @@ use Rattle.std.specs.List.{list_any}
 use Rattle.numbering.specs.Numbers.{NumbersBelow, IsAdded}
 use Rattle.toml.specs.Data.{Members}
 use Rattle.vr_base.specs.declared.file.FileName.{FileName}
+use Rattle.vr_base.specs.declared.memory.OrMemory.{OrMemory}
+use Rattle.vr_base.specs.declared.memory.OrMemory.TheVariants as memory
 use Rattle.vr_base.specs.declared.project.ProjectFile.{ProjectFile}
 use Rattle.vr_base.specs.declared.project.ProjectFault.{ProjectFault}
-use Rattle.vr_base.specs.declared.project.ProjectFault.TheVariants as problem
 use Rattle.project_file.specs.Csv.{then_read}
 use Rattle.project_file.specs.Paths.{matches_path}
 use Rattle.project_file.specs.Steps.{ReadsStep}
@@ -20,10 +21,10 @@ abbrev pub libraries_of : List FileName → List (List ℕ)
 libraries_of keys = map (λ key. key.library) keys
 
 -- a library comes after these keys, which are libraries alone
-abbrev pub AddsLibrary : List FileName → List FileName → Result (List ℕ) ProjectFault → Result (List ℕ) ProjectFault → Type 0
+abbrev pub AddsLibrary : List FileName → List FileName → Result (List ℕ) ProjectFault → Result (List ℕ) (OrMemory ProjectFault) → Type 0
 AddsLibrary old new said (Ok library) = (said ≡ Ok library) × (new ≡ old ++ alone library ∷ [])
-AddsLibrary old new said (Err problem.NoMemory) = Unit {0}
-AddsLibrary old new said (Err fault) = said ≡ Err fault
+AddsLibrary old new said (Err memory.NoMemory) = Unit {0}
+AddsLibrary old new said (Err (memory.Fault fault)) = said ≡ Err fault
 
 abbrev pub texts_at : List (List ℕ) → List ℕ → List (List ℕ)
 texts_at names places = map (λ place. slice_index_or names place []) places
@@ -44,23 +45,12 @@ pub record TakesMatching (names : List (List ℕ)) (pattern : List ℕ) (old new
   pub places : ArePlaces names new
   pub found : texts_at names new.numbers ≡ texts_at names old.numbers ++ filter (λ name. matches_path pattern name && not (is_among (texts_at names old.numbers) name)) names
 
--- what is said comes after what was there
-abbrev pub AddsSaid : {T : Type 0} → List T → List T → Result (List T) ProjectFault → Result (Unit {0}) ProjectFault → Type 0
-AddsSaid old new said (Ok done) = then_read said (λ more. Ok (old ++ more)) ≡ Ok new
-AddsSaid old new said (Err problem.NoMemory) = Unit {0}
-AddsSaid old new said (Err fault) = said ≡ Err fault
-
 -- the names that patterns match come after those that were found
-abbrev pub TakesNames : List (List ℕ) → List (List ℕ) → NumbersBelow → NumbersBelow → Result (Unit {0}) ProjectFault → Type 0
+abbrev pub TakesNames : List (List ℕ) → List (List ℕ) → NumbersBelow → NumbersBelow → Result (Unit {0}) (OrMemory ProjectFault) → Type 0
 TakesNames names patterns old new (Ok done) = (matching_names names (texts_at names old.numbers) patterns ≡ Ok (texts_at names new.numbers)) × ArePlaces names new
-TakesNames names patterns old new (Err problem.NoMemory) = Unit {0}
-TakesNames names patterns old new (Err fault) = matching_names names (texts_at names old.numbers) patterns ≡ Err fault
+TakesNames names patterns old new (Err memory.NoMemory) = Unit {0}
+TakesNames names patterns old new (Err (memory.Fault fault)) = matching_names names (texts_at names old.numbers) patterns ≡ Err fault
 
--- the files of a table's library come after those of the tables before it, whatever tables follow
-pub record AddsTable (names compiler : List (List ℕ)) (table : Members) (old_keys new_keys : List FileName) (old_files new_files : List ProjectFile) : Type 0 where
-  pub keys : new_keys ≡ map alone (libraries_of new_keys)
-  pub files : (rest : List Members) → then_read (files_of names compiler (libraries_of old_keys) (table ∷ rest)) (λ more. Ok (old_files ++ more)) ≡ then_read (files_of names compiler (libraries_of new_keys) rest) (λ more. Ok (new_files ++ more))
-
--- or it has a fault, whatever tables follow
-abbrev pub FailsTable : List (List ℕ) → List (List ℕ) → Members → List FileName → ProjectFault → Type 0
+-- a table has a fault, whatever tables follow
+abbrev pub FailsTable : List (List ℕ) → List (List ℕ) → Members → List FileName → OrMemory ProjectFault → Type 0
 FailsTable names compiler table keys fault = (rest : List Members) → ReadsStep (files_of names compiler (libraries_of keys) (table ∷ rest)) (Err fault)

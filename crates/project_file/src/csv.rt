@@ -16,8 +16,8 @@ use crate::parts::{cut_at, next_line, sides};
 use name_set::NameSet;
 use std::alloc::Global;
 use vr_base::{
-    FileList, FileName, LIBRARY_LIMIT, NoMemory, PATH_LIMIT, PairList, Project, ProjectFault,
-    ProjectFile, ProjectFileList, Text, TextList,
+    FileList, FileName, LIBRARY_LIMIT, NoMemory, OrMemory, PATH_LIMIT, PairList, Project,
+    ProjectFault, ProjectFile, ProjectFileList, Text, TextList,
 };
 
 /// Whether two texts have the same bytes.
@@ -190,18 +190,18 @@ fn csv_file_of(alloc: Global, line: &[u8]) -> Result<Option<FileName>, NoMemory>
 
 /// Admits a name after those before it, which the set holds. It then holds this name too.
 #[tactic(auto, unfolding(crate::specs::Csv::name_fault))]
-fn admit(alloc: Global, seen: &mut NameSet, name: &FileName) -> Result<(), ProjectFault>
+fn admit(alloc: Global, seen: &mut NameSet, name: &FileName) -> Result<(), OrMemory<ProjectFault>>
     ensures { (before : List FileName) → Holds seen.old before →
         Admits seen.new before name.now (name_fault before name.now) result }
 {
     if is_same(name.library.bytes(), b"work") {
-        return Err(ProjectFault::WorkLibrary);
+        return Err(OrMemory::Fault(ProjectFault::WorkLibrary));
     }
     if seen.add(name)? {
         return Ok(());
     }
     let name = name.copy(alloc)?;
-    Err(ProjectFault::DuplicateFile { name })
+    Err(OrMemory::Fault(ProjectFault::DuplicateFile { name }))
 }
 
 /// The file that a line of this number adds to those before it, which the set holds.
@@ -211,12 +211,12 @@ fn added_by(
     seen: &mut NameSet,
     number: u32,
     line: &[u8],
-) -> Result<FileName, ProjectFault>
+) -> Result<FileName, OrMemory<ProjectFault>>
     ensures { (before : List FileName) → Holds seen.old before →
         AddsName seen.new before (added_by before number line.now) result }
 {
     match csv_file_of(alloc, line)? {
-        None => Err(ProjectFault::BadLine { line: number }),
+        None => Err(OrMemory::Fault(ProjectFault::BadLine { line: number })),
         Some(name) => {
             admit(alloc, seen, &name)?;
             Ok(name)
@@ -232,7 +232,7 @@ fn take_line(
     seen: &mut NameSet,
     number: u32,
     line: &[u8],
-) -> Result<(), ProjectFault>
+) -> Result<(), OrMemory<ProjectFault>>
     ensures taken { Holds seen.old files.old →
         TakesLine files.old number line.now result files.new }
     ensures seen { Holds seen.old files.old → OnOk result (Holds seen.new files.new) }
@@ -245,7 +245,7 @@ fn take_line(
 }
 
 /// The files that the bytes list, or the first fault.
-fn read_files(alloc: Global, bytes: &[u8]) -> Result<FileList, ProjectFault>
+fn read_files(alloc: Global, bytes: &[u8]) -> Result<FileList, OrMemory<ProjectFault>>
     requires { length bytes.now < 2 ^ 31 }
     ensures { ReadsStep (csv_files bytes.now) result }
 {
@@ -302,7 +302,7 @@ fn listed_project(alloc: Global, names: FileList) -> Result<Project, NoMemory>
 
 /// The project that the bytes of a project file of lines say, or its first fault. Lines end at a line feed, and
 /// a carriage return before it is dropped.
-pub fn read_csv_project(alloc: Global, bytes: &[u8]) -> Result<Project, ProjectFault>
+pub fn read_csv_project(alloc: Global, bytes: &[u8]) -> Result<Project, OrMemory<ProjectFault>>
     requires { length bytes.now < 2 ^ 31 }
     ensures project { ReadsStep (csv_project bytes.now) result }
     ensures valid { IfOk result IsProject }

@@ -13,7 +13,7 @@ use crate::csv::words;
 use crate::values::{Form, Tables, tables_of, text_of, texts_of, words_of};
 use std::alloc::Global;
 use toml::{Table, Value};
-use vr_base::{NoMemory, ProjectFault, Text, TextList};
+use vr_base::{NoMemory, OrMemory, ProjectFault, Text, TextList};
 
 fn value_at<'a>(table: &'a Table, key: &str) -> Option<&'a Value>
     ensures { option_map (λ value. view value.now) result
@@ -32,14 +32,19 @@ fn key_name(alloc: Global, place: &str, key: &str) -> Result<Text, NoMemory>
 }
 
 /// What is read of the value of a key, or that it is of another form.
-fn known<T: Drop>(alloc: Global, place: &str, key: &str, read: Option<T>) -> Result<T, ProjectFault>
+fn known<T: Drop>(
+    alloc: Global,
+    place: &str,
+    key: &str,
+    read: Option<T>,
+) -> Result<T, OrMemory<ProjectFault>>
     ensures { ReadsStep (ok_or read (WrongType (place.now ++ key.now))) result }
 {
     match read {
         Some(read) => Ok(read),
-        None => Err(ProjectFault::WrongType {
+        None => Err(OrMemory::Fault(ProjectFault::WrongType {
             key: key_name(alloc, place, key)?,
-        }),
+        })),
     }
 }
 
@@ -58,13 +63,13 @@ pub fn text_at(
     place: &str,
     key: &str,
     table: &Table,
-) -> Result<Text, ProjectFault>
+) -> Result<Text, OrMemory<ProjectFault>>
     ensures { ReadsStep
         (required (text_of (form_of form)) place.now key.now (table_view table.now)) result }
 {
     match value_at(table, key) {
         Some(value) => known(alloc, place, key, text_of(alloc, form, value)?),
-        None => Err(missing_key(alloc, place, key)?),
+        None => Err(OrMemory::Fault(missing_key(alloc, place, key)?)),
     }
 }
 
@@ -75,18 +80,22 @@ pub fn texts_at(
     place: &str,
     key: &str,
     table: &Table,
-) -> Result<TextList, ProjectFault>
+) -> Result<TextList, OrMemory<ProjectFault>>
     ensures { ReadsStep
         (required (texts_of (form_of form)) place.now key.now (table_view table.now)) result }
 {
     match value_at(table, key) {
         Some(value) => known(alloc, place, key, texts_of(alloc, form, value)?),
-        None => Err(missing_key(alloc, place, key)?),
+        None => Err(OrMemory::Fault(missing_key(alloc, place, key)?)),
     }
 }
 
 /// The names of libraries at a key; none where it is missing.
-pub fn libraries_at(alloc: Global, key: &str, table: &Table) -> Result<TextList, ProjectFault>
+pub fn libraries_at(
+    alloc: Global,
+    key: &str,
+    table: &Table,
+) -> Result<TextList, OrMemory<ProjectFault>>
     ensures { ReadsStep
         (optional (texts_of library_in) [] [] key.now (table_view table.now)) result }
 {
@@ -102,7 +111,7 @@ pub fn command_at(
     key: &str,
     table: &Table,
     word: &[u8],
-) -> Result<TextList, ProjectFault>
+) -> Result<TextList, OrMemory<ProjectFault>>
     ensures { ReadsStep
         (optional (words_of 1) (codes "@self" ∷ word.now ∷ []) [] key.now (table_view table.now))
         result }
@@ -119,7 +128,7 @@ pub fn words_at(
     place: &str,
     key: &str,
     table: &Table,
-) -> Result<TextList, ProjectFault>
+) -> Result<TextList, OrMemory<ProjectFault>>
     ensures { ReadsStep
         (optional (words_of 0) [] place.now key.now (table_view table.now)) result }
 {
@@ -130,7 +139,7 @@ pub fn words_at(
 }
 
 /// Whether a key says so; it doesn't where it is missing.
-pub fn flag_at(alloc: Global, key: &str, table: &Table) -> Result<bool, ProjectFault>
+pub fn flag_at(alloc: Global, key: &str, table: &Table) -> Result<bool, OrMemory<ProjectFault>>
     ensures { ReadsStep (optional as_bool false [] key.now (table_view table.now)) result }
 {
     match value_at(table, key) {
@@ -144,26 +153,30 @@ fn known_tables<'a>(
     alloc: Global,
     key: &str,
     read: Option<Tables<'a>>,
-) -> Result<Tables<'a>, ProjectFault>
+) -> Result<Tables<'a>, OrMemory<ProjectFault>>
     ensures { ReadsAs tables_view
         (ok_or (option_map tables_view read.entry) (WrongType key.now)) result }
 {
     match read {
         Some(read) => Ok(read),
-        None => Err(ProjectFault::WrongType {
+        None => Err(OrMemory::Fault(ProjectFault::WrongType {
             key: key_name(alloc, "", key)?,
-        }),
+        })),
     }
 }
 
 /// The tables at a key, which has to be there.
-pub fn tables_at<'a>(alloc: Global, key: &str, table: &'a Table) -> Result<Tables<'a>, ProjectFault>
+pub fn tables_at<'a>(
+    alloc: Global,
+    key: &str,
+    table: &'a Table,
+) -> Result<Tables<'a>, OrMemory<ProjectFault>>
     ensures { ReadsAs tables_view
         (required (array_of as_table) [] key.now (table_view table.now)) result }
 {
     match value_at(table, key) {
         Some(value) => known_tables(alloc, key, tables_of(alloc, value)?),
-        None => Err(missing_key(alloc, "", key)?),
+        None => Err(OrMemory::Fault(missing_key(alloc, "", key)?)),
     }
 }
 
@@ -172,7 +185,7 @@ pub fn any_tables_at<'a>(
     alloc: Global,
     key: &str,
     table: &'a Table,
-) -> Result<Tables<'a>, ProjectFault>
+) -> Result<Tables<'a>, OrMemory<ProjectFault>>
     ensures { ReadsAs tables_view
         (optional (array_of as_table) [] [] key.now (table_view table.now)) result }
 {

@@ -1,9 +1,11 @@
 //! Project files: the project that the bytes of one say, or its first bad line.
 #![tactic(auto)]
 
+mod checks;
 mod csv;
 mod keys;
 mod libraries;
+mod lookups;
 mod pairs;
 mod parts;
 mod paths;

@@ -1,13 +1,15 @@
 //! The libraries of a TOML table, and their files.
 
-ghost use Rattle.std.specs.Prelude.{◌≡◌, ◌≢◌, ◌<◌, ◌≤◌, ◌++◌, [], ◌∷◌, List, ℕ, Ok, length, map, AllPairs, All, IfOk, IfErr, OnOk};
+ghost use Rattle.std.specs.Prelude.{◌≡◌, ◌≢◌, ◌<◌, ◌≤◌, ◌+◌, ◌++◌, [], ◌∷◌, List, ℕ, Ok, Some, nat_le, length, map, AllPairs, All, IfOk, IfErr, OnOk};
 ghost use Rattle.numbering.specs.Numbers.{IsAdded};
 ghost use Rattle.toml.specs.View.{table_view};
 ghost use Rattle.project_file.specs.Toml.{new_library, library_after, matching_names, file_in, library_files, files_of};
+ghost use Rattle.project_file.specs.Csv.{then_read};
 ghost use Rattle.project_file.specs.Steps.{ReadsStep};
-ghost use Rattle.project_file.specs.Forms.{tables_view};
-ghost use Rattle.project_file.specs.Libraries.{alone, libraries_of, AddsLibrary, texts_at, ArePlaces, AddsWanted, TakesMatching, TakesNames, AddsSaid, AddsTable, FailsTable};
+ghost use Rattle.project_file.specs.Libraries.{alone, libraries_of, AddsLibrary, texts_at, ArePlaces, AddsWanted, TakesMatching, TakesNames, FailsTable};
+ghost use Rattle.project_file.specs.Few.{few_files, few_with, AddsTable, AreLibraries};
 
+use crate::checks::check_library;
 use crate::csv::is_same;
 use crate::keys::{text_at, texts_at, words_at};
 use crate::paths::{either, matches_path, parts_of};
@@ -15,10 +17,13 @@ use crate::values::Form;
 use numbering::{NumberSet, Numbered};
 use std::alloc::Global;
 use toml::Table;
-use vr_base::{FileName, NoMemory, ProjectFault, ProjectFile, ProjectFileList, Text, TextList};
+use vr_base::{
+    FILE_LIMIT, FileName, NoMemory, OrMemory, ProjectFault, ProjectFile, ProjectFileList, Text,
+    TextList,
+};
 
 /// A library without a path.
-fn alone(alloc: Global, library: &Text) -> Result<FileName, NoMemory>
+pub fn alone(alloc: Global, library: &Text) -> Result<FileName, NoMemory>
     ensures { IfOk result (λ name. name ≡ alone library.now) }
 {
     Ok(FileName {
@@ -33,17 +38,17 @@ fn add_library(
     alloc: Global,
     before: &mut Numbered<FileName>,
     library: Text,
-) -> Result<Text, ProjectFault>
+) -> Result<Text, OrMemory<ProjectFault>>
     ensures { before.old.keys ≡ map alone (libraries_of before.old.keys) →
         AddsLibrary before.old.keys before.new.keys
         (new_library (libraries_of before.old.keys) library) result }
 {
     if is_same(library.bytes(), b"work") {
-        return Err(ProjectFault::WorkLibrary);
+        return Err(OrMemory::Fault(ProjectFault::WorkLibrary));
     }
     let key = alone(alloc, &library)?;
     match before.number(&key) {
-        Some(_known) => Err(ProjectFault::DuplicateLibrary { name: library }),
+        Some(_known) => Err(OrMemory::Fault(ProjectFault::DuplicateLibrary { name: library })),
         None => {
             before.add(key)?;
             Ok(library)
@@ -57,7 +62,7 @@ fn library_after(
     alloc: Global,
     before: &mut Numbered<FileName>,
     table: &Table,
-) -> Result<Text, ProjectFault>
+) -> Result<Text, OrMemory<ProjectFault>>
     ensures { before.old.keys ≡ map alone (libraries_of before.old.keys) →
         AddsLibrary before.old.keys before.new.keys
         (library_after (libraries_of before.old.keys) (table_view table.now)) result }
@@ -106,7 +111,7 @@ fn take_names(
     names: &[Text],
     patterns: &[Text],
     found: &mut NumberSet,
-) -> Result<(), ProjectFault>
+) -> Result<(), OrMemory<ProjectFault>>
     requires distinct { AllPairs (λ name other. name ≢ other) names.now }
     requires places { ArePlaces names.now found.old }
     ensures { TakesNames names.now patterns.now found.old found.new result }
@@ -114,7 +119,7 @@ fn take_names(
     for i in 0..patterns.len() {
         if !take_matching(alloc, names, patterns[i].bytes(), found)? {
             let pattern = patterns[i].copy(alloc)?;
-            return Err(ProjectFault::NothingMatches { pattern });
+            return Err(OrMemory::Fault(ProjectFault::NothingMatches { pattern }));
         }
     }
     Ok(())
@@ -170,21 +175,50 @@ fn add_files(
     Ok(())
 }
 
-/// Adds the files of a library.
+/// Whether so many more files may be kept.
+fn has_room(count: usize, more: usize) -> bool
+    ensures { result ≡ nat_le (count + more) FILE_LIMIT }
+{
+    more <= FILE_LIMIT && count <= FILE_LIMIT - more
+}
+
+/// The files so far with those of a library at places of names, or nothing where they are more than may be.
+fn add_few(
+    alloc: Global,
+    files: ProjectFileList,
+    library: &Text,
+    command: &[Text],
+    names: &[Text],
+    places: &[usize],
+) -> Result<Option<ProjectFileList>, NoMemory>
+    requires { All (λ place. place < length names.now) places.now }
+    ensures { IfOk result (λ kept. kept ≡ few_with (Some files)
+        (map (file_in library.now command.now) (texts_at names.now places.now))) }
+{
+    if !has_room(files.as_slice().len(), places.len()) {
+        return Ok(None);
+    }
+    let mut files = files;
+    add_files(alloc, &mut files, library, command, names, places)?;
+    Ok(Some(files))
+}
+
+/// The files so far with those of a library, or nothing where they are more than may be.
 #[tactic(auto, unfolding(crate::specs::Toml::library_files))]
 fn add_library_files(
     alloc: Global,
-    files: &mut ProjectFileList,
+    files: ProjectFileList,
     names: &[Text],
     compiler: &[Text],
     library: &Text,
     table: &Table,
     found: &mut NumberSet,
-) -> Result<(), ProjectFault>
+) -> Result<Option<ProjectFileList>, OrMemory<ProjectFault>>
     requires distinct { AllPairs (λ name other. name ≢ other) names.now }
     requires size { length names.now ≤ found.old.size }
-    ensures added { AddsSaid files.old files.new
-        (library_files names.now compiler.now library.now (table_view table.now)) result }
+    ensures added { ReadsStep (then_read
+        (library_files names.now compiler.now library.now (table_view table.now))
+        (λ more. Ok (few_with (Some files) more))) result }
     ensures size { OnOk result (length names.now ≤ found.new.size) }
 {
     let patterns = texts_at(alloc, Form::Pattern, "library.", "files", table)?;
@@ -192,7 +226,7 @@ fn add_library_files(
     take_names(alloc, names, patterns.as_slice(), found)?;
     let options = words_at(alloc, "library.", "options", table)?;
     let command = joined(alloc, compiler, options.as_slice())?;
-    add_files(
+    let kept = add_few(
         alloc,
         files,
         library,
@@ -200,61 +234,80 @@ fn add_library_files(
         names,
         found.as_slice(),
     )?;
-    Ok(())
+    Ok(kept)
 }
 
-/// Adds the files of a table's library, after those of the tables before it.
-#[tactic(auto, using(crate::proofs::LibrarySum::no_library, crate::proofs::LibrarySum::no_files, crate::proofs::LibrarySum::files_more, crate::proofs::LibrarySum::library_fault, crate::proofs::LibrarySum::added_fault))]
+/// The files so far with those of a library, or nothing where they are more than may be: of those only faults are looked for.
+fn add_or_check(
+    alloc: Global,
+    files: Option<ProjectFileList>,
+    names: &[Text],
+    compiler: &[Text],
+    library: &Text,
+    table: &Table,
+    found: &mut NumberSet,
+) -> Result<Option<ProjectFileList>, OrMemory<ProjectFault>>
+    requires distinct { AllPairs (λ name other. name ≢ other) names.now }
+    requires size { length names.now ≤ found.old.size }
+    ensures added { ReadsStep (then_read
+        (library_files names.now compiler.now library.now (table_view table.now))
+        (λ more. Ok (few_with files more))) result }
+    ensures size { OnOk result (length names.now ≤ found.new.size) }
+{
+    match files {
+        Some(files) => add_library_files(alloc, files, names, compiler, library, table, found),
+        None => check_library(alloc, names, table),
+    }
+}
+
+/// The files so far with those of a table's library, after those of the tables before it.
+#[tactic(auto, using(crate::proofs::LibrarySum::no_library, crate::proofs::LibrarySum::no_files, crate::proofs::LibrarySum::files_more, crate::proofs::LibrarySum::library_fault))]
 fn add_table(
     alloc: Global,
-    files: &mut ProjectFileList,
+    files: Option<ProjectFileList>,
     before: &mut Numbered<FileName>,
     found: &mut NumberSet,
     names: &[Text],
     compiler: &[Text],
     table: &Table,
-) -> Result<(), ProjectFault>
+) -> Result<Option<ProjectFileList>, OrMemory<ProjectFault>>
     requires distinct { AllPairs (λ name other. name ≢ other) names.now }
     requires size { length names.now ≤ found.old.size }
     requires keys { before.old.keys ≡ map alone (libraries_of before.old.keys) }
-    ensures added { OnOk result (AddsTable names.now compiler.now (table_view table.now)
-        before.old.keys before.new.keys files.old files.new) }
+    ensures added { IfOk result (AddsTable names.now compiler.now (table_view table.now)
+        before.old.keys before.new.keys files) }
     ensures fails { IfErr result
         (FailsTable names.now compiler.now (table_view table.now) before.old.keys) }
     ensures size { OnOk result (length names.now ≤ found.new.size) }
 {
     let library = library_after(alloc, before, table)?;
-    add_library_files(alloc, files, names, compiler, &library, table, found)?;
-    Ok(())
+    let kept = add_or_check(alloc, files, names, compiler, &library, table, found)?;
+    Ok(kept)
 }
 
-/// The files of libraries.
+/// The files of libraries, or nothing where they are more than may be; and the libraries.
 #[tactic(auto, using(crate::proofs::LibrarySum::table_more, crate::proofs::LibrarySum::table_fails, crate::proofs::LibrarySum::files_all))]
 pub fn files_of(
     alloc: Global,
     names: &[Text],
     compiler: &[Text],
     tables: &[&Table],
-) -> Result<ProjectFileList, ProjectFault>
+    libraries: &mut Numbered<FileName>,
+) -> Result<Option<ProjectFileList>, OrMemory<ProjectFault>>
     requires distinct { AllPairs (λ name other. name ≢ other) names.now }
-    ensures { ReadsStep
-        (files_of names.now compiler.now [] (map (λ t. table_view t.now) tables.now)) result }
+    requires new { libraries.old.keys ≡ [] }
+    ensures files { ReadsStep (then_read
+        (files_of names.now compiler.now [] (map (λ t. table_view t.now) tables.now))
+        (λ files. Ok (few_files files))) result }
+    ensures libraries { OnOk result
+        (AreLibraries (map (λ t. table_view t.now) tables.now) libraries.new.keys) }
 {
-    let mut files = ProjectFileList::new(alloc);
-    let mut before = Numbered::new(alloc);
+    let mut files = Some(ProjectFileList::new(alloc));
     let mut found = NumberSet::new(alloc);
     found.grow_to(names.len())?;
     for i in 0..tables.len() {
         let table = tables[i];
-        add_table(
-            alloc,
-            &mut files,
-            &mut before,
-            &mut found,
-            names,
-            compiler,
-            table,
-        )?;
+        files = add_table(alloc, files, libraries, &mut found, names, compiler, table)?;
     }
     Ok(files)
 }

@@ -12,7 +12,7 @@ use crate::values::Form;
 use numbering::Numbered;
 use std::alloc::Global;
 use toml::Table;
-use vr_base::{FileName, NoMemory, Pair, PairList, ProjectFault, ProjectFile};
+use vr_base::{FileName, NoMemory, OrMemory, Pair, PairList, ProjectFault, ProjectFile};
 
 /// An index of the names of files.
 #[tactic(auto, using(crate::proofs::PairSteps::name_more))]
@@ -29,24 +29,24 @@ fn index_of(alloc: Global, files: &[ProjectFile]) -> Result<Numbered<FileName>, 
 
 /// The place of a file.
 #[tactic(auto, using(crate::proofs::PairSteps::place_is, crate::proofs::PairSteps::no_place))]
-fn place_of(index: &Numbered<FileName>, name: FileName) -> Result<u64, ProjectFault>
+fn place_of(index: &Numbered<FileName>, name: FileName) -> Result<u64, OrMemory<ProjectFault>>
     ensures { (files : List project_file) → IsIndexOf files index.now.keys →
         ReadsStep (place_of files name) result }
 {
     match index.number(&name) {
         Some(place) => Ok(place as u64),
-        None => Err(ProjectFault::UnknownDependency { name }),
+        None => Err(OrMemory::Fault(ProjectFault::UnknownDependency { name })),
     }
 }
 
 /// The file that two keys of a table name.
 #[tactic(auto, using(crate::proofs::LibrarySum::fault_ends))]
-fn named_file(
+pub fn named_file(
     alloc: Global,
     library: &str,
     path: &str,
     table: &Table,
-) -> Result<FileName, ProjectFault>
+) -> Result<FileName, OrMemory<ProjectFault>>
     ensures { ReadsStep (named_file library.now path.now (table_view table.now)) result }
 {
     let library = text_at(alloc, Form::Library, "depends.", library, table)?;
@@ -56,7 +56,11 @@ fn named_file(
 
 /// The dependency that a table names.
 #[tactic(auto, using(crate::proofs::LibrarySum::fault_ends), unfolding(crate::specs::Toml::pair_of))]
-fn pair_of(alloc: Global, index: &Numbered<FileName>, table: &Table) -> Result<Pair, ProjectFault>
+fn pair_of(
+    alloc: Global,
+    index: &Numbered<FileName>,
+    table: &Table,
+) -> Result<Pair, OrMemory<ProjectFault>>
     ensures { (files : List project_file) → IsIndexOf files index.now.keys →
         ReadsStep (pair_of files (table_view table.now)) result }
 {
@@ -73,7 +77,7 @@ pub fn pairs_of(
     alloc: Global,
     files: &[ProjectFile],
     tables: &[&Table],
-) -> Result<PairList, ProjectFault>
+) -> Result<PairList, OrMemory<ProjectFault>>
     requires { AllPairs (λ name other. name ≢ other) (names_of files.now) }
     ensures { ReadsStep (pairs_of files.now (map (λ t. table_view t.now) tables.now)) result }
 {

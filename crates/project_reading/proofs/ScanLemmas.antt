@@ -9,8 +9,8 @@ use Rattle.vr_base.specs.declared.lexical.LexFault.{LexFault}
 use Rattle.vr_base.specs.declared.lexical.Tokens.{Tokens}
 use Rattle.vr_base.specs.declared.design.UnitFault.{UnitFault}
 use Rattle.vr_base.specs.declared.design.Scan.{Scan}
-use Rattle.vr_base.specs.declared.outcome.Refusal.{Refusal}
-use Rattle.vr_base.specs.declared.outcome.Refusal.TheVariants as refusal
+use Rattle.outcomes.specs.declared.outcome.Refusal.{Refusal}
+use Rattle.outcomes.specs.declared.outcome.Refusal.TheVariants as refusal
 use Rattle.scan_spec.specs.Tokens.{HasFault}
 use Rattle.scan_spec.specs.Units.{HasUnitFault, AreTokensOf}
 use Rattle.file_outlines.specs.declared.outlines.Outlines.{Outlines}
@@ -72,21 +72,19 @@ all_scans scan files texts i scans whole le h =
     sym h ∙ ap (λ (fs : List ProjectFile). after scans (scans_of scan fs (drop i texts))) (drop_all i files le) ∙ ap (λ (ss : List Scan). Ok ss) (append-nil scans)
 
 -- the files up to a position are scanned
-pub record AreFirst (files : List ProjectFile) (texts : List (List ℕ)) (keep : Bool) (count : ℕ) (outlines : Outlines) (kept : List Scan) : Type 0 where
+pub record AreFirst (files : List ProjectFile) (texts : List (List ℕ)) (count : ℕ) (outlines : Outlines) : Type 0 where
   pub scans : List Scan
   pub scanned : AreScansOf (take count texts) scans
   pub are : AreOutlinesOf (take count texts) scans outlines
   pub lie : FilesLieIn (take count texts) outlines.files
-  pub kept_are : keep ≡ true → kept ≡ scans
   pub given : (scan : List ℕ → Finding) → IsScanner scan → after scans (scans_of scan (drop count files) (drop count texts)) ≡ scans_of scan files texts
 
-pub none_first : (files : List ProjectFile) (texts : List (List ℕ)) (keep : Bool) → AreFirst files texts keep 0 (record { scopes = []; files = [] }) []
-none_first files texts keep = record {
+pub none_first : (files : List ProjectFile) (texts : List (List ℕ)) → AreFirst files texts 0 (record { scopes = []; files = [] })
+none_first files texts = record {
   scans = [];
   scanned = no_scans;
   are = no_outlines;
   lie = none_lie;
-  kept_are = λ told. refl;
   given = λ scan is. after_none (scans_of scan files texts);
 } where
   after_none : (whole : Result (List Scan) SourceReading) → after [] whole ≡ whole
@@ -94,8 +92,8 @@ none_first files texts keep = record {
   after_none (Err reading) = refl
 
 -- one file more
-pub one_more : (files : List ProjectFile) (texts : List (List ℕ)) (keep : Bool) (i : ℕ) (file : ProjectFile) (text : List ℕ) (one : Scan) (old new : Outlines) (kept more : List Scan) → length texts ≡ length files → i < length files → file ≡ get_or files i file → text ≡ get_or texts i text → AreFirst files texts keep i old kept → IsScanOf text one → HasAdded text one old new → (keep ≡ true → more ≡ kept ++ one ∷ []) → AreFirst files texts keep (i + 1) new more
-one_more files texts keep i file text one old new kept more all lt file_is text_is first is added adds =
+pub one_more : (files : List ProjectFile) (texts : List (List ℕ)) (i : ℕ) (file : ProjectFile) (text : List ℕ) (one : Scan) (old new : Outlines) → length texts ≡ length files → i < length files → file ≡ get_or files i file → text ≡ get_or texts i text → AreFirst files texts i old → IsScanOf text one → HasAdded text one old new → AreFirst files texts (i + 1) new
+one_more files texts i file text one old new all lt file_is text_is first is added =
     let got : slice_get texts i ≡ Some text = slice_get-get_or texts i text (omega (arith, all, lt)) ∙ ap (λ (t : List ℕ). Some t) (sym text_is) in
     let next : take (i + 1) texts ≡ take i texts ++ text ∷ [] = take_got texts i text got in
     record {
@@ -103,18 +101,16 @@ one_more files texts keep i file text one old new kept more all lt file_is text_
       scanned = subst (λ (some : List (List ℕ)). AreScansOf some (first.scans ++ one ∷ [])) (sym next) (scans_more (take i texts) first.scans text one first.scanned is);
       are = subst (λ (some : List (List ℕ)). AreOutlinesOf some (first.scans ++ one ∷ []) new) (sym next) (outlines_more (take i texts) first.scans text one old new first.are added);
       lie = subst (λ (some : List (List ℕ)). FilesLieIn some new.files) (sym next) (lie_more (take i texts) text one old new first.lie added);
-      kept_are = λ told. adds told ∙ ap (λ (some : List Scan). some ++ one ∷ []) (first.kept_are told);
       given = λ scan scanner. scan_then scan scanner files texts i file text first.scans _ all lt file_is text_is (first.given scan scanner) one is;
     }
 
-pub all_first : (files : List ProjectFile) (texts : List (List ℕ)) (keep : Bool) (i : ℕ) (outlines : Outlines) (kept : List Scan) → length texts ≡ length files → length files ≤ i → AreFirst files texts keep i outlines kept → AreScanned files texts keep (record { outlines = outlines; kept = kept })
-all_first files texts keep i outlines kept all le first =
+pub all_first : (files : List ProjectFile) (texts : List (List ℕ)) (i : ℕ) (outlines : Outlines) → length texts ≡ length files → length files ≤ i → AreFirst files texts i outlines → AreScanned files texts outlines
+all_first files texts i outlines all le first =
     let whole : take i texts ≡ texts = take_all i texts (omega (arith, all, le)) in
     record {
       scans = first.scans;
       scanned = subst (λ (some : List (List ℕ)). AreScansOf some first.scans) whole first.scanned;
       are = subst (λ (some : List (List ℕ)). AreOutlinesOf some first.scans outlines) whole first.are;
       lie = subst (λ (some : List (List ℕ)). FilesLieIn some outlines.files) whole first.lie;
-      kept = first.kept_are;
       given = λ scan scanner. all_scans scan files texts i first.scans _ le (first.given scan scanner);
     }

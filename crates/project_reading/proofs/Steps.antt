@@ -1,11 +1,11 @@
 -- One step of reading, and then the next.
-use Rattle.std.proofs.Common.{◌≡◌, ℕ, ◌≤◌, Bool, true, false, List, [], length, Result, Ok, Err, sym, ap, subst, ◌∙◌, inl, inr}
+use Rattle.std.proofs.Common.{◌≡◌, ℕ, ◌≤◌, Bool, true, false, cond, List, [], length, Option, Result, Ok, Err, sym, ap, subst, ◌∙◌, inl, inr}
 use Rattle.std.specs.Prelude.{IfOk, nat_le}
 use Rattle.std.proofs.lemmas.Bool.{cases_Bool, cond-true, cond-false}
-use Rattle.vr_base.specs.declared.bench.Bench.{Bench}
-use Rattle.vr_base.specs.declared.bench.TestFault.{TestFault}
+use Rattle.vhdl_benches.specs.declared.bench.Bench.{Bench}
+use Rattle.vhdl_benches.specs.declared.bench.TestFault.{TestFault}
 use Rattle.vr_base.specs.declared.design.Scan.{Scan}
-use Rattle.vr_base.specs.declared.outcome.Limit.TheVariants as limit
+use Rattle.outcomes.specs.declared.outcome.Limit.TheVariants as limit
 use Rattle.vr_base.specs.declared.linking.Linked.{Linked}
 use Rattle.vr_base.specs.declared.linking.LinkFault.{LinkFault}
 use Rattle.vr_base.specs.declared.project.Project.{Project}
@@ -13,15 +13,15 @@ use Rattle.vr_base.specs.Projects.{IsProject}
 use Rattle.order_spec.specs.BuildOrder.{FileOrder, Ordered, Cyclic, file_order}
 use Rattle.order_spec.specs.LinkedGraph.{FitTexts}
 use Rattle.scan_spec.specs.Dependencies.{link_units, link_of}
-use Rattle.scan_spec.specs.Scans.{AreScansOf}
+use Rattle.scan_spec.specs.Scans.{AreScansOf, Finding}
 use Rattle.test_select.specs.Selection.{count_of_tests}
 use Rattle.test_scan.specs.Benches.{sources_of, tests_of}
 use Rattle.vr_base.specs.declared.limits.TheConstants.{CASE_LIMIT, FILE_LIMIT}
 use Rattle.project_reading.specs.declared.linking.ReadProject.{ReadProject}
 use Rattle.project_reading.specs.declared.stops.ReadStop.{ReadStop}
 use Rattle.project_reading.specs.declared.stops.ReadStop.TheVariants as stop
-use Rattle.project_reading.specs.Reading.{SourceReading, Over, Found, then_read, linked_or, order_or, tests_or, wanted_tests, found_reading, listed_reading, linked_reading, order_reading, ordered_reading, links_of, scanned_reading}
-use Rattle.project_reading.specs.Sources.{Gives, LeadsTo, IsReadProject}
+use Rattle.project_reading.specs.Reading.{SourceReading, Over, Found, then_read, linked_or, order_or, tests_or, wanted_tests, found_reading, listed_reading, linked_reading, order_reading, ordered_reading, links_of, scanned_reading, files_reading, sources_reading}
+use Rattle.project_reading.specs.Sources.{Gives, GivesProject, LeadsTo, IsReadProject}
 
 -- a step gives nothing to go on with
 pub stops_there : {T : Type 0} (next : T → SourceReading) (whole : Result T SourceReading) (e : ReadStop) → Gives {T = T} whole (Err e) → LeadsTo (then_read next whole) (Err e)
@@ -29,6 +29,21 @@ stops_there next whole (stop.Refused reason) none = ap (then_read next) none
 stops_there next whole (stop.Over limit number) none = ap (then_read next) none
 stops_there next whole stop.Failed none = tt
 stops_there next whole stop.NoMemory none = tt
+
+-- no project is read, or one of more files than may be
+pub no_project : (wanted : Bool) (scan : List ℕ → Finding) (file : List ℕ → Option (List ℕ)) (whole : Result Project SourceReading) (e : ReadStop) → GivesProject whole (Err e) → LeadsTo (then_read (sources_reading wanted scan file) whole) (Err e)
+no_project wanted scan file (Err reading) e none = stops_there (sources_reading wanted scan file) (Err reading) e none
+no_project wanted scan file (Ok project) e none = by (nat_le (length project.files) FILE_LIMIT) e none
+  where
+    by : (few : Bool) (e : ReadStop) → Gives {T = Project} (cond few (Ok project) (Err (Over limit.Files FILE_LIMIT))) (Err e) → LeadsTo (cond few (files_reading wanted scan file project) (Over limit.Files FILE_LIMIT)) (Err e)
+    by true (stop.Refused reason) same = absurd cc
+    by true (stop.Over most number) same = absurd cc
+    by true stop.Failed same = tt
+    by true stop.NoMemory same = tt
+    by false (stop.Refused reason) same = cc
+    by false (stop.Over most number) same = cc
+    by false stop.Failed same = tt
+    by false stop.NoMemory same = tt
 
 -- a step gives what is gone on with
 pub goes_on : {T : Type 0} (next : T → SourceReading) (whole : Result T SourceReading) (value : T) (result : Result ReadProject ReadStop) → whole ≡ Ok value → LeadsTo (next value) result → LeadsTo (then_read next whole) result

@@ -5,16 +5,16 @@ use Rattle.vr_base.specs.declared.file.FileName.{FileName}
 use Rattle.vr_base.specs.declared.project.Project.{Project}
 use Rattle.vr_base.specs.declared.project.ProjectFile.{ProjectFile}
 use Rattle.vr_base.specs.declared.project.ProjectFault.{ProjectFault}
-use Rattle.vr_base.specs.declared.bench.Bench.{Bench}
-use Rattle.vr_base.specs.declared.bench.TestFault.{TestFault}
+use Rattle.vhdl_benches.specs.declared.bench.Bench.{Bench}
+use Rattle.vhdl_benches.specs.declared.bench.TestFault.{TestFault}
 use Rattle.vr_base.specs.declared.design.Scan.{Scan}
 use Rattle.vr_base.specs.declared.linking.Linked.{Linked}
 use Rattle.vr_base.specs.declared.linking.LinkFault.{LinkFault}
 use Rattle.vr_base.specs.declared.linking.LinkFault.TheVariants as link
-use Rattle.vr_base.specs.declared.outcome.Refusal.{Refusal}
-use Rattle.vr_base.specs.declared.outcome.Refusal.TheVariants as refusal
-use Rattle.vr_base.specs.declared.outcome.Limit.{Limit}
-use Rattle.vr_base.specs.declared.outcome.Limit.TheVariants as limit
+use Rattle.outcomes.specs.declared.outcome.Refusal.{Refusal}
+use Rattle.outcomes.specs.declared.outcome.Refusal.TheVariants as refusal
+use Rattle.outcomes.specs.declared.outcome.Limit.{Limit}
+use Rattle.outcomes.specs.declared.outcome.Limit.TheVariants as limit
 use Rattle.vr_base.specs.declared.limits.TheConstants.{CASE_LIMIT, FILE_LIMIT, GRAPH_TEXT_LIMIT, TEXT_LIMIT, NAME_LIMIT}
 use Rattle.vr_base.specs.PresentGraph.{listed}
 use Rattle.vr_outside.specs.declared.tree.ReadEnd.{ReadEnd}

@@ -1,7 +1,9 @@
 -- What the steps of reading give, and what each answer comes of.
-use Rattle.std.specs.Prelude.{◌≡◌, ℕ, ◌≤◌, Bool, List, length, Result, Ok, Err}
+use Rattle.std.specs.Prelude.{◌≡◌, ℕ, ◌≤◌, nat_le, Bool, if◌then◌else◌, List, length, Result, Ok, Err}
 use Rattle.vr_base.specs.Projects.{IsProject}
 use Rattle.vr_base.specs.declared.design.Scan.{Scan}
+use Rattle.outcomes.specs.declared.outcome.Limit.TheVariants as limit
+use Rattle.vr_base.specs.declared.project.Project.{Project}
 use Rattle.vr_outside.specs.Counts.{Counted}
 use Rattle.order_spec.specs.LinkedGraph.{FitTexts}
 use Rattle.scan_spec.specs.Scans.{AreScansOf}
@@ -18,6 +20,16 @@ Gives whole (Err (stop.Refused reason)) = whole ≡ Err (Stops reason)
 Gives whole (Err (stop.Over limit number)) = whole ≡ Err (Over limit number)
 Gives whole (Err stop.Failed) = Unit {0}
 Gives whole (Err stop.NoMemory) = Unit {0}
+
+-- a project, or that it has more files than may be
+abbrev pub few_project : Result Project SourceReading → Result Project SourceReading
+few_project (Ok project) = if nat_le (length project.files) FILE_LIMIT then Ok project else Err (Over limit.Files FILE_LIMIT)
+few_project (Err reading) = Err reading
+
+-- the project was read; or nothing, where there is none, or it has more files than may be
+abbrev pub GivesProject : Result Project SourceReading → Result Project ReadStop → Type 0
+GivesProject whole (Ok project) = whole ≡ Ok project
+GivesProject whole (Err stop) = Gives {T = Project} (few_project whole) (Err stop)
 
 -- the reading is what was read: a project, a refusal, or a limit that is passed; after a fault and out of memory nothing is owed
 abbrev pub LeadsTo : SourceReading → Result ReadProject ReadStop → Type 0

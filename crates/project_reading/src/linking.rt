@@ -1,14 +1,12 @@
 //! The graph of a project whose texts and outlines are there.
 
-ghost use Rattle.std.specs.Prelude.{◌≡◌, ◌≤◌, ℕ, List, nat_lt, true, false, ◌∷◌, ◌++◌, [], length, Result, Err, IfOk, OnOk};
+ghost use Rattle.std.specs.Prelude.{◌≡◌, ◌≤◌, ℕ, List, nat_lt, ◌∷◌, ◌++◌, [], length, Result, Err, IfOk, OnOk};
 ghost use Rattle.vr_base.specs.declared.design.Scan.{Scan};
 ghost use Rattle.vr_base.specs.declared.linking.Linked.{Linked as Links};
 ghost use Rattle.vr_base.specs.declared.linking.LinkFault.{LinkFault as Fault};
 ghost use Rattle.vr_base.specs.Projects.{IsProject};
-ghost use Rattle.vr_base.specs.declared.bench.Bench.{Bench};
-ghost use Rattle.scan_spec.specs.Scans.{AreScansOf};
 ghost use Rattle.test_select.specs.Selection.{count_of_tests};
-ghost use Rattle.test_scan.specs.Benches.{GivesTests, sources_of, tests_of};
+ghost use Rattle.test_scan.specs.Benches.{sources_of, tests_of};
 ghost use Rattle.order_spec.specs.BuildOrder.{AreEdges, IsBuildOrder, file_order};
 ghost use Rattle.order_spec.specs.LinkedGraph.{FitTexts};
 ghost use Rattle.file_outlines.specs.Outlines.{AreOutlined, AreOutlinesOf};
@@ -20,13 +18,15 @@ use crate::stops::ReadStop;
 use build_order::order;
 use file_graph::link_by_outlines;
 use file_outlines::Outlines;
+use outcomes::{Limit, Refusal};
 use present_graph::graph_of;
 use source_view::listed_graph;
 use std::alloc::Global;
 use test_scan::benches;
+use vhdl_benches::Tests;
 use vr_base::{
-    CASE_LIMIT, Edges, FILE_LIMIT, FileList, Graph, Limit, LinkFault, Linked, NoMemory, Order,
-    OrderFault, Project, ProjectFile, Refusal, Scans, TestFault, Tests, TextList, WarningList,
+    CASE_LIMIT, Edges, FILE_LIMIT, FileList, Graph, LinkFault, Linked, NoMemory, OrMemory, Order,
+    OrderFault, Project, ProjectFile, TextList, WarningList,
 };
 
 /// The most cases of all benches.
@@ -149,18 +149,6 @@ fn order_of(alloc: Global, files: &[ProjectFile], edges: &Edges) -> Result<Order
     }
 }
 
-/// Why a project whose benches are wrong isn't run.
-fn test_stop(fault: TestFault) -> ReadStop
-    ensures stop { (said : Result (List Bench) TestFault) → GivesTests said (Err fault) →
-        Gives {T = List Bench} (tests_or said) (Err result) }
-    ensures cause { (count : ℕ) → ReadCounts {T = List Bench} (Err result) count count }
-{
-    match fault {
-        TestFault::NoMemory => ReadStop::NoMemory,
-        fault => ReadStop::Refused(Refusal::Tests { fault }),
-    }
-}
-
 /// Whether benches have more cases than there may be.
 fn are_many(tests: &Tests) -> bool
     ensures { result ≡ nat_lt CASE_LIMIT (count_of_tests tests.now) }
@@ -193,18 +181,19 @@ fn found_tests(
     alloc: Global,
     project: &Project,
     texts: &TextList,
-    scans: &Scans,
+    outlines: &Outlines,
 ) -> Result<Tests, ReadStop>
     requires few { length project.now.files ≤ FILE_LIMIT }
     requires texts { FitTexts project.now.files texts.now }
-    requires scans { AreScansOf texts.now scans.now }
-    ensures tests { Gives
-        (tests_or (tests_of (sources_of project.now texts.now scans.now))) result }
+    requires outlined { AreOutlined texts.now outlines.now }
+    ensures tests { (scans : List Scan) → AreOutlinesOf texts.now scans outlines.now →
+        Gives (tests_or (tests_of (sources_of project.now texts.now scans))) result }
     ensures cause { (count : ℕ) → ReadCounts result count count }
 {
-    match benches(alloc, project, texts, scans) {
+    match benches(alloc, project, texts, outlines) {
         Ok(tests) => few_tests(tests),
-        Err(fault) => Err(test_stop(fault)),
+        Err(OrMemory::NoMemory) => Err(ReadStop::NoMemory),
+        Err(OrMemory::Fault(fault)) => Err(ReadStop::Refused(Refusal::Tests { fault })),
     }
 }
 
@@ -215,19 +204,19 @@ fn wanted_tests(
     wanted: bool,
     project: &Project,
     texts: &TextList,
-    kept: &Scans,
+    outlines: &Outlines,
 ) -> Result<Tests, ReadStop>
     requires few { length project.now.files ≤ FILE_LIMIT }
     requires texts { FitTexts project.now.files texts.now }
-    requires kept { wanted ≡ true → AreScansOf texts.now kept.now }
-    ensures tests { (scans : List Scan) → (wanted ≡ true → kept.now ≡ scans) →
+    requires outlined { AreOutlined texts.now outlines.now }
+    ensures tests { (scans : List Scan) → AreOutlinesOf texts.now scans outlines.now →
         Gives (wanted_tests wanted project.now texts.now scans) result }
     ensures cause { (count : ℕ) → ReadCounts result count count }
 {
     if !wanted {
         return Ok(Tests::new(alloc));
     }
-    found_tests(alloc, project, texts, kept)
+    found_tests(alloc, project, texts, outlines)
 }
 
 /// A listed project, its graph in listed order.
@@ -236,17 +225,17 @@ fn listed_project(
     wanted: bool,
     project: Project,
     texts: TextList,
-    kept: &Scans,
+    outlines: &Outlines,
 ) -> Result<ReadProject, ReadStop>
     requires project { IsProject project }
     requires few { length project.files ≤ FILE_LIMIT }
     requires texts { FitTexts project.files texts }
-    requires kept { wanted ≡ true → AreScansOf texts kept.now }
-    ensures reading { (scans : List Scan) → (wanted ≡ true → kept.now ≡ scans) →
+    requires outlined { AreOutlined texts outlines.now }
+    ensures reading { (scans : List Scan) → AreOutlinesOf texts scans outlines.now →
         LeadsTo (listed_reading wanted project texts scans) result }
     ensures cause { (count : ℕ) → ReadCounts result count count }
 {
-    let tests = wanted_tests(alloc, wanted, &project, &texts, kept)?;
+    let tests = wanted_tests(alloc, wanted, &project, &texts, outlines)?;
     let graph = listed_graph(alloc, &project, texts)?;
     let warnings = WarningList::new(alloc);
     Ok(ReadProject {
@@ -263,22 +252,22 @@ fn ordered_project(
     wanted: bool,
     project: Project,
     texts: TextList,
-    kept: &Scans,
+    outlines: &Outlines,
     links: Linked,
     order: &Order,
 ) -> Result<ReadProject, ReadStop>
     requires project { IsProject project }
     requires few { length project.files ≤ FILE_LIMIT }
     requires texts { FitTexts project.files texts }
-    requires kept { wanted ≡ true → AreScansOf texts kept.now }
+    requires outlined { AreOutlined texts outlines.now }
     requires edges { AreEdges links.edges }
     requires count { length links.edges ≡ length project.files }
     requires sorted { IsBuildOrder links.edges order.now }
-    ensures reading { (scans : List Scan) → (wanted ≡ true → kept.now ≡ scans) →
+    ensures reading { (scans : List Scan) → AreOutlinesOf texts scans outlines.now →
         LeadsTo (order_reading wanted project texts scans links order.now) result }
     ensures cause { (count : ℕ) → ReadCounts result count count }
 {
-    let tests = wanted_tests(alloc, wanted, &project, &texts, kept)?;
+    let tests = wanted_tests(alloc, wanted, &project, &texts, outlines)?;
     let Linked { edges, warnings } = links;
     let graph = graph_of(alloc, &project, texts, &edges, order)?;
     Ok(ReadProject {
@@ -295,46 +284,43 @@ fn linked_project(
     wanted: bool,
     project: Project,
     texts: TextList,
-    kept: &Scans,
+    outlines: &Outlines,
     links: Linked,
 ) -> Result<ReadProject, ReadStop>
     requires project { IsProject project }
     requires few { length project.files ≤ FILE_LIMIT }
     requires texts { FitTexts project.files texts }
-    requires kept { wanted ≡ true → AreScansOf texts kept.now }
+    requires outlined { AreOutlined texts outlines.now }
     requires edges { AreEdges links.edges }
     requires count { length links.edges ≡ length project.files }
-    ensures reading { (scans : List Scan) → (wanted ≡ true → kept.now ≡ scans) →
+    ensures reading { (scans : List Scan) → AreOutlinesOf texts scans outlines.now →
         LeadsTo (linked_reading wanted project texts scans links) result }
     ensures cause { (count : ℕ) → ReadCounts result count count }
 {
     let order = order_of(alloc, project.files.as_slice(), &links.edges)?;
-    ordered_project(alloc, wanted, project, texts, kept, links, &order)
+    ordered_project(alloc, wanted, project, texts, outlines, links, &order)
 }
 
-/// A project of these texts, with the outlines of its files, and their scans where tests are wanted. Texts exist once: they
-/// are lent until it is known what depends on what and which tests there are, and then moved into the graph.
+/// A project of these texts, with the outlines of its files. Texts exist once: they are lent until it is known what depends
+/// on what and which tests there are, and then moved into the graph.
 pub(crate) fn scanned_project(
     alloc: Global,
     wanted: bool,
     project: Project,
     texts: TextList,
     outlines: &Outlines,
-    kept: &Scans,
 ) -> Result<ReadProject, ReadStop>
     requires project { IsProject project }
     requires few { length project.files ≤ FILE_LIMIT }
     requires texts { FitTexts project.files texts }
     requires outlined { AreOutlined texts outlines.now }
-    requires kept { wanted ≡ true → AreScansOf texts kept.now }
     ensures reading { (scans : List Scan) → AreOutlinesOf texts scans outlines.now →
-        (wanted ≡ true → kept.now ≡ scans) →
         LeadsTo (scanned_reading wanted project texts scans) result }
     ensures cause { (count : ℕ) → ReadCounts result count count }
 {
     if project.listed {
-        return listed_project(alloc, wanted, project, texts, kept);
+        return listed_project(alloc, wanted, project, texts, outlines);
     }
     let links = links_of(alloc, &project, &texts, outlines)?;
-    linked_project(alloc, wanted, project, texts, kept, links)
+    linked_project(alloc, wanted, project, texts, outlines, links)
 }

@@ -1,6 +1,6 @@
 //! The project that the project file of a tree says.
 
-ghost use Rattle.std.specs.Prelude.{◌≡◌, ◌≤◌, ◌∷◌, [], ℕ, length, codes, Result, Err, IfOk};
+ghost use Rattle.std.specs.Prelude.{◌≡◌, ◌≤◌, ◌∷◌, [], ℕ, length, codes, Result, Ok, Err, IfOk, IfSome};
 ghost use Rattle.vr_base.specs.declared.project.Project.{Project as Said};
 ghost use Rattle.vr_base.specs.declared.project.ProjectFault.{ProjectFault as Fault};
 ghost use Rattle.vr_base.specs.Projects.{IsProject};
@@ -9,14 +9,18 @@ ghost use Rattle.project_file.specs.Csv.{csv_project};
 ghost use Rattle.project_file.specs.Toml.{toml_project};
 ghost use Rattle.project_file.specs.Steps.{ReadsStep};
 ghost use Rattle.project_reading.specs.Reading.{project_or, csv_said, toml_said, project_in};
-ghost use Rattle.project_reading.specs.Sources.{Gives, ReadCounts};
+ghost use Rattle.project_file.specs.Few.{few_said};
+ghost use Rattle.project_reading.specs.Sources.{GivesProject, ReadCounts};
 ghost use Rattle.project_reading.specs.Asked.{project_file_paths, AsksInOrder};
 
 use crate::asking::{list_names, read_file};
 use crate::stops::ReadStop;
+use outcomes::{Limit, Refusal};
 use project_file::{read_csv_project, read_toml_project};
 use std::alloc::Global;
-use vr_base::{Limit, NAME_LIMIT, Project, ProjectFault, Refusal, TEXT_LIMIT, Text, TextList};
+use vr_base::{
+    FILE_LIMIT, NAME_LIMIT, OrMemory, Project, ProjectFault, TEXT_LIMIT, Text, TextList,
+};
 use vr_outside::{NamesEnd, ReadEnd, Tree};
 
 /// The most bytes of a project file.
@@ -25,22 +29,27 @@ const MOST_TEXT: u64 = TEXT_LIMIT as u64;
 /// The most names that are listed.
 const MOST_NAMES: u64 = NAME_LIMIT as u64;
 
+/// The most files of a project.
+const MOST_FILES: u64 = FILE_LIMIT as u64;
+
 /// Why nothing is compiled where a project file has a fault.
-fn project_stop(fault: ProjectFault) -> ReadStop
+fn project_stop(fault: OrMemory<ProjectFault>) -> ReadStop
     ensures stop { (said : Result Said Fault) → ReadsStep said (Err fault) →
-        Gives {T = Said} (project_or said) (Err result) }
+        GivesProject (project_or said) (Err result) }
+    ensures few { (said : Result Said Fault) → ReadsStep (few_said said) (Err fault) →
+        GivesProject (project_or said) (Err result) }
     ensures cause { (count : ℕ) → ReadCounts {T = Said} (Err result) count count }
 {
     match fault {
-        ProjectFault::NoMemory => ReadStop::NoMemory,
-        fault => ReadStop::Refused(Refusal::Project { fault }),
+        OrMemory::NoMemory => ReadStop::NoMemory,
+        OrMemory::Fault(fault) => ReadStop::Refused(Refusal::Project { fault }),
     }
 }
 
 /// The project of the bytes of a project file of lines.
 fn csv_said(alloc: Global, bytes: &[u8]) -> Result<Project, ReadStop>
     requires { length bytes.now ≤ TEXT_LIMIT }
-    ensures project { Gives (project_or (csv_project bytes.now)) result }
+    ensures project { GivesProject (project_or (csv_project bytes.now)) result }
     ensures valid { IfOk result IsProject }
     ensures cause { (count : ℕ) → ReadCounts result count count }
 {
@@ -50,15 +59,29 @@ fn csv_said(alloc: Global, bytes: &[u8]) -> Result<Project, ReadStop>
     }
 }
 
+/// The project of a TOML file that has no fault, unless it has more files than may be.
+fn few_or_over(read: Option<Project>) -> Result<Project, ReadStop>
+    requires { IfSome read IsProject }
+    ensures project { (said : Result Said Fault) → few_said said ≡ Ok read →
+        GivesProject (project_or said) result }
+    ensures valid { IfOk result IsProject }
+    ensures cause { (count : ℕ) → ReadCounts result count count }
+{
+    match read {
+        Some(project) => Ok(project),
+        None => Err(ReadStop::Over(Limit::Files, MOST_FILES)),
+    }
+}
+
 /// The project of the bytes of a TOML file, over the names that are listed.
 fn toml_said(alloc: Global, bytes: &[u8], names: &TextList) -> Result<Project, ReadStop>
     requires { IsListing NAME_LIMIT (NamesEnd.Got names.now) }
-    ensures project { Gives (project_or (toml_project bytes.now names.now)) result }
+    ensures project { GivesProject (project_or (toml_project bytes.now names.now)) result }
     ensures valid { IfOk result IsProject }
     ensures cause { (count : ℕ) → ReadCounts result count count }
 {
     match read_toml_project(alloc, bytes, names) {
-        Ok(project) => Ok(project),
+        Ok(read) => few_or_over(read),
         Err(fault) => Err(project_stop(fault)),
     }
 }
@@ -66,7 +89,7 @@ fn toml_said(alloc: Global, bytes: &[u8], names: &TextList) -> Result<Project, R
 /// The project of a TOML file, over the names that a tree lists.
 fn read_toml<T: Tree>(alloc: Global, tree: &mut T, bytes: Text) -> Result<Project, ReadStop>
     ensures project { T.tells →
-        Gives (toml_said bytes (names_end (T.listed tree.old) NAME_LIMIT)) result }
+        GivesProject (toml_said bytes (names_end (T.listed tree.old) NAME_LIMIT)) result }
     ensures valid { IfOk result IsProject }
     ensures same { T.file tree.new ≡ T.file tree.old }
     ensures same_list { T.listed tree.new ≡ T.listed tree.old }
@@ -83,7 +106,7 @@ fn read_toml<T: Tree>(alloc: Global, tree: &mut T, bytes: Text) -> Result<Projec
 fn read_csv<T: Tree>(alloc: Global, tree: &mut T) -> Result<Project, ReadStop>
     ensures project { T.tells →
         let read = read_end (T.file tree.old (codes "vunit.csv")) TEXT_LIMIT in
-        Gives (csv_said read) result }
+        GivesProject (csv_said read) result }
     ensures valid { IfOk result IsProject }
     ensures same { T.file tree.new ≡ T.file tree.old }
     ensures same_list { T.listed tree.new ≡ T.listed tree.old }
@@ -103,7 +126,7 @@ fn read_csv<T: Tree>(alloc: Global, tree: &mut T) -> Result<Project, ReadStop>
 #[tactic(auto, unfolding(crate::specs::Reading::project_in))]
 pub(crate) fn find_project<T: Tree>(alloc: Global, tree: &mut T) -> Result<Project, ReadStop>
     ensures project { T.tells →
-        Gives (project_in (T.file tree.old) (T.listed tree.old)) result }
+        GivesProject (project_in (T.file tree.old) (T.listed tree.old)) result }
     ensures valid { IfOk result IsProject }
     ensures same { T.file tree.new ≡ T.file tree.old }
     ensures same_list { T.listed tree.new ≡ T.listed tree.old }

@@ -10,11 +10,12 @@ ghost use Rattle.project_reading.specs.Asked.{file_paths, source_paths, project_
 
 use crate::linking::{ReadProject, scanned_project};
 use crate::projects::find_project;
-use crate::scanning::{Scanning, scan_all};
+use crate::scanning::scan_all;
 use crate::stops::ReadStop;
 use crate::texts::texts_of;
+use outcomes::Limit;
 use std::alloc::Global;
-use vr_base::{FILE_LIMIT, Limit, Project, TextList};
+use vr_base::{FILE_LIMIT, Project, TextList};
 use vr_outside::Tree;
 
 /// The most files of a project.
@@ -35,13 +36,8 @@ fn scan_texts(
     ensures form { IfOk result (IsReadProject wanted) }
     ensures cause { (count : ℕ) → ReadCounts result count count }
 {
-    let Scanning { outlines, kept } = scan_all(
-        alloc,
-        project.files.as_slice(),
-        texts.as_slice(),
-        wanted,
-    )?;
-    scanned_project(alloc, wanted, project, texts, &outlines, &kept)
+    let outlines = scan_all(alloc, project.files.as_slice(), texts.as_slice())?;
+    scanned_project(alloc, wanted, project, texts, &outlines)
 }
 
 /// What is read of a project of few files over the files of a tree.

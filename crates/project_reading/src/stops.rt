@@ -3,7 +3,8 @@
 ghost use Rattle.std.specs.Prelude.{◌≡◌};
 ghost use Rattle.project_reading.specs.declared.stops.ReadStop.TheVariants.{NoMemory as out_of_memory};
 
-use vr_base::{Limit, NoMemory, Refusal};
+use outcomes::{Limit, Refusal};
+use vr_base::NoMemory;
 
 /// Why nothing is compiled.
 #[derive(Drop)]

@@ -9,10 +9,9 @@ ghost use Rattle.project_reading.specs.Asked.{file_paths, AsksInOrder};
 
 use crate::asking::read_file;
 use crate::stops::ReadStop;
+use outcomes::{Limit, Refusal};
 use std::alloc::Global;
-use vr_base::{
-    FileName, GRAPH_TEXT_LIMIT, Limit, NoMemory, ProjectFile, Refusal, TEXT_LIMIT, Text, TextList,
-};
+use vr_base::{FileName, GRAPH_TEXT_LIMIT, NoMemory, ProjectFile, TEXT_LIMIT, Text, TextList};
 use vr_outside::{ReadEnd, Tree};
 
 /// The most bytes of a file.

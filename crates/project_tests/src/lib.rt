@@ -4,6 +4,8 @@
 #[cfg(test)]
 mod lines;
 #[cfg(test)]
+mod many_files;
+#[cfg(test)]
 mod projects;
 #[cfg(test)]
 mod random_projects;

@@ -5,7 +5,7 @@ use project_file::read_csv_project;
 use std::alloc::Global;
 use std::process::Abort;
 use std::test::Fail;
-use vr_base::{NoMemory, ProjectFault, ProjectFile};
+use vr_base::{NoMemory, OrMemory, ProjectFault, ProjectFile};
 
 /// A line each: the bytes of a project file, where a bar is an end of a line, and after a `~` the files that they say, each
 /// with a semicolon, or the first fault.
@@ -56,8 +56,8 @@ fn said(alloc: Global, bytes: &[u8]) -> Result<Vec<u8>, NoMemory> {
     }
     match read_csv_project(alloc, bytes) {
         Ok(project) => files_of(alloc, project.files.as_slice()),
-        Err(ProjectFault::NoMemory) => Err(NoMemory),
-        Err(fault) => words_of(alloc, &fault),
+        Err(OrMemory::NoMemory) => Err(NoMemory),
+        Err(OrMemory::Fault(fault)) => words_of(alloc, &fault),
     }
 }
 

@@ -1,13 +1,14 @@
 //! Small trees, and what is read of them, written out by hand.
 
+use outcomes::Limit;
 use project_reading::{ReadProject, ReadStop, read_project};
 use run_report::{limit_text, refusal_text, warning_text};
 use std::alloc::Global;
 use std::process::Abort;
 use std::test::Fail;
 use vr_base::{
-    FILE_LIMIT, GRAPH_TEXT_LIMIT, Graph, Items, Limit, NAME_LIMIT, NamedText, NamedTextList,
-    Numbers, TEXT_LIMIT, Text,
+    FILE_LIMIT, GRAPH_TEXT_LIMIT, Graph, Items, NAME_LIMIT, NamedText, NamedTextList, Numbers,
+    TEXT_LIMIT, Text,
 };
 use vr_memory::{MemTree, have_paths};
 
@@ -54,7 +55,7 @@ pub(super) fn unfolded(alloc: Global, bytes: &[u8]) -> Result<Text, Fail> {
     Ok(Text::from_vec(out))
 }
 
-fn add_file(
+pub(super) fn add_file(
     alloc: Global,
     files: &mut NamedTextList,
     path: &[u8],
@@ -100,7 +101,7 @@ fn shown_project(alloc: Global, read: &ReadProject) -> Result<Text, Fail> {
     Ok(Text::from_vec(out))
 }
 
-fn shown_stop(alloc: Global, stop: &ReadStop) -> Result<Text, Fail> {
+pub(super) fn shown_stop(alloc: Global, stop: &ReadStop) -> Result<Text, Fail> {
     match stop {
         ReadStop::Refused(reason) => Ok(refusal_text(alloc, reason)?),
         ReadStop::Over(limit, number) => Ok(limit_text(alloc, *limit, *number)?),
@@ -219,7 +220,7 @@ fn put_name(out: &mut Vec<u8>, number: usize) -> Result<(), Fail> {
 }
 
 /// Adds a file with such a name.
-fn add_numbered(
+pub(super) fn add_numbered(
     alloc: Global,
     files: &mut NamedTextList,
     number: usize,

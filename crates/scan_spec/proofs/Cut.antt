@@ -4,7 +4,7 @@ use Rattle.std.specs.Prelude.{Option}
 use Rattle.vr_base.specs.declared.lexical.Token.{Token}
 use Rattle.vr_base.specs.declared.lexical.TokenKind.TheVariants.{Str, Extended}
 use Rattle.vr_base.specs.declared.lexical.LexFault.{LexFault}
-use Rattle.vr_base.specs.declared.lexical.LexFault.TheVariants.{NoMemory, UnclosedString, UnclosedExtended, UnclosedComment}
+use Rattle.vr_base.specs.declared.lexical.LexFault.TheVariants.{UnclosedString, UnclosedExtended, UnclosedComment}
 use Rattle.scan_spec.specs.Tokens.{Row, token, block_comment, Piece, Place, row_at, IsLongest, IsRight, Leads, place_after, text_start, IsCut, Opens, HasFault}
 
 -- of a form one longest piece is at an offset
@@ -60,7 +60,6 @@ no_cut_and_opening text pieces row at cut opens =
     omega (arith, opens.stands, opens.within, cut.whole)
 
 pub no_cut_and_fault : (text : List ℕ) (pieces : List Piece) (fault : LexFault) → IsCut text pieces → HasFault text fault → ⊥
-no_cut_and_fault text pieces NoMemory cut has = has
 no_cut_and_fault text pieces (UnclosedString at) cut has = no_cut_and_opening text pieces (token Str) at cut has
 no_cut_and_fault text pieces (UnclosedExtended at) cut has = no_cut_and_opening text pieces (token Extended) at cut has
 no_cut_and_fault text pieces (UnclosedComment at) cut has = no_cut_and_opening text pieces block_comment at cut has
@@ -78,7 +77,6 @@ pub record Fault (text : List ℕ) (fault : LexFault) : Type 0 where
   pub is : fault ≡ fault_of row at
 
 parts_of : (text : List ℕ) (fault : LexFault) → HasFault text fault → Fault text fault
-parts_of text NoMemory has = absurd has
 parts_of text (UnclosedString at) has = record { row = token Str; at = at; opens = has; is = refl }
 parts_of text (UnclosedExtended at) has = record { row = token Extended; at = at; opens = has; is = refl }
 parts_of text (UnclosedComment at) has = record { row = block_comment; at = at; opens = has; is = refl }

@@ -9,7 +9,7 @@ use Rattle.vr_base.specs.declared.design.Role.{Role}
 use Rattle.vr_base.specs.declared.design.Role.TheVariants.{Semicolon, Other}
 use Rattle.vr_base.specs.declared.design.Beginning.TheVariants as begins
 use Rattle.vr_base.specs.declared.design.UnitFault.{UnitFault}
-use Rattle.vr_base.specs.declared.design.UnitFault.TheVariants.{NoMemory, NotUnit, NotEnded}
+use Rattle.vr_base.specs.declared.design.UnitFault.TheVariants.{NotUnit, NotEnded}
 use Rattle.scan_spec.specs.Units.{role_at, roles_of, token_at, IsFirstSemicolon, IsEndPart, EndsPlain, Element, item, plain, owned, last_of, IsElement, Begins, BeginsAs, Follow, IsOutline, IsNoUnit, IsUnended, HasUnitFault}
 use Rattle.scan_spec.proofs.Grammar.{items_ordered, one_semicolon, one_end_part, one_owner}
 
@@ -138,13 +138,10 @@ no_outline_and_stop roles elements at outline stops =
     omega (arith, stops.within)
 
 pub no_outline_and_fault : (text : List ℕ) (tokens : List Token) (elements : List Element) (fault : UnitFault) → IsOutline (roles_of text tokens) elements → HasUnitFault text tokens fault → ⊥
-no_outline_and_fault text tokens elements NoMemory outline has = has
 no_outline_and_fault text tokens elements (NotUnit place) outline has = no_outline_and_stop (roles_of text tokens) elements has.0 outline (no_unit_stops (roles_of text tokens) has.0 has.1)
 no_outline_and_fault text tokens elements (NotEnded place) outline has = no_outline_and_stop (roles_of text tokens) elements has.0 outline (unended_stops (roles_of text tokens) has.0 has.1)
 
 pub one_unit_fault : (text : List ℕ) (tokens : List Token) (a b : UnitFault) → HasUnitFault text tokens a → HasUnitFault text tokens b → a ≡ b
-one_unit_fault text tokens NoMemory b left right = absurd left
-one_unit_fault text tokens a NoMemory left right = absurd right
 one_unit_fault text tokens (NotUnit p) (NotUnit q) left right =
     let roles = roles_of text tokens in
     let same : left.0 ≡ right.0 = one_stop roles left.0 right.0 (no_unit_stops roles left.0 left.1) (no_unit_stops roles right.0 right.1) in

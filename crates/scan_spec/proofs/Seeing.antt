@@ -7,7 +7,7 @@ use Rattle.std.proofs.lemmas.Bool.{cases_lt}
 use Rattle.std.proofs.lemmas.Slice.Eq.{bytes_eq-Decides}
 use Rattle.std.proofs.lemmas.List.Elements.{Contains-append_left, Contains-append_right}
 use Rattle.vr_base.specs.declared.refs.Ref.{Ref}
-use Rattle.scan_spec.specs.Visibility.{ScopeUnit, Sets, AreClosed, is_implicit, is_primary_of, is_context_of, has_by_primary, has_by_context, grown, seen_after, enough_steps}
+use Rattle.scan_spec.specs.Visibility.{ScopeUnit, Sets, AreClosed, is_implicit, belongs_to, is_context_of, has_by_owner, has_by_context, grown, seen_after, enough_steps}
 use Rattle.scan_spec.proofs.SomeTests.{or_cases, or_first, or_second, and_cases, and_both, any_weaker, some_of, Contains-first, Contains-later}
 use Rattle.scan_spec.proofs.Pigeons.{rests}
 
@@ -16,10 +16,10 @@ module _ (units : List ScopeUnit) where
   abbrev pub IsWithin : Sets → Sets → Type 0
   IsWithin f g = (user : ScopeUnit) (name : List ℕ) → Contains units user → f user name ≡ true → g user name ≡ true
 
-  primary_weaker : (f g : Sets) (user : ScopeUnit) (name : List ℕ) → IsWithin f g → has_by_primary units f user name ≡ true → has_by_primary units g user name ≡ true
-  primary_weaker f g user name within =
-      any_weaker (λ primary. is_primary_of user primary && f primary name) (λ primary. is_primary_of user primary && g primary name) units
-      (λ primary there both. let is = and_cases (is_primary_of user primary) (f primary name) both in and_both (is_primary_of user primary) (g primary name) is.0 (within primary name there is.1))
+  owner_weaker : (f g : Sets) (user : ScopeUnit) (name : List ℕ) → IsWithin f g → has_by_owner units f user name ≡ true → has_by_owner units g user name ≡ true
+  owner_weaker f g user name within =
+      any_weaker (λ owner. belongs_to user owner && f owner name) (λ owner. belongs_to user owner && g owner name) units
+      (λ owner there both. let is = and_cases (belongs_to user owner) (f owner name) both in and_both (belongs_to user owner) (g owner name) is.0 (within owner name there is.1))
 
   context_weaker : (f g : Sets) (user : ScopeUnit) (name : List ℕ) → Contains units user → IsWithin f g → has_by_context units f user name ≡ true → has_by_context units g user name ≡ true
   context_weaker f g user name among within has =
@@ -38,16 +38,16 @@ module _ (units : List ScopeUnit) where
 
   pub grown_weaker : (f g : Sets) (user : ScopeUnit) (name : List ℕ) → Contains units user → IsWithin f g → grown units f user name ≡ true → grown units g user name ≡ true
   grown_weaker f g user name among within has =
-      elim (or_cases (f user name || has_by_primary units f user name) (has_by_context units f user name) has) [
-        | inl before ↦ or_first (g user name || has_by_primary units g user name) (has_by_context units g user name) (elim (or_cases (f user name) (has_by_primary units f user name) before) [
-          | inl already ↦ or_first (g user name) (has_by_primary units g user name) (within user name among already)
-          | inr primary ↦ or_second (g user name) (has_by_primary units g user name) (primary_weaker f g user name within primary)
+      elim (or_cases (f user name || has_by_owner units f user name) (has_by_context units f user name) has) [
+        | inl before ↦ or_first (g user name || has_by_owner units g user name) (has_by_context units g user name) (elim (or_cases (f user name) (has_by_owner units f user name) before) [
+          | inl already ↦ or_first (g user name) (has_by_owner units g user name) (within user name among already)
+          | inr primary ↦ or_second (g user name) (has_by_owner units g user name) (owner_weaker f g user name within primary)
         ])
-        | inr context ↦ or_second (g user name || has_by_primary units g user name) (has_by_context units g user name) (context_weaker f g user name among within context)
+        | inr context ↦ or_second (g user name || has_by_owner units g user name) (has_by_context units g user name) (context_weaker f g user name among within context)
       ]
 
   pub one_step_more : (f : Sets) (user : ScopeUnit) (name : List ℕ) → f user name ≡ true → grown units f user name ≡ true
-  one_step_more f user name has = or_first (f user name || has_by_primary units f user name) (has_by_context units f user name) (or_first (f user name) (has_by_primary units f user name) has)
+  one_step_more f user name has = or_first (f user name || has_by_owner units f user name) (has_by_context units f user name) (or_first (f user name) (has_by_owner units f user name) has)
 
   pub least : (sets : Sets) → AreClosed units sets → (steps : ℕ) → IsWithin (seen_after units steps) sets
   unfolding seen_after
@@ -111,10 +111,10 @@ module _ (units : List ScopeUnit) where
   abbrev AllKnown : Sets → Type 0
   AllKnown sets = (unit : ScopeUnit) (name : List ℕ) → Contains units unit → sets unit name ≡ true → IsKnown name
 
-  known_by_primary : (sets : Sets) (user : ScopeUnit) (name : List ℕ) → AllKnown sets → has_by_primary units sets user name ≡ true → IsKnown name
-  known_by_primary sets user name known has =
-      let found = some_of (λ primary. is_primary_of user primary && sets primary name) units has in
-      known found.0 name found.1 (and_cases (is_primary_of user found.0) (sets found.0 name) found.2).1
+  known_by_owner : (sets : Sets) (user : ScopeUnit) (name : List ℕ) → AllKnown sets → has_by_owner units sets user name ≡ true → IsKnown name
+  known_by_owner sets user name known has =
+      let found = some_of (λ owner. belongs_to user owner && sets owner name) units has in
+      known found.0 name found.1 (and_cases (belongs_to user found.0) (sets found.0 name) found.2).1
 
   known_by_context : (sets : Sets) (user : ScopeUnit) (name : List ℕ) → AllKnown sets → has_by_context units sets user name ≡ true → IsKnown name
   known_by_context sets user name known has =
@@ -132,10 +132,10 @@ module _ (units : List ScopeUnit) where
         | inr own ↦ inr (in_all name user units among (has_name name user.names own))
       ]
   only_known (suc steps) user name among seen =
-      elim (or_cases (seen_after units steps user name || has_by_primary units (seen_after units steps) user name) (has_by_context units (seen_after units steps) user name) seen) [
-        | inl before ↦ elim (or_cases (seen_after units steps user name) (has_by_primary units (seen_after units steps) user name) before) [
+      elim (or_cases (seen_after units steps user name || has_by_owner units (seen_after units steps) user name) (has_by_context units (seen_after units steps) user name) seen) [
+        | inl before ↦ elim (or_cases (seen_after units steps user name) (has_by_owner units (seen_after units steps) user name) before) [
           | inl already ↦ only_known steps user name among already
-          | inr primary ↦ known_by_primary (seen_after units steps) user name (only_known steps) primary
+          | inr primary ↦ known_by_owner (seen_after units steps) user name (only_known steps) primary
         ]
         | inr context ↦ known_by_context (seen_after units steps) user name (only_known steps) context
       ]

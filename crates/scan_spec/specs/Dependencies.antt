@@ -22,6 +22,7 @@ use Rattle.vr_base.specs.PresentGraph.{below}
 use Rattle.scan_spec.specs.References.{owner_name, refs_of, uses_of_all}
 use Rattle.scan_spec.specs.Units.{roles_of, name_of}
 use Rattle.scan_spec.specs.Visibility.{ScopeUnit, scope_unit, is_secondary, resolved, sees}
+pub use Rattle.scan_spec.specs.Visibility.{is_architecture_kind}
 
 -- ## The units of a project
 
@@ -51,10 +52,6 @@ in_library library unit = bytes_eq unit.scope.library library
 -- a primary unit of a library and a name, of any kind (13.1)
 abbrev pub is_primary : List ℕ → List ℕ → LinkUnit → Bool
 is_primary library name unit = not (is_secondary unit.scope.unit.kind) && in_library library unit && bytes_eq unit.scope.unit.name name
-
-abbrev pub is_architecture_kind : UnitKind → Bool
-is_architecture_kind kinds.Architecture = true
-is_architecture_kind _ = false
 
 -- an architecture of an entity of a library (3.3)
 abbrev pub is_architecture : List ℕ → List ℕ → List ℕ → LinkUnit → Bool

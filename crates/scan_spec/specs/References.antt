@@ -10,7 +10,7 @@ use Rattle.vr_base.specs.declared.child.MaybeText.TheVariants.{Nothing, Given}
 use Rattle.vr_base.specs.declared.design.UnitKind.{UnitKind}
 use Rattle.vr_base.specs.declared.design.UnitKind.TheVariants as kinds
 use Rattle.vr_base.specs.declared.design.Role.{Role}
-use Rattle.vr_base.specs.declared.design.Role.TheVariants.{Library, Use, Context, Entity, Configuration, Is, New, For, All, Semicolon, Dot, Comma, Name, Other}
+use Rattle.vr_base.specs.declared.design.Role.TheVariants.{Library, Use, Context, Entity, Configuration, Is, New, For, All, Semicolon, Colon, Dot, Comma, Name, Other}
 use Rattle.vr_base.specs.declared.design.Unit.{Unit as DesignUnit}
 use Rattle.vr_base.specs.declared.refs.Ref.{Ref}
 use Rattle.scan_spec.specs.Units.{is_opening, is_closing, role_at, roles_of, name_of}
@@ -88,15 +88,44 @@ is_entity_word _ = false
 abbrev pub has_architecture : List Role → ℕ → Bool
 has_architecture roles at = is_entity_word (role_before roles at) && is_opening (role_at roles (at + 3)) && is_name (role_at roles (at + 4)) && is_closing (role_at roles (at + 5))
 
-abbrev pub architecture_at : List ℕ → List Token → ℕ → MaybeText
-architecture_at text tokens at = if has_architecture (roles_of text tokens) at then Given (name_of text tokens (at + 4)) else Nothing
+abbrev pub is_use_word : Role → Bool
+is_use_word Use = true
+is_use_word _ = false
 
-abbrev pub ref_at : List ℕ → List Token → ℕ → Ref
-ref_at text tokens at = record { library = name_of text tokens at; name = name_of text tokens (at + 2); architecture = architecture_at text tokens at; strict = is_strict (roles_of text tokens) at; at = at }
+abbrev pub is_for : Role → Bool
+is_for For = true
+is_for _ = false
 
--- those at the places from one token up to another
-abbrev pub named_refs : List ℕ → List Token → ℕ → ℕ → List Ref
-named_refs text tokens start end = map (ref_at text tokens) (places (is_reference (roles_of text tokens)) start end)
+-- what follows a label in the list of the instances that are configured (7.3.1)
+abbrev pub follows_label : Role → Bool
+follows_label Comma = true
+follows_label Colon = true
+follows_label _ = false
+
+-- `use` `entity` L `.` U `;` `for` NAME: the block configuration in a component configuration, whose NAME is an
+-- architecture of the entity (3.4.2, 3.4.3). After the NAME there is no `:` or `,`: it would be the label of an instance
+abbrev pub has_block : List Role → ℕ → Bool
+has_block roles at = is_use_word (role_before roles (at - 1)) && is_entity_word (role_before roles at) && is_semicolon (role_at roles (at + 3)) && is_for (role_at roles (at + 4)) && is_name (role_at roles (at + 5)) && not (follows_label (role_at roles (at + 6)))
+
+abbrev pub is_configuration : UnitKind → Bool
+is_configuration kinds.Configuration = true
+is_configuration _ = false
+
+-- the architecture that is given with an entity in a unit of a kind: in parentheses, or in a configuration declaration
+-- by a block configuration
+abbrev pub architecture_at : List ℕ → List Token → UnitKind → ℕ → MaybeText
+architecture_at text tokens kind at =
+    if has_architecture (roles_of text tokens) at then Given (name_of text tokens (at + 4))
+    else (if is_configuration kind && has_block (roles_of text tokens) at then Given (name_of text tokens (at + 5))
+    else Nothing)
+
+-- the reference at a place, in a unit of a kind
+abbrev pub ref_at : List ℕ → List Token → UnitKind → ℕ → Ref
+ref_at text tokens kind at = record { library = name_of text tokens at; name = name_of text tokens (at + 2); architecture = architecture_at text tokens kind at; strict = is_strict (roles_of text tokens) at; at = at }
+
+-- those among all tokens of a unit
+abbrev pub named_refs : List ℕ → List Token → DesignUnit → List Ref
+named_refs text tokens unit = map (ref_at text tokens unit.kind) (places (is_reference (roles_of text tokens)) unit.lead unit.last)
 
 -- ## References by structure
 
@@ -106,10 +135,6 @@ work = codes "work"
 abbrev pub owner_name : MaybeText → List ℕ
 owner_name Nothing = []
 owner_name (Given name) = name
-
-abbrev pub is_for : Role → Bool
-is_for For = true
-is_for _ = false
 
 -- the first `for` from one token up to another
 abbrev pub first_for : List Role → ℕ → ℕ → Option ℕ
@@ -139,7 +164,7 @@ structural_by text tokens unit _ = []
 
 -- first the structural one, if there is one, and then those of its context part and its tokens, in order
 abbrev pub refs_of : List ℕ → List Token → DesignUnit → List Ref
-refs_of text tokens unit = structural_by text tokens unit unit.kind ++ named_refs text tokens unit.lead unit.last
+refs_of text tokens unit = structural_by text tokens unit unit.kind ++ named_refs text tokens unit
 
 -- ## Context items
 
@@ -165,7 +190,7 @@ is_context_ref roles at = is_reference roles at && (is_context_word (role_before
 
 -- the references of a unit to context declarations, whose libraries these hand on
 abbrev pub context_refs : List ℕ → List Token → DesignUnit → List Ref
-context_refs text tokens unit = map (ref_at text tokens) (places (is_context_ref (roles_of text tokens)) unit.lead (context_end unit))
+context_refs text tokens unit = map (ref_at text tokens unit.kind) (places (is_context_ref (roles_of text tokens)) unit.lead (context_end unit))
 
 -- the token that begins the clause of a place: the one after the nearest `;` before it
 abbrev pub clause_start : List Role → ℕ → ℕ
@@ -185,17 +210,25 @@ library_names text tokens unit = map (name_of text tokens) (places (is_library_n
 
 -- ## `use L.all`
 
-abbrev pub is_use_word : Role → Bool
-is_use_word Use = true
-is_use_word _ = false
-
 abbrev pub is_all_word : Role → Bool
 is_all_word All = true
 is_all_word _ = false
 
--- `use` L `.` `all`, at its L
+-- NAME `.` `all`
+abbrev pub is_all_of : List Role → ℕ → Bool
+is_all_of roles at = is_name (role_at roles at) && is_dot (role_at roles (at + 1)) && is_all_word (role_at roles (at + 2))
+
+-- the place is between a `use` and its `;`
+abbrev pub is_in_use_list : List Role → ℕ → Bool
+is_in_use_list roles at = list_any is_use_word (back_to is_semicolon roles at)
+
+-- the place is after `use`, or after a comma of what is listed there: `use a.b, c.d;` (12.4)
+abbrev pub is_used : List Role → ℕ → Bool
+is_used roles at = is_use_word (role_before roles at) || (is_comma (role_before roles at) && is_in_use_list roles at)
+
+-- L `.` `all` after `use` or a comma of its list, at its L
 abbrev pub is_use_of_all : List Role → ℕ → Bool
-is_use_of_all roles at = is_use_word (role_before roles at) && is_name (role_at roles at) && is_dot (role_at roles (at + 1)) && is_all_word (role_at roles (at + 2))
+is_use_of_all roles at = is_all_of roles at && is_used roles at
 
 -- the token numbers of the L of each, in order
 abbrev pub uses_of_all : List Role → DesignUnit → List ℕ

@@ -13,7 +13,9 @@ use Rattle.vr_base.specs.declared.lexical.Token.{Token}
 use Rattle.vr_base.specs.declared.lexical.Span.{Span}
 use Rattle.vr_base.specs.declared.lexical.Tokens.{Tokens}
 use Rattle.vr_base.specs.declared.lexical.LexFault.{LexFault}
-use Rattle.vr_base.specs.declared.lexical.LexFault.TheVariants.{NoMemory, UnclosedString, UnclosedExtended, UnclosedComment}
+use Rattle.vr_base.specs.declared.lexical.LexFault.TheVariants.{UnclosedString, UnclosedExtended, UnclosedComment}
+use Rattle.vr_base.specs.declared.memory.OrMemory.{OrMemory}
+use Rattle.vr_base.specs.declared.memory.OrMemory.TheVariants.{NoMemory, Fault}
 use Rattle.scan_spec.specs.Words.{is_reserved, lower_case}
 
 -- ## Bytes
@@ -68,10 +70,15 @@ pub data Row : Type 0 where
   tool_directive : Row
   token : TokenKind → Row
 
--- Whether an apostrophe after this token is a tick: after a name that isn't reserved, the word `all`, a closing
--- bracket, and a literal that may be a name.
+-- a name that isn't reserved, `all`, or `subtype`, which after a tick names an attribute that is a type mark (clause 16.2)
+abbrev pub word_takes_tick : List ℕ → Bool
+word_takes_tick word =
+    not (is_reserved word) || bytes_eq (lower_case word) (codes "all") || bytes_eq (lower_case word) (codes "subtype")
+
+-- Whether an apostrophe after this token is a tick: after some words, an extended identifier, a closing bracket, and a
+-- literal that may be a name.
 abbrev pub takes_tick : List ℕ → Token → TokenKind → Bool
-takes_tick text last Word = not (is_reserved (slice_range text last.start last.end)) || bytes_eq (lower_case (slice_range text last.start last.end)) (codes "all")
+takes_tick text last Word = word_takes_tick (slice_range text last.start last.end)
 takes_tick text last Extended = true
 takes_tick text last Number = false
 takes_tick text last Str = true
@@ -220,9 +227,8 @@ pub record Opens (row : Row) (text : List ℕ) (at : ℕ) : Type 0 where
   pub first : row_at text place.last at ≡ row
   pub no_end : (end : ℕ) → end ≤ length text → HasForm row text at end → ⊥
 
--- the text has the fault; out of memory is none
+-- the text has the fault
 abbrev pub HasFault : List ℕ → LexFault → Type 0
-HasFault text NoMemory = ⊥
 HasFault text (UnclosedString at) = Opens (token Str) text at
 HasFault text (UnclosedExtended at) = Opens (token Extended) text at
 HasFault text (UnclosedComment at) = Opens block_comment text at
@@ -240,12 +246,10 @@ pub record AreOf (pieces : List Piece) (tokens : Tokens) : Type 0 where
   pub comments : tokens.comments ≡ comments_of pieces
 
 -- What scanning gives: tokens of the cut, a fault of the text, or out of memory.
-abbrev pub Scans : List ℕ → Result Tokens LexFault → Type 0
+abbrev pub Scans : List ℕ → Result Tokens (OrMemory LexFault) → Type 0
 Scans text (Ok tokens) = (pieces : List Piece) × IsCut text pieces × AreOf pieces tokens
 Scans text (Err NoMemory) = Unit {0}
-Scans text (Err (UnclosedString at)) = HasFault text (UnclosedString at)
-Scans text (Err (UnclosedExtended at)) = HasFault text (UnclosedExtended at)
-Scans text (Err (UnclosedComment at)) = HasFault text (UnclosedComment at)
+Scans text (Err (Fault fault)) = HasFault text fault
 
 -- the bytes of a piece
 abbrev pub bytes_of : List ℕ → Piece → List ℕ

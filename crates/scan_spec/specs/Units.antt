@@ -16,7 +16,9 @@ use Rattle.vr_base.specs.declared.design.Beginning.{Beginning}
 use Rattle.vr_base.specs.declared.design.Beginning.TheVariants as begins
 use Rattle.vr_base.specs.declared.design.Unit.{Unit as DesignUnit}
 use Rattle.vr_base.specs.declared.design.UnitFault.{UnitFault}
-use Rattle.vr_base.specs.declared.design.UnitFault.TheVariants.{NoMemory, NotUnit, NotEnded}
+use Rattle.vr_base.specs.declared.design.UnitFault.TheVariants.{NotUnit, NotEnded}
+use Rattle.vr_base.specs.declared.memory.OrMemory.{OrMemory}
+use Rattle.vr_base.specs.declared.memory.OrMemory.TheVariants.{NoMemory, Fault}
 use Rattle.scan_spec.specs.Words.{is_reserved, lower_case}
 use Rattle.scan_spec.specs.Tokens.{Piece, IsCut, AreOf}
 
@@ -330,18 +332,16 @@ units_from text tokens lead at (element ∷ elements) = unit_of text tokens lead
 abbrev pub units_of : List ℕ → List Token → List Element → List DesignUnit
 units_of text tokens elements = units_from text tokens 0 0 elements
 
--- the tokens have the fault; out of memory is none
+-- the tokens have the fault
 abbrev pub HasUnitFault : List ℕ → List Token → UnitFault → Type 0
-HasUnitFault text tokens NoMemory = ⊥
 HasUnitFault text tokens (NotUnit place) = (at : ℕ) × IsNoUnit (roles_of text tokens) at × (place ≡ (token_at tokens at).start)
 HasUnitFault text tokens (NotEnded place) = (at : ℕ) × IsUnended (roles_of text tokens) at × (place ≡ (token_at tokens at).start)
 
 -- What outlining gives: the units of the file, a fault, or out of memory.
-abbrev pub Outlines : List ℕ → List Token → Result (List DesignUnit) UnitFault → Type 0
+abbrev pub Outlines : List ℕ → List Token → Result (List DesignUnit) (OrMemory UnitFault) → Type 0
 Outlines text tokens (Ok units) = (elements : List Element) × IsOutline (roles_of text tokens) elements × (units ≡ units_of text tokens elements)
 Outlines text tokens (Err NoMemory) = Unit {0}
-Outlines text tokens (Err (NotUnit place)) = HasUnitFault text tokens (NotUnit place)
-Outlines text tokens (Err (NotEnded place)) = HasUnitFault text tokens (NotEnded place)
+Outlines text tokens (Err (Fault fault)) = HasUnitFault text tokens fault
 
 -- the tokens are those of the text's cut
 abbrev pub AreTokensOf : List ℕ → Tokens → Type 0

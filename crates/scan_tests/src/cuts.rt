@@ -5,7 +5,7 @@ use std::alloc::Global;
 use std::process::Abort;
 use std::test::Fail;
 use vhdl_lex::{no_tokens, scan_tokens, scan_with_roles};
-use vr_base::{LexFault, Role, RoleList, TokenKind, Tokens};
+use vr_base::{LexFault, OrMemory, Role, RoleList, TokenKind, Tokens};
 
 /// A letter for the kind of a token.
 fn letter(kind: TokenKind) -> u8 {
@@ -45,20 +45,22 @@ fn written(alloc: Global, text: &[u8], tokens: &Tokens) -> Result<Vec<u8>, Fail>
     Ok(out)
 }
 
+fn fault_written(alloc: Global, fault: LexFault) -> Result<Vec<u8>, Fail> {
+    match fault {
+        LexFault::UnclosedString { at } => Ok(format!(in alloc; "string@{at}")?.into_bytes()),
+        LexFault::UnclosedExtended { at } => Ok(format!(in alloc; "extended@{at}")?.into_bytes()),
+        LexFault::UnclosedComment { at } => Ok(format!(in alloc; "comment@{at}")?.into_bytes()),
+    }
+}
+
 fn scanned(alloc: Global, text: &[u8]) -> Result<Vec<u8>, Fail> {
     if text.len() > 4_194_304 {
         return Err(Fail::from("a small text"));
     }
     match scan_tokens(alloc, text) {
         Ok(tokens) => written(alloc, text, &tokens),
-        Err(LexFault::UnclosedString { at }) => Ok(format!(in alloc; "string@{at}")?.into_bytes()),
-        Err(LexFault::UnclosedExtended { at }) => Ok(format!(in alloc;
-            "extended@{at}"
-        )?.into_bytes()),
-        Err(LexFault::UnclosedComment { at }) => Ok(format!(in alloc;
-            "comment@{at}"
-        )?.into_bytes()),
-        Err(LexFault::NoMemory) => Err(Fail::from("out of memory")),
+        Err(OrMemory::Fault(fault)) => fault_written(alloc, fault),
+        Err(OrMemory::NoMemory) => Err(Fail::from("out of memory")),
     }
 }
 
@@ -205,6 +207,20 @@ x <= std_logic'('1') & '(' & \"a--b\";^wx|y<|y=|wstd_logic|t'|y(|c'1'|y)|y&|c'('
 a'b'^wa|t'|wb|t'|
 all'b'^wall|t'|wb|t'|
 aLL'b'^waLL|t'|wb|t'|
+s'subtype'('0', '1')^ws|t'|wsubtype|t'|y(|c'0'|y,|c'1'|y)|
+S'SubType'('0','1')^wS|t'|wSubType|t'|y(|c'0'|y,|c'1'|y)|
+s.all'subtype'(s)^ws|y.|wall|t'|wsubtype|t'|y(|ws|y)|
+f(x)'SUBTYPE'('(')^wf|y(|wx|y)|t'|wSUBTYPE|t'|y(|c'('|y)|
+subtype'a'^wsubtype|t'|wa|t'|
+SUBTYPE'a'^wSUBTYPE|t'|wa|t'|
+subtype 'a'^wsubtype|t'|wa|t'|
+subtype --c~'a'^wsubtype|t'|wa|t'|#--c|
+\\subtype\\'a'^e\\subtype\\|t'|wa|t'|
+subtypes'a'^wsubtypes|t'|wa|t'|
+subtyp'a'^wsubtyp|t'|wa|t'|
+type'a'^wtype|c'a'|
+subtype('a')^wsubtype|y(|c'a'|y)|
+subtype range'a'^wsubtype|wrange|c'a'|
 is'b'^wis|c'b'|
 IS'b'^wIS|c'b'|
 abs'b'^wabs|c'b'|

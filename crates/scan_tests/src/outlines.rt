@@ -6,7 +6,7 @@ use std::process::Abort;
 use std::test::Fail;
 use vhdl_lex::scan_tokens;
 use vhdl_units::{is_named, name_of, outline, roles_of};
-use vr_base::{MaybeText, Role, RoleList, UnitFault, UnitKind, UnitList};
+use vr_base::{MaybeText, OrMemory, Role, RoleList, UnitFault, UnitKind, UnitList};
 
 fn word(kind: UnitKind) -> &'static [u8] {
     match kind {
@@ -39,7 +39,7 @@ fn written(alloc: Global, units: &UnitList) -> Result<Vec<u8>, Fail> {
     Ok(out)
 }
 
-fn outlined(alloc: Global, text: &[u8]) -> Result<Result<UnitList, UnitFault>, Fail> {
+fn outlined(alloc: Global, text: &[u8]) -> Result<Result<UnitList, OrMemory<UnitFault>>, Fail> {
     if text.len() > 4_194_304 {
         return Err(Fail::from("a text within the limit"));
     }
@@ -51,14 +51,14 @@ fn fault_written(alloc: Global, fault: UnitFault) -> Result<Vec<u8>, Fail> {
     match fault {
         UnitFault::NotUnit { at } => Ok(format!(in alloc; "no unit@{at}")?.into_bytes()),
         UnitFault::NotEnded { at } => Ok(format!(in alloc; "not ended@{at}")?.into_bytes()),
-        UnitFault::NoMemory => Err(Fail::from("out of memory")),
     }
 }
 
 fn shown(alloc: Global, text: &[u8]) -> Result<Vec<u8>, Fail> {
     match outlined(alloc, text)? {
         Ok(units) => written(alloc, &units),
-        Err(fault) => fault_written(alloc, fault),
+        Err(OrMemory::Fault(fault)) => fault_written(alloc, fault),
+        Err(OrMemory::NoMemory) => Err(Fail::from("out of memory")),
     }
 }
 
@@ -69,7 +69,8 @@ fn counted(alloc: Global, text: &[u8]) -> Result<Vec<u8>, Fail> {
             let count = units.len();
             Ok(format!(in alloc; "{count} units")?.into_bytes())
         }
-        Err(fault) => fault_written(alloc, fault),
+        Err(OrMemory::Fault(fault)) => fault_written(alloc, fault),
+        Err(OrMemory::NoMemory) => Err(Fail::from("out of memory")),
     }
 }
 

@@ -92,7 +92,8 @@ fn push_asked(
         Asked::Count => {
             let count = find_refs(alloc, text, scan, roles, unit)?.len();
             let names = library_names(alloc, text, scan, roles, unit)?.len();
-            let shown = format!(in alloc; "{count} {names}")?;
+            let uses = uses_of_all(alloc, text, scan, roles, unit)?.len();
+            let shown = format!(in alloc; "{count} {names} {uses}")?;
             out.extend_from_slice(shown.as_bytes())?;
         }
     }
@@ -167,6 +168,23 @@ configuration c of l.e is for a end for; end;^work.e(a)!@0 l.e@3|
 configuration c of e is for a for u : d use entity work.f(b); end for; end for; end;^work.e(a)!@0 work.f(b)!@13|
 configuration c of e is for a for all : d use entity work.f; end for; end for; end;^work.e(a)!@0 work.f!@13|
 configuration c of e is for a for u : d use configuration l.k; end for; end for; end;^work.e(a)!@0 l.k!@13|
+configuration c of e is for a for u : s use entity work.s; for r end for; end for; end for; end;^work.e(a)!@0 work.s(r)!@13|
+configuration c of e is for a for all : s use entity work.s; for r end for; end for; end for; end;^work.e(a)!@0 work.s(r)!@13|
+configuration c of e is for a for u : s use entity work.s; for r for v : t use entity l.t; for q end for; end for; end for; end for; end for; end;^work.e(a)!@0 work.s(r)!@13 l.t(q)!@25|
+configuration c of e is for a for u : s use entity work.s; for r for g(0) end for; end for; end for; end for; end;^work.e(a)!@0 work.s(r)!@13|
+CONFIGURATION C OF E IS FOR A FOR U : S USE ENTITY WORK.S; FOR R END FOR; END FOR; END FOR; END;^work.e(a)!@0 work.s(r)!@13|
+configuration c of e is for a for u : s use entity work.s; for \\R\\ end for; end for; end for; end;^work.e(a)!@0 work.s(\\R\\)!@13|
+configuration c of e is for a for u : s use entity work.s; for v : t use entity work.t; end for; end for; end for; end;^work.e(a)!@0 work.s!@13 work.t!@23|
+configuration c of e is for a for u : s use entity work.s; for v, w : t use entity work.t; end for; end for; end for; end;^work.e(a)!@0 work.s!@13 work.t!@25|
+configuration c of e is for a for u : s use entity work.s; for all : t use open; end for; end for; end for; end;^work.e(a)!@0 work.s!@13|
+configuration c of e is for a for u : s use entity work.s; end for; for r end for; end for; end;^work.e(a)!@0 work.s!@13|
+configuration c of e is for a for u : s use entity work.s(b); for r end for; end for; end for; end;^work.e(a)!@0 work.s(b)!@13|
+configuration c of e is for a for u : s use entity work.s port map (p); for r end for; end for; end for; end;^work.e(a)!@0 work.s!@13|
+configuration c of e is for a for u : s use entity s; for r end for; end for; end for; end;^work.e(a)!@0|
+configuration c of e is for a for u : s use configuration l.k; for r end for; end for; end for; end;^work.e(a)!@0 l.k!@13|
+configuration c of e is for a for u : s entity work.s; for r end for; end for; end for; end;^work.e(a)!@0 work.s!@12|
+architecture a of e is for u : s use entity work.s; for r end for; begin end;^work.e!@0 work.s!@11|
+use entity l.u; configuration c of e is for a end for; end;^work.e(a)!@6 l.u!@2|
 configuration c of e is use l.p.all; for a end for; end;^work.e(a)!@0 l.p!@6|
 configuration c of e is for \\A\\ end for; end;^work.e(\\A\\)!@0|
 configuration c of e is for a use l.p.all; for u : d use entity work.f generic map (n, m.x); end for; end for; end;^work.e(a)!@0 l.p!@8 work.f!@20 m.x!@28|
@@ -269,7 +287,15 @@ fn libraries(rt: HostRuntime) -> Result<(), Fail> {
 /// Of each text the token numbers of the libraries of which all is used.
 static USES: &[u8] = b"
 use l.all; entity e is end;^@1|
-use l.all, m.all; entity e is end;^@1|
+use l.all, m.all; entity e is end;^@1@5|
+use l.p.all, m.all; entity e is end;^@7|
+use l.all, m.p.all, n.all; entity e is end;^@1@11|
+context l.c, m.all; entity e is end;^|
+context c is use l.all, m.all; context work.d, n.all; end;^@4@8|
+package p is use l.a, m.all; end;^@8|
+use l.p; package q is constant c : t := f(a, b.all); end;^|
+entity e is end; architecture a of e is begin x <= f(p.all, q.all); end;^||
+configuration c of e is for a for u : s use entity work.s generic map (a, l.all); end for; end for; end;^@21|
 use l.p.all; entity e is end;^|
 entity e is end; architecture a of e is use work.all; begin x <= p.all; end;^|@11|
 ";
@@ -279,12 +305,13 @@ fn uses(rt: HostRuntime) -> Result<(), Fail> {
     check(&rt, rt.alloc(), Asked::UsesOfAll, USES)
 }
 
-/// Large texts: parts, each after the number of times that it is repeated and a star; and how many references and library
-/// names are found. Each has at most 4,194,304 bytes.
+/// Large texts: parts, each after the number of times that it is repeated and a star; and how many references, library
+/// names and uses of whole libraries are found. Each has at most 4,194,304 bytes.
 static LARGE: &[u8] = b"
-1*package p is constant c : b := ~2097100*a.~1*d; end;^1 0|
-1*architecture a of e is use ~838800*a.b, ~1*c.d; begin end;^838802 0|
-1*library ~1398000*a, ~1*b; entity e is end;^0 1398001|
+1*package p is constant c : b := ~2097100*a.~1*d; end;^1 0 0|
+1*architecture a of e is use ~838800*a.b, ~1*c.d; begin end;^838802 0 0|
+1*library ~1398000*a, ~1*b; entity e is end;^0 1398001 0|
+1*use ~599000*a.all, ~1*b; entity e is end;^0 0 599000|
 ";
 
 /// Whether of the parts of a row so many are found.

@@ -8,9 +8,9 @@ use Rattle.std.proofs.lemmas.List.Quantifiers.{all_pairs_push}
 use Rattle.std.proofs.lemmas.List.Folds.{list_any_at}
 use Rattle.std.proofs.lemmas.List.Elements.{Contains-append_cases}
 use Rattle.std.proofs.lemmas.Slice.Eq.{bytes_eq-Decides}
-use Rattle.vr_base.specs.declared.bench.Bench.{Bench}
-use Rattle.vr_base.specs.declared.bench.TestFault.{TestFault}
-use Rattle.vr_base.specs.declared.bench.TestFault.TheVariants.{BadName, DuplicateTest}
+use Rattle.vhdl_benches.specs.declared.bench.Bench.{Bench}
+use Rattle.vhdl_benches.specs.declared.bench.TestFault.{TestFault}
+use Rattle.vhdl_benches.specs.declared.bench.TestFault.TheVariants.{BadName, DuplicateTest}
 use Rattle.vr_base.specs.declared.refs.UnitId.{UnitId}
 use Rattle.scan_spec.specs.Dependencies.{is_one_of}
 use Rattle.scan_spec.proofs.SomeTests.{Contains-later}

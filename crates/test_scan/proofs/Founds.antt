@@ -5,11 +5,15 @@ use Rattle.std.specs.List.{flat_map}
 use Rattle.std.specs.Option.{option_map_or, option_or}
 use Rattle.std.proofs.lemmas.List.{map-append}
 use Rattle.std.proofs.lemmas.List.Concat.{flat_map-append}
-use Rattle.vr_base.specs.declared.bench.Bench.{Bench}
-use Rattle.vr_base.specs.declared.bench.TestFault.{TestFault}
-use Rattle.vr_base.specs.declared.bench.TestFault.TheVariants.{NoMemory, TwoArchitectures, NoArchitecture, DuplicateTest, BadName}
-use Rattle.test_scan.specs.Benches.{GivesTests, bench_fault, first_bench_fault, found_bench, names_of_found, tests_found}
+use Rattle.vhdl_benches.specs.declared.bench.Bench.{Bench}
+use Rattle.vhdl_benches.specs.declared.bench.TestFault.{TestFault}
+use Rattle.vr_base.specs.declared.memory.OrMemory.{OrMemory}
+use Rattle.vr_base.specs.declared.memory.OrMemory.TheVariants.{NoMemory, Fault}
+use Rattle.vr_base.specs.declared.refs.UnitId.{UnitId}
+use Rattle.test_scan.specs.Benches.{GivesTests, ScannedFiles, bench_at, bench_fault, first_bench_fault, found_bench, names_of_found, tests_found}
+use Rattle.test_scan.specs.Paths.{HoldsFullNames}
 use Rattle.test_scan.specs.Results.{GivesBench, IsTestFault}
+use Rattle.test_scan.specs.declared.names.Names.{Names}
 
 abbrev FoundList : Type 0
 FoundList = List (Result Bench TestFault)
@@ -37,20 +41,14 @@ none_fails_more found one none told rest =
     ∙ ap (λ (names : List (List ℕ)). first_bench_fault names rest) (sym (parts_push names_of_found found one))
 
 -- this is the first fault
-pub fails_here : (found after all : FoundList) (one : Result Bench TestFault) (fault : TestFault) → NoneFails found → all ≡ found ++ one ∷ after → IsTestFault (bench_fault (flat_map names_of_found found) one) fault → IsTestFault (first_bench_fault [] all) fault
+pub fails_here : (found after all : FoundList) (one : Result Bench TestFault) (fault : OrMemory TestFault) → NoneFails found → all ≡ found ++ one ∷ after → IsTestFault (bench_fault (flat_map names_of_found found) one) fault → IsTestFault (first_bench_fault [] all) fault
 fails_here found after all one NoMemory none is told = tt
-fails_here found after all one (TwoArchitectures a) none is told = ap (first_bench_fault []) is ∙ none (one ∷ after) ∙ ap (λ (o : Option TestFault). option_or o (first_bench_fault (flat_map names_of_found found ++ names_of_found one) after)) told
-fails_here found after all one (NoArchitecture a) none is told = ap (first_bench_fault []) is ∙ none (one ∷ after) ∙ ap (λ (o : Option TestFault). option_or o (first_bench_fault (flat_map names_of_found found ++ names_of_found one) after)) told
-fails_here found after all one (DuplicateTest a) none is told = ap (first_bench_fault []) is ∙ none (one ∷ after) ∙ ap (λ (o : Option TestFault). option_or o (first_bench_fault (flat_map names_of_found found ++ names_of_found one) after)) told
-fails_here found after all one (BadName a) none is told = ap (first_bench_fault []) is ∙ none (one ∷ after) ∙ ap (λ (o : Option TestFault). option_or o (first_bench_fault (flat_map names_of_found found ++ names_of_found one) after)) told
+fails_here found after all one (Fault fault) none is told = ap (first_bench_fault []) is ∙ none (one ∷ after) ∙ ap (λ (o : Option TestFault). option_or o (first_bench_fault (flat_map names_of_found found ++ names_of_found one) after)) told
 
 -- what is answered where there is a fault
-pub gives_fault : (found : FoundList) (fault : TestFault) → IsTestFault (first_bench_fault [] found) fault → GivesTests (tests_found found) (Err fault)
+pub gives_fault : (found : FoundList) (fault : OrMemory TestFault) → IsTestFault (first_bench_fault [] found) fault → GivesTests (tests_found found) (Err fault)
 gives_fault found NoMemory is = tt
-gives_fault found (TwoArchitectures a) is = ap (λ (o : Option TestFault). option_map_or (λ (f : TestFault). Err f) o (Ok (flat_map found_bench found))) is
-gives_fault found (NoArchitecture a) is = ap (λ (o : Option TestFault). option_map_or (λ (f : TestFault). Err f) o (Ok (flat_map found_bench found))) is
-gives_fault found (DuplicateTest a) is = ap (λ (o : Option TestFault). option_map_or (λ (f : TestFault). Err f) o (Ok (flat_map found_bench found))) is
-gives_fault found (BadName a) is = ap (λ (o : Option TestFault). option_map_or (λ (f : TestFault). Err f) o (Ok (flat_map found_bench found))) is
+gives_fault found (Fault fault) is = ap (λ (o : Option TestFault). option_map_or (λ (f : TestFault). Err f) o (Ok (flat_map found_bench found))) is
 
 -- what is answered where there is none
 pub gives_all : (found : FoundList) (tests : List Bench) → NoneFails found → tests ≡ flat_map found_bench found → GivesTests (tests_found found) (Ok tests)
@@ -59,9 +57,12 @@ gives_all found tests none is =
     ap (λ (o : Option TestFault). option_map_or (λ (f : TestFault). Err f) o (Ok (flat_map found_bench found))) nothing ∙ ap (λ (bs : List Bench). Ok bs) (sym is)
 
 -- the fault of a bench that isn't found
-pub found_fault : (before : List (List ℕ)) (found : Result Bench TestFault) (fault : TestFault) → GivesBench found (Err fault) → IsTestFault (bench_fault before found) fault
+pub found_fault : (before : List (List ℕ)) (found : Result Bench TestFault) (fault : OrMemory TestFault) → GivesBench found (Err fault) → IsTestFault (bench_fault before found) fault
 found_fault before found NoMemory is = tt
-found_fault before found (TwoArchitectures a) is = ap (bench_fault before) is
-found_fault before found (NoArchitecture a) is = ap (bench_fault before) is
-found_fault before found (DuplicateTest a) is = ap (bench_fault before) is
-found_fault before found (BadName a) is = ap (bench_fault before) is
+found_fault before found (Fault fault) is = ap (bench_fault before) is
+
+-- the benches of the entities before an index, without a fault
+pub record AreSoFar (sources : ScannedFiles) (entities : List UnitId) (index : ℕ) (full_names : Names) (benches : List Bench) : Type 0 where
+  pub names : HoldsFullNames full_names (flat_map names_of_found (map (bench_at sources) (take index entities)))
+  pub tests : benches ≡ flat_map found_bench (map (bench_at sources) (take index entities))
+  pub none : NoneFails (map (bench_at sources) (take index entities))

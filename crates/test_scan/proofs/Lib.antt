@@ -1,9 +1,4 @@
 -- Lemmas of this crate.
-mod FirstPlaces
-mod Pieces
-mod Calling
-mod Quotes
-mod Counted
 mod Utf8Test
 mod Located
 mod Numbering
@@ -12,3 +7,5 @@ mod Repeats
 mod Founds
 mod Distinct
 mod ByHand
+mod Leading
+mod Spelling

@@ -1,14 +1,11 @@
--- The numbers of units, file by file, and that each is that of one.
-use Rattle.std.proofs.Common.{◌≡◌, ℕ, zero, suc, ◌+◌, ◌<◌, List, [], ◌∷◌, ◌++◌, append-nil, map, length, sym, ◌∙◌, ap, subst, arith}
+-- The numbers of units, file by file.
+use Rattle.std.proofs.Common.{◌≡◌, ℕ, zero, suc, ◌+◌, ◌<◌, List, [], ◌∷◌, ◌++◌, append-nil, map, sym, ◌∙◌, ap, subst, arith}
 use Rattle.std.specs.List.{All, flat_map}
 use Rattle.std.proofs.lemmas.List.{map-append}
 use Rattle.std.proofs.lemmas.List.Concat.{flat_map-append}
 use Rattle.std.proofs.lemmas.List.Elements.{All-append, All-nil, All-cons}
 use Rattle.vr_base.proofs.Below.{below-zero, below-more}
 use Rattle.vr_base.specs.PresentGraph.{below}
-use Rattle.test_scan.specs.Benches.{file_units, unit_number, unit_numbers}
-use Rattle.test_scan.specs.Files.{AreInFiles, IsInFiles}
-use Rattle.test_scan.specs.declared.files.Files.{Files}
 
 pub no_numbers : {X : Type 0} (f : ℕ → X) → map f (below 0) ≡ []
 no_numbers f = ap (map f) below-zero
@@ -22,17 +19,9 @@ no_parts f = ap (flat_map f) below-zero
 pub parts_more : {X : Type 0} (f : ℕ → List X) (n : ℕ) → flat_map f (below (n + 1)) ≡ flat_map f (below n) ++ f n
 parts_more {X} f n = ap (flat_map f) (below-more n) ∙ flat_map-append f (below n) (n ∷ []) ∙ ap (λ (xs : List X). flat_map f (below n) ++ xs) (append-nil (f n))
 
-each_number : {X : Type 0} (P : X → Type 0) (f : ℕ → X) (n : ℕ) → ((k : ℕ) → k < n → P (f k)) → All P (map f (below n))
+-- what holds of each number below another
+pub each_number : {X : Type 0} (P : X → Type 0) (f : ℕ → X) (n : ℕ) → ((k : ℕ) → k < n → P (f k)) → All P (map f (below n))
 each_number P f zero each = subst (All P) (sym (no_numbers f)) (All-nil P)
 each_number P f (suc n) each =
     let more : map f (below (suc n)) ≡ map f (below n) ++ f n ∷ [] = subst (λ (k : ℕ). map f (below k) ≡ map f (below n) ++ f n ∷ []) (omega arith) (numbers_more f n) in
     subst (All P) (sym more) (All-append P (map f (below n)) (f n ∷ []) (each_number P f n (λ k lt. each k (omega arith))) (All-cons P (f n) [] (each n (omega arith)) (All-nil P)))
-
-each_part : {X : Type 0} (P : X → Type 0) (f : ℕ → List X) (n : ℕ) → ((k : ℕ) → k < n → All P (f k)) → All P (flat_map f (below n))
-each_part P f zero each = subst (All P) (sym (no_parts f)) (All-nil P)
-each_part P f (suc n) each =
-    let more : flat_map f (below (suc n)) ≡ flat_map f (below n) ++ f n = subst (λ (k : ℕ). flat_map f (below k) ≡ flat_map f (below n) ++ f n) (omega arith) (parts_more f n) in
-    subst (All P) (sym more) (All-append P (flat_map f (below n)) (f n) (each_part P f n (λ k lt. each k (omega arith))) (each n (omega arith)))
-
-pub all_in_files : (files : Files) → AreInFiles files (unit_numbers files.scans.now)
-all_in_files files = each_part (IsInFiles files) (file_units files.scans.now) (length files.scans.now) (λ file lt. each_number (IsInFiles files) (unit_number file) _ (λ unit within. record { file = lt; unit = within }))

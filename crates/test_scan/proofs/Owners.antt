@@ -1,17 +1,18 @@
 -- One unit more of an index of architectures, and what is found in it.
-use Rattle.std.proofs.Common.{◌≡◌, ℕ, Bool, true, false, cond, ◌&&◌, Option, Some, None, List, [], ◌∷◌, ◌++◌, append-nil, filter, refl, sym, ◌∙◌, ap, subst}
-use Rattle.std.specs.Prelude.{Ok}
+use Rattle.std.proofs.Common.{◌≡◌, ℕ, Bool, true, false, cond, ◌&&◌, Option, Some, None, List, [], ◌∷◌, ◌++◌, ◌<◌, append-nil, filter, get_or, length, refl, sym, ◌∙◌, ap, subst, arith}
+use Rattle.std.specs.Prelude.{Ok, Err, if◌then◌else◌}
 use Rattle.std.specs.Str.{bytes_eq}
-use Rattle.indexmap.specs.IndexMap.{IndexMap, get, Updates}
-use Rattle.std.proofs.lemmas.List.Elements.{filter-append}
-use Rattle.std.proofs.lemmas.Slice.Eq.{bytes_eq-Decides}
+use Rattle.key_index.specs.Maps.{Entries, get}
+use Rattle.std.proofs.lemmas.List.Elements.{filter-append, filter_passes}
 use Rattle.vr_base.specs.declared.refs.UnitId.{UnitId}
 use Rattle.scan_spec.specs.Dependencies.{is_architecture_kind}
 use Rattle.scan_spec.specs.References.{owner_name}
 use Rattle.scan_spec.proofs.SomeTests.{and_cases}
-use Rattle.test_scan.specs.Architectures.{AreFoundInFiles, HoldsArchitectures, first_of_some, one_more}
-use Rattle.test_scan.specs.Benches.{ScannedFiles, bench_of, bench_with, design_unit, is_architecture_of, unit_library}
+use Rattle.test_scan.specs.Architectures.{AreFoundInFiles, HoldsArchitectures, IsArchitecture, first_of_some, one_more}
+use Rattle.vhdl_benches.specs.declared.bench.TestFault.TheVariants.{NoArchitecture, TwoArchitectures}
+use Rattle.test_scan.specs.Benches.{ScannedFiles, bench_name, bench_of, bench_with, design_unit, is_architecture_of, unit_library}
 use Rattle.test_scan.specs.Entities.{is_same_entity}
+use Rattle.test_scan.specs.EntityOrder.{same_entity}
 use Rattle.test_scan.specs.Files.{IsInFiles}
 use Rattle.test_scan.specs.declared.architectures.Architectures.{Architectures}
 use Rattle.test_scan.specs.declared.files.Files.{Files}
@@ -20,12 +21,9 @@ use Rattle.test_scan.specs.declared.key.EntityKey.{EntityKey}
 abbrev key_of : List ℕ → List ℕ → EntityKey
 key_of library entity = record { library = library; entity = entity }
 
-same_entity : (a b : EntityKey) → is_same_entity a b ≡ true → a ≡ b
-same_entity a b told =
-    let both = and_cases (bytes_eq a.library b.library) (bytes_eq a.entity b.entity) told in
-    let library : a.library ≡ b.library = (bytes_eq-Decides a.library b.library).0 (both.0) in
-    let entity : a.entity ≡ b.entity = (bytes_eq-Decides a.entity b.entity).0 (both.1) in
-    ap (λ (l : List ℕ). key_of l a.entity) library ∙ ap (λ (e : List ℕ). key_of b.library e) entity
+-- a key is given a value
+abbrev Gives : Entries EntityKey Architectures → Entries EntityKey Architectures → EntityKey → Architectures → Type 0
+Gives old new key more = (other : EntityKey) → get is_same_entity new other ≡ (if is_same_entity key other then Some more else get is_same_entity old other)
 
 found_more : (xs : List UnitId) (id : UnitId) → first_of_some (xs ++ id ∷ []) ≡ Some (one_more (first_of_some xs) id)
 found_more [] id = refl
@@ -43,12 +41,12 @@ module _ (sources : ScannedFiles) (ids : List UnitId) (id : UnitId) where
   kept k told = pushed k false told ∙ append-nil (filter (test k) ids)
 
   -- the unit is no architecture
-  pub holds_other : {S : Type 0} (index : IndexMap EntityKey Architectures S) → HoldsArchitectures sources ids index → is_architecture_kind (design_unit sources id).kind ≡ false → HoldsArchitectures sources (ids ++ id ∷ []) index
+  pub holds_other : (index : Entries EntityKey Architectures) → HoldsArchitectures sources ids index → is_architecture_kind (design_unit sources id).kind ≡ false → HoldsArchitectures sources (ids ++ id ∷ []) index
   holds_other index holds other k = holds k ∙ sym (ap first_of_some (kept k (ap (λ (b : Bool). b && (bytes_eq (unit_library sources id) k.library && bytes_eq (owner_name (design_unit sources id).owner) k.entity)) other)))
 
   -- it is one of the entity of a key
-  pub holds_one : {S : Type 0} (old new : IndexMap EntityKey Architectures S) (key : EntityKey) (more : Architectures) → HoldsArchitectures sources ids old → is_architecture_kind (design_unit sources id).kind ≡ true → key ≡ key_of (unit_library sources id) (owner_name (design_unit sources id).owner) → more ≡ one_more (get is_same_entity old key) id → Updates is_same_entity old new key (Some more) → HoldsArchitectures sources (ids ++ id ∷ []) new
-  holds_one {S} old new key more holds right named is updates k = (updates.0) k ∙ by_key (is_same_entity key k) refl where
+  pub holds_one : (old new : Entries EntityKey Architectures) (key : EntityKey) (more : Architectures) → HoldsArchitectures sources ids old → is_architecture_kind (design_unit sources id).kind ≡ true → key ≡ key_of (unit_library sources id) (owner_name (design_unit sources id).owner) → more ≡ one_more (get is_same_entity old key) id → Gives old new key more → HoldsArchitectures sources (ids ++ id ∷ []) new
+  holds_one old new key more holds right named is updates k = updates k ∙ by_key (is_same_entity key k) refl where
     tested : test k id ≡ is_same_entity key k
     tested = ap (λ (b : Bool). b && (bytes_eq (unit_library sources id) k.library && bytes_eq (owner_name (design_unit sources id).owner) k.entity)) right ∙ ap (λ (e : EntityKey). is_same_entity e k) (sym named)
 
@@ -60,11 +58,11 @@ module _ (sources : ScannedFiles) (ids : List UnitId) (id : UnitId) where
     by_key false told = holds k ∙ sym (ap first_of_some (kept k (tested ∙ told)))
 
 -- all that is found is in the files
-pub found_in : {S : Type 0} (files : Files) (old new : IndexMap EntityKey Architectures S) (key : EntityKey) (more : Architectures) → AreFoundInFiles files old → IsInFiles files more.first → Updates is_same_entity old new key (Some more) → AreFoundInFiles files new
-found_in {S} files old new key more are within updates other found told = by_key (is_same_entity key other) refl where
+pub found_in : (files : Files) (old new : Entries EntityKey Architectures) (key : EntityKey) (more : Architectures) → AreFoundInFiles files old → IsInFiles files more.first → Gives old new key more → AreFoundInFiles files new
+found_in files old new key more are within updates other found told = by_key (is_same_entity key other) refl where
   by_key : (b : Bool) → is_same_entity key other ≡ b → IsInFiles files found.first
-  by_key true is = let e : Some more ≡ Some found = sym (ap (λ (b : Bool). cond b (Some more) (get is_same_entity old other)) is) ∙ (sym ((updates.0) other) ∙ told) in let same : more ≡ found = cc in subst (λ (m : Architectures). IsInFiles files m.first) same within
-  by_key false is = are other found (sym (ap (λ (b : Bool). cond b (Some more) (get is_same_entity old other)) is) ∙ (sym ((updates.0) other) ∙ told))
+  by_key true is = let e : Some more ≡ Some found = sym (ap (λ (b : Bool). cond b (Some more) (get is_same_entity old other)) is) ∙ (sym (updates other) ∙ told) in let same : more ≡ found = cc in subst (λ (m : Architectures). IsInFiles files m.first) same within
+  by_key false is = are other found (sym (ap (λ (b : Bool). cond b (Some more) (get is_same_entity old other)) is) ∙ (sym (updates other) ∙ told))
 
 pub more_in : (files : Files) (found : Option Architectures) (id : UnitId) (more : Architectures) → IsInFiles files id → ((one : Architectures) → found ≡ Some one → IsInFiles files one.first) → more ≡ one_more found id → IsInFiles files more.first
 more_in files None id more within are is = subst (λ (m : Architectures). IsInFiles files m.first) (sym is) within
@@ -87,3 +85,29 @@ one_found sources entity (first ∷ second ∷ others) found is one =
     let same : several_of first ≡ found = cc in
     let never : true ≡ false = ap (λ (f : Architectures). f.several) same ∙ one in
     let no : ⊥ = cc in absurd no
+
+first_there : (ids : List UnitId) (found : Architectures) (other : UnitId) → first_of_some ids ≡ Some found → (0 < length ids) × (get_or ids 0 other ≡ found.first)
+first_there [] found other is = let no : ⊥ = cc in absurd no
+first_there (first ∷ []) found other is = let same : single_of first ≡ found = cc in (omega arith, ap (λ (f : Architectures). f.first) same)
+first_there (first ∷ second ∷ others) found other is = let same : several_of first ≡ found = cc in (omega arith, ap (λ (f : Architectures). f.first) same)
+
+-- what is found is an architecture
+pub first_right : (sources : ScannedFiles) (library entity : List ℕ) (ids : List UnitId) (found : Architectures) → first_of_some (filter (is_architecture_of library entity sources) ids) ≡ Some found → IsArchitecture sources found.first
+first_right sources library entity ids found is =
+    let test = is_architecture_of library entity sources in
+    let there = first_there (filter test ids) found found.first is in
+    let passes : test found.first ≡ true = ap test (sym (there.1)) ∙ filter_passes test ids 0 found.first (there.0) in
+    (and_cases (is_architecture_kind (design_unit sources found.first).kind) _ passes).0
+
+pub none_found : (sources : ScannedFiles) (entity : UnitId) (ids : List UnitId) → first_of_some ids ≡ None → bench_with sources entity ids ≡ Err (NoArchitecture (bench_name (unit_library sources entity) (design_unit sources entity).name))
+none_found sources entity [] is = refl
+none_found sources entity (first ∷ []) is = let no : ⊥ = cc in absurd no
+none_found sources entity (first ∷ second ∷ others) is = let no : ⊥ = cc in absurd no
+
+pub several_found : (sources : ScannedFiles) (entity : UnitId) (ids : List UnitId) (found : Architectures) → first_of_some ids ≡ Some found → found.several ≡ true → bench_with sources entity ids ≡ Err (TwoArchitectures (bench_name (unit_library sources entity) (design_unit sources entity).name))
+several_found sources entity [] found is more = let no : ⊥ = cc in absurd no
+several_found sources entity (first ∷ []) found is more =
+    let same : single_of first ≡ found = cc in
+    let never : false ≡ true = ap (λ (f : Architectures). f.several) same ∙ more in
+    let no : ⊥ = cc in absurd no
+several_found sources entity (first ∷ second ∷ others) found is more = refl

@@ -2,22 +2,21 @@
 use Rattle.std.proofs.Common.{◌≡◌, ℕ, Bool, true, false, cond, Option, Some, None, List, [], ◌∷◌, ◌++◌, append_assoc, append-nil, refl, sym, ◌∙◌, ap}
 use Rattle.std.specs.Prelude.{Result, Ok, Err, if◌then◌else◌}
 use Rattle.std.specs.Option.{option_map}
-use Rattle.vr_base.specs.declared.bench.TestFault.{TestFault}
-use Rattle.vr_base.specs.declared.bench.TestFault.TheVariants.{NoMemory, TwoArchitectures, NoArchitecture, DuplicateTest, BadName}
+use Rattle.vhdl_benches.specs.declared.bench.TestFault.{TestFault}
+use Rattle.vhdl_benches.specs.declared.bench.TestFault.TheVariants.{DuplicateTest}
+use Rattle.vr_base.specs.declared.memory.OrMemory.{OrMemory}
+use Rattle.vr_base.specs.declared.memory.OrMemory.TheVariants.{NoMemory, Fault}
 use Rattle.scan_spec.specs.Dependencies.{is_one_of}
 use Rattle.test_scan.specs.Benches.{first_repeated}
 use Rattle.test_scan.specs.Results.{GivesOrFails, IsTestFault}
 
 -- a fault that is said here is said there
-pub fault_on : (said other : Option TestFault) (fault : TestFault) → ((given : TestFault) → said ≡ Some given → other ≡ Some given) → IsTestFault said fault → IsTestFault other fault
+pub fault_on : (said other : Option TestFault) (fault : OrMemory TestFault) → ((given : TestFault) → said ≡ Some given → other ≡ Some given) → IsTestFault said fault → IsTestFault other fault
 fault_on said other NoMemory on is = tt
-fault_on said other (TwoArchitectures a) on is = on (TwoArchitectures a) is
-fault_on said other (NoArchitecture a) on is = on (NoArchitecture a) is
-fault_on said other (DuplicateTest a) on is = on (DuplicateTest a) is
-fault_on said other (BadName a) on is = on (BadName a) is
+fault_on said other (Fault fault) on is = on fault is
 
 -- the same is said of the same
-pub gives_on : {T : Type 0} (said other : Option TestFault) (P Q : T → Type 0) (result : Result T TestFault) → other ≡ said → ((value : T) → P value → Q value) → GivesOrFails said P result → GivesOrFails other Q result
+pub gives_on : {T : Type 0} (said other : Option TestFault) (P Q : T → Type 0) (result : Result T (OrMemory TestFault)) → other ≡ said → ((value : T) → P value → Q value) → GivesOrFails said P result → GivesOrFails other Q result
 gives_on said other P Q (Ok value) same on is = (same ∙ is.0, on value (is.1))
 gives_on said other P Q (Err fault) same on is = fault_on said other fault (λ given e. same ∙ e) is
 
@@ -43,7 +42,7 @@ none_more before names name none told rest =
     ∙ ap (λ (all : List (List ℕ)). first_repeated all rest) (append_assoc before names (name ∷ []))
 
 -- the name here came before
-pub fault_here : (before names after all : List (List ℕ)) (name : List ℕ) (fault : TestFault) → NoneRepeated before names → all ≡ names ++ name ∷ after → IsTestFault (repeated_if (is_one_of (before ++ names) name) name) fault → IsTestFault (option_map DuplicateTest (first_repeated before all)) fault
+pub fault_here : (before names after all : List (List ℕ)) (name : List ℕ) (fault : OrMemory TestFault) → NoneRepeated before names → all ≡ names ++ name ∷ after → IsTestFault (repeated_if (is_one_of (before ++ names) name) name) fault → IsTestFault (option_map DuplicateTest (first_repeated before all)) fault
 fault_here before names after all name fault none is told =
     fault_on (repeated_if (is_one_of (before ++ names) name) name) (option_map DuplicateTest (first_repeated before all)) fault
     (λ given said. ap (λ (some : List (List ℕ)). option_map DuplicateTest (first_repeated before some)) is ∙ ap (option_map DuplicateTest) (none (name ∷ after)) ∙ by_test (is_one_of (before ++ names) name) given said) told where

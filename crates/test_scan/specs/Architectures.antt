@@ -1,8 +1,9 @@
 -- The architectures of each entity of a project, as the program finds them.
 use Rattle.std.specs.Prelude.{◌≡◌, true, false, Option, Some, None, List, [], ◌∷◌, filter}
-use Rattle.indexmap.specs.IndexMap.{IndexMap, get}
+use Rattle.scan_spec.specs.Dependencies.{is_architecture_kind}
+use Rattle.key_index.specs.Maps.{Entries, get}
 use Rattle.vr_base.specs.declared.refs.UnitId.{UnitId}
-use Rattle.test_scan.specs.Benches.{ScannedFiles, is_architecture_of}
+use Rattle.test_scan.specs.Benches.{ScannedFiles, design_unit, is_architecture_of}
 use Rattle.test_scan.specs.Files.{IsInFiles}
 use Rattle.test_scan.specs.declared.architectures.Architectures.{Architectures}
 use Rattle.test_scan.specs.declared.files.Files.{Files}
@@ -21,9 +22,13 @@ one_more None id = record { first = id; several = false }
 one_more (Some found) id = record { first = found.first; several = true }
 
 -- those of some units, by the library and the name of their entity
-abbrev pub HoldsArchitectures : {S : Type 0} → ScannedFiles → List UnitId → IndexMap EntityKey Architectures S → Type 0
+abbrev pub HoldsArchitectures : ScannedFiles → List UnitId → Entries EntityKey Architectures → Type 0
 HoldsArchitectures sources ids index = (key : EntityKey) → get is_same_entity index key ≡ first_of_some (filter (is_architecture_of key.library key.entity sources) ids)
 
 -- each is a unit of the files
-abbrev pub AreFoundInFiles : {S : Type 0} → Files → IndexMap EntityKey Architectures S → Type 0
+abbrev pub AreFoundInFiles : Files → Entries EntityKey Architectures → Type 0
 AreFoundInFiles files index = (key : EntityKey) (found : Architectures) → get is_same_entity index key ≡ Some found → IsInFiles files found.first
+
+-- the unit of a number is an architecture
+abbrev pub IsArchitecture : ScannedFiles → UnitId → Type 0
+IsArchitecture sources id = is_architecture_kind (design_unit sources id).kind ≡ true

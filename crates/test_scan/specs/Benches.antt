@@ -2,28 +2,30 @@
 -- are named is VUnit's documented behaviour), and what is wrong with them.
 --
 -- A unit of a project is named by the position of its file and its number in that file.
-use Rattle.std.specs.Prelude.{◌≡◌, ℕ, Bool, true, false, not, ◌&&◌, ◌||◌, ◌==◌, nat_lt, if◌then◌else◌, Option, Some, None, Result, Ok, Err, List, [], ◌∷◌, ◌++◌, length, map, filter, flat_map, slice_index_or, codes, Contains}
+use Rattle.std.specs.Prelude.{◌≡◌, ℕ, Bool, not, ◌&&◌, ◌||◌, ◌==◌, nat_lt, if◌then◌else◌, Option, Some, None, Result, Ok, Err, List, [], ◌∷◌, ◌++◌, length, map, filter, flat_map, slice_index_or, codes, Contains}
 use Rattle.std.specs.List.{list_any}
 use Rattle.std.specs.Option.{option_map, option_map_or, option_or}
 use Rattle.std.specs.Str.{bytes_eq, is_utf8}
 use Rattle.vr_base.specs.PresentGraph.{below}
-use Rattle.vr_base.specs.declared.bench.Bench.{Bench}
-use Rattle.vr_base.specs.declared.bench.TestCase.{TestCase}
-use Rattle.vr_base.specs.declared.bench.TestFault.{TestFault}
-use Rattle.vr_base.specs.declared.bench.TestFault.TheVariants.{NoMemory, TwoArchitectures, NoArchitecture, DuplicateTest, BadName}
+use Rattle.vhdl_benches.specs.declared.bench.Bench.{Bench}
+use Rattle.vhdl_benches.specs.declared.bench.TestCase.{TestCase}
+use Rattle.vhdl_benches.specs.declared.bench.TestFault.{TestFault}
+use Rattle.vhdl_benches.specs.declared.bench.TestFault.TheVariants.{TwoArchitectures, NoArchitecture, DuplicateTest, BadName}
 use Rattle.vr_base.specs.declared.child.MaybeText.TheVariants.{Nothing}
 use Rattle.vr_base.specs.declared.design.Scan.{Scan}
 use Rattle.vr_base.specs.declared.design.Unit.{Unit as DesignUnit}
-use Rattle.vr_base.specs.declared.design.UnitKind.{UnitKind}
 use Rattle.vr_base.specs.declared.design.UnitKind.TheVariants as kinds
 use Rattle.vr_base.specs.declared.lexical.Token.{Token}
+use Rattle.vr_base.specs.declared.memory.OrMemory.{OrMemory}
+use Rattle.vr_base.specs.declared.memory.OrMemory.TheVariants.{NoMemory, Fault}
 use Rattle.vr_base.specs.declared.project.Project.{Project}
 use Rattle.vr_base.specs.declared.project.ProjectFile.{ProjectFile}
 use Rattle.vr_base.specs.declared.refs.UnitId.{UnitId}
 use Rattle.scan_spec.specs.References.{owner_name}
 use Rattle.scan_spec.specs.Dependencies.{is_architecture_kind, is_one_of}
 use Rattle.test_select.specs.Selection.{bench_names, full_name}
-use Rattle.test_scan.specs.Calls.{asks_same_sim, called_cases, cases_or, has_runner, whole_case}
+use Rattle.vhdl_runs.specs.Calls.{asks_same_sim, called_cases, cases_or, whole_case}
+use Rattle.vhdl_runs.specs.Runs.{is_bench_unit}
 
 -- ## The design units of a project
 
@@ -74,13 +76,9 @@ unit_numbers scans = flat_map (file_units scans) (below (length scans))
 
 -- ## Benches
 
-abbrev pub is_entity_kind : UnitKind → Bool
-is_entity_kind kinds.Entity = true
-is_entity_kind _ = false
-
 -- an entity whose first generic clause has `runner_cfg`
 abbrev pub is_bench : ScannedFiles → UnitId → Bool
-is_bench sources id = is_entity_kind (design_unit sources id).kind && has_runner (unit_text sources id) (unit_tokens sources id) (design_unit sources id)
+is_bench sources id = is_bench_unit (unit_text sources id) (unit_tokens sources id) (design_unit sources id)
 
 -- the benches, in project and unit order
 abbrev pub bench_numbers : ScannedFiles → List UnitId
@@ -174,10 +172,10 @@ abbrev pub tests_of : ScannedFiles → Result (List Bench) TestFault
 tests_of sources = tests_found (map (bench_at sources) (bench_numbers sources))
 
 -- the answer is the one that is said, unless memory ran out
-abbrev pub GivesTests : Result (List Bench) TestFault → Result (List Bench) TestFault → Type 0
+abbrev pub GivesTests : Result (List Bench) TestFault → Result (List Bench) (OrMemory TestFault) → Type 0
 GivesTests said (Ok tests) = said ≡ Ok tests
 GivesTests said (Err NoMemory) = Unit {0}
-GivesTests said (Err fault) = said ≡ Err fault
+GivesTests said (Err (Fault fault)) = said ≡ Err fault
 
 -- ## What a bench is made of
 

@@ -1,45 +1,65 @@
 -- The files of a project and their design units, as the program holds them.
-use Rattle.std.specs.Prelude.{◌≡◌, ◌<◌, ◌≤◌, true, List, length, All}
-use Rattle.vr_base.specs.declared.limits.TheConstants.{FILE_LIMIT, TEXT_LIMIT}
+use Rattle.std.specs.Prelude.{◌≡◌, ◌<◌, ◌≤◌, true, false, is_some, None, List, [], length, slice_index_or}
+use Rattle.std.specs.List.{All}
+use Rattle.vr_base.specs.declared.design.Scan.{Scan}
+use Rattle.vr_base.specs.declared.limits.TheConstants.{FILE_LIMIT}
 use Rattle.vr_base.specs.declared.refs.UnitId.{UnitId}
-use Rattle.scan_spec.specs.Scans.{AreScansOf}
-use Rattle.scan_spec.specs.Units.{AreTokensOf, roles_of}
-use Rattle.file_outlines.specs.Roles.{AreRolesOf, IsTextSmall}
-use Rattle.test_scan.specs.Benches.{ScannedFiles, design_unit, is_entity_kind, unit_library, unit_scan, unit_text}
+use Rattle.vhdl_runs.specs.Calls.{asks_same_sim}
+use Rattle.vhdl_runs.specs.Runs.{unit_runs}
+use Rattle.vhdl_runs.specs.declared.runs.UnitRuns.{UnitRuns}
+use Rattle.file_outlines.specs.Outlines.{FilesAreOf, FilesLieIn}
+use Rattle.file_outlines.specs.Roles.{IsTextSmall}
+use Rattle.file_outlines.specs.declared.outlines.FileOutline.{FileOutline}
+use Rattle.test_scan.specs.Benches.{ScannedFiles, design_unit, unit_library, unit_scan, unit_text, unit_tokens}
 use Rattle.test_scan.specs.declared.files.Files.{Files}
 use Rattle.test_scan.specs.declared.files.Found.{Found}
 
-abbrev pub scanned : Files → ScannedFiles
-scanned files = record { files = files.project.now.files; texts = files.texts.now; scans = files.scans.now }
-
--- one text, one scan and one list of roles for each file
+-- one text and one outline for each file; an outline can be read of its text
 pub record AreFiles (files : Files) : Type 0 where
   pub few : length files.project.now.files ≤ FILE_LIMIT
   pub each : length files.texts.now ≡ length files.project.now.files
-  pub scans : AreScansOf files.texts.now files.scans.now
   pub small : All IsTextSmall files.texts.now
-  pub roles : AreRolesOf files.texts.now files.scans.now files.roles.now
+  pub lie : FilesLieIn files.texts.now files.outlines.now
+
+-- the outlines are those of these scans
+abbrev pub AreScannedAs : Files → List Scan → Type 0
+AreScannedAs files scans = FilesAreOf files.texts.now scans files.outlines.now
+
+abbrev pub scanned : Files → List Scan → ScannedFiles
+scanned files scans = record { files = files.project.now.files; texts = files.texts.now; scans = scans }
+
+abbrev pub no_runs : UnitRuns
+no_runs = record { bench = None; strings = [] }
+
+abbrev pub no_outline : FileOutline
+no_outline = record { units = []; mentions = []; runs = record { units = []; same_sim = false } }
+
+abbrev pub outline_at : Files → UnitId → FileOutline
+outline_at files id = slice_index_or files.outlines.now id.file no_outline
+
+-- what the unit of a number says of tests
+abbrev pub runs_at : Files → UnitId → UnitRuns
+runs_at files id = slice_index_or (outline_at files id).runs.units id.unit no_runs
 
 -- there is a unit of the number
 pub record IsInFiles (files : Files) (id : UnitId) : Type 0 where
-  pub file : id.file < length files.scans.now
-  pub unit : id.unit < length (unit_scan (scanned files) id).units
+  pub file : id.file < length files.outlines.now
+  pub unit : id.unit < length (outline_at files id).units
 
 abbrev pub AreInFiles : Files → List UnitId → Type 0
 AreInFiles files ids = All (IsInFiles files) ids
 
 -- the unit of a number, with what is known of its file
-pub record IsLocated (files : Files) (id : UnitId) (found : Found) : Type 0 where
-  pub library : found.library.now ≡ unit_library (scanned files) id
-  pub text : found.text.now ≡ unit_text (scanned files) id
-  pub tokens : found.tokens.now ≡ (unit_scan (scanned files) id).tokens
-  pub unit : found.unit.now ≡ design_unit (scanned files) id
-  pub are : AreTokensOf found.text.now found.tokens.now
-  pub roles : found.roles.now ≡ roles_of found.text.now found.tokens.now.list
-  pub ordered : found.unit.now.first < found.unit.now.last
-  pub within : found.unit.now.last < length found.roles.now
-  pub small : length found.roles.now ≤ TEXT_LIMIT
+pub record IsLocated (sources : ScannedFiles) (id : UnitId) (found : Found) : Type 0 where
+  pub library : found.library.now ≡ unit_library sources id
+  pub text : found.text.now ≡ unit_text sources id
+  pub unit : found.unit.now ≡ design_unit sources id
+  pub runs : found.runs.now ≡ unit_runs (unit_text sources id) (unit_tokens sources id) (design_unit sources id)
+  pub same_sim : found.same_sim ≡ asks_same_sim (unit_text sources id) (unit_scan sources id).tokens.comments
 
--- each number is that of an entity
-abbrev pub AreEntities : Files → List UnitId → Type 0
-AreEntities files ids = All (λ id. is_entity_kind (design_unit (scanned files) id).kind ≡ true) ids
+-- the unit of a number is a bench
+abbrev pub IsNamed : Files → UnitId → Type 0
+IsNamed files id = is_some (runs_at files id).bench ≡ true
+
+abbrev pub AreNamed : Files → List UnitId → Type 0
+AreNamed files ids = All (IsNamed files) ids

@@ -1,7 +1,9 @@
--- The definitions: what the tokens of a unit say of tests, the benches of a project, and what the walks of this crate keep.
-pub mod Calls
+-- The definitions: the benches of a project, and what the walks of this crate keep.
 pub mod Benches
 pub mod Files
 pub mod Entities
+pub mod EntityOrder
 pub mod Architectures
 pub mod Results
+pub mod Steps
+pub mod Paths

@@ -1,18 +1,18 @@
 //! The architectures of each entity of a project: the first, and whether there are more.
 
-ghost use Rattle.std.specs.Prelude.{◌≡◌, ◌∷◌, ◌++◌, [], List, IfOk, OnOk, true};
+ghost use Rattle.std.specs.Prelude.{◌≡◌, ◌∷◌, ◌++◌, [], List, IfOk, OnOk};
+ghost use Rattle.vr_base.specs.declared.design.Scan.{Scan};
 ghost use Rattle.vr_base.specs.declared.refs.UnitId.{UnitId as UnitNumber};
-ghost use Rattle.indexmap.specs.IndexMap.{get};
+ghost use Rattle.key_index.specs.Maps.{get};
 ghost use Rattle.scan_spec.specs.Dependencies.{is_architecture_kind};
 ghost use Rattle.scan_spec.specs.References.{owner_name};
-ghost use Rattle.test_scan.specs.Benches.{design_unit};
-ghost use Rattle.test_scan.specs.Files.{AreFiles, AreInFiles, IsInFiles, scanned};
+ghost use Rattle.test_scan.specs.Files.{AreFiles, AreInFiles, AreScannedAs, IsInFiles, scanned};
 ghost use Rattle.test_scan.specs.Architectures.{AreFoundInFiles, HoldsArchitectures, one_more};
 ghost use Rattle.test_scan.specs.Entities.{is_same_entity};
 
 use crate::files::{Files, Found, find};
 use crate::key::{EntityKey, entity_key};
-use indexmap::IndexMap;
+use key_index::KeyMap;
 use std::alloc::Global;
 use vr_base::{MaybeText, NoMemory, Text, UnitId, UnitKind};
 
@@ -24,16 +24,13 @@ pub struct Architectures {
 }
 
 /// The architectures by entity, in project and unit order.
-pub type Index = IndexMap<EntityKey, Architectures>;
+pub type Index = KeyMap<EntityKey, Architectures>;
 
 /// The architectures of an entity, if it has one.
 pub fn architectures_of(index: &Index, key: &EntityKey) -> Option<Architectures>
     ensures { result ≡ get is_same_entity index.now key.now }
 {
-    match index.get(key) {
-        Some(found) => Some(*found),
-        None => None,
-    }
+    index.get(key)
 }
 
 /// One architecture more.
@@ -89,9 +86,10 @@ fn add_unit(alloc: Global, files: Files, id: UnitId, index: &mut Index) -> Resul
     requires id { IsInFiles files id }
     requires within { AreFoundInFiles files index.now }
     ensures within { OnOk result (AreFoundInFiles files.entry index.new) }
-    ensures added { OnOk result ((ids : List UnitNumber) →
-        HoldsArchitectures (scanned files.entry) ids index.old →
-        HoldsArchitectures (scanned files.entry) (ids ++ id ∷ []) index.new) }
+    ensures added { OnOk result ((scans : List Scan) (ids : List UnitNumber) →
+        AreScannedAs files.entry scans →
+        HoldsArchitectures (scanned files.entry scans) ids index.old →
+        HoldsArchitectures (scanned files.entry scans) (ids ++ id ∷ []) index.new) }
 {
     let found = find(files, id);
     if !is_architecture(found.unit.kind) {
@@ -108,7 +106,8 @@ pub fn index_of(alloc: Global, files: Files, ids: &[UnitId]) -> Result<Index, No
     requires files { AreFiles files }
     requires within { AreInFiles files ids.now }
     ensures within { IfOk result (λ index. AreFoundInFiles files.entry index) }
-    ensures holds { IfOk result (λ index. HoldsArchitectures (scanned files.entry) ids.now index) }
+    ensures holds { IfOk result (λ index. (scans : List Scan) → AreScannedAs files.entry scans →
+        HoldsArchitectures (scanned files.entry scans) ids.now index) }
 {
     let mut index = Index::new(alloc);
     for id in ids {

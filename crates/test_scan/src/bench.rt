@@ -1,21 +1,20 @@
 //! The bench of an entity, or what is wrong with its architectures.
 
-ghost use Rattle.std.specs.Prelude.{◌≡◌, ◌+◌, ◌<◌, IfOk, length, true};
-ghost use Rattle.scan_spec.specs.Units.{AreTokensOf};
-ghost use Rattle.vr_base.specs.declared.bench.TestFault.TheVariants.{NoArchitecture, TwoArchitectures};
-ghost use Rattle.test_scan.specs.Calls.{cases_or, whole_case};
-ghost use Rattle.test_scan.specs.Benches.{bench_at, bench_name, bench_of, design_unit, is_entity_kind, unit_numbers};
-ghost use Rattle.test_scan.specs.Files.{AreFiles, IsInFiles, scanned};
-ghost use Rattle.test_scan.specs.Architectures.{AreFoundInFiles, HoldsArchitectures};
+ghost use Rattle.std.specs.Prelude.{◌≡◌, List, IfOk};
+ghost use Rattle.vhdl_benches.specs.declared.bench.TestFault.TheVariants.{NoArchitecture, TwoArchitectures};
+ghost use Rattle.vr_base.specs.declared.design.Scan.{Scan};
+ghost use Rattle.test_scan.specs.Benches.{bench_at, bench_name, bench_of, unit_numbers};
+ghost use Rattle.test_scan.specs.Files.{AreFiles, AreScannedAs, IsInFiles, IsNamed, scanned};
+ghost use Rattle.test_scan.specs.Architectures.{AreFoundInFiles, HoldsArchitectures, IsArchitecture};
 ghost use Rattle.test_scan.specs.Results.{GivesBench};
 
 use crate::architectures::{Index, architectures_of};
-use crate::cases::{called_cases, whole_case};
-use crate::comments::asks_same_sim;
+use crate::called::{called_cases, cases_or};
 use crate::files::{Files, Found, find};
 use crate::key::entity_key;
 use std::alloc::Global;
-use vr_base::{Bench, CaseList, NoMemory, TestFault, Text, UnitId};
+use vhdl_benches::{Bench, CaseList, TestFault};
+use vr_base::{NoMemory, OrMemory, Text, UnitId};
 
 /// A bench as faults name it: its library and its name, with a dot between them.
 pub fn bench_name(alloc: Global, library: &Text, name: &Text) -> Result<Text, NoMemory>
@@ -29,22 +28,6 @@ pub fn bench_name(alloc: Global, library: &Text, name: &Text) -> Result<Text, No
     Ok(Text::from_vec(spelled))
 }
 
-/// The cases that are called, or the one case where none is.
-fn cases_or(alloc: Global, file: u32, entity: Found, called: CaseList) -> Result<CaseList, NoMemory>
-    requires tokens { AreTokensOf entity.text.now entity.tokens.now }
-    requires kind { is_entity_kind entity.unit.now.kind ≡ true }
-    requires within { entity.unit.now.first + 1 < length entity.tokens.now.list }
-    ensures { IfOk result (λ cases. cases ≡
-        cases_or (whole_case file entity.entry.tokens.now.list entity.entry.unit.now) called) }
-{
-    if !called.is_empty() {
-        return Ok(called);
-    }
-    let mut cases = CaseList::new(alloc);
-    cases.push(whole_case(alloc, file, entity.text, entity.tokens, entity.unit)?)?;
-    Ok(cases)
-}
-
 /// The bench of an entity with its architecture.
 fn bench_of(
     alloc: Global,
@@ -54,9 +37,11 @@ fn bench_of(
 ) -> Result<Bench, NoMemory>
     requires files { AreFiles files }
     requires entity { IsInFiles files entity }
-    requires kind { is_entity_kind (design_unit (scanned files) entity).kind ≡ true }
+    requires named { IsNamed files entity }
     requires architecture { IsInFiles files architecture }
-    ensures { IfOk result (λ bench. bench ≡ bench_of (scanned files.entry) entity architecture) }
+    ensures { IfOk result (λ bench. (scans : List Scan) → AreScannedAs files.entry scans →
+        IsArchitecture (scanned files.entry scans) architecture →
+        bench ≡ bench_of (scanned files.entry scans) entity architecture) }
 {
     let of = find(files, entity);
     let by = find(files, architecture);
@@ -64,9 +49,7 @@ fn bench_of(
         alloc,
         architecture.file,
         by.text,
-        by.tokens,
-        by.roles,
-        by.unit,
+        by.runs.strings.as_slice(),
     )?;
     let whole = called.is_empty();
     Ok(Bench {
@@ -74,9 +57,9 @@ fn bench_of(
         name: of.unit.name.copy(alloc)?,
         architecture: by.unit.name.copy(alloc)?,
         file: entity.file,
-        cases: cases_or(alloc, entity.file, of, called)?,
+        cases: cases_or(alloc, entity.file, of.text, of.runs, called)?,
         whole,
-        same_sim: asks_same_sim(by.text, by.tokens),
+        same_sim: by.same_sim,
     })
 }
 
@@ -104,22 +87,22 @@ pub fn bench_at(
     files: Files,
     index: &Index,
     entity: UnitId,
-) -> Result<Bench, TestFault>
+) -> Result<Bench, OrMemory<TestFault>>
     requires files { AreFiles files }
     requires entity { IsInFiles files entity }
-    requires kind { is_entity_kind (design_unit (scanned files) entity).kind ≡ true }
+    requires named { IsNamed files entity }
     requires within { AreFoundInFiles files index.now }
-    requires holds { HoldsArchitectures (scanned files)
-        (unit_numbers files.scans.now) index.now }
-    ensures { GivesBench (bench_at (scanned files.entry) entity) result }
+    ensures { (scans : List Scan) → AreScannedAs files.entry scans →
+        HoldsArchitectures (scanned files.entry scans) (unit_numbers scans) index.now →
+        GivesBench (bench_at (scanned files.entry scans) entity) result }
 {
     let found = find(files, entity);
     let key = entity_key(alloc, found.library, &found.unit.name)?;
     let Some(architectures) = architectures_of(index, &key) else {
-        return Err(no_architecture(alloc, found)?);
+        return Err(OrMemory::Fault(no_architecture(alloc, found)?));
     };
     if architectures.several {
-        return Err(two_architectures(alloc, found)?);
+        return Err(OrMemory::Fault(two_architectures(alloc, found)?));
     }
     Ok(bench_of(alloc, files, entity, architectures.first)?)
 }

@@ -1,11 +1,17 @@
 //! The names of entities, by which their architectures are found.
 
 ghost use Rattle.std.specs.Prelude.{◌≡◌, [], ◌∷◌, IfOk};
+ghost use Rattle.std.specs.Cmp.{partial_order_from_agreeing_total};
+ghost use Rattle.std.specs.Cmp.Lexicographic.{slice_cmp};
 ghost use Rattle.std.specs.Cmp.Rules.{comparing, hashing};
-ghost use Rattle.std.proofs.Common.{rules};
+ghost use Rattle.std.specs.Ordering.{as_partial_cmp, nat_cmp};
+ghost use Rattle.std.proofs.Common.{refl, rules};
 ghost use Rattle.test_scan.specs.Entities.{is_same_entity};
+ghost use Rattle.test_scan.specs.EntityOrder.{entities_decide, entity_cmp, entity_ties, entity_total};
 
+use key_index::Key;
 use std::alloc::Global;
+use std::cmp::Ordering;
 use std::hash::{Hash, Hasher};
 use vr_base::{NoMemory, Text};
 
@@ -39,6 +45,49 @@ impl Hash for EntityKey {
     fn hash<H: Hasher>(&self, state: &mut H) {
         state.write(self.library.bytes());
         state.write(self.entity.bytes());
+    }
+}
+
+fn order(one: &Text, other: &Text) -> Ordering
+    ensures { result ≡ slice_cmp nat_cmp one.now other.now }
+{
+    Ord::cmp(&one.bytes(), &other.bytes())
+}
+
+/// By the name, and by the library only where the names are the same.
+impl Ord for EntityKey {
+    ghost cmp = { entity_cmp };
+
+    ghost total = { entity_total };
+
+    ghost matches_partial_cmp = { λ one other. refl };
+
+    ghost matches_eq = { entity_ties };
+
+    fn cmp(&self, other: &EntityKey) -> Ordering {
+        match order(&self.entity, &other.entity) {
+            Ordering::Less => Ordering::Less,
+            Ordering::Equal => order(&self.library, &other.library),
+            Ordering::Greater => Ordering::Greater,
+        }
+    }
+}
+
+impl PartialOrd for EntityKey {
+    ghost partial_cmp = { as_partial_cmp entity_cmp };
+
+    ghost laws = { partial_order_from_agreeing_total entity_cmp entity_total (λ one other. refl) entity_ties };
+
+    fn partial_cmp(&self, other: &EntityKey) -> Option<Ordering> {
+        Some(self.cmp(other))
+    }
+}
+
+impl Key for EntityKey {
+    ghost decides = { entities_decide };
+
+    fn copy(&self, alloc: Global) -> Result<EntityKey, NoMemory> {
+        entity_key(alloc, &self.library, &self.entity)
     }
 }
 

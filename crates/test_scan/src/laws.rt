@@ -2,7 +2,7 @@
 
 ghost use Rattle.std.specs.Prelude.{◌≡◌, ◌≢◌, AllPairs, Contains, List, Ok};
 ghost use Rattle.std.specs.List.{flat_map};
-ghost use Rattle.vr_base.specs.declared.bench.Bench.{Bench};
+ghost use Rattle.vhdl_benches.specs.declared.bench.Bench.{Bench};
 ghost use Rattle.test_select.specs.Selection.{bench_names};
 ghost use Rattle.test_scan.specs.Benches.{IsBenchOfOne, ScannedFiles, tests_of};
 

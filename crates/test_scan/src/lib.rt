@@ -3,16 +3,15 @@
 
 mod architectures;
 mod bench;
-mod cases;
-mod comments;
+mod called;
 mod files;
 mod key;
 mod laws;
 mod names;
 mod numbers;
-mod runner;
+mod paths;
 mod scanning;
-mod words;
+mod steps;
 
 pub use laws::laws_of_benches;
 pub use scanning::benches;

@@ -1,24 +1,43 @@
-//! The names of tests: whether each is one, and whether it came before.
+//! The names of tests: whether each is one, and whether it came before. Full names aren't made for that.
 
-ghost use Rattle.std.specs.Prelude.{◌≡◌, ◌++◌, ◌∷◌, [], ℕ, List, IfOk, None, Some, if◌then◌else◌};
+ghost use Rattle.std.specs.Prelude.{◌≡◌, ◌++◌, ◌∷◌, [], ◌||◌, ℕ, List, IfOk, OnOk, None, Some, if◌then◌else◌, ◌==◌};
 ghost use Rattle.std.specs.List.{list_any};
 ghost use Rattle.std.specs.Option.{option_map};
 ghost use Rattle.std.specs.Str.{is_utf8};
-ghost use Rattle.vr_base.specs.declared.bench.TestFault.TheVariants.{BadName, DuplicateTest};
+ghost use Rattle.vhdl_benches.specs.declared.bench.TestFault.TheVariants.{BadName, DuplicateTest};
 ghost use Rattle.scan_spec.specs.Dependencies.{is_one_of};
-ghost use Rattle.test_select.specs.Selection.{bench_names};
+ghost use Rattle.test_select.specs.Selection.{bench_names, full_name, name_start};
 ghost use Rattle.test_scan.specs.Benches.{bench_name, case_fault, first_repeated, is_bad_case, is_control, is_good_name};
-ghost use Rattle.test_scan.specs.Results.{GivesOrFails, HoldsFullNames};
+ghost use Rattle.test_scan.specs.Paths.{HasGrown, HoldsFullNames, Leads};
+ghost use Rattle.test_scan.specs.Results.{GivesOrFails};
 
 use crate::bench::bench_name;
+use crate::paths::{step, walk};
+use crate::steps::Step;
 use indexmap::IndexSet;
+use numbering::Numbered;
 use std::alloc::Global;
 use std::str;
 use test_select::full_name;
-use vr_base::{Bench, NoMemory, TestCase, TestFault, Text};
+use vhdl_benches::{Bench, TestCase, TestFault};
+use vr_base::{NoMemory, OrMemory, Text};
 
-/// The full names so far.
-pub type Names = IndexSet<Vec<u8>>;
+/// The full names so far: the steps of their paths, and the places where these end.
+#[derive(Drop)]
+pub struct Names {
+    pub steps: Numbered<Step>,
+    pub ends: IndexSet<usize>,
+}
+
+/// No name, which takes no memory.
+pub fn no_names(alloc: Global) -> Names
+    ensures { HoldsFullNames result [] }
+{
+    Names {
+        steps: Numbered::new(alloc),
+        ends: IndexSet::new(alloc),
+    }
+}
 
 fn is_utf8(bytes: &[u8]) -> bool
     ensures { result ≡ is_utf8 bytes.now }
@@ -39,54 +58,115 @@ fn is_good_name(name: &[u8]) -> bool
     is_utf8(name) && !has_control(name)
 }
 
-/// Whether a case has no name, or a full name that is none.
-fn is_bad_case(alloc: Global, bench: &Bench, test_case: &TestCase) -> Result<bool, NoMemory>
-    ensures { IfOk result (λ bad. bad ≡ is_bad_case bench.now test_case.now) }
+/// Whether a case has no name, or one that is none after the name of its bench, which is good or bad.
+fn is_bad_case(start_is_good: bool, bench: &Bench, test_case: &TestCase) -> bool
+    requires { start_is_good ≡ is_good_name (bench_name bench.now.library bench.now.name) }
+    ensures { result ≡ is_bad_case bench.now test_case.now }
 {
-    if test_case.name.bytes().is_empty() {
-        return Ok(true);
+    let name = test_case.name.bytes();
+    if name.is_empty() {
+        return true;
     }
-    let name = full_name(alloc, bench, test_case)?;
-    Ok(!is_good_name(name.as_slice()))
+    if !start_is_good {
+        return true;
+    }
+    !is_good_name(name)
 }
 
 /// Whether some case of a bench has a bad name.
 fn has_bad_case(alloc: Global, bench: &Bench) -> Result<bool, NoMemory>
     ensures { IfOk result (λ bad. bad ≡ list_any (is_bad_case bench.now) bench.now.cases) }
 {
+    let start = bench_name(alloc, &bench.library, &bench.name)?;
+    let start_is_good = is_good_name(start.bytes());
     for test_case in bench.cases.as_slice() {
-        if is_bad_case(alloc, bench, test_case)? {
+        if is_bad_case(start_is_good, bench, test_case) {
             return Ok(true);
         }
     }
     Ok(false)
 }
 
-/// Adds a full name, unless it came before.
-fn add_name(names: &mut Names, name: Vec<u8>) -> Result<(), TestFault>
-    ensures { (before : List (List ℕ)) → HoldsFullNames names.old before →
-        GivesOrFails (if is_one_of before name.items then Some (DuplicateTest name.items) else None)
-        (λ value. HoldsFullNames names.new (before ++ name.items ∷ [])) result }
+/// The place on the paths of names where those of a bench begin.
+fn start_of(bench: &Bench, steps: &mut Numbered<Step>) -> Result<usize, NoMemory>
+    ensures leads { IfOk result (λ place. Leads steps.new.keys place (name_start bench.now)) }
+    ensures grown { OnOk result (HasGrown steps.old.keys steps.new.keys) }
 {
-    if names.contains(name.as_slice()) {
-        return Err(TestFault::DuplicateTest {
-            name: Text::from_vec(name),
-        });
+    let library = walk(steps, 0, bench.library.bytes())?;
+    let dot = step(steps, library, b'.')?;
+    let name = walk(steps, dot, bench.name.bytes())?;
+    let end = step(steps, name, b'.')?;
+    Ok(end)
+}
+
+/// That a full name came before, which is made here alone.
+fn duplicate_test(alloc: Global, bench: &Bench, test_case: &TestCase) -> Result<TestFault, NoMemory>
+    ensures { IfOk result (λ fault. fault ≡ DuplicateTest (full_name bench.now test_case.now)) }
+{
+    Ok(TestFault::DuplicateTest {
+        name: Text::from_vec(full_name(alloc, bench, test_case)?),
+    })
+}
+
+/// Whether a full name whose path ends at a place came before.
+fn came_before(names: &Names, place: usize) -> bool
+    ensures names { (before : List (List ℕ)) (name : List ℕ) → HoldsFullNames names.now before →
+        Leads names.now.steps.keys place name → result ≡ is_one_of before name }
+    ensures ends { result ≡ list_any (λ other. place == other) names.now.ends.keys }
+{
+    let _count = names.steps.len();
+    names.ends.contains(&place)
+}
+
+/// Adds the full name of a case of a bench, whose names begin at a place, unless it came before.
+fn add_name(
+    alloc: Global,
+    bench: &Bench,
+    start: usize,
+    test_case: &TestCase,
+    names: &mut Names,
+) -> Result<(), OrMemory<TestFault>>
+    requires { Leads names.old.steps.keys start (name_start bench.now) }
+    ensures added { (before : List (List ℕ)) → HoldsFullNames names.old before →
+        let name = full_name bench.now test_case.now in
+        GivesOrFails (if is_one_of before name then Some (DuplicateTest name) else None)
+        (λ value. HoldsFullNames names.new (before ++ name ∷ [])) result }
+    ensures grown { OnOk result (HasGrown names.old.steps.keys names.new.steps.keys) }
+{
+    let place = walk(&mut names.steps, start, test_case.name.bytes())?;
+    if came_before(names, place) {
+        return Err(OrMemory::Fault(duplicate_test(alloc, bench, test_case)?));
     }
-    names.insert(name)?;
+    names.ends.insert(place)?;
     Ok(())
 }
 
-/// Adds the full names of a bench, unless one came before.
-fn add_names(alloc: Global, bench: &Bench, names: &mut Names) -> Result<(), TestFault>
+/// Adds the full names of a bench, which begin at a place, unless one came before.
+fn add_cases(
+    alloc: Global,
+    bench: &Bench,
+    start: usize,
+    names: &mut Names,
+) -> Result<(), OrMemory<TestFault>>
+    requires { Leads names.old.steps.keys start (name_start bench.now) }
     ensures { (before : List (List ℕ)) → HoldsFullNames names.old before →
         GivesOrFails (option_map DuplicateTest (first_repeated before (bench_names bench.now)))
         (λ value. HoldsFullNames names.new (before ++ bench_names bench.now)) result }
 {
     for test_case in bench.cases.as_slice() {
-        add_name(names, full_name(alloc, bench, test_case)?)?;
+        add_name(alloc, bench, start, test_case, names)?;
     }
     Ok(())
+}
+
+/// Adds the full names of a bench, unless one came before.
+fn add_names(alloc: Global, bench: &Bench, names: &mut Names) -> Result<(), OrMemory<TestFault>>
+    ensures { (before : List (List ℕ)) → HoldsFullNames names.old before →
+        GivesOrFails (option_map DuplicateTest (first_repeated before (bench_names bench.now)))
+        (λ value. HoldsFullNames names.new (before ++ bench_names bench.now)) result }
+{
+    let start = start_of(bench, &mut names.steps)?;
+    add_cases(alloc, bench, start, names)
 }
 
 fn bad_name(alloc: Global, bench: &Bench) -> Result<TestFault, NoMemory>
@@ -99,13 +179,17 @@ fn bad_name(alloc: Global, bench: &Bench) -> Result<TestFault, NoMemory>
 }
 
 /// Adds the full names of a bench, unless one of its names is bad or came before.
-pub fn take_names(alloc: Global, bench: &Bench, names: &mut Names) -> Result<(), TestFault>
+pub fn take_names(
+    alloc: Global,
+    bench: &Bench,
+    names: &mut Names,
+) -> Result<(), OrMemory<TestFault>>
     ensures { (before : List (List ℕ)) → HoldsFullNames names.old before →
         GivesOrFails (case_fault before bench.now)
         (λ value. HoldsFullNames names.new (before ++ bench_names bench.now)) result }
 {
     if has_bad_case(alloc, bench)? {
-        return Err(bad_name(alloc, bench)?);
+        return Err(OrMemory::Fault(bad_name(alloc, bench)?));
     }
     add_names(alloc, bench, names)
 }

@@ -1,23 +1,14 @@
 //! The numbers of a project's design units, and of its benches.
 
-ghost use Rattle.std.specs.Prelude.{◌≡◌, ◌++◌, ◌≤◌, IfOk, OnOk, filter, map};
+ghost use Rattle.std.specs.Prelude.{◌≡◌, ◌++◌, ◌∷◌, [], ◌≤◌, List, IfOk, OnOk, filter, if◌then◌else◌, is_some, map};
 ghost use Rattle.vr_base.specs.PresentGraph.{below};
-ghost use Rattle.test_scan.specs.Benches.{is_bench, is_entity_kind, unit_number, unit_numbers};
-ghost use Rattle.test_scan.specs.Files.{AreEntities, AreFiles, AreInFiles, IsInFiles, scanned};
+ghost use Rattle.vr_base.specs.declared.design.Scan.{Scan};
+ghost use Rattle.test_scan.specs.Benches.{is_bench, unit_number, unit_numbers};
+ghost use Rattle.test_scan.specs.Files.{AreFiles, AreInFiles, AreNamed, AreScannedAs, IsInFiles, runs_at, scanned};
 
 use crate::files::{Files, find};
-use crate::runner::has_runner;
 use std::alloc::Global;
-use vr_base::{NoMemory, TEXT_LIMIT, UnitId, UnitKind};
-
-fn is_entity(kind: UnitKind) -> bool
-    ensures { result ≡ is_entity_kind kind }
-{
-    match kind {
-        UnitKind::Entity => true,
-        _ => false,
-    }
-}
+use vr_base::{NoMemory, TEXT_LIMIT, UnitId};
 
 /// Adds the numbers of the units of a file.
 fn add_numbers(file: u32, count: u64, ids: &mut Vec<UnitId>) -> Result<(), NoMemory>
@@ -37,13 +28,14 @@ fn add_numbers(file: u32, count: u64, ids: &mut Vec<UnitId>) -> Result<(), NoMem
 /// The numbers of all units, in project and unit order.
 pub fn unit_numbers(alloc: Global, files: Files) -> Result<Vec<UnitId>, NoMemory>
     requires { AreFiles files }
-    ensures all { IfOk result (λ ids. ids.items ≡ unit_numbers files.entry.scans.now) }
+    ensures all { IfOk result (λ ids. (scans : List Scan) → AreScannedAs files.entry scans →
+        ids.items ≡ unit_numbers scans) }
     ensures within { IfOk result (λ ids. AreInFiles files.entry ids.items) }
 {
     let mut ids = Vec::new(alloc);
-    for file in 0..files.scans.len() {
-        let scan = files.scans.get(file);
-        let count = scan.units.len();
+    for file in 0..files.outlines.len() {
+        let outline = files.outlines.get(file);
+        let count = outline.units.len();
         add_numbers(file as u32, count, &mut ids)?;
     }
     Ok(ids)
@@ -53,26 +45,45 @@ pub fn unit_numbers(alloc: Global, files: Files) -> Result<Vec<UnitId>, NoMemory
 fn is_bench(files: Files, id: UnitId) -> bool
     requires files { AreFiles files }
     requires id { IsInFiles files id }
-    ensures { result ≡ is_bench (scanned files.entry) id }
+    ensures is { (scans : List Scan) → AreScannedAs files.entry scans →
+        result ≡ is_bench (scanned files.entry scans) id }
+    ensures named { result ≡ is_some (runs_at files.entry id).bench }
 {
     let found = find(files, id);
-    is_entity(found.unit.kind) && has_runner(found.text, found.tokens, found.roles, found.unit)
+    found.runs.bench.is_some()
+}
+
+/// Adds the number of a unit, where it is a bench.
+fn add_bench(files: Files, id: UnitId, benches: &mut Vec<UnitId>) -> Result<(), NoMemory>
+    requires files { AreFiles files }
+    requires id { IsInFiles files id }
+    requires within { AreInFiles files benches.old.items }
+    requires named { AreNamed files benches.old.items }
+    ensures added { OnOk result ((scans : List Scan) → AreScannedAs files.entry scans →
+        benches.new.items ≡ benches.old.items ++
+        (if is_bench (scanned files.entry scans) id then id ∷ [] else [])) }
+    ensures within { OnOk result (AreInFiles files.entry benches.new.items) }
+    ensures named { OnOk result (AreNamed files.entry benches.new.items) }
+{
+    if !is_bench(files, id) {
+        return Ok(());
+    }
+    benches.push(id)?;
+    Ok(())
 }
 
 /// The numbers of the benches among units, in order.
 pub fn bench_numbers(alloc: Global, files: Files, ids: &[UnitId]) -> Result<Vec<UnitId>, NoMemory>
     requires files { AreFiles files }
     requires within { AreInFiles files ids.now }
-    ensures all { IfOk result (λ benches. benches.items ≡
-        filter (is_bench (scanned files.entry)) ids.now) }
+    ensures all { IfOk result (λ benches. (scans : List Scan) → AreScannedAs files.entry scans →
+        benches.items ≡ filter (is_bench (scanned files.entry scans)) ids.now) }
     ensures within { IfOk result (λ benches. AreInFiles files.entry benches.items) }
-    ensures entities { IfOk result (λ benches. AreEntities files.entry benches.items) }
+    ensures named { IfOk result (λ benches. AreNamed files.entry benches.items) }
 {
     let mut benches = Vec::new(alloc);
     for id in ids {
-        if is_bench(files, *id) {
-            benches.push(*id)?;
-        }
+        add_bench(files, *id, &mut benches)?;
     }
     Ok(benches)
 }

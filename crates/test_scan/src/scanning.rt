@@ -1,23 +1,24 @@
 //! The tests of a project.
 
-ghost use Rattle.std.specs.Prelude.{◌≡◌, ◌≤◌, ℕ, List, All, IfOk, length, map, true};
-ghost use Rattle.scan_spec.specs.Scans.{AreScansOf};
-ghost use Rattle.file_outlines.specs.Roles.{AreRolesOf, IsTextSmall};
-ghost use Rattle.test_scan.specs.Benches.{GivesTests, bench_at, design_unit, is_entity_kind, sources_of, tests_found, tests_of, unit_numbers};
-ghost use Rattle.test_scan.specs.Files.{AreEntities, AreFiles, AreInFiles, IsInFiles, scanned};
+ghost use Rattle.std.specs.Prelude.{◌≡◌, ◌≤◌, ℕ, List, All, IfOk, length, map};
+ghost use Rattle.vr_base.specs.declared.design.Scan.{Scan};
+ghost use Rattle.file_outlines.specs.Outlines.{AreOutlinesOf, FilesLieIn};
+ghost use Rattle.file_outlines.specs.Roles.{IsTextSmall};
+ghost use Rattle.test_scan.specs.Benches.{GivesTests, bench_at, sources_of, tests_found, tests_of, unit_numbers};
+ghost use Rattle.test_scan.specs.Files.{AreFiles, AreInFiles, AreNamed, AreScannedAs, IsInFiles, IsNamed, scanned};
 ghost use Rattle.test_scan.specs.Architectures.{AreFoundInFiles, HoldsArchitectures};
-ghost use Rattle.test_scan.specs.Results.{GivesFound, HoldsFullNames};
+ghost use Rattle.test_scan.specs.Results.{GivesFound};
+ghost use Rattle.test_scan.specs.Paths.{HoldsFullNames};
 
 use crate::architectures::{Index, index_of};
 use crate::bench::bench_at;
 use crate::files::Files;
-use crate::names::{Names, take_names};
+use crate::names::{Names, no_names, take_names};
 use crate::numbers::{bench_numbers, unit_numbers};
-use file_outlines::roles_of_files;
+use file_outlines::Outlines;
 use std::alloc::Global;
-use vr_base::{
-    FILE_LIMIT, Items, NoMemory, Project, RoleList, Scans, TestFault, Tests, TextList, UnitId,
-};
+use vhdl_benches::{TestFault, Tests};
+use vr_base::{FILE_LIMIT, OrMemory, Project, TextList, UnitId};
 
 /// Adds the bench of an entity and its full names.
 fn push_bench(
@@ -27,15 +28,15 @@ fn push_bench(
     entity: UnitId,
     names: &mut Names,
     tests: &mut Tests,
-) -> Result<(), TestFault>
+) -> Result<(), OrMemory<TestFault>>
     requires files { AreFiles files }
     requires entity { IsInFiles files entity }
-    requires kind { is_entity_kind (design_unit (scanned files) entity).kind ≡ true }
+    requires named { IsNamed files entity }
     requires within { AreFoundInFiles files index.now }
-    requires holds { HoldsArchitectures (scanned files)
-        (unit_numbers files.scans.now) index.now }
-    ensures { (before : List (List ℕ)) → HoldsFullNames names.old before →
-        GivesFound before (bench_at (scanned files.entry) entity)
+    ensures { (scans : List Scan) (before : List (List ℕ)) → AreScannedAs files.entry scans →
+        HoldsArchitectures (scanned files.entry scans) (unit_numbers scans) index.now →
+        HoldsFullNames names.old before →
+        GivesFound before (bench_at (scanned files.entry scans) entity)
         names.new tests.old tests.new result }
 {
     let bench = bench_at(alloc, files, index, entity)?;
@@ -50,16 +51,16 @@ fn benches_of(
     files: Files,
     index: &Index,
     entities: &[UnitId],
-) -> Result<Tests, TestFault>
+) -> Result<Tests, OrMemory<TestFault>>
     requires files { AreFiles files }
     requires inside { AreInFiles files entities.now }
-    requires kinds { AreEntities files entities.now }
+    requires named { AreNamed files entities.now }
     requires within { AreFoundInFiles files index.now }
-    requires holds { HoldsArchitectures (scanned files)
-        (unit_numbers files.scans.now) index.now }
-    ensures { GivesTests (tests_found (map (bench_at (scanned files.entry)) entities.now)) result }
+    ensures { (scans : List Scan) → AreScannedAs files.entry scans →
+        HoldsArchitectures (scanned files.entry scans) (unit_numbers scans) index.now →
+        GivesTests (tests_found (map (bench_at (scanned files.entry scans)) entities.now)) result }
 {
-    let mut names = Names::new(alloc);
+    let mut names = no_names(alloc);
     let mut tests = Tests::new(alloc);
     for entity in entities {
         push_bench(alloc, files, index, *entity, &mut names, &mut tests)?;
@@ -68,9 +69,10 @@ fn benches_of(
 }
 
 /// The tests of files.
-fn tests_of(alloc: Global, files: Files) -> Result<Tests, TestFault>
+fn tests_of(alloc: Global, files: Files) -> Result<Tests, OrMemory<TestFault>>
     requires { AreFiles files }
-    ensures { GivesTests (tests_of (scanned files.entry)) result }
+    ensures { (scans : List Scan) → AreScannedAs files.entry scans →
+        GivesTests (tests_of (scanned files.entry scans)) result }
 {
     let units = unit_numbers(alloc, files)?;
     let index = index_of(alloc, files, units.as_slice())?;
@@ -78,39 +80,30 @@ fn tests_of(alloc: Global, files: Files) -> Result<Tests, TestFault>
     benches_of(alloc, files, &index, entities.as_slice())
 }
 
-/// The roles of the tokens of all files.
-fn roles_of(alloc: Global, texts: &TextList, scans: &Scans) -> Result<Items<RoleList>, NoMemory>
-    requires { AreScansOf texts.now scans.now }
-    ensures { IfOk result (λ roles. AreRolesOf texts.now scans.now roles) }
-{
-    roles_of_files(alloc, texts, scans)
-}
-
 /// The test benches of a project in project and unit order, each with its cases in order (as VUnit documents them: an
 /// entity with the generic `runner_cfg` and one architecture, and a case for each call `run("name")`); or the first
 /// fault: for each bench its architectures are looked at, then the names of its cases, and then whether a full name came
-/// before. There is one text and one scan for each file, in order. Time and memory are in proportion to the tokens and to
-/// the full names of all cases.
+/// before. There is one text and one outline for each file, in order. Time and memory are in proportion to the units and
+/// to the names of benches and cases.
 pub fn benches(
     alloc: Global,
     project: &Project,
     texts: &TextList,
-    scans: &Scans,
-) -> Result<Tests, TestFault>
+    outlines: &Outlines,
+) -> Result<Tests, OrMemory<TestFault>>
     requires few { length project.now.files ≤ FILE_LIMIT }
     requires each { length texts.now ≡ length project.now.files }
-    requires scans { AreScansOf texts.now scans.now }
     requires small { All IsTextSmall texts.now }
-    ensures { GivesTests (tests_of (sources_of project.now texts.now scans.now)) result }
+    requires lie { FilesLieIn texts.now outlines.now.files }
+    ensures { (scans : List Scan) → AreOutlinesOf texts.now scans outlines.now →
+        GivesTests (tests_of (sources_of project.now texts.now scans)) result }
 {
-    let roles = roles_of(alloc, texts, scans)?;
     tests_of(
         alloc,
         Files {
             project,
             texts,
-            scans,
-            roles: &roles,
+            outlines: &outlines.files,
         },
     )
 }

@@ -8,3 +8,4 @@ mod Pieces
 pub mod Decided
 mod Chosen
 mod Selected
+pub mod Starts

@@ -1,5 +1,5 @@
 -- Patterns taken apart for many names.
-use Rattle.std.specs.Prelude.{◌≡◌, ℕ, ◌<◌, Bool, ◌||◌, List, [], length, slice_index_or, All, Vec}
+use Rattle.std.specs.Prelude.{◌≡◌, ℕ, ◌<◌, ◌≤◌, Bool, true, ◌||◌, List, [], length, slice_index_or, All, Vec}
 use Rattle.std.specs.Global.{Global}
 use Rattle.std.specs.List.{list_any}
 use Rattle.std.specs.Str.{bytes_eq}
@@ -27,6 +27,13 @@ is_chosen patterns choice name = choice.all || (is_asked_for choice.plain name |
 -- each number is that of a pattern
 abbrev pub AreNumbersOf : List (List Piece) → List ℕ → Type 0
 AreNumbersOf patterns numbers = All (λ number. number < length patterns) numbers
+
+-- no name that is asked for as it is has more bytes than this
+abbrev pub AreUpTo : {S : Type 0} → IndexSet (Vec ℕ Global) S → ℕ → Type 0
+AreUpTo names longest = (name : List ℕ) → is_asked_for names name ≡ true → length name ≤ longest
+
+abbrev pub IsBounded : Choice → Type 0
+IsBounded choice = AreUpTo choice.plain choice.longest
 
 -- what some patterns match is chosen, and nothing else
 pub record Chooses (patterns some : List (List Piece)) (choice : Choice) : Type 0 where

@@ -2,14 +2,18 @@
 -- pattern read, as VUnit's command line does it: `LIBRARY.BENCH.CASE`, and a pattern matches the whole of such a name.
 use Rattle.std.specs.Prelude.{ℕ, Bool, not, ◌==◌, List, ◌++◌, codes, filter, length, map, sum_by}
 use Rattle.std.specs.List.{list_any}
-use Rattle.vr_base.specs.declared.bench.Bench.{Bench}
-use Rattle.vr_base.specs.declared.bench.TestCase.{TestCase}
+use Rattle.vhdl_benches.specs.declared.bench.Bench.{Bench}
+use Rattle.vhdl_benches.specs.declared.bench.TestCase.{TestCase}
 use Rattle.test_select.specs.declared.pattern.Piece.{Piece}
 use Rattle.test_select.specs.Segments.{is_match}
 
 -- the library, the bench and the case, with a dot between them
 abbrev pub full_name : Bench → TestCase → List ℕ
 full_name bench test_case = bench.library ++ (codes "." ++ (bench.name ++ (codes "." ++ test_case.name)))
+
+-- what the full names of a bench begin with: the library and the bench, with a dot after each
+abbrev pub name_start : Bench → List ℕ
+name_start bench = bench.library ++ (codes "." ++ (bench.name ++ codes "."))
 
 -- the full names of the cases of benches, in order
 abbrev pub bench_names : Bench → List (List ℕ)

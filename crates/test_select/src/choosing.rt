@@ -3,7 +3,7 @@
 ghost use Rattle.std.specs.Prelude.{◌≡◌, ℕ, List, ◌<◌, ◌||◌, ◌∷◌, [], IfOk, IfSome, OnOk, IsTrue, length, map};
 ghost use Rattle.std.specs.Str.{bytes_eq};
 ghost use Rattle.test_select.specs.declared.pattern.Piece.TheVariants.{AnyBytes, Byte};
-ghost use Rattle.test_select.specs.Choosing.{AreNumbersOf, Chooses, is_asked_for, is_chosen, matches_at, some_matches};
+ghost use Rattle.test_select.specs.Choosing.{AreNumbersOf, AreUpTo, Chooses, IsBounded, is_asked_for, is_chosen, matches_at, some_matches};
 
 use crate::matching::matches;
 use crate::pattern::{Pattern, PatternList, Piece};
@@ -11,12 +11,13 @@ use indexmap::IndexSet;
 use std::alloc::Global;
 use vr_base::NoMemory;
 
-/// What patterns choose: all names, where one of them is a `*` alone; the names that are asked for byte by byte; and
-/// what the patterns of these numbers match.
+/// What patterns choose: all names, where one of them is a `*` alone; the names that are asked for byte by byte, none of
+/// which has more bytes than `longest`; and what the patterns of these numbers match.
 #[derive(Drop)]
 pub struct Choice {
     pub all: bool,
     pub plain: IndexSet<Vec<u8>>,
+    pub longest: usize,
     pub others: Vec<usize>,
 }
 
@@ -91,19 +92,51 @@ fn add(
     Ok(())
 }
 
-/// What patterns choose.
-pub fn choice_of(alloc: Global, patterns: &PatternList) -> Result<Choice, NoMemory>
+/// The most bytes of a name among names.
+fn longest(names: &IndexSet<Vec<u8>>) -> usize
+    ensures { AreUpTo names.now result }
+{
+    let mut most = 0;
+    for name in names.as_slice() {
+        most = most.max(name.len());
+    }
+    most
+}
+
+/// What patterns choose, but for the most bytes of a name that is asked for as it is.
+fn unbounded_choice(alloc: Global, patterns: &PatternList) -> Result<Choice, NoMemory>
     ensures { IfOk result (λ choice. Chooses patterns.now patterns.now choice) }
 {
     let mut choice = Choice {
         all: false,
         plain: IndexSet::new(alloc),
+        longest: 0,
         others: Vec::new(alloc),
     };
     for number in 0..patterns.len() {
         add(alloc, patterns, number as usize, &mut choice)?;
     }
     Ok(choice)
+}
+
+/// What patterns choose.
+pub fn choice_of(alloc: Global, patterns: &PatternList) -> Result<Choice, NoMemory>
+    ensures exact { IfOk result (λ choice. Chooses patterns.now patterns.now choice) }
+    ensures bounded { IfOk result IsBounded }
+{
+    let Choice {
+        all,
+        plain,
+        others,
+        ..
+    } = unbounded_choice(alloc, patterns)?;
+    let longest = longest(&plain);
+    Ok(Choice {
+        all,
+        plain,
+        longest,
+        others,
+    })
 }
 
 /// Whether the pattern of some number matches a name.
@@ -119,12 +152,24 @@ fn some_matches(patterns: &PatternList, numbers: &[usize], name: &[u8]) -> bool
     false
 }
 
+/// Whether a name is asked for as it is. Of one that is longer than all such names no byte is looked at.
+fn is_asked_for(choice: &Choice, name: &[u8]) -> bool
+    requires { IsBounded choice.now }
+    ensures { result ≡ is_asked_for choice.now.plain name.now }
+{
+    if name.len() > choice.longest {
+        return false;
+    }
+    choice.plain.contains(name)
+}
+
 /// Whether a name is chosen: by what it is, or by one of the other patterns.
 pub fn is_chosen(patterns: &PatternList, choice: &Choice, name: &[u8]) -> bool
-    requires { AreNumbersOf patterns.now choice.now.others.items }
+    requires numbers { AreNumbersOf patterns.now choice.now.others.items }
+    requires bounded { IsBounded choice.now }
     ensures { result ≡ is_chosen patterns.now choice.now name.now }
 {
     choice.all
-        || choice.plain.contains(name)
+        || is_asked_for(choice, name)
         || some_matches(patterns, choice.others.as_slice(), name)
 }

@@ -3,7 +3,8 @@
 use crate::{PatternList, full_name, matches, read_pattern, select};
 use std::alloc::Global;
 use std::test::Fail;
-use vr_base::{Bench, CaseList, NoMemory, TestCase, Tests, Text};
+use vhdl_benches::{Bench, CaseList, TestCase, Tests};
+use vr_base::{NoMemory, Text};
 
 fn is_match(alloc: Global, pattern: &[u8], name: &[u8]) -> Result<bool, NoMemory> {
     Ok(matches(&read_pattern(alloc, pattern)?, name))

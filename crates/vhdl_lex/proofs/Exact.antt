@@ -2,21 +2,18 @@
 use Rattle.std.proofs.Common.{ℕ, List, Ok, Err, Result, refl, subst}
 use Rattle.vr_base.specs.declared.lexical.Tokens.{Tokens}
 use Rattle.vr_base.specs.declared.lexical.LexFault.{LexFault}
-use Rattle.vr_base.specs.declared.lexical.LexFault.TheVariants.{NoMemory, UnclosedString, UnclosedExtended, UnclosedComment}
+use Rattle.vr_base.specs.declared.memory.OrMemory.{OrMemory}
+use Rattle.vr_base.specs.declared.memory.OrMemory.TheVariants.{NoMemory, Fault}
 use Rattle.scan_spec.specs.Tokens.{Piece, IsCut, HasFault, AreOf, Scans}
 use Rattle.scan_spec.proofs.Cut.{one_cut, one_fault, no_cut_and_fault}
 use Rattle.vhdl_lex.specs.Scanning.{GivesTokens, GivesFault}
 
-pub gives_tokens : (text : List ℕ) (result : Result Tokens LexFault) → Scans text result → (pieces : List Piece) → IsCut text pieces → GivesTokens pieces result
+pub gives_tokens : (text : List ℕ) (result : Result Tokens (OrMemory LexFault)) → Scans text result → (pieces : List Piece) → IsCut text pieces → GivesTokens pieces result
 gives_tokens text (Ok tokens) scans pieces cut = subst (λ (ps : List Piece). AreOf ps tokens) (one_cut text scans.0 pieces scans.1 cut) scans.2
 gives_tokens text (Err NoMemory) scans pieces cut = refl
-gives_tokens text (Err (UnclosedString at)) scans pieces cut = absurd (no_cut_and_fault text pieces (UnclosedString at) cut scans)
-gives_tokens text (Err (UnclosedExtended at)) scans pieces cut = absurd (no_cut_and_fault text pieces (UnclosedExtended at) cut scans)
-gives_tokens text (Err (UnclosedComment at)) scans pieces cut = absurd (no_cut_and_fault text pieces (UnclosedComment at) cut scans)
+gives_tokens text (Err (Fault fault)) scans pieces cut = absurd (no_cut_and_fault text pieces fault cut scans)
 
-pub gives_fault : (text : List ℕ) (result : Result Tokens LexFault) → Scans text result → (fault : LexFault) → HasFault text fault → GivesFault fault result
+pub gives_fault : (text : List ℕ) (result : Result Tokens (OrMemory LexFault)) → Scans text result → (fault : LexFault) → HasFault text fault → GivesFault fault result
 gives_fault text (Ok tokens) scans fault has = no_cut_and_fault text scans.0 fault scans.1 has
 gives_fault text (Err NoMemory) scans fault has = tt
-gives_fault text (Err (UnclosedString at)) scans fault has = one_fault text (UnclosedString at) fault scans has
-gives_fault text (Err (UnclosedExtended at)) scans fault has = one_fault text (UnclosedExtended at) fault scans has
-gives_fault text (Err (UnclosedComment at)) scans fault has = one_fault text (UnclosedComment at) fault scans has
+gives_fault text (Err (Fault given)) scans fault has = one_fault text given fault scans has

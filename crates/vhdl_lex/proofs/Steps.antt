@@ -10,7 +10,8 @@ use Rattle.vr_base.specs.declared.lexical.TokenKind.{TokenKind}
 use Rattle.vr_base.specs.declared.lexical.Span.{Span}
 use Rattle.vr_base.specs.declared.lexical.Tokens.{Tokens}
 use Rattle.vr_base.specs.declared.lexical.LexFault.{LexFault}
-use Rattle.vr_base.specs.declared.lexical.LexFault.TheVariants.{NoMemory, UnclosedString, UnclosedExtended, UnclosedComment}
+use Rattle.vr_base.specs.declared.lexical.LexFault.TheVariants.{UnclosedString, UnclosedExtended, UnclosedComment}
+use Rattle.vr_base.specs.declared.memory.OrMemory.TheVariants.{Fault}
 use Rattle.std.specs.Prelude.{Ok, Err}
 use Rattle.scan_spec.specs.Units.{role_of, roles_of}
 use Rattle.scan_spec.specs.Tokens.{Row, line_comment, block_comment, token, Piece, Place, text_start, place_after, EachByte, IsRight, Leads, Opens, is_blank, is_tick_at, tokens_of, comments_of, Scans}
@@ -80,8 +81,7 @@ module _ (text : List ℕ) (list : List Token) (comments : List Span) (at : ℕ)
   opens : (row : Row) (place : ℕ) → at < length text → (place ≡ at) × HasNoEnd row text last at → Opens row text place
   opens row place some (is, none) = subst (λ (n : ℕ). Opens row text n) (sym is) (record { pieces = read.pieces; place = record { last = last; at = at }; leads = read.leads; stands = refl; within = some; first = none.first; no_end = none.no_end })
 
-  pub read_fault : (fault : LexFault) → at < length text → IsFound text last at (found.Unclosed fault) → Scans text (Err fault)
-  read_fault NoMemory some is = tt
+  pub read_fault : (fault : LexFault) → at < length text → IsFound text last at (found.Unclosed fault) → Scans text (Err (Fault fault))
   read_fault (UnclosedString place) some is = opens (token Str) place some is
   read_fault (UnclosedExtended place) some is = opens (token Extended) place some is
   read_fault (UnclosedComment place) some is = opens block_comment place some is

@@ -2,7 +2,7 @@
 use Rattle.std.specs.Prelude.{◌≡◌, ℕ, ◌-◌, ◌<◌, ◌≤◌, Bool, ◌&&◌, ◌||◌, ◌==◌, nat_le, List, [], length, slice_get, Option, Some, None}
 use Rattle.vr_base.specs.declared.lexical.Token.{Token}
 use Rattle.vr_base.specs.declared.lexical.TokenKind.TheVariants.{Str, Extended}
-use Rattle.vr_base.specs.declared.lexical.LexFault.TheVariants.{NoMemory, UnclosedString, UnclosedExtended, UnclosedComment}
+use Rattle.vr_base.specs.declared.lexical.LexFault.TheVariants.{UnclosedString, UnclosedExtended, UnclosedComment}
 use Rattle.scan_spec.specs.Tokens.{Row, line_comment, block_comment, token, Piece, row_at, HasForm, IsLongest, Leads, tokens_of, comments_of}
 use Rattle.vhdl_lex.specs.declared.piece.Found.{Found}
 use Rattle.vhdl_lex.specs.declared.piece.Found.TheVariants.{Gap, Comment, Lexeme, Unclosed}
@@ -46,7 +46,6 @@ abbrev pub IsFound : List ℕ → Option Token → ℕ → Found → Type 0
 IsFound text last at (Gap end) = Skips text last at end
 IsFound text last at (Comment end) = IsPieceEnd line_comment text last at end
 IsFound text last at (Lexeme kind end) = IsPieceEnd (token kind) text last at end
-IsFound text last at (Unclosed NoMemory) = ⊥
 IsFound text last at (Unclosed (UnclosedString place)) = (place ≡ at) × HasNoEnd (token Str) text last at
 IsFound text last at (Unclosed (UnclosedExtended place)) = (place ≡ at) × HasNoEnd (token Extended) text last at
 IsFound text last at (Unclosed (UnclosedComment place)) = (place ≡ at) × HasNoEnd block_comment text last at

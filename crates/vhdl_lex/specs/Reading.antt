@@ -3,6 +3,7 @@ use Rattle.std.specs.Prelude.{◌≡◌, ℕ, ◌<◌, ◌≤◌, List, length, 
 use Rattle.vr_base.specs.declared.lexical.Token.{Token}
 use Rattle.vr_base.specs.declared.lexical.Span.{Span}
 use Rattle.vr_base.specs.declared.lexical.LexFault.{LexFault}
+use Rattle.vr_base.specs.declared.memory.OrMemory.{OrMemory}
 use Rattle.scan_spec.specs.Tokens.{Piece, Leads, Scans, comments_of, text_start, tokens_of}
 use Rattle.vhdl_lex.specs.Pieces.{LastIsIn, last_of}
 
@@ -16,6 +17,6 @@ pub record Read (text : List ℕ) (list : List Token) (comments : List Span) (at
   pub lies : LastIsIn text (last_of list)
 
 -- at least one piece more was read, or there is a fault
-abbrev pub ReadsOn : List ℕ → ℕ → List Token → List Span → Result ℕ LexFault → Type 0
+abbrev pub ReadsOn : List ℕ → ℕ → List Token → List Span → Result ℕ (OrMemory LexFault) → Type 0
 ReadsOn text from list comments (Ok at) = (from < at) × Read text list comments at
 ReadsOn text from list comments (Err fault) = Scans text (Err fault)

@@ -2,16 +2,17 @@
 use Rattle.std.specs.Prelude.{◌≡◌, List, Result, Ok, Err}
 use Rattle.vr_base.specs.declared.lexical.Tokens.{Tokens}
 use Rattle.vr_base.specs.declared.lexical.LexFault.{LexFault}
-use Rattle.vr_base.specs.declared.lexical.LexFault.TheVariants.{NoMemory}
+use Rattle.vr_base.specs.declared.memory.OrMemory.{OrMemory}
+use Rattle.vr_base.specs.declared.memory.OrMemory.TheVariants.{NoMemory, Fault}
 use Rattle.scan_spec.specs.Tokens.{Piece, AreOf}
 
 -- the tokens of these pieces, or out of memory
-abbrev pub GivesTokens : List Piece → Result Tokens LexFault → Type 0
+abbrev pub GivesTokens : List Piece → Result Tokens (OrMemory LexFault) → Type 0
 GivesTokens pieces (Ok tokens) = AreOf pieces tokens
-GivesTokens pieces (Err fault) = fault ≡ NoMemory
+GivesTokens pieces (Err answer) = answer ≡ NoMemory
 
 -- this fault, or out of memory
-abbrev pub GivesFault : LexFault → Result Tokens LexFault → Type 0
+abbrev pub GivesFault : LexFault → Result Tokens (OrMemory LexFault) → Type 0
 GivesFault fault (Ok tokens) = ⊥
 GivesFault fault (Err NoMemory) = Unit {0}
-GivesFault fault (Err given) = given ≡ fault
+GivesFault fault (Err (Fault given)) = given ≡ fault

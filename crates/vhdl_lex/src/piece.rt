@@ -30,7 +30,9 @@ fn is_tick_at(text: &[u8], last: Option<Token>) -> bool
     match token.kind {
         TokenKind::Word => {
             let word = &text[token.start as usize..token.end as usize];
-            !is_reserved(word) || word.eq_ignore_ascii_case(b"all")
+            !is_reserved(word)
+                || word.eq_ignore_ascii_case(b"all")
+                || word.eq_ignore_ascii_case(b"subtype")
         }
         TokenKind::Symbol => {
             let byte = text[token.start as usize];

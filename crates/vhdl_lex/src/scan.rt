@@ -14,11 +14,13 @@ use crate::roles::role_of;
 use crate::stops::{gap_stops, word_stops};
 use std::alloc::Global;
 use std::mem::replace;
-use vr_base::{Items, LexFault, NoMemory, Role, RoleList, Span, TEXT_LIMIT, Token, Tokens};
+use vr_base::{
+    Items, LexFault, NoMemory, OrMemory, Role, RoleList, Span, TEXT_LIMIT, Token, Tokens,
+};
 
 /// The tokens and the line comments of a text of at most 4,194,304 bytes, or its lexical fault, in time in
 /// proportion to its length (IEEE Std 1076-2008, clause 15).
-pub fn scan_tokens(alloc: Global, text: &[u8]) -> Result<Tokens, LexFault>
+pub fn scan_tokens(alloc: Global, text: &[u8]) -> Result<Tokens, OrMemory<LexFault>>
     requires { length text.now ≤ TEXT_LIMIT }
     // Tokens are those of the cut, and a fault is one that the text has.
     ensures right { Scans text.now result }
@@ -37,7 +39,7 @@ pub fn scan_with_roles(
     text: &[u8],
     roles: &mut RoleList,
     used: Tokens,
-) -> Result<Tokens, LexFault>
+) -> Result<Tokens, OrMemory<LexFault>>
     requires { length text.now ≤ TEXT_LIMIT }
     ensures right { Scans text.now result }
     ensures cut { (pieces : List Piece) → IsCut text.now pieces → GivesTokens pieces result }
@@ -75,7 +77,7 @@ fn cut_on<const ROLES: bool>(
     roles: &mut Vec<Role>,
     comments: &mut Vec<Span>,
     from: usize,
-) -> Result<usize, LexFault>
+) -> Result<usize, OrMemory<LexFault>>
     requires within { from < length text.now }
     requires small { length text.now ≤ TEXT_LIMIT }
     requires read { Read text.now list.old.items comments.old.items from }
@@ -111,7 +113,7 @@ fn cut_on<const ROLES: bool>(
                 list.push(token)?;
                 end
             }
-            Found::Unclosed(fault) => return Err(fault),
+            Found::Unclosed(fault) => return Err(OrMemory::Fault(fault)),
         };
     }
     Ok(at)
@@ -143,7 +145,7 @@ fn cut<const ROLES: bool>(
     text: &[u8],
     roles: &mut Vec<Role>,
     used: Tokens,
-) -> Result<Tokens, LexFault>
+) -> Result<Tokens, OrMemory<LexFault>>
     requires small { length text.now ≤ TEXT_LIMIT }
     requires none { roles.old.items ≡ [] }
     ensures right { Scans text.now result }
@@ -173,7 +175,7 @@ fn cut_with_roles(
     text: &[u8],
     roles: &mut RoleList,
     used: Tokens,
-) -> Result<Tokens, LexFault>
+) -> Result<Tokens, OrMemory<LexFault>>
     requires { length text.now ≤ TEXT_LIMIT }
     ensures right { Scans text.now result }
     ensures roles { IfOk result (λ tokens. roles.new ≡ roles_of text.now tokens.list) }

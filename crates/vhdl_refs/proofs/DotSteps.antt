@@ -2,7 +2,7 @@
 use Rattle.std.proofs.Common.{◌≡◌, ℕ, zero, suc, ◌+◌, ◌-◌, ◌<◌, ◌≤◌, ◌++◌, ◌&&◌, ◌||◌, Bool, true, false, not, cond, List, [], ◌∷◌, map, inl, inr, refl, sym, ◌∙◌, ap, subst, append-nil, arith}
 use Rattle.std.proofs.lemmas.Bool.{cases_lt}
 use Rattle.vr_base.specs.declared.design.Role.{Role}
-use Rattle.scan_spec.specs.References.{is_dot, is_name, is_reference, is_use_of_all, is_use_word, is_all_word, places, role_before}
+use Rattle.scan_spec.specs.References.{is_all_word, is_dot, is_name, is_reference, is_use_of_all, is_used, places, role_before}
 use Rattle.scan_spec.specs.Units.{role_at}
 use Rattle.vhdl_refs.specs.Dots.{HasPassed, IsDotless}
 use Rattle.vhdl_refs.proofs.PlaceSteps.{places_more}
@@ -40,17 +40,16 @@ and_not : (a b c d : Bool) → b ≡ false → (a && b && c && d) ≡ false
 and_not true b c d is = ap (λ (x : Bool). x && c && d) is
 and_not false b c d is = refl
 
-and_not_third : (a b c d : Bool) → c ≡ false → (a && b && c && d) ≡ false
-and_not_third true true c d is = ap (λ (x : Bool). x && d) is
-and_not_third true false c d is = refl
-and_not_third false b c d is = refl
+and_not_inner : (a b c d : Bool) → b ≡ false → ((a && b && c) && d) ≡ false
+and_not_inner true b c d is = ap (λ (x : Bool). (x && c) && d) is
+and_not_inner false b c d is = refl
 
 -- no reference is where no dot follows
 pub no_reference : (roles : List Role) (at : ℕ) → is_dot (role_at roles (at + 1)) ≡ false → is_reference roles at ≡ false
 no_reference roles at none = and_not (is_name (role_at roles at)) (is_dot (role_at roles (at + 1))) (is_name (role_at roles (at + 2))) (not (is_dot (role_before roles at))) none
 
 pub no_use : (roles : List Role) (at : ℕ) → is_dot (role_at roles (at + 1)) ≡ false → is_use_of_all roles at ≡ false
-no_use roles at none = and_not_third (is_use_word (role_before roles at)) (is_name (role_at roles at)) (is_dot (role_at roles (at + 1))) (is_all_word (role_at roles (at + 2))) none
+no_use roles at none = and_not_inner (is_name (role_at roles at)) (is_dot (role_at roles (at + 1))) (is_all_word (role_at roles (at + 2))) (is_used roles at) none
 
 -- places that fail a test may be passed over
 skip_some : (test : ℕ → Bool) (start at n : ℕ) → start ≤ at → ((k : ℕ) → at ≤ k → k < at + n → test k ≡ false) → places test start (at + n) ≡ places test start at

@@ -4,12 +4,13 @@ use Rattle.std.specs.List.{list_any}
 use Rattle.vr_base.specs.declared.design.Role.{Role}
 use Rattle.vr_base.specs.declared.design.Unit.{Unit as DesignUnit}
 use Rattle.vr_base.specs.declared.limits.TheConstants.{TEXT_LIMIT}
-use Rattle.scan_spec.specs.References.{back_to, clause_start, ends_item, is_context_word, is_in_name_list, is_library_word, is_semicolon}
+use Rattle.scan_spec.specs.References.{back_to, clause_start, ends_item, is_context_word, is_in_name_list, is_in_use_list, is_library_word, is_semicolon}
 use Rattle.vhdl_refs.specs.declared.clause.Clause.{Clause}
 use Rattle.vhdl_refs.specs.declared.clause.Reached.{Reached}
 
 pub record IsClauseAt (roles : List Role) (at : ℕ) (clause : Clause) : Type 0 where
   pub lists_names : clause.lists_names ≡ is_in_name_list roles at
+  pub has_use : clause.has_use ≡ is_in_use_list roles at
   pub has_context : clause.has_context ≡ list_any is_context_word (back_to ends_item roles at)
   pub has_library : clause.has_library ≡ list_any is_library_word (back_to is_semicolon roles at)
   pub start : clause.start ≡ clause_start roles at

@@ -43,7 +43,7 @@ structural_of configured unit _ = []
 pub record AreMentionsOf (text : List ℕ) (tokens : List Token) (unit : DesignUnit) (mentions : Mentions) : Type 0 where
   pub contexts : map (named_ref text) mentions.contexts ≡ context_refs text tokens unit
   pub structural : structural_of mentions.configured unit unit.kind ≡ structural_by text tokens unit unit.kind
-  pub refs : map (named_ref text) mentions.refs ≡ named_refs text tokens unit.lead unit.last
+  pub refs : map (named_ref text) mentions.refs ≡ named_refs text tokens unit
   pub whole : map (token_name text) mentions.whole ≡ map (name_of text tokens) (uses_of_all (roles_of text tokens) unit)
 
 pub record MentionsLieIn (text : List ℕ) (mentions : Mentions) : Type 0 where

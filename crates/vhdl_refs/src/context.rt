@@ -136,6 +136,7 @@ pub fn context_refs(
         text,
         &scan.tokens,
         roles,
+        found.kind,
         places.as_slice(),
         &mut refs,
     )?;

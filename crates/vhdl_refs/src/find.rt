@@ -66,6 +66,7 @@ pub fn find_refs(
         text,
         &scan.tokens,
         roles,
+        found.kind,
         places.as_slice(),
         &mut refs,
     )?;

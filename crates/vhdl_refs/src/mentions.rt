@@ -16,18 +16,20 @@ ghost use Rattle.vhdl_refs.specs.Places.{AreRefPlaces, IsRefPlace};
 use crate::clause::Clause;
 use crate::context::push_contexts;
 use crate::named::push_places;
-use crate::places::{RefPlace, has_architecture};
+use crate::places::{RefPlace, has_architecture, has_block};
 use crate::structural::configured_by;
 use crate::unit::unit_at;
 use crate::uses::push_uses;
+use crate::words::is_configuration;
 use std::alloc::Global;
 use vhdl_units::token_of;
 use vr_base::{
     Items, MaybeText, NoMemory, Role, RoleList, Scan, TEXT_LIMIT, Token, TokenList, Tokens, Unit,
+    UnitKind,
 };
 
 /// A reference by name, `L.U` (IEEE Std 1076-2008, clause 13.2): the tokens that are its names, with that of the
-/// architecture that is named with an entity. `at` is the token number of `L`.
+/// architecture that is given with an entity. `at` is the token number of `L`.
 #[derive(Clone, Copy)]
 pub struct NamedRef {
     pub library: Token,
@@ -47,57 +49,73 @@ pub struct Mentions {
     pub whole: TokenList,
 }
 
-/// The token of the architecture that is named with the entity at a token, if it is one.
-fn architecture_at(text: &[u8], tokens: &Tokens, roles: &[Role], at: usize) -> Option<Token>
+/// The token of the architecture that is given with the entity at a token, if it is one, in a unit of a kind.
+fn architecture_at(
+    text: &[u8],
+    tokens: &Tokens,
+    roles: &[Role],
+    kind: UnitKind,
+    at: usize,
+) -> Option<Token>
     requires tokens { AreTokensOf text.now tokens.now }
     requires roles { roles.now ≡ roles_of text.now tokens.now.list }
     requires within { at + 2 < length roles.now }
-    ensures is { named_architecture text.now result ≡ architecture_at text.now tokens.now.list at }
+    ensures is { named_architecture text.now result ≡
+        architecture_at text.now tokens.now.list kind at }
     ensures lies { SomeLiesIn text.now result }
 {
     if has_architecture(roles, at) {
         Some(token_of(text, tokens, at + 4))
+    } else if is_configuration(kind) && has_block(roles, at) {
+        Some(token_of(text, tokens, at + 5))
     } else {
         None
     }
 }
 
-/// The reference by name at a place.
-pub fn named_at(text: &[u8], tokens: &Tokens, roles: &[Role], place: RefPlace) -> NamedRef
+/// The reference by name at a place, in a unit of a kind.
+pub fn named_at(
+    text: &[u8],
+    tokens: &Tokens,
+    roles: &[Role],
+    kind: UnitKind,
+    place: RefPlace,
+) -> NamedRef
     requires tokens { AreTokensOf text.now tokens.now }
     requires roles { roles.now ≡ roles_of text.now tokens.now.list }
     requires place { IsRefPlace roles.now place }
-    ensures is { named_ref text.now result ≡ ref_at text.now tokens.now.list place.at }
+    ensures is { named_ref text.now result ≡ ref_at text.now tokens.now.list kind place.at }
     ensures lies { NamedLiesIn text.now result }
 {
     let at = place.at as usize;
     NamedRef {
         library: token_of(text, tokens, at),
         name: token_of(text, tokens, at + 2),
-        architecture: architecture_at(text, tokens, roles, at),
+        architecture: architecture_at(text, tokens, roles, kind, at),
         strict: place.strict,
         at: place.at,
     }
 }
 
-/// The references by name at places, in order.
+/// The references by name at places, in order, in a unit of a kind.
 fn named_all(
     alloc: Global,
     text: &[u8],
     tokens: &Tokens,
     roles: &[Role],
+    kind: UnitKind,
     places: &[RefPlace],
 ) -> Result<Items<NamedRef>, NoMemory>
     requires tokens { AreTokensOf text.now tokens.now }
     requires roles { roles.now ≡ roles_of text.now tokens.now.list }
     requires places { AreRefPlaces roles.now places.now }
     ensures are { IfOk result (λ found. map (named_ref text.now) found
-        ≡ map (λ place. ref_at text.now tokens.now.list place.at) places.now) }
+        ≡ map (λ place. ref_at text.now tokens.now.list kind place.at) places.now) }
     ensures lie { IfOk result (All (NamedLiesIn text.now)) }
 {
     let mut found = Vec::with_capacity(alloc, places.len())?;
     for place in places {
-        found.push(named_at(text, tokens, roles, *place))?;
+        found.push(named_at(text, tokens, roles, kind, *place))?;
     }
     Ok(Items::from_vec(found))
 }
@@ -121,7 +139,7 @@ fn contexts_of(
 {
     room.clear();
     push_contexts(roles, unit, clause, room)?;
-    named_all(alloc, text, tokens, roles, room.as_slice())
+    named_all(alloc, text, tokens, roles, unit.kind, room.as_slice())
 }
 
 /// The references of a unit by name, in order. What is in `room` is lost.
@@ -138,12 +156,12 @@ fn refs_of(
     requires roles { roles.now ≡ roles_of text.now tokens.now.list }
     requires begins { BeginsUnit roles.now unit.now clause }
     ensures are { IfOk result (λ found. map (named_ref text.now) found
-        ≡ named_refs text.now tokens.now.list unit.now.lead unit.now.last) }
+        ≡ named_refs text.now tokens.now.list unit.now) }
     ensures lie { IfOk result (All (NamedLiesIn text.now)) }
 {
     room.clear();
     push_places(roles, clause, unit.last as usize, room)?;
-    named_all(alloc, text, tokens, roles, room.as_slice())
+    named_all(alloc, text, tokens, roles, unit.kind, room.as_slice())
 }
 
 /// Tokens by their numbers.
@@ -173,20 +191,18 @@ fn whole_of(
     tokens: &Tokens,
     roles: &[Role],
     unit: &Unit,
+    clause: Clause,
 ) -> Result<TokenList, NoMemory>
     requires tokens { AreTokensOf text.now tokens.now }
     requires roles { roles.now ≡ roles_of text.now tokens.now.list }
-    requires led { unit.now.lead ≤ unit.now.first }
-    requires ordered { unit.now.first < unit.now.last }
-    requires within { unit.now.last < length roles.now }
-    requires small { length roles.now ≤ TEXT_LIMIT }
+    requires begins { BeginsUnit roles.now unit.now clause }
     ensures are { IfOk result (λ found. map (token_name text.now) found
         ≡ map (name_of text.now tokens.now.list)
         (uses_of_all (roles_of text.now tokens.now.list) unit.now)) }
     ensures lie { IfOk result (All (LiesIn text.now)) }
 {
     let mut places = Vec::new(alloc);
-    push_uses(roles, unit.lead as usize, unit.last as usize, &mut places)?;
+    push_uses(roles, clause, unit.last as usize, &mut places)?;
     tokens_at(alloc, text, tokens, places.as_slice())
 }
 
@@ -215,6 +231,6 @@ pub fn mentions_of(
         contexts: contexts_of(alloc, text, tokens, roles, found, clause, room)?,
         configured: configured_by(alloc, text, tokens, roles, found)?,
         refs: refs_of(alloc, text, tokens, roles, found, clause, room)?,
-        whole: whole_of(alloc, text, tokens, roles, found)?,
+        whole: whole_of(alloc, text, tokens, roles, found, clause)?,
     })
 }

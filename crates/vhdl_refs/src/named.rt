@@ -1,29 +1,14 @@
 //! Where the references by name, `L.U`, of some tokens are.
 
-ghost use Rattle.std.specs.Prelude.{◌≡◌, ◌<◌, ◌≤◌, [], ◌∷◌, ◌++◌, true, if◌then◌else◌, length, OnOk};
-ghost use Rattle.scan_spec.specs.References.{is_comma, is_in_name_list, is_reference, role_before};
+ghost use Rattle.std.specs.Prelude.{◌≡◌, ◌<◌, ◌≤◌, [], ◌∷◌, ◌++◌, if◌then◌else◌, length, OnOk};
+ghost use Rattle.scan_spec.specs.References.{is_reference};
 ghost use Rattle.vhdl_refs.specs.Clauses.{HasReached, IsClauseAt};
 ghost use Rattle.vhdl_refs.specs.Places.{AreRefPlaces, ref_place, refs_between};
 
-use crate::clause::{Clause, Reached, clause_at};
+use crate::clause::{Clause, Reached, follow};
 use crate::dots::next_dotted;
 use crate::places::{RefPlace, is_reference, is_strict};
-use crate::words::{is_comma, role_before};
 use vr_base::{NoMemory, Role, TEXT_LIMIT};
-
-/// Follows clauses up to a token that a comma is before, and to no other: only there it matters what began the clause.
-fn follow(roles: &[Role], at: usize, reached: &mut Reached)
-    requires within { at ≤ length roles.now }
-    requires reached { HasReached roles.now at reached.old }
-    ensures reached { HasReached roles.now at reached.new }
-    ensures listed { is_comma (role_before roles.now at) ≡ true →
-        reached.new.clause.lists_names ≡ is_in_name_list roles.now at }
-{
-    if is_comma(role_before(roles, at)) {
-        let clause = clause_at(reached.clause, roles, reached.at, at);
-        *reached = Reached { clause, at };
-    }
-}
 
 /// Adds the place of the reference at a token, where one is.
 #[inline(always)]

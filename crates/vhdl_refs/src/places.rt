@@ -1,10 +1,11 @@
 //! Where a reference is, and of what kind it is.
 
 ghost use Rattle.std.specs.Prelude.{◌≡◌, ◌+◌, ◌<◌, IsTrue, length, true};
-ghost use Rattle.scan_spec.specs.References.{has_architecture, is_comma, is_in_name_list, is_reference, is_strict, role_before};
+ghost use Rattle.scan_spec.specs.References.{has_architecture, has_block, is_comma, is_in_name_list, is_reference, is_strict, role_before};
 
 use crate::words::{
-    is_closing, is_comma, is_dot, is_entity_word, is_name, is_opening, precedes_unit, role_before,
+    follows_label, is_closing, is_comma, is_dot, is_entity_word, is_for, is_name, is_opening,
+    is_semicolon, is_use_word, precedes_unit, role_before,
 };
 use vhdl_units::role_at;
 use vr_base::Role;
@@ -42,7 +43,7 @@ pub fn is_strict(roles: &[Role], at: usize, in_name_list: bool) -> bool
     precedes_unit(before) || (is_comma(before) && in_name_list)
 }
 
-/// Whether the reference at a token is to an entity with an architecture of it.
+/// Whether the reference at a token is to an entity with an architecture of it in parentheses.
 pub fn has_architecture(roles: &[Role], at: usize) -> bool
     requires { at + 2 < length roles.now }
     ensures value { result ≡ has_architecture roles.now at }
@@ -53,4 +54,20 @@ pub fn has_architecture(roles: &[Role], at: usize) -> bool
         && is_opening(roles[at + 3])
         && is_name(roles[at + 4])
         && is_closing(roles[at + 5])
+}
+
+/// Whether the reference at a token is to the entity that a component configuration binds, and a block configuration of
+/// an architecture of it comes next.
+pub fn has_block(roles: &[Role], at: usize) -> bool
+    requires { at + 2 < length roles.now }
+    ensures value { result ≡ has_block roles.now at }
+    ensures within { IsTrue result → at + 5 < length roles.now }
+{
+    at + 5 < roles.len()
+        && is_use_word(role_before(roles, at.saturating_sub(1)))
+        && is_entity_word(role_before(roles, at))
+        && is_semicolon(roles[at + 3])
+        && is_for(roles[at + 4])
+        && is_name(roles[at + 5])
+        && !follows_label(role_at(roles, at + 6))
 }

@@ -10,7 +10,7 @@ use crate::mentions::{NamedRef, named_at};
 use crate::places::RefPlace;
 use std::alloc::Global;
 use vhdl_units::name_of_token;
-use vr_base::{MaybeText, NoMemory, Ref, Role, Text, Token, Tokens};
+use vr_base::{MaybeText, NoMemory, Ref, Role, Text, Token, Tokens, UnitKind};
 
 /// A reference to nothing, which takes no memory: others are made in what one that isn't used any more leaves.
 pub fn no_ref(alloc: Global) -> Ref {
@@ -71,29 +71,31 @@ pub fn ref_in(alloc: Global, text: &[u8], named: &NamedRef, used: Ref) -> Result
     })
 }
 
-/// The reference by name at a place.
+/// The reference by name at a place, in a unit of a kind.
 fn ref_at(
     alloc: Global,
     text: &[u8],
     tokens: &Tokens,
     roles: &[Role],
+    kind: UnitKind,
     place: RefPlace,
 ) -> Result<Ref, NoMemory>
     requires tokens { AreTokensOf text.now tokens.now }
     requires roles { roles.now ≡ roles_of text.now tokens.now.list }
     requires place { IsRefPlace roles.now place }
-    ensures { IfOk result (λ found. found ≡ ref_at text.now tokens.now.list place.at) }
+    ensures { IfOk result (λ found. found ≡ ref_at text.now tokens.now.list kind place.at) }
 {
-    let named = named_at(text, tokens, roles, place);
+    let named = named_at(text, tokens, roles, kind, place);
     ref_in(alloc, text, &named, no_ref(alloc))
 }
 
-/// Adds the references at places.
+/// Adds the references at places, in a unit of a kind.
 pub fn push_refs(
     alloc: Global,
     text: &[u8],
     tokens: &Tokens,
     roles: &[Role],
+    kind: UnitKind,
     places: &[RefPlace],
     refs: &mut Vec<Ref>,
 ) -> Result<(), NoMemory>
@@ -101,10 +103,10 @@ pub fn push_refs(
     requires roles { roles.now ≡ roles_of text.now tokens.now.list }
     requires places { AreRefPlaces roles.now places.now }
     ensures { OnOk result (refs.new.items ≡ refs.old.items ++
-        map (λ place. ref_at text.now tokens.now.list place.at) places.now) }
+        map (λ place. ref_at text.now tokens.now.list kind place.at) places.now) }
 {
     for place in places {
-        refs.push(ref_at(alloc, text, tokens, roles, *place)?)?;
+        refs.push(ref_at(alloc, text, tokens, roles, kind, *place)?)?;
     }
     Ok(())
 }

@@ -2,10 +2,10 @@
 
 ghost use Rattle.std.specs.Prelude.{◌≡◌};
 ghost use Rattle.scan_spec.specs.Units.{is_opening, is_closing};
-ghost use Rattle.scan_spec.specs.References.{is_all_word, is_comma, is_context_word, is_dot, is_entity_word, is_for, is_library_word, is_name, is_use_word, precedes_unit, role_before};
+ghost use Rattle.scan_spec.specs.References.{follows_label, is_all_word, is_comma, is_configuration, is_context_word, is_dot, is_entity_word, is_for, is_library_word, is_name, is_semicolon, is_use_word, precedes_unit, role_before};
 
 use vhdl_units::role_at;
-use vr_base::Role;
+use vr_base::{Role, UnitKind};
 
 /// The role of the token before a place, and before the first that of a token which no rule names.
 pub fn role_before(roles: &[Role], at: usize) -> Role
@@ -44,6 +44,34 @@ pub fn is_comma(role: Role) -> bool
 {
     match role {
         Role::Comma => true,
+        _ => false,
+    }
+}
+
+pub fn is_semicolon(role: Role) -> bool
+    ensures { result ≡ is_semicolon role }
+{
+    match role {
+        Role::Semicolon => true,
+        _ => false,
+    }
+}
+
+/// Whether the name before the token is a label in the list of the instances that are configured.
+pub fn follows_label(role: Role) -> bool
+    ensures { result ≡ follows_label role }
+{
+    match role {
+        Role::Comma | Role::Colon => true,
+        _ => false,
+    }
+}
+
+pub fn is_configuration(kind: UnitKind) -> bool
+    ensures { result ≡ is_configuration kind }
+{
+    match kind {
+        UnitKind::Configuration => true,
         _ => false,
     }
 }

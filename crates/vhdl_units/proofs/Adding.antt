@@ -6,7 +6,9 @@ use Rattle.vr_base.specs.declared.design.Role.{Role}
 use Rattle.vr_base.specs.declared.design.UnitKind.{UnitKind}
 use Rattle.vr_base.specs.declared.design.Unit.{Unit as DesignUnit}
 use Rattle.vr_base.specs.declared.design.UnitFault.{UnitFault}
-use Rattle.vr_base.specs.declared.design.UnitFault.TheVariants.{NoMemory, NotUnit, NotEnded}
+use Rattle.vr_base.specs.declared.design.UnitFault.TheVariants.{NotUnit, NotEnded}
+use Rattle.vr_base.specs.declared.memory.OrMemory.{OrMemory}
+use Rattle.vr_base.specs.declared.memory.OrMemory.TheVariants.{NoMemory, Fault}
 use Rattle.scan_spec.specs.Units.{role_of, roles_of, begins_generate, Element, item, plain, owned, last_of, lead_after, IsElement, unit_of, units_from, units_of, Follow, Outlines}
 use Rattle.scan_spec.proofs.Files.{plain_after, end_part_after, element_after}
 use Rattle.vhdl_units.specs.declared.file.Next.{Next}
@@ -98,7 +100,7 @@ module _ (text : List ℕ) (tokens : List Token) (units : List DesignUnit) (begi
       let end : at ≡ length (roles_of text tokens) = omega (arith, outlined.within, roles_len text tokens) in
       (outlined.elements, subst (Follow (roles_of text tokens) 0 outlined.elements) end outlined.follow, outlined.units_are)
 
-  pub outlined_fault : (new : List DesignUnit) (fault : UnitFault) → at < length tokens → IsAdded text tokens lead at units new (Err fault) → Outlines text tokens (Err fault)
+  pub outlined_fault : (new : List DesignUnit) (fault : OrMemory UnitFault) → at < length tokens → IsAdded text tokens lead at units new (Err fault) → Outlines text tokens (Err fault)
   outlined_fault new NoMemory within added = tt
-  outlined_fault new (NotUnit place) within added = (at, record { elements = outlined.elements; follow = outlined.follow; within = omega (arith, roles_len text tokens); no_start = added.0 }, added.1)
-  outlined_fault new (NotEnded place) within added = (at, record { elements = outlined.elements; follow = outlined.follow; within = omega (arith, roles_len text tokens); start = added.0; no_end = added.1 }, added.2)
+  outlined_fault new (Fault (NotUnit place)) within added = (at, record { elements = outlined.elements; follow = outlined.follow; within = omega (arith, roles_len text tokens); no_start = added.0 }, added.1)
+  outlined_fault new (Fault (NotEnded place)) within added = (at, record { elements = outlined.elements; follow = outlined.follow; within = omega (arith, roles_len text tokens); start = added.0; no_end = added.1 }, added.2)

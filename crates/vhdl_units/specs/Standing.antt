@@ -3,7 +3,9 @@ use Rattle.std.specs.Prelude.{◌≡◌, ◌++◌, ℕ, List, Result, Ok, Err}
 use Rattle.vr_base.specs.declared.lexical.Token.{Token}
 use Rattle.vr_base.specs.declared.design.Unit.{Unit as DesignUnit}
 use Rattle.vr_base.specs.declared.design.UnitFault.{UnitFault}
-use Rattle.vr_base.specs.declared.design.UnitFault.TheVariants.{NoMemory, NotUnit, NotEnded}
+use Rattle.vr_base.specs.declared.design.UnitFault.TheVariants.{NotUnit, NotEnded}
+use Rattle.vr_base.specs.declared.memory.OrMemory.{OrMemory}
+use Rattle.vr_base.specs.declared.memory.OrMemory.TheVariants.{NoMemory, Fault}
 use Rattle.vr_base.specs.declared.design.Role.{Role}
 use Rattle.scan_spec.specs.Units.{Begins, Element, item, plain, owned, IsElement, roles_of, token_at, last_of, lead_after, unit_of}
 use Rattle.vhdl_units.specs.declared.file.Next.{Next}
@@ -27,19 +29,19 @@ pub record Adds (text : List ℕ) (tokens : List Token) (lead at : ℕ) (old new
   pub units : new ≡ old ++ unit_of text tokens lead at element
 
 -- what adding gives: the next token, or the fault of this one, or out of memory
-abbrev pub IsAdded : List ℕ → List Token → ℕ → ℕ → List DesignUnit → List DesignUnit → Result Next UnitFault → Type 0
+abbrev pub IsAdded : List ℕ → List Token → ℕ → ℕ → List DesignUnit → List DesignUnit → Result Next (OrMemory UnitFault) → Type 0
 IsAdded text tokens lead at old new (Ok next) = Adds text tokens lead at old new next
 IsAdded text tokens lead at old new (Err NoMemory) = Unit {0}
-IsAdded text tokens lead at old new (Err (NotUnit place)) = (Begins (roles_of text tokens) at → ⊥) × (place ≡ (token_at tokens at).start)
-IsAdded text tokens lead at old new (Err (NotEnded place)) = Begins (roles_of text tokens) at × ((element : Element) → IsElement (roles_of text tokens) at element → ⊥) × (place ≡ (token_at tokens at).start)
+IsAdded text tokens lead at old new (Err (Fault (NotUnit place))) = (Begins (roles_of text tokens) at → ⊥) × (place ≡ (token_at tokens at).start)
+IsAdded text tokens lead at old new (Err (Fault (NotEnded place))) = Begins (roles_of text tokens) at × ((element : Element) → IsElement (roles_of text tokens) at element → ⊥) × (place ≡ (token_at tokens at).start)
 
 -- these units, or out of memory
-abbrev pub GivesUnits : List DesignUnit → Result (List DesignUnit) UnitFault → Type 0
+abbrev pub GivesUnits : List DesignUnit → Result (List DesignUnit) (OrMemory UnitFault) → Type 0
 GivesUnits units (Ok given) = given ≡ units
-GivesUnits units (Err fault) = fault ≡ NoMemory
+GivesUnits units (Err answer) = answer ≡ NoMemory
 
 -- this fault, or out of memory
-abbrev pub GivesUnitFault : UnitFault → Result (List DesignUnit) UnitFault → Type 0
+abbrev pub GivesUnitFault : UnitFault → Result (List DesignUnit) (OrMemory UnitFault) → Type 0
 GivesUnitFault fault (Ok units) = ⊥
 GivesUnitFault fault (Err NoMemory) = Unit {0}
-GivesUnitFault fault (Err given) = given ≡ fault
+GivesUnitFault fault (Err (Fault given)) = given ≡ fault

@@ -13,7 +13,9 @@ use crate::stands::{Standing, stands_at};
 use crate::texts::{owned_unit, plain_unit};
 use crate::view::roles_of;
 use std::alloc::Global;
-use vr_base::{Items, Role, RoleList, TEXT_LIMIT, Token, Tokens, Unit, UnitFault, UnitList};
+use vr_base::{
+    Items, OrMemory, Role, RoleList, TEXT_LIMIT, Token, Tokens, Unit, UnitFault, UnitList,
+};
 
 /// Where an element ends, and where the context items of the next unit begin.
 #[derive(Clone, Copy)]
@@ -24,7 +26,7 @@ pub struct Next {
 
 /// The design units of a text of at most 4,194,304 bytes by its tokens, or the first fault of the unit grammar, in
 /// time in proportion to the number of tokens (IEEE Std 1076-2008, clause 13.1).
-pub fn outline(alloc: Global, text: &[u8], tokens: &Tokens) -> Result<UnitList, UnitFault>
+pub fn outline(alloc: Global, text: &[u8], tokens: &Tokens) -> Result<UnitList, OrMemory<UnitFault>>
     requires tokens { AreTokensOf text.now tokens.now }
     requires small { length text.now ≤ TEXT_LIMIT }
     // Units are those of the file, and a fault is one that it has.
@@ -47,7 +49,7 @@ pub fn outline_by_roles(
     text: &[u8],
     tokens: &Tokens,
     roles: &RoleList,
-) -> Result<UnitList, UnitFault>
+) -> Result<UnitList, OrMemory<UnitFault>>
     requires tokens { AreTokensOf text.now tokens.now }
     requires small { length text.now ≤ TEXT_LIMIT }
     requires roles { roles.now ≡ roles_of text.now tokens.now.list }
@@ -70,7 +72,7 @@ fn add_unit(
     lead: usize,
     at: usize,
     standing: Standing,
-) -> Result<Next, UnitFault>
+) -> Result<Next, OrMemory<UnitFault>>
     requires lie { AllLieIn text.now tokens.now }
     requires small { length tokens.now ≤ TEXT_LIMIT }
     requires within { at < length tokens.now }
@@ -96,16 +98,21 @@ fn add_unit(
                 lead: last + 1,
             })
         }
-        Standing::NoUnit => Err(UnitFault::NotUnit {
+        Standing::NoUnit => Err(OrMemory::Fault(UnitFault::NotUnit {
             at: tokens[at].start,
-        }),
-        Standing::Unended => Err(UnitFault::NotEnded {
+        })),
+        Standing::Unended => Err(OrMemory::Fault(UnitFault::NotEnded {
             at: tokens[at].start,
-        }),
+        })),
     }
 }
 
-fn read(alloc: Global, text: &[u8], tokens: &[Token], roles: &[Role]) -> Result<UnitList, UnitFault>
+fn read(
+    alloc: Global,
+    text: &[u8],
+    tokens: &[Token],
+    roles: &[Role],
+) -> Result<UnitList, OrMemory<UnitFault>>
     requires lie { AllLieIn text.now tokens.now }
     requires small { length tokens.now ≤ TEXT_LIMIT }
     requires roles { roles.now ≡ roles_of text.now tokens.now }

@@ -1,13 +1,22 @@
 -- A unit whose name was there is refused; else the unit is added.
-use Rattle.std.proofs.Common.{◌≡◌, ◌∙◌, Option, Some, None, ap, sym, subst}
+use Rattle.std.proofs.Common.{◌≡◌, ◌∙◌, Option, Some, None, length, ap, sym, subst}
+use Rattle.std.specs.Prelude.{OnOk, Result, Ok, Err}
 use Rattle.std.specs.Option.{option_map}
-use Rattle.indexmap.specs.IndexMap.{Updates}
 use Rattle.scan_spec.specs.Dependencies.{LinkUnit, duplicate_of}
 use Rattle.file_graph.specs.declared.index.Place.{Place}
-use Rattle.file_graph.specs.Keys.{UnitKey, is_same_key, key_of}
-use Rattle.file_graph.specs.Indexes.{fault_before, unit_place, unit_named}
-use Rattle.file_graph.proofs.IndexLemmas.{alike_named, index_more, key_is, named_none, named_some, of_named, placed, refused}
+use Rattle.file_graph.specs.Keys.{UnitKey, key_of}
+use Rattle.file_graph.specs.Indexes.{GivesPlace, fault_before, unit_place, unit_named}
+use Rattle.file_graph.proofs.IndexLemmas.{alike_named, index_more, key_is, named_none, named_some, of_named, placed, places_more, refused}
 use Rattle.file_graph.proofs.index.add_unit.Goals as goal
+
+ok_always : {T E P : Type 0} (result : Result T E) → P → OnOk result P
+ok_always (Ok value) is = is
+ok_always (Err fault) is = tt
+
+pub returns-in-Some-clause-places : goal.returns-in-Some-clause-places
+returns-in-Some-clause-places c =
+    let place : Place = record { file = c.args.file; is_package = c.is_package-is_package.result } in
+    ok_always c.refuse.result (places_more (length c.args.project.now.files) c.args.index.now c.insert.new.self c.in_ok-key.key place c.requires.places c.requires.file c.in_ok-place.ensures.updates)
 
 pub returns-in-Some-clause-added : goal.returns-in-Some-clause-added
 returns-in-Some-clause-added c units other is of =
@@ -24,5 +33,5 @@ returns-in-None-clause-added c units other is of =
     let place = placed c.args.file c.is_package-is_package.result c.args.unit.now other of.position of.is c.is_package-is_package.ensures in (
       ap (option_map (λ first. duplicate_of first other)) (alike_named units other ∙ none),
       index_more c.args.project.now.files units other c.args.index.now c.insert.new.self is of.of none
-          (subst (λ (k : UnitKey). Updates is_same_key c.args.index.now c.insert.new.self k (Some (unit_place other))) key (subst (λ (p : Place). Updates is_same_key c.args.index.now c.insert.new.self c.in_ok-key.key (Some p)) place c.in_ok-place.ensures.updates)),
+          (subst (λ (k : UnitKey). GivesPlace c.args.index.now c.insert.new.self k (unit_place other)) key (subst (λ (p : Place). GivesPlace c.args.index.now c.insert.new.self c.in_ok-key.key p) place c.in_ok-place.ensures.updates)),
     )

@@ -5,6 +5,11 @@ use Rattle.file_graph.proofs.EdgeLemmas.{gives_edges}
 use Rattle.file_graph.proofs.FileLemmas.{all_links}
 use Rattle.file_graph.proofs.linking.link_by_outlines.Goals as goal
 
+pub returns-in_err-sets-clause-exact : goal.returns-in_err-sets-clause-exact
+returns-in_err-sets-clause-exact c scans are =
+    let p = err_from_is_err_and c.from_residual-in_err-sets.result c.from_residual-in_err-sets.ensures.1 in
+    rw (p.1, p.2) tt
+
 pub returns-in_err-rows-clause-exact : goal.returns-in_err-rows-clause-exact
 returns-in_err-rows-clause-exact c scans are =
     let p = err_from_is_err_and c.from_residual-in_err-rows.result c.from_residual-in_err-rows.ensures.1 in

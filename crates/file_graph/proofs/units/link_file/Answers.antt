@@ -40,7 +40,7 @@ note_uses-requires-clause-lie c =
 -- the references of a unit by what it mentions
 refs_are : (text : List ℕ) (tokens : List Token) (design : DesignUnit) (one : Mentions) → AreMentionsOf text tokens design one → refs_of text tokens design ≡ structural_of one.configured design design.kind ++ map (named_ref text) one.refs
 refs_are text tokens design one are =
-    ap (λ (refs : List Ref). refs ++ named_refs text tokens design.lead design.last) (sym are.structural)
+    ap (λ (refs : List Ref). refs ++ named_refs text tokens design) (sym are.structural)
     ∙ ap (λ (refs : List Ref). structural_of one.configured design design.kind ++ refs) (sym are.refs)
 
 pub returns-in_err-link_unit : goal.returns-in_err-link_unit

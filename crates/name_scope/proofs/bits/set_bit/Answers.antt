@@ -2,5 +2,5 @@
 use Rattle.name_scope.proofs.BitLemmas.{with_bit}
 use Rattle.name_scope.proofs.bits.set_bit.Goals as goal
 
-pub returns : goal.returns
-returns c = with_bit c.args.row.now c.args.number c.requires
+pub returns-clause-bits : goal.returns-clause-bits
+returns-clause-bits c = with_bit c.args.row.now c.args.number c.requires

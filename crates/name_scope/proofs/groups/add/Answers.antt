@@ -9,10 +9,10 @@ use Rattle.name_scope.proofs.groups.add.Goals as goal
 pub returns : goal.returns
 returns c =
     let keys = c.in_ok-number.ensures.keys in
-    let all = subst (HasAll (c.args.group ∷ []) c.args.groups.now.keys) (sym keys) (all_one c.args.groups.now.keys c.args.group) in
-    let number : c.in_ok-number.number ≡ group_number c.insert_full.new.self.keys c.args.group = c.in_ok-number.ensures.index ∙ (sym (same_number c.args.groups.now.keys c.args.group) ∙ ap (λ (groups : List Group). group_number groups c.args.group) (sym keys)) in
+    let all = subst (HasAll (c.args.group ∷ []) c.args.groups.now) (sym keys) (all_one c.args.groups.now c.args.group) in
+    let number : c.in_ok-number.number ≡ group_number c.add.new.self c.args.group = c.in_ok-number.ensures.number ∙ (sym (same_number c.args.groups.now c.args.group) ∙ ap (λ (groups : List Group). group_number groups c.args.group) (sym keys)) in
     record {
-      number = (number, number_within c.args.groups.now.keys c.insert_full.new.self.keys c.args.group c.in_ok-number.number all number);
+      number = (number, number_within c.args.groups.now c.add.new.self c.args.group c.in_ok-number.number all number);
       all = all;
-      grown = subst (HasGrown c.args.groups.now.keys) (sym keys) (grown_one c.args.groups.now.keys c.args.group);
+      grown = subst (HasGrown c.args.groups.now) (sym keys) (grown_one c.args.groups.now c.args.group);
     }

@@ -7,4 +7,4 @@ use Rattle.name_scope.specs.Owned.{IsOwnedBy}
 use Rattle.name_scope.proofs.joins.group_links.Given as goal
 
 abbrev pub invariant-loop-at : goal.invariant-loop-at
-invariant-loop-at l = (users : List ScopeUnit) → AllZip (IsOwnedBy l.groups.keys) l.owned users → AreMembersTo l.at l.groups.keys users l.gate l.members.items
+invariant-loop-at l = (users : List ScopeUnit) → AllZip (IsOwnedBy l.groups) l.owned users → AreMembersTo l.at l.groups users l.gate l.members.items

@@ -1,4 +1,4 @@
--- The link is with those of both.
+-- The link is with those of all kinds.
 use Rattle.std.proofs.Common.{◌∙◌}
 use Rattle.name_scope.proofs.JoinLemmas.{member_both}
 use Rattle.name_scope.proofs.joins.join_own.Goals as goal
@@ -7,4 +7,5 @@ pub returns : goal.returns
 returns c groups library unit each is =
     let one = c.in_ok-join_group.ensures groups _ each is.primary in
     let two = c.in_ok-join_group-2.ensures groups _ (one.each ∙ each) is.context in
-    member_both _ _ _ _ _ _ _ one two
+    let three = c.in_ok-join_group-3.ensures groups _ (two.each ∙ (one.each ∙ each)) is.architecture in
+    member_both _ _ _ _ _ _ _ one (member_both _ _ _ _ _ _ _ two three)

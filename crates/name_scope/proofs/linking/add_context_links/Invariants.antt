@@ -7,4 +7,4 @@ use Rattle.name_scope.specs.Wants.{context_want}
 use Rattle.name_scope.proofs.linking.add_context_links.Given as goal
 
 abbrev pub invariant-loop-named : goal.invariant-loop-named
-invariant-loop-named l = HasLinked (keys_of l.names) l.groups.keys l.places (map (λ named. context_want l.library (named_ref l.text named)) (take l.named-index l.found)) l.initial.links l.links
+invariant-loop-named l = HasLinked (keys_of l.names) l.groups l.places (map (λ named. context_want l.library (named_ref l.text named)) (take l.named-index l.found)) l.initial.links l.links

@@ -9,4 +9,4 @@ use Rattle.name_scope.specs.Joins.{IsLinkedFor}
 use Rattle.name_scope.proofs.linking.add_links.Given as goal
 
 abbrev pub invariant-loop-number : goal.invariant-loop-number
-invariant-loop-number l = (scan : Scan) (units : List ScopeUnit) → IsOutlineOf l.text scan l.file → AllZip (IsLinkedFor (keys_of l.names) l.groups.keys l.places) l.initial.links.items units → AllZip (IsLinkedFor (keys_of l.names) l.groups.keys l.places) l.links.items (units ++ map (scope_unit l.library l.text scan) (take l.number scan.units))
+invariant-loop-number l = (scan : Scan) (units : List ScopeUnit) → IsOutlineOf l.text scan l.file → AllZip (IsLinkedFor (keys_of l.names) l.groups l.places) l.initial.links.items units → AllZip (IsLinkedFor (keys_of l.names) l.groups l.places) l.links.items (units ++ map (scope_unit l.library l.text scan) (take l.number scan.units))

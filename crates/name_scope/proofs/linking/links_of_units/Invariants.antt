@@ -9,4 +9,4 @@ use Rattle.name_scope.specs.Joins.{IsLinkedFor}
 use Rattle.name_scope.proofs.linking.links_of_units.Given as goal
 
 abbrev pub invariant-loop-file : goal.invariant-loop-file
-invariant-loop-file l = (scans : List Scan) → FilesAreOf l.texts scans l.files → AllZip (IsLinkedFor (keys_of l.names) l.groups.keys l.places) l.links.items (scope_units (take l.file l.project.files) (take l.file l.texts) (take l.file scans))
+invariant-loop-file l = (scans : List Scan) → FilesAreOf l.texts scans l.files → AllZip (IsLinkedFor (keys_of l.names) l.groups l.places) l.links.items (scope_units (take l.file l.project.files) (take l.file l.texts) (take l.file scans))

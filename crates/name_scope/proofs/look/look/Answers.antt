@@ -8,4 +8,4 @@ pub loop-link-preserved : goal.loop-link-preserved
 loop-link-preserved c =
     let within : c.loop-link.link-index < length c.args.links.now = omega arith in
     rw (take_more c.args.links.now c.loop-link.link-index (record { gate = 0; source = 0 }) within)
-    (followed_both _ _ _ _ _ _ _ _ c.loop-link.invariant c.follow-more.ensures)
+    (followed_both _ _ _ _ _ _ _ _ c.loop-link.invariant c.in_ok-more.ensures.looked)

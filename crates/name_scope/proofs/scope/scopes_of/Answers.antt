@@ -21,10 +21,10 @@ loop-file-preserved c = record {
       let scan = it.1 in
       let users : List ScopeUnit = scope_units (take at files) (take at texts) (take at scans) in
       let more = file_more files texts scans at _ text scan c.get.ensures it.2 it.3 in
-      let long = as_long (IsOwnedBy c.loop-file.groups.keys) c.loop-file.owned.items users so_far.grouped.each in
-      let added = subst (λ (designs : List DesignUnit). AddsOwned c.get.result.now.name.library designs c.loop-file.groups.keys c.loop-file.owned.items c.add_groups.new.groups.keys c.add_groups.new.owned.items) (c.as_slice-units.ensures ∙ it.4.units) c.in_ok-add_groups.ensures in
+      let long = as_long (IsOwnedBy c.loop-file.groups) c.loop-file.owned.items users so_far.grouped.each in
+      let added = subst (λ (designs : List DesignUnit). AddsOwned c.get.result.now.name.library designs c.loop-file.groups c.loop-file.owned.items c.add_groups.new.groups c.add_groups.new.owned.items) (c.as_slice-units.ensures ∙ it.4.units) c.in_ok-add_groups.ensures in
       record {
-        grouped = subst (λ (some : List ScopeUnit). AreGrouped some c.add_groups.new.groups.keys c.add_groups.new.owned.items) (sym more) (record {
+        grouped = subst (λ (some : List ScopeUnit). AreGrouped some c.add_groups.new.groups c.add_groups.new.owned.items) (sym more) (record {
           all = grouped_more users c.get.result.now.name.library scan text _ _ so_far.grouped.all added.all;
           each = added.each users text scan so_far.grouped.each;
         });
@@ -39,7 +39,7 @@ returns c texts scans are =
     let end = c.len-file-end.ensures in
     let each = c.loop-file.invariant.each in
     record {
-      grouped = subst (λ (some : List ScopeUnit). AreGrouped some c.loop-file.groups.keys c.loop-file.owned.items)
+      grouped = subst (λ (some : List ScopeUnit). AreGrouped some c.loop-file.groups c.loop-file.owned.items)
           (all_units c.args.project.now.files texts scans c.loop-file.file (omega (arith, long, end)) (omega (arith, long, end, c.requires, are.each)) (omega (arith, long, end, c.requires, are.each, are.scanned))) first.grouped;
       each = omega (arith, each, end, long, c.loop-file.auto.file-end);
       starts = λ file below. first.begins file (omega (arith, below, end, long));

@@ -16,5 +16,5 @@ look_below-requires-clause-inside c = still_inside _ _ _ _ c.loop-at.invariant.s
 pub loop-at-preserved : goal.loop-at-preserved
 loop-at-preserved c = record {
   room = c.look_below.ensures.room ∙ c.loop-at.invariant.room;
-  spread = spread_more _ _ _ _ _ _ c.loop-at.invariant.spread c.look_below.ensures.looked;
+  spread = spread_more _ _ _ _ _ _ c.loop-at.invariant.spread c.in_ok-look_below.ensures.looked;
 }

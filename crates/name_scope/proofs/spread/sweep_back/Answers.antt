@@ -13,5 +13,5 @@ look_at-requires-clause-even c = subst (λ (words : ℕ). AreEven words c.loop-i
 pub loop-index-preserved : goal.loop-index-preserved
 loop-index-preserved c = record {
   room = c.look_at.ensures.room ∙ c.loop-index.invariant.room;
-  spread = spread_more _ _ _ _ _ _ c.loop-index.invariant.spread c.look_at.ensures.looked;
+  spread = spread_more _ _ _ _ _ _ c.loop-index.invariant.spread c.in_ok-look_at.ensures.looked;
 }

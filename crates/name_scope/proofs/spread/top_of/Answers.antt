@@ -6,7 +6,7 @@ use Rattle.name_scope.proofs.spread.top_of.Goals as goal
 
 pub loop-row-init : goal.loop-row-init
 loop-row-init c = record {
-  even = ap length c.in_ok-top.ensures ∙ length-replicate c.args.words 0;
+  even = ap length c.new-top.ensures ∙ length-replicate c.args.words 0;
   inside = λ k below. absurd (omega (arith, below));
 }
 
@@ -15,7 +15,7 @@ loop-row-preserved c = record {
   even = c.join.ensures.len ∙ c.loop-row.invariant.even;
   inside = inside_more c.args.rows.now c.loop-row.top c.join.new.self c.row-item.result c.loop-row.row-index
       (c.row-item.is ∙ get_or_default c.args.rows.now c.loop-row.row-index c.row-item.result [] c.loop-row-test.true)
-      c.join.ensures.bits c.loop-row.invariant.inside;
+      c.in_ok-join.ensures.bits c.loop-row.invariant.inside;
 }
 
 pub returns : goal.returns

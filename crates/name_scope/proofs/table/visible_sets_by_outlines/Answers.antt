@@ -11,7 +11,7 @@ use Rattle.name_scope.proofs.table.visible_sets_by_outlines.Goals as goal
 
 pub grown_rows-requires-clause-grouped : goal.grown_rows-requires-clause-grouped
 grown_rows-requires-clause-grouped c scans are =
-    subst (AreGrouped (scope_units c.args.project.now.files c.args.texts.now scans) c.in_ok-starts.field-0.groups.keys) (sym c.as_slice-2.ensures.value) (c.in_ok-starts.ensures c.args.texts.now scans are.files).grouped
+    subst (AreGrouped (scope_units c.args.project.now.files c.args.texts.now scans) c.in_ok-starts.field-0.groups) (sym c.as_slice-2.ensures.value) (c.in_ok-starts.ensures c.args.texts.now scans are.files).grouped
 
 pub returns : goal.returns
 returns c scans are =

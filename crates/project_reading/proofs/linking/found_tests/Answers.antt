@@ -1,5 +1,6 @@
-use Rattle.test_scan.specs.Benches.{sources_of, tests_of}
+use Rattle.std.proofs.Common.{ap}
+use Rattle.project_reading.specs.Reading.{tests_or}
 use Rattle.project_reading.proofs.linking.found_tests.Goals as goal
 
-pub returns-in-Err-clause-tests : goal.returns-in-Err-clause-tests
-returns-in-Err-clause-tests c = c.test_stop.ensures.stop (tests_of (sources_of c.args.project.now c.args.texts.now c.args.scans.now)) c.in-Err.ensures
+pub returns-in-Err-Fault-clause-tests : goal.returns-in-Err-Fault-clause-tests
+returns-in-Err-Fault-clause-tests c scans are = ap tests_or (rw c.in-Err-Fault.field-0-is at c.in-Err-Fault.ensures scans are)

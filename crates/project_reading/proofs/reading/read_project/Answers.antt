@@ -5,14 +5,14 @@ use Rattle.project_reading.specs.Reading.{SourceReading, project_in, sources_rea
 use Rattle.project_reading.specs.Sources.{LeadsTo}
 use Rattle.project_reading.specs.Asked.{project_file_paths, maybe_paths, project_paths, AsksFirst, AsksInOrder}
 use Rattle.project_reading.proofs.Asks.{first_of_more, then_in_order}
-use Rattle.project_reading.proofs.Steps.{stops_there, goes_on}
+use Rattle.project_reading.proofs.Steps.{no_project, goes_on}
 use Rattle.project_reading.proofs.reading.read_project.Goals as goal
 
 pub returns-in_err-project-clause-reading : goal.returns-in_err-project-clause-reading
 unfolding project_reading
 returns-in_err-project-clause-reading g c =
     let p = err_from_is_err_and c.from_residual.result c.from_residual.ensures.1 in
-    rw (p.1, p.2) (λ scan is tells. stops_there (sources_reading c.args.wanted scan (g.T.Tree.file c.args.tree.now)) (project_in (g.T.Tree.file c.args.tree.now) (g.T.Tree.listed c.args.tree.now)) c.in_err-project.field-0.0 (c.in_err-project.ensures.project tells))
+    rw (p.1, p.2) (λ scan is tells. no_project c.args.wanted scan (g.T.Tree.file c.args.tree.now) (project_in (g.T.Tree.file c.args.tree.now) (g.T.Tree.listed c.args.tree.now)) c.in_err-project.field-0.0 (c.in_err-project.ensures.project tells))
 
 -- the first of the paths that are to be read
 first_paths : (file : List ℕ → Option (List ℕ)) (listed old new : List (List ℕ)) → AsksFirst (project_file_paths file) old new → AsksFirst (project_paths file listed) old new

@@ -1,7 +1,7 @@
 use Rattle.std.proofs.Common.{◌≡◌, Bool, true, length, sym, subst, arith}
 use Rattle.std.specs.Prelude.{nat_le, if◌then◌else◌}
 use Rattle.std.proofs.lemmas.Bool.{le-leb}
-use Rattle.vr_base.specs.declared.outcome.Limit.TheVariants as limit
+use Rattle.outcomes.specs.declared.outcome.Limit.TheVariants as limit
 use Rattle.vr_base.specs.declared.limits.TheConstants.{FILE_LIMIT}
 use Rattle.project_reading.specs.Reading.{Over, files_reading}
 use Rattle.project_reading.specs.Sources.{LeadsTo}

@@ -1,10 +1,9 @@
-use Rattle.std.proofs.Common.{◌≡◌, Bool, List, ℕ, Err, subst, sym}
+use Rattle.std.proofs.Common.{◌≡◌, List, ℕ, Err, subst}
 use Rattle.std.proofs.lemmas.Result.{err_from_is_err_and}
 use Rattle.vr_base.specs.declared.design.Scan.{Scan}
 use Rattle.vr_base.specs.declared.project.ProjectFile.{ProjectFile}
-use Rattle.scan_spec.specs.Scans.{AreScansOf}
+use Rattle.file_outlines.specs.declared.outlines.Outlines.{Outlines}
 use Rattle.project_reading.specs.Reading.{scans_of, scanned_reading}
-use Rattle.project_reading.specs.declared.scanning.Scanning.{Scanning}
 use Rattle.project_reading.specs.Scanning.{AreScanned}
 use Rattle.project_reading.specs.Sources.{Gives}
 use Rattle.project_reading.proofs.Steps.{stops_there, goes_on, is_read}
@@ -15,24 +14,23 @@ returns-in_err-outlines-clause-reading c =
     let p = err_from_is_err_and c.from_residual.result c.from_residual.ensures.1 in
     rw (p.1, p.2) (λ scan is. stops_there (scanned_reading c.args.wanted c.args.project c.args.texts) (scans_of scan c.args.project.files c.args.texts) c.in_err-outlines.field-0.0
     (subst (λ (files : List ProjectFile). Gives {T = List Scan} (scans_of scan files c.args.texts) (Err c.in_err-outlines.field-0.0)) c.as_slice.ensures
-    (subst (λ (texts : List (List ℕ)). Gives {T = List Scan} (scans_of scan c.as_slice.result.now texts) (Err c.in_err-outlines.field-0.0)) c.as_slice-2.ensures (c.in_err-outlines.ensures.scans scan is))))
+    (subst (λ (texts : List (List ℕ)). Gives {T = List Scan} (scans_of scan c.as_slice.result.now texts) (Err c.in_err-outlines.field-0.0)) c.as_slice-2.ensures (c.in_err-outlines.ensures.outlines scan is))))
 
-scanned : (files some : List ProjectFile) (texts more : List (List ℕ)) (wanted : Bool) (scanning : Scanning) → some ≡ files → more ≡ texts → AreScanned some more wanted scanning → AreScanned files texts wanted scanning
-scanned files some texts more wanted scanning same_files same_texts are =
-    subst (λ (fs : List ProjectFile). AreScanned fs texts wanted scanning) same_files (subst (λ (ts : List (List ℕ)). AreScanned some ts wanted scanning) same_texts are)
+scanned : (files some : List ProjectFile) (texts more : List (List ℕ)) (outlines : Outlines) → some ≡ files → more ≡ texts → AreScanned some more outlines → AreScanned files texts outlines
+scanned files some texts more outlines same_files same_texts are =
+    subst (λ (fs : List ProjectFile). AreScanned fs texts outlines) same_files (subst (λ (ts : List (List ℕ)). AreScanned some ts outlines) same_texts are)
 
 pub scanned_project-requires-clause-outlined : goal.scanned_project-requires-clause-outlined
-scanned_project-requires-clause-outlined c = let it = scanned c.args.project.files c.as_slice.result.now c.args.texts c.as_slice-2.result.now c.args.wanted c.in_ok-outlines.field-0 c.as_slice.ensures c.as_slice-2.ensures c.in_ok-outlines.ensures.scans in record { scans = it.scans; scanned = it.scanned; are = it.are; lie = it.lie }
-
-pub scanned_project-requires-clause-kept : goal.scanned_project-requires-clause-kept
-scanned_project-requires-clause-kept c told = let it = scanned c.args.project.files c.as_slice.result.now c.args.texts c.as_slice-2.result.now c.args.wanted c.in_ok-outlines.field-0 c.as_slice.ensures c.as_slice-2.ensures c.in_ok-outlines.ensures.scans in subst (AreScansOf c.args.texts) (sym (it.kept told)) it.scanned
+scanned_project-requires-clause-outlined c =
+    let it = scanned c.args.project.files c.as_slice.result.now c.args.texts c.as_slice-2.result.now c.in_ok-outlines.outlines c.as_slice.ensures c.as_slice-2.ensures c.in_ok-outlines.ensures.outlines in
+    record { scans = it.scans; scanned = it.scanned; are = it.are; lie = it.lie }
 
 pub returns-clause-reading : goal.returns-clause-reading
 returns-clause-reading c scan is =
-    let it = scanned c.args.project.files c.as_slice.result.now c.args.texts c.as_slice-2.result.now c.args.wanted c.in_ok-outlines.field-0 c.as_slice.ensures c.as_slice-2.ensures c.in_ok-outlines.ensures.scans in
-    goes_on (scanned_reading c.args.wanted c.args.project c.args.texts) (scans_of scan c.args.project.files c.args.texts) it.scans c.scanned_project.result (it.given scan is) (c.scanned_project.ensures.reading it.scans it.are it.kept)
+    let it = scanned c.args.project.files c.as_slice.result.now c.args.texts c.as_slice-2.result.now c.in_ok-outlines.outlines c.as_slice.ensures c.as_slice-2.ensures c.in_ok-outlines.ensures.outlines in
+    goes_on (scanned_reading c.args.wanted c.args.project c.args.texts) (scans_of scan c.args.project.files c.args.texts) it.scans c.scanned_project.result (it.given scan is) (c.scanned_project.ensures.reading it.scans it.are)
 
 pub returns-clause-form : goal.returns-clause-form
 returns-clause-form c =
-    let it = scanned c.args.project.files c.as_slice.result.now c.args.texts c.as_slice-2.result.now c.args.wanted c.in_ok-outlines.field-0 c.as_slice.ensures c.as_slice-2.ensures c.in_ok-outlines.ensures.scans in
-    is_read c.args.wanted c.args.project c.args.texts it.scans c.requires.project c.requires.few c.requires.texts it.scanned c.scanned_project.result (c.scanned_project.ensures.reading it.scans it.are it.kept)
+    let it = scanned c.args.project.files c.as_slice.result.now c.args.texts c.as_slice-2.result.now c.in_ok-outlines.outlines c.as_slice.ensures c.as_slice-2.ensures c.in_ok-outlines.ensures.outlines in
+    is_read c.args.wanted c.args.project c.args.texts it.scans c.requires.project c.requires.few c.requires.texts it.scanned c.scanned_project.result (c.scanned_project.ensures.reading it.scans it.are)

@@ -3,4 +3,4 @@ use Rattle.project_reading.proofs.ScanLemmas.{AreFirst}
 use Rattle.project_reading.proofs.scanning.scan_all.Given as goal
 
 abbrev pub invariant-loop-i : goal.invariant-loop-i
-invariant-loop-i l = AreFirst l.files l.texts l.keep l.i l.outlines l.kept
+invariant-loop-i l = AreFirst l.files l.texts l.i l.outlines

@@ -1,6 +1,6 @@
 -- An architecture is added, and another unit changes nothing.
 use Rattle.std.proofs.Common.{◌≡◌, ◌∙◌, List, ℕ, Option, ap, sym}
-use Rattle.indexmap.specs.IndexMap.{get}
+use Rattle.key_index.specs.Maps.{get}
 use Rattle.vr_base.specs.declared.design.Unit.{Unit as DesignUnit}
 use Rattle.scan_spec.specs.Dependencies.{is_architecture_kind}
 use Rattle.scan_spec.specs.References.{owner_name}
@@ -17,7 +17,9 @@ abbrev named : List ℕ → List ℕ → EntityKey
 named library entity = record { library = library; entity = entity }
 
 pub returns-then-not-is_architecture-clause-added : goal.returns-then-not-is_architecture-clause-added
-returns-then-not-is_architecture-clause-added c ids holds = holds_other (scanned c.args.files) ids c.args.id c.args.index.now holds (ap (λ (u : DesignUnit). is_architecture_kind u.kind) (sym c.find-found.ensures.unit) ∙ sym c.is_architecture.ensures ∙ c.if-not-is_architecture.true)
+returns-then-not-is_architecture-clause-added c scans ids are holds =
+    let located = c.find-found.ensures.located scans are in
+    holds_other (scanned c.args.files scans) ids c.args.id c.args.index.now holds (ap (λ (u : DesignUnit). is_architecture_kind u.kind) (sym located.unit) ∙ sym c.is_architecture.ensures ∙ c.if-not-is_architecture.true)
 
 pub returns-clause-within : goal.returns-clause-within
 returns-clause-within c =
@@ -27,11 +29,11 @@ returns-clause-within c =
     c.in_ok-insert.ensures.updates
 
 pub returns-clause-added : goal.returns-clause-added
-returns-clause-added c ids holds =
-    let library = c.find-found.ensures.library in
-    let unit = c.find-found.ensures.unit in
-    let key : c.in_ok-key.key ≡ named (unit_library (scanned c.args.files) c.args.id) (owner_name (design_unit (scanned c.args.files) c.args.id).owner) =
-    c.in_ok-key.ensures ∙ ap (λ (l : List ℕ). named l (owner_name c.find-found.result.unit.now.owner)) library ∙ ap (λ (u : DesignUnit). named (unit_library (scanned c.args.files) c.args.id) (owner_name u.owner)) unit in
-    holds_one (scanned c.args.files) ids c.args.id c.args.index.now c.insert.new.self c.in_ok-key.key c.one_more-more.result holds
-    (ap (λ (u : DesignUnit). is_architecture_kind u.kind) (sym unit) ∙ sym c.is_architecture.ensures ∙ c.if-not-is_architecture.false)
+returns-clause-added c scans ids are holds =
+    let sources = scanned c.args.files scans in
+    let located = c.find-found.ensures.located scans are in
+    let key : c.in_ok-key.key ≡ named (unit_library sources c.args.id) (owner_name (design_unit sources c.args.id).owner) =
+    c.in_ok-key.ensures ∙ ap (λ (l : List ℕ). named l (owner_name c.find-found.result.unit.now.owner)) located.library ∙ ap (λ (u : DesignUnit). named (unit_library sources c.args.id) (owner_name u.owner)) located.unit in
+    holds_one sources ids c.args.id c.args.index.now c.insert.new.self c.in_ok-key.key c.one_more-more.result holds
+    (ap (λ (u : DesignUnit). is_architecture_kind u.kind) (sym located.unit) ∙ sym c.is_architecture.ensures ∙ c.if-not-is_architecture.false)
     key (c.one_more-more.ensures ∙ ap (λ (o : Option Architectures). one_more o c.args.id) c.architectures_of.ensures) c.in_ok-insert.ensures.updates

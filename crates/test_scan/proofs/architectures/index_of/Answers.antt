@@ -1,6 +1,6 @@
 -- One unit more.
 use Rattle.std.proofs.Common.{List, sym, subst, take}
-use Rattle.std.proofs.lemmas.List.{take_more}
+use Rattle.std.proofs.lemmas.List.{take_all, take_more}
 use Rattle.vr_base.specs.declared.refs.UnitId.{UnitId}
 use Rattle.test_scan.specs.Architectures.{HoldsArchitectures}
 use Rattle.test_scan.specs.Files.{scanned}
@@ -12,5 +12,8 @@ none = record { file = 0; unit = 0 }
 pub loop-id-preserved : goal.loop-id-preserved
 loop-id-preserved c = record {
   within = c.in_ok-add_unit.ensures.within;
-  holds = subst (λ (ids : List UnitId). HoldsArchitectures (scanned c.args.files) ids c.add_unit.new.index) (sym (take_more c.args.ids.now c.loop-id.id-index none c.loop-id-test.true)) (c.in_ok-add_unit.ensures.added (take c.loop-id.id-index c.args.ids.now) c.loop-id.invariant.holds);
+  holds = λ scans are. subst (λ (ids : List UnitId). HoldsArchitectures (scanned c.args.files scans) ids c.add_unit.new.index) (sym (take_more c.args.ids.now c.loop-id.id-index none c.loop-id-test.true)) (c.in_ok-add_unit.ensures.added scans (take c.loop-id.id-index c.args.ids.now) are (c.loop-id.invariant.holds scans are));
 }
+
+pub returns-clause-holds : goal.returns-clause-holds
+returns-clause-holds c scans are = subst (λ (ids : List UnitId). HoldsArchitectures (scanned c.args.files scans) ids c.loop-id.index) (take_all c.loop-id.id-index c.args.ids.now c.loop-id-test.false) (c.loop-id.invariant.holds scans are)

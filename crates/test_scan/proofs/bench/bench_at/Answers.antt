@@ -1,15 +1,15 @@
 -- The one architecture that is found is that of the bench.
 use Rattle.std.proofs.Common.{◌≡◌, ◌∙◌, List, ℕ, Some, ap, sym}
 use Rattle.std.specs.Prelude.{Ok}
-use Rattle.indexmap.specs.IndexMap.{get}
-use Rattle.vr_base.specs.declared.bench.Bench.{Bench}
+use Rattle.key_index.specs.Maps.{get}
+use Rattle.vhdl_benches.specs.declared.bench.Bench.{Bench}
 use Rattle.vr_base.specs.declared.design.Unit.{Unit as DesignUnit}
 use Rattle.test_scan.specs.Architectures.{first_of_some}
-use Rattle.test_scan.specs.Benches.{architectures_of, design_unit, unit_library}
+use Rattle.test_scan.specs.Benches.{architectures_of, design_unit, unit_library, unit_numbers}
 use Rattle.test_scan.specs.Entities.{is_same_entity}
 use Rattle.test_scan.specs.Files.{scanned}
 use Rattle.test_scan.specs.declared.key.EntityKey.{EntityKey}
-use Rattle.test_scan.proofs.Owners.{one_found}
+use Rattle.test_scan.proofs.Owners.{first_right, one_found}
 use Rattle.test_scan.proofs.bench.bench_at.Goals as goal
 
 pub bench_of-requires-clause-architecture : goal.bench_of-requires-clause-architecture
@@ -19,11 +19,13 @@ abbrev named : List ℕ → List ℕ → EntityKey
 named library entity = record { library = library; entity = entity }
 
 pub returns : goal.returns
-returns c =
-    let sources = scanned c.args.files in
-    let key : c.in_ok-key.key ≡ named (unit_library sources c.args.entity) (design_unit sources c.args.entity).name =
-    c.in_ok-key.ensures ∙ ap (λ (l : List ℕ). named l c.find-found.result.unit.now.name) c.find-found.ensures.library ∙ ap (λ (u : DesignUnit). named (unit_library sources c.args.entity) u.name) c.find-found.ensures.unit in
-    let found : first_of_some (architectures_of sources (unit_library sources c.args.entity) (design_unit sources c.args.entity).name) ≡ Some c.in-Some.architectures =
-    sym (c.requires.holds (named (unit_library sources c.args.entity) (design_unit sources c.args.entity).name)) ∙ ap (λ (k : EntityKey). get is_same_entity c.args.index.now k) (sym key) ∙ sym c.architectures_of.ensures ∙ c.in-Some.is in
-    one_found sources c.args.entity (architectures_of sources (unit_library sources c.args.entity) (design_unit sources c.args.entity).name) c.in-Some.architectures found c.if-architectures.false
-    ∙ ap (λ (b : Bench). Ok b) (sym c.in_ok-bench_of.ensures)
+returns c scans are holds =
+    let sources = scanned c.args.files scans in
+    let located = c.find-found.ensures.located scans are in
+    let library = unit_library sources c.args.entity in
+    let name = (design_unit sources c.args.entity).name in
+    let key : c.in_ok-key.key ≡ named library name = c.in_ok-key.ensures ∙ ap (λ (l : List ℕ). named l c.find-found.result.unit.now.name) located.library ∙ ap (λ (u : DesignUnit). named library u.name) located.unit in
+    let found : first_of_some (architectures_of sources library name) ≡ Some c.in-Some.architectures =
+    sym (holds (named library name)) ∙ ap (λ (k : EntityKey). get is_same_entity c.args.index.now k) (sym key) ∙ sym c.architectures_of.ensures ∙ c.in-Some.is in
+    one_found sources c.args.entity (architectures_of sources library name) c.in-Some.architectures found c.if-architectures.false
+    ∙ ap (λ (b : Bench). Ok b) (sym (c.in_ok-bench_of.ensures scans are (first_right sources library name (unit_numbers scans) c.in-Some.architectures found)))

@@ -1,23 +1,28 @@
--- Benches are entities among the units.
-use Rattle.std.proofs.Common.{◌≡◌, List, filter, get_or, ap, sym, ◌∙◌, subst}
-use Rattle.std.proofs.lemmas.List.{take_all}
-use Rattle.std.proofs.lemmas.List.Elements.{All-filter, filter_passes}
+-- One unit more.
+use Rattle.std.proofs.Common.{◌++◌, ◌∷◌, [], List, cond, filter, get_or, take, ap, sym, ◌∙◌}
+use Rattle.std.proofs.lemmas.List.{take_all, take_more}
+use Rattle.std.proofs.lemmas.List.Elements.{filter-append}
 use Rattle.vr_base.specs.declared.refs.UnitId.{UnitId}
-use Rattle.scan_spec.proofs.SomeTests.{and_cases}
-use Rattle.test_scan.specs.Benches.{is_bench, is_entity_kind, design_unit}
-use Rattle.test_scan.specs.Files.{AreEntities, AreInFiles, IsInFiles, scanned}
-use Rattle.test_scan.specs.declared.files.Files.{Files}
+use Rattle.test_scan.specs.Benches.{is_bench}
+use Rattle.test_scan.specs.Files.{scanned}
 use Rattle.test_scan.proofs.numbers.bench_numbers.Goals as goal
 
-entities : (files : Files) (ids : List UnitId) → AreEntities files (filter (is_bench (scanned files)) ids)
-entities files ids i d within = (and_cases (is_entity_kind (design_unit (scanned files) (get_or (filter (is_bench (scanned files)) ids) i d)).kind) _ (filter_passes (is_bench (scanned files)) ids i d within)).0
+abbrev none : UnitId
+none = record { file = 0; unit = 0 }
 
-pub returns-clause-within : goal.returns-clause-within
-returns-clause-within c =
-    let all : c.loop-id.benches.items ≡ filter (is_bench (scanned c.args.files)) c.args.ids.now = c.loop-id.invariant ∙ ap (filter (is_bench (scanned c.args.files))) (take_all c.loop-id.id-index c.args.ids.now c.loop-id-test.false) in
-    subst (AreInFiles c.args.files) (sym all) (All-filter (is_bench (scanned c.args.files)) (IsInFiles c.args.files) c.args.ids.now c.requires.within)
+pub loop-id-preserved : goal.loop-id-preserved
+loop-id-preserved c = record {
+  all = λ scans are.
+      let test = is_bench (scanned c.args.files scans) in
+      let at = c.loop-id.id-index in
+      let id : UnitId = get_or c.args.ids.now at none in
+      c.in_ok-add_bench.ensures.added scans are
+      ∙ ap (λ (so_far : List UnitId). so_far ++ cond (test id) (id ∷ []) []) (c.loop-id.invariant.all scans are)
+      ∙ sym (filter-append test (take at c.args.ids.now) (id ∷ []))
+      ∙ ap (filter test) (sym (take_more c.args.ids.now at none c.loop-id-test.true));
+  within = c.in_ok-add_bench.ensures.within;
+  named = c.in_ok-add_bench.ensures.named;
+}
 
-pub returns-clause-entities : goal.returns-clause-entities
-returns-clause-entities c =
-    let all : c.loop-id.benches.items ≡ filter (is_bench (scanned c.args.files)) c.args.ids.now = c.loop-id.invariant ∙ ap (filter (is_bench (scanned c.args.files))) (take_all c.loop-id.id-index c.args.ids.now c.loop-id-test.false) in
-    subst (AreEntities c.args.files) (sym all) (entities c.args.files c.args.ids.now)
+pub returns-clause-all : goal.returns-clause-all
+returns-clause-all c scans are = c.loop-id.invariant.all scans are ∙ ap (filter (is_bench (scanned c.args.files scans))) (take_all c.loop-id.id-index c.args.ids.now c.loop-id-test.false)

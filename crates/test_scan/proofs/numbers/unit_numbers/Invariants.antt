@@ -1,9 +1,14 @@
 -- So far those of the files up to the position.
-use Rattle.std.proofs.Common.{◌≡◌}
+use Rattle.std.proofs.Common.{◌≡◌, List}
 use Rattle.std.specs.List.{flat_map}
 use Rattle.vr_base.specs.PresentGraph.{below}
+use Rattle.vr_base.specs.declared.design.Scan.{Scan}
 use Rattle.test_scan.specs.Benches.{file_units}
+use Rattle.test_scan.specs.Files.{AreInFiles, AreScannedAs}
 use Rattle.test_scan.proofs.numbers.unit_numbers.Given as goal
 
 abbrev pub invariant-loop-file : goal.invariant-loop-file
-invariant-loop-file l = l.ids.items ≡ flat_map (file_units l.files.scans.now) (below l.file)
+invariant-loop-file l = record {
+  all : (scans : List Scan) → AreScannedAs l.files scans → l.ids.items ≡ flat_map (file_units scans) (below l.file);
+  within : AreInFiles l.files l.ids.items;
+}

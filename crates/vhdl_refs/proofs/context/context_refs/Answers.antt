@@ -21,7 +21,7 @@ returns c =
     c.as_slice.ensures.value ∙ c.in_ok-push_contexts.ensures.found ∙ ap (λ (xs : List RefPlace). xs ++ context_places c.as_slice-roles.result.now unit) c.new-places.ensures.items
     ∙ ap (λ (rs : List Role). context_places rs unit) roles in
     let all : c.push_refs.new.refs.items ≡ context_refs text tokens unit =
-    c.in_ok-push_refs.ensures ∙ ap (λ (ps : List RefPlace). c.new-refs.result.items ++ map (λ (place : RefPlace). ref_at text tokens place.at) ps) found
-    ∙ ap (λ (rs : List Ref). c.new-refs.result.items ++ rs) (made_at (ref_at text tokens) (roles_of text tokens) (places (is_context_ref (roles_of text tokens)) unit.lead (context_end unit)))
+    c.in_ok-push_refs.ensures ∙ ap (λ (ps : List RefPlace). c.new-refs.result.items ++ map (λ (place : RefPlace). ref_at text tokens unit.kind place.at) ps) found
+    ∙ ap (λ (rs : List Ref). c.new-refs.result.items ++ rs) (made_at (ref_at text tokens unit.kind) (roles_of text tokens) (places (is_context_ref (roles_of text tokens)) unit.lead (context_end unit)))
     ∙ ap (λ (rs : List Ref). rs ++ context_refs text tokens unit) c.new-refs.ensures.items in
     ap (option_map (context_refs text tokens)) c.unit_at.ensures.there ∙ ap (λ (rs : List Ref). Some rs) (sym (c.from_vec.ensures ∙ all))

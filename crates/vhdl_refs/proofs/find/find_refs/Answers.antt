@@ -21,7 +21,7 @@ returns c =
     c.as_slice.ensures.value ∙ c.in_ok-push_places.ensures.found ∙ ap (λ (xs : List RefPlace). xs ++ refs_between c.as_slice-roles.result.now c.unit_at.result.1.start unit.last) c.new-places.ensures.items
     ∙ ap (λ (rs : List Role). refs_between rs c.unit_at.result.1.start unit.last) roles ∙ ap (λ (k : ℕ). refs_between (roles_of text tokens) k unit.last) c.unit_at.ensures.start in
     let all : c.push_refs.new.refs.items ≡ refs_of text tokens unit =
-    c.in_ok-push_refs.ensures ∙ ap (λ (ps : List RefPlace). c.push_structural.new.refs.items ++ map (λ (place : RefPlace). ref_at text tokens place.at) ps) places
-    ∙ ap (λ (rs : List Ref). c.push_structural.new.refs.items ++ rs) (refs_at_places (ref_at text tokens) (roles_of text tokens) unit.lead unit.last)
-    ∙ ap (λ (rs : List Ref). rs ++ named_refs text tokens unit.lead unit.last) (c.in_ok-push_structural.ensures ∙ ap (λ (rs : List Ref). rs ++ structural_by text tokens unit unit.kind) c.new-refs.ensures.items) in
+    c.in_ok-push_refs.ensures ∙ ap (λ (ps : List RefPlace). c.push_structural.new.refs.items ++ map (λ (place : RefPlace). ref_at text tokens unit.kind place.at) ps) places
+    ∙ ap (λ (rs : List Ref). c.push_structural.new.refs.items ++ rs) (refs_at_places (ref_at text tokens unit.kind) (roles_of text tokens) unit.lead unit.last)
+    ∙ ap (λ (rs : List Ref). rs ++ named_refs text tokens unit) (c.in_ok-push_structural.ensures ∙ ap (λ (rs : List Ref). rs ++ structural_by text tokens unit unit.kind) c.new-refs.ensures.items) in
     ap (option_map (refs_of text tokens)) c.unit_at.ensures.there ∙ ap (λ (rs : List Ref). Some rs) (sym (c.from_vec.ensures ∙ all))

@@ -18,5 +18,5 @@ returns-clause-are c =
     c.as_slice.ensures.value ∙ c.in_ok-push_contexts.ensures.found ∙ ap (λ (xs : List RefPlace). xs ++ context_places c.args.roles.now unit) c.clear.ensures.items
     ∙ ap (λ (roles : List Role). context_places roles unit) c.requires.roles in
     IfOk-weaker c.named_all.result _ _
-    (λ named are. are ∙ ap (map (λ (place : RefPlace). ref_at text tokens place.at)) found ∙ made_at (ref_at text tokens) (roles_of text tokens) (places (is_context_ref (roles_of text tokens)) unit.lead (context_end unit)))
+    (λ named are. are ∙ ap (map (λ (place : RefPlace). ref_at text tokens unit.kind place.at)) found ∙ made_at (ref_at text tokens unit.kind) (roles_of text tokens) (places (is_context_ref (roles_of text tokens)) unit.lead (context_end unit)))
     c.named_all.ensures.are

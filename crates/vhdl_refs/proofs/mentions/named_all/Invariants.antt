@@ -7,6 +7,6 @@ use Rattle.vhdl_refs.proofs.mentions.named_all.Given as goal
 
 abbrev pub invariant-loop-place : goal.invariant-loop-place
 invariant-loop-place l = record {
-  are : map (named_ref l.text) l.found.items ≡ map (λ place. ref_at l.text l.tokens.list place.at) (take l.place-index l.places);
+  are : map (named_ref l.text) l.found.items ≡ map (λ place. ref_at l.text l.tokens.list l.kind place.at) (take l.place-index l.places);
   lie : All (NamedLiesIn l.text) l.found.items;
 }

@@ -18,5 +18,5 @@ returns-clause-are c =
     c.as_slice.ensures.value ∙ c.in_ok-push_places.ensures.found ∙ ap (λ (xs : List RefPlace). xs ++ refs_between c.args.roles.now c.args.clause.start unit.last) c.clear.ensures.items
     ∙ ap (λ (roles : List Role). refs_between roles c.args.clause.start unit.last) c.requires.roles ∙ ap (λ (k : ℕ). refs_between (roles_of text tokens) k unit.last) c.requires.begins.start in
     IfOk-weaker c.named_all.result _ _
-    (λ named are. are ∙ ap (map (λ (place : RefPlace). ref_at text tokens place.at)) found ∙ refs_at_places (ref_at text tokens) (roles_of text tokens) unit.lead unit.last)
+    (λ named are. are ∙ ap (map (λ (place : RefPlace). ref_at text tokens unit.kind place.at)) found ∙ refs_at_places (ref_at text tokens unit.kind) (roles_of text tokens) unit.lead unit.last)
     c.named_all.ensures.are

@@ -11,8 +11,9 @@ loop-at-init c =
     record {
       after = passed.reaches;
       within = passed.within;
+      reached = record { clause = c.requires.clause; before = passed.reaches };
       inside = c.requires.before;
-      found = none_so_far _ _ (skip_uses c.args.roles.now c.args.start c.args.start c.args.end c.next_dotted-at.result (omega arith) passed ∙ places_none (is_use_of_all c.args.roles.now) c.args.start);
+      found = none_so_far _ _ (skip_uses c.args.roles.now c.args.clause.start c.args.clause.start c.args.end c.next_dotted-at.result (omega arith) passed ∙ places_none (is_use_of_all c.args.roles.now) c.args.clause.start);
     }
 
 pub loop-at-preserved : goal.loop-at-preserved
@@ -21,7 +22,8 @@ loop-at-preserved c =
     record {
       after = let after = c.loop-at.invariant.after in omega (arith, after, passed.reaches);
       within = passed.within;
+      reached = record { clause = c.push_use.ensures.reached.clause; before = let before = c.push_use.ensures.reached.before in omega (arith, before, passed.reaches) };
       inside = c.in_ok-push_use.ensures.after;
-      found = places_all_more (is_use_of_all c.args.roles.now) c.args.start c.loop-at.at c.args.uses.now.items c.loop-at.uses.items c.push_use.new.uses.items c.loop-at.invariant.after c.loop-at.invariant.found c.in_ok-push_use.ensures.found
-          ∙ ap (λ (xs : List ℕ). c.args.uses.now.items ++ xs) (sym (skip_uses c.args.roles.now c.args.start (c.loop-at.at + 1) c.args.end c.next_dotted-at-in-loop-at.result (let after = c.loop-at.invariant.after in omega (arith, after)) passed));
+      found = places_all_more (is_use_of_all c.args.roles.now) c.args.clause.start c.loop-at.at c.args.uses.now.items c.loop-at.uses.items c.push_use.new.uses.items c.loop-at.invariant.after c.loop-at.invariant.found c.in_ok-push_use.ensures.found
+          ∙ ap (λ (xs : List ℕ). c.args.uses.now.items ++ xs) (sym (skip_uses c.args.roles.now c.args.clause.start (c.loop-at.at + 1) c.args.end c.next_dotted-at-in-loop-at.result (let after = c.loop-at.invariant.after in omega (arith, after)) passed));
     }

@@ -1,15 +1,17 @@
--- The places so far.
+-- The places so far, and how far clauses were followed.
 use Rattle.std.proofs.Common.{◌≡◌, ◌++◌, ◌-◌, ◌<◌, ◌≤◌, length}
 use Rattle.std.specs.List.{All}
 use Rattle.scan_spec.specs.References.{is_use_of_all, places}
+use Rattle.vhdl_refs.specs.Clauses.{HasReached}
 use Rattle.vhdl_refs.proofs.uses.push_uses.Given as goal
 
 abbrev pub invariant-loop-at : goal.invariant-loop-at
 invariant-loop-at l = record {
-  after : l.start ≤ l.at;
+  after : l.fn.clause.start ≤ l.at;
   within : l.at ≤ l.end;
+  reached : HasReached l.roles l.at l.reached;
   inside : All (λ at. at < length l.roles) l.uses.items;
-  found : l.uses.items ≡ l.initial.uses.items ++ places (is_use_of_all l.roles) l.start l.at;
+  found : l.uses.items ≡ l.initial.uses.items ++ places (is_use_of_all l.roles) l.fn.clause.start l.at;
 }
 
 abbrev pub decreases-loop-at : goal.decreases-loop-at

@@ -1,9 +1,0 @@
--- So far no name of the cases up to the index came before, and all were added.
-use Rattle.std.proofs.Common.{◌++◌, ℕ, List, map, take}
-use Rattle.test_select.specs.Selection.{full_name}
-use Rattle.test_scan.specs.Results.{HoldsFullNames}
-use Rattle.test_scan.proofs.Repeats.{NoneRepeated}
-use Rattle.test_scan.proofs.names.add_names.Given as goal
-
-abbrev pub invariant-loop-test_case : goal.invariant-loop-test_case
-invariant-loop-test_case l = (before : List (List ℕ)) → HoldsFullNames l.initial.names before → HoldsFullNames l.names (before ++ map (full_name l.bench) (take l.test_case-index l.bench.cases)) × NoneRepeated before (map (full_name l.bench) (take l.test_case-index l.bench.cases))

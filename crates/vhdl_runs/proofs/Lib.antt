@@ -1,0 +1,8 @@
+-- Lemmas of this crate.
+mod FirstPlaces
+mod Pieces
+mod Calling
+mod Quotes
+mod Counted
+mod Placing
+mod ByHand

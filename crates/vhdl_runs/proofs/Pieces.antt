@@ -1,0 +1,87 @@
+-- The strings of a cut have two quotes, and its comments are in the text.
+use Rattle.std.proofs.Common.{◌≡◌, ℕ, zero, suc, ◌+◌, ◌<◌, ◌≤◌, true, List, [], ◌∷◌, ◌++◌, length, sym, subst, arith}
+use Rattle.vr_base.specs.declared.lexical.Span.{Span}
+use Rattle.vr_base.specs.declared.lexical.Token.{Token}
+use Rattle.vr_base.specs.declared.lexical.Tokens.{Tokens}
+use Rattle.vr_base.specs.declared.lexical.TokenKind.{TokenKind}
+use Rattle.vr_base.specs.declared.lexical.TokenKind.TheVariants.{Word, Extended, Number, Str, Char, Tick, Symbol, High}
+use Rattle.std.specs.Prelude.{slice_index_or}
+use Rattle.scan_spec.specs.Tokens.{Row, byte_order_mark, blank, line_comment, block_comment, tool_directive, token, HasForm, Inside, nothing, byte, pair, Piece, Place, Leads, comment_of, comments_of, place_after, text_start, token_of, tokens_of}
+use Rattle.scan_spec.specs.Units.{token_at, AreTokensOf}
+use Rattle.vhdl_runs.specs.Calls.{is_string}
+
+inside_on : {mark : ℕ} {text : List ℕ} {start end : ℕ} → Inside mark text start end → start ≤ end
+inside_on (nothing is) = omega arith
+inside_on (byte before other line is) = let on = inside_on before in omega arith
+inside_on (pair before one two is) = let on = inside_on before in omega arith
+
+-- each string has room for two quotes
+abbrev pub AreLong : List Token → Type 0
+AreLong tokens = (at : ℕ) → at < length tokens → is_string (token_at tokens at).kind ≡ true → (token_at tokens at).start + 2 ≤ (token_at tokens at).end
+
+abbrev IsLong : TokenKind → ℕ → ℕ → Type 0
+IsLong kind start end = is_string kind ≡ true → start + 2 ≤ end
+
+long_form : (kind : TokenKind) (text : List ℕ) (start end : ℕ) → HasForm (token kind) text start end → IsLong kind start end
+long_form Str text start end form is = let on = inside_on form.inside in let to = form.up_to in omega arith
+long_form Word text start end form is = let no : ⊥ = cc in absurd no
+long_form Extended text start end form is = let no : ⊥ = cc in absurd no
+long_form Number text start end form is = let no : ⊥ = cc in absurd no
+long_form Char text start end form is = let no : ⊥ = cc in absurd no
+long_form Tick text start end form is = let no : ⊥ = cc in absurd no
+long_form Symbol text start end form is = let no : ⊥ = cc in absurd no
+long_form High text start end form is = let no : ⊥ = cc in absurd no
+
+long_more : (first : Token) (rest : List Token) → IsLong first.kind first.start first.end → AreLong rest → AreLong (first ∷ rest)
+long_more first rest long later zero within is = long is
+long_more first rest long later (suc at) within is = later at (omega arith) is
+
+long_row : (row : Row) (text : List ℕ) (start end : ℕ) (rest : List Token) → HasForm row text start end → AreLong rest → AreLong (token_of row start end ++ rest)
+long_row byte_order_mark text start end rest form later = later
+long_row blank text start end rest form later = later
+long_row line_comment text start end rest form later = later
+long_row block_comment text start end rest form later = later
+long_row tool_directive text start end rest form later = later
+long_row (token kind) text start end rest form later = long_more (record { kind = kind; start = start; end = end }) rest (long_form kind text start end form) later
+
+long_from : (text : List ℕ) (place : Place) (pieces : List Piece) (end : Place) → Leads text place pieces end → AreLong (tokens_of pieces)
+long_from text place [] end leads = λ at within is. absurd (omega arith)
+long_from text place (piece ∷ pieces) end leads =
+    let form : HasForm piece.row text piece.start piece.end = subst (λ (at : ℕ). HasForm piece.row text at piece.end) (sym leads.0.starts) leads.0.longest.fits in
+    long_row piece.row text piece.start piece.end (tokens_of pieces) form (long_from text (place_after place piece) pieces end leads.1)
+
+pub strings_long : (text : List ℕ) (tokens : Tokens) → AreTokensOf text tokens → AreLong tokens.list
+strings_long text tokens are = subst AreLong (sym are.2.list) (long_from text text_start are.0 are.1.end are.1.leads)
+
+-- ## Comments
+
+abbrev no_span : Span
+no_span = record { start = 0; end = 0 }
+
+abbrev pub comment_at : List Span → ℕ → Span
+comment_at comments at = slice_index_or comments at no_span
+
+abbrev pub AreSpans : ℕ → List Span → Type 0
+AreSpans size comments = (at : ℕ) → at < length comments → ((comment_at comments at).start ≤ (comment_at comments at).end) × ((comment_at comments at).end ≤ size)
+
+span_more : (size : ℕ) (first : Span) (rest : List Span) → (first.start ≤ first.end) × (first.end ≤ size) → AreSpans size rest → AreSpans size (first ∷ rest)
+span_more size first rest lies later zero within = lies
+span_more size first rest lies later (suc at) within = later at (omega arith)
+
+span_row : (size : ℕ) (row : Row) (start end : ℕ) (rest : List Span) → start ≤ end → end ≤ size → AreSpans size rest → AreSpans size (comment_of row start end ++ rest)
+span_row size byte_order_mark start end rest some within later = later
+span_row size blank start end rest some within later = later
+span_row size line_comment start end rest some within later = span_more size (record { start = start; end = end }) rest (some, within) later
+span_row size block_comment start end rest some within later = later
+span_row size tool_directive start end rest some within later = later
+span_row size (token kind) start end rest some within later = later
+
+span_from : (text : List ℕ) (place : Place) (pieces : List Piece) (end : Place) → Leads text place pieces end → AreSpans (length text) (comments_of pieces)
+span_from text place [] end leads = λ at within. absurd (omega arith)
+span_from text place (piece ∷ pieces) end leads =
+    let starts : piece.start ≡ place.at = leads.0.starts in
+    let some : place.at < piece.end = leads.0.longest.some in
+    span_row (length text) piece.row piece.start piece.end (comments_of pieces) (omega arith) leads.0.longest.within (span_from text (place_after place piece) pieces end leads.1)
+
+pub comments_lie : (text : List ℕ) (tokens : Tokens) → AreTokensOf text tokens → AreSpans (length text) tokens.comments
+comments_lie text tokens are = subst (AreSpans (length text)) (sym are.2.comments) (span_from text text_start are.0 are.1.end are.1.leads)
