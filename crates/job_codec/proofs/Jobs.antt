@@ -65,7 +65,7 @@ built_again file left is =
 abbrev NumberFits : ℕ → Type 0
 NumberFits n = n < 2 ^ 32
 
-all_takes : (bytes : List ℕ) (files : List BuiltFile) (left : List ℕ) → AreBytes bytes → all_built_at bytes ≡ Some (files, left) → Takes bytes (all_built_bytes files) left × IsBuilt files
+pub all_takes : (bytes : List ℕ) (files : List BuiltFile) (left : List ℕ) → AreBytes bytes → all_built_at bytes ≡ Some (files, left) → Takes bytes (all_built_bytes files) left × IsBuilt files
 unfolding all_built_at all_built_bytes
 all_takes bytes files left fits e =
     let a = bind_some (tested_at (λ n. leb n FILE_LIMIT) (number_at w32) bytes) (λ count. many_at built_at count.0 count.1) (files, left) e in
@@ -75,7 +75,7 @@ all_takes bytes files left fits e =
       record { few = omega (arith, leb-true _ _ prefix.1, back.1); each = by_place IsBuiltFile files back.2 },
     )
 
-all_again : (files : List BuiltFile) (left : List ℕ) → IsBuilt files → all_built_at (all_built_bytes files ++ left) ≡ Some (files, left)
+pub all_again : (files : List BuiltFile) (left : List ℕ) → IsBuilt files → all_built_at (all_built_bytes files ++ left) ≡ Some (files, left)
 unfolding all_built_at all_built_bytes
 all_again files left is =
     ap all_built_at (append_assoc (number_bytes (length files)) (flat_map built_bytes files) left)

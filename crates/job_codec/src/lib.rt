@@ -6,7 +6,7 @@ mod reading;
 mod writing;
 
 pub use laws::laws_of_jobs;
-pub use reading::{CompileJob, read_compile_request};
+pub use reading::{CompileJob, all_built, read_compile_request};
 pub use writing::{RequestWriter, compile_request};
 
 #[cfg(test)]

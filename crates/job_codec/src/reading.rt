@@ -88,9 +88,10 @@ fn built_files(
     Ok(Some(files))
 }
 
-/// The files that were built, after their number.
+/// The files that were built, after their number: at most 4,096, each with a name of the sizes of one and an artefact of at
+/// most 262,144 bytes; `None` where the bytes that remain begin with no such files.
 #[tactic(auto, unfolding(crate::specs::Reading::all_built_at))]
-fn all_built(alloc: Global, reader: &mut ByteReader<'_>) -> Result<Option<Built>, NoMemory>
+pub fn all_built(alloc: Global, reader: &mut ByteReader<'_>) -> Result<Option<Built>, NoMemory>
     ensures { IfOk result
         (λ files. Reads (λ same. same) files reader.new (all_built_at reader.old)) }
 {

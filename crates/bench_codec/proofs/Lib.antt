@@ -1,0 +1,5 @@
+-- The lemmas.
+pub mod BenchFields
+pub mod Pairs
+pub mod Sizes
+pub mod WrittenRuns

@@ -1,0 +1,4 @@
+-- The lemmas.
+pub mod ChildLists
+pub mod PlainSteps
+pub mod Halting

@@ -1,0 +1,5 @@
+//! Tests of the children that are part of the program.
+#![tactic(auto)]
+
+#[cfg(test)]
+mod files;

@@ -1,0 +1,8 @@
+-- The lemmas of this crate.
+pub mod Splits
+pub mod Comments
+pub mod ScriptLemmas
+pub mod MarkLemmas
+pub mod MissingLemmas
+pub mod WantedLemmas
+pub mod AnswerLemmas

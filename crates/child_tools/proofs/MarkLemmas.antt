@@ -1,0 +1,16 @@
+-- Units are marked as found, line after line.
+use Rattle.std.proofs.Common.{ℕ, Bool, ◌&&◌, ◌||◌, Option, List}
+use Rattle.std.specs.List.{list_any}
+use Rattle.std.specs.Option.{option_map}
+use Rattle.std.specs.Str.{bytes_eq}
+use Rattle.key_index.specs.Maps.{Entries, get}
+use Rattle.child_tools.specs.Exports.{is_export}
+use Rattle.child_tools.specs.NameOrder.{is_same_unit}
+use Rattle.child_tools.specs.declared.names.UnitName.{UnitName}
+
+abbrev pub Marking : Type 0
+Marking = Entries UnitName Bool
+
+-- what is found once the lines that are left are gone over
+abbrev pub in_time : List ℕ → List (List ℕ) → Marking → UnitName → Option Bool
+in_time library left marks unit = option_map (λ found. found || (bytes_eq library unit.library && list_any (is_export unit.name) left)) (get is_same_unit marks unit)

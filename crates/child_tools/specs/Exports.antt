@@ -1,0 +1,68 @@
+-- What the lines of artefacts export, and the references of a file to units that aren't there.
+use Rattle.std.specs.Prelude.{ℕ, Bool, false, ◌&&◌, not, ◌==◌, if◌then◌else◌, List, [], ◌∷◌, codes, Option, find}
+use Rattle.std.specs.List.{flat_map, list_any, slice_split}
+use Rattle.std.specs.Option.{option_map_or, option_or}
+use Rattle.std.specs.Str.{bytes_eq}
+use Rattle.vr_base.specs.declared.design.Scan.{Scan}
+use Rattle.vr_base.specs.declared.graph.BuiltFile.{BuiltFile}
+use Rattle.vr_base.specs.declared.refs.Ref.{Ref}
+use Rattle.scan_spec.specs.References.{refs_of, work}
+use Rattle.child_tools.specs.Scripts.{after_word}
+use Rattle.child_tools.specs.declared.names.UnitName.{UnitName}
+
+-- the lines of bytes, between line feeds; what comes after the last one is a line too
+abbrev pub lines : List ℕ → List (List ℕ)
+lines bytes = slice_split (λ byte. byte == 10) bytes
+
+-- the primary unit that a line of an artefact is of
+unfoldable pub exported_by : List ℕ → Option (List ℕ)
+exported_by line =
+    option_or (option_or (option_or (option_or
+    (after_word (codes "unit entity ") line)
+    (after_word (codes "unit configuration ") line))
+    (after_word (codes "unit package ") line))
+    (after_word (codes "unit instance ") line))
+    (after_word (codes "unit context ") line)
+
+-- a line exports a unit of this name
+abbrev pub is_export : List ℕ → List ℕ → Bool
+is_export name line = option_map_or (λ found. bytes_eq found name) (exported_by line) false
+
+abbrev pub exports_unit : List ℕ → List ℕ → Bool
+exports_unit artefact name = list_any (is_export name) (lines artefact)
+
+-- ## Files that were built
+
+abbrev pub in_library : List ℕ → BuiltFile → Bool
+in_library library file = bytes_eq file.name.library library
+
+abbrev pub has_library : List BuiltFile → List ℕ → Bool
+has_library files library = list_any (in_library library) files
+
+-- one of the files is of this library, and exports a unit of this name
+abbrev pub exports : List BuiltFile → UnitName → Bool
+exports files unit = list_any (λ file. in_library unit.library file && exports_unit file.artefact unit.name) files
+
+-- one is of this library, and none of these exports the unit
+abbrev pub is_missing : List BuiltFile → UnitName → Bool
+is_missing files unit = has_library files unit.library && not (exports files unit)
+
+abbrev pub first_missing : List BuiltFile → List UnitName → Option UnitName
+first_missing files units = find (is_missing files) units
+
+-- ## References
+
+-- `work` is the library of the file itself (13.2)
+abbrev pub named_library : List ℕ → List ℕ → List ℕ
+named_library own library = if bytes_eq library work then own else library
+
+-- the unit that a strict reference of a file of this library names
+unfoldable pub strict_unit : List ℕ → Ref → List UnitName
+strict_unit own ref = if ref.strict then record { library = named_library own ref.library; name = ref.name } ∷ [] else []
+
+abbrev pub strict_units : List ℕ → List Ref → List UnitName
+strict_units own refs = flat_map (strict_unit own) refs
+
+-- those of all units of a file, in order
+unfoldable pub wanted_units : List ℕ → List ℕ → Scan → List UnitName
+wanted_units own text scan = flat_map (λ unit. strict_units own (refs_of text scan.tokens.list unit)) scan.units

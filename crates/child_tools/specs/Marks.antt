@@ -1,0 +1,21 @@
+-- What is known of the units that a file wants, while artefacts are gone over.
+use Rattle.std.specs.Prelude.{◌≡◌, ℕ, Bool, ◌||◌, if◌then◌else◌, List, [], Some, None, is_some}
+use Rattle.std.specs.List.{list_any}
+use Rattle.std.specs.Option.{option_map}
+use Rattle.vr_base.specs.declared.graph.BuiltFile.{BuiltFile}
+use Rattle.key_index.specs.Maps.{Entries, get}
+use Rattle.child_tools.specs.Exports.{exports, has_library}
+use Rattle.child_tools.specs.NameOrder.{is_same_unit}
+use Rattle.child_tools.specs.declared.names.UnitName.{UnitName}
+
+-- of the units that are wanted those are found now that were found before, or that pass a test
+abbrev pub Marks : (UnitName → Bool) → Entries UnitName Bool → Entries UnitName Bool → Type 0
+Marks test old new = (unit : UnitName) → get is_same_unit new unit ≡ option_map (λ found. found || test unit) (get is_same_unit old unit)
+
+-- these units are wanted, and those are found that the files export
+abbrev pub KnowsUnits : List BuiltFile → List UnitName → Entries UnitName Bool → Type 0
+KnowsUnits files units marks = (unit : UnitName) → get is_same_unit marks unit ≡ (if list_any (λ other. is_same_unit other unit) units then Some (exports files unit) else None)
+
+-- the libraries of the files
+abbrev pub KnowsLibraries : List BuiltFile → Entries UnitName Bool → Type 0
+KnowsLibraries files libraries = (library : List ℕ) → is_some (get is_same_unit libraries (record { library = library; name = [] })) ≡ has_library files library

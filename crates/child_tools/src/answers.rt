@@ -1,0 +1,79 @@
+//! The answers of the compiler.
+
+ghost use Rattle.std.specs.Prelude.{◌≡◌, IfOk};
+ghost use Rattle.child_tools.specs.Answers.{bad_request, ends_with, made, no_unit, not_vhdl, refused};
+
+use crate::artefacts::put;
+use crate::names::UnitName;
+use std::alloc::Global;
+use vr_base::{ARTEFACT_LIMIT, Exit, FileName, MaybeText, NoMemory, Text};
+
+/// An end with a code and an output, and no results.
+fn ends_with(code: u32, output: Text) -> Exit
+    ensures { result ≡ ends_with code output }
+{
+    Exit {
+        code,
+        output,
+        results: MaybeText::Nothing,
+    }
+}
+
+/// The answer to an input that isn't a request.
+#[tactic(auto, unfolding(crate::specs::Answers::bad_request))]
+pub fn bad_request(alloc: Global) -> Result<Exit, NoMemory>
+    ensures { IfOk result (λ exit. exit ≡ bad_request) }
+{
+    Ok(ends_with(2, Text::from_slice(alloc, b"bad request\n")?))
+}
+
+/// A refusal with a line, to which its line feed is added.
+#[tactic(auto, unfolding(crate::specs::Answers::refused))]
+fn refused_with(line: Vec<u8>) -> Result<Exit, NoMemory>
+    ensures { IfOk result (λ exit. exit ≡ refused line.items) }
+{
+    let mut line = line;
+    put(&mut line, b"\n")?;
+    Ok(ends_with(1, Text::from_vec(line)))
+}
+
+/// A refusal with a line.
+pub fn refused(alloc: Global, line: &[u8]) -> Result<Exit, NoMemory>
+    ensures { IfOk result (λ exit. exit ≡ refused line.now) }
+{
+    refused_with(Vec::from_slice(alloc, line)?)
+}
+
+/// The answer to a file that has a fault of its tokens or of its units.
+#[tactic(auto, unfolding(crate::specs::Answers::not_vhdl))]
+pub fn not_vhdl(alloc: Global, name: &FileName) -> Result<Exit, NoMemory>
+    ensures { IfOk result (λ exit. exit ≡ not_vhdl name.now) }
+{
+    let mut line = Vec::from_slice(alloc, name.path.bytes())?;
+    put(&mut line, b": not VHDL")?;
+    refused_with(line)
+}
+
+/// The answer to a file that refers to a unit which isn't there.
+#[tactic(auto, unfolding(crate::specs::Answers::no_unit))]
+pub fn no_unit(alloc: Global, name: &FileName, unit: &UnitName) -> Result<Exit, NoMemory>
+    ensures { IfOk result (λ exit. exit ≡ no_unit name.now unit.now) }
+{
+    let mut line = Vec::from_slice(alloc, name.path.bytes())?;
+    put(&mut line, b": no unit ")?;
+    put(&mut line, unit.library.bytes())?;
+    put(&mut line, b".")?;
+    put(&mut line, unit.name.bytes())?;
+    refused_with(line)
+}
+
+/// The answer to a file by its artefact.
+#[tactic(auto, unfolding(crate::specs::Answers::made))]
+pub fn made(alloc: Global, artefact: Text) -> Result<Exit, NoMemory>
+    ensures { IfOk result (λ exit. exit ≡ made artefact) }
+{
+    if artefact.bytes().len() > ARTEFACT_LIMIT {
+        return refused(alloc, b"artefact too long");
+    }
+    Ok(ends_with(0, artefact))
+}

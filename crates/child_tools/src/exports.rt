@@ -1,0 +1,213 @@
+//! Which of some units are among those that artefacts export.
+
+ghost use Rattle.std.specs.Prelude.{◌≡◌, ◌&&◌, ◌∷◌, ◌++◌, [], List, IfOk, IsTrue, MatchOption, OnOk, None, Some, false, if◌then◌else◌};
+ghost use Rattle.std.specs.List.{list_any};
+ghost use Rattle.std.specs.Option.{option_map};
+ghost use Rattle.std.specs.Str.{bytes_eq};
+ghost use Rattle.vr_base.specs.declared.graph.BuiltFile.{BuiltFile};
+ghost use Rattle.key_index.specs.Maps.{get};
+ghost use Rattle.child_tools.specs.NameOrder.{is_same_unit};
+ghost use Rattle.child_tools.specs.Exports.{exported_by, exports, exports_unit, first_missing, is_export, is_missing};
+ghost use Rattle.child_tools.specs.Marks.{Marks, KnowsLibraries, KnowsUnits};
+
+use crate::lines::{after_word, next_line};
+use crate::names::{UnitName, library_key, put_name};
+use key_index::{Key, KeyMap};
+use std::alloc::Global;
+use vr_base::{BuiltFile, NoMemory, Text};
+
+/// The primary unit that a line of an artefact is of.
+#[tactic(auto, unfolding(crate::specs::Exports::exported_by))]
+fn exported_by(line: &[u8]) -> Option<&[u8]>
+    ensures { option_map (λ name. name.now) result ≡ exported_by line.now }
+{
+    let entity = after_word(b"unit entity ", line);
+    let configuration = after_word(b"unit configuration ", line);
+    let package = after_word(b"unit package ", line);
+    let instance = after_word(b"unit instance ", line);
+    let context = after_word(b"unit context ", line);
+    let two = entity.or(configuration);
+    let three = two.or(package);
+    let four = three.or(instance);
+    four.or(context)
+}
+
+/// Marks a unit as found, where it is wanted.
+fn mark_unit(
+    alloc: Global,
+    unit: &UnitName,
+    marks: &mut KeyMap<UnitName, bool>,
+) -> Result<(), NoMemory>
+    ensures { OnOk result (Marks (is_same_unit unit.now) marks.old marks.new) }
+{
+    let Some(found) = marks.get(unit) else {
+        return Ok(());
+    };
+    if found {
+        return Ok(());
+    }
+    marks.insert(unit.copy(alloc)?, true)?;
+    Ok(())
+}
+
+/// Marks the unit that a line of an artefact of a library exports. What is in the name of `key` is lost.
+fn mark_line(
+    alloc: Global,
+    line: &[u8],
+    key: &mut UnitName,
+    marks: &mut KeyMap<UnitName, bool>,
+) -> Result<(), NoMemory>
+    ensures library { OnOk result (key.new.library ≡ key.old.library) }
+    ensures marks { OnOk result (Marks
+        (λ unit. bytes_eq key.old.library unit.library && is_export unit.name line.now)
+        marks.old marks.new) }
+{
+    let Some(name) = exported_by(line) else {
+        return Ok(());
+    };
+    put_name(alloc, key, name)?;
+    mark_unit(alloc, key, marks)
+}
+
+/// Marks the units that an artefact of a library exports, in one pass.
+fn mark_artefact(
+    alloc: Global,
+    library: &Text,
+    artefact: &[u8],
+    marks: &mut KeyMap<UnitName, bool>,
+) -> Result<(), NoMemory>
+    ensures { OnOk result (Marks
+        (λ unit. bytes_eq library.now unit.library && exports_unit artefact.now unit.name)
+        marks.old marks.new) }
+{
+    let mut key = library_key(alloc, library)?;
+    let mut rest = artefact;
+    while let Some((line, others)) = next_line(rest) {
+        mark_line(alloc, line, &mut key, marks)?;
+        rest = others;
+    }
+    mark_line(alloc, rest, &mut key, marks)
+}
+
+/// Marks the units that the artefacts of files export.
+fn mark_files(
+    alloc: Global,
+    files: &[BuiltFile],
+    marks: &mut KeyMap<UnitName, bool>,
+) -> Result<(), NoMemory>
+    ensures { OnOk result (Marks (exports files.now) marks.old marks.new) }
+{
+    for file in files {
+        mark_artefact(alloc, &file.name.library, file.artefact.bytes(), marks)?;
+    }
+    Ok(())
+}
+
+/// Units that are wanted, none of which is found yet.
+fn wanted(alloc: Global, units: &[UnitName]) -> Result<KeyMap<UnitName, bool>, NoMemory>
+    ensures { IfOk result (λ marks. (unit : UnitName) → get is_same_unit marks unit ≡
+        (if list_any (λ other. is_same_unit other unit) units.now then Some false else None)) }
+{
+    let mut marks = KeyMap::new(alloc);
+    for unit in units {
+        marks.insert(unit.copy(alloc)?, false)?;
+    }
+    Ok(marks)
+}
+
+/// Which of some units are exported by the artefacts of files, of which the last is lent apart.
+fn marks_of(
+    alloc: Global,
+    units: &[UnitName],
+    files: &[BuiltFile],
+    library: &Text,
+    artefact: &[u8],
+) -> Result<KeyMap<UnitName, bool>, NoMemory>
+    ensures { (last : BuiltFile) → last.name.library ≡ library.now → last.artefact ≡ artefact.now →
+        IfOk result (KnowsUnits (files.now ++ last ∷ []) units.now) }
+{
+    let mut marks = wanted(alloc, units)?;
+    mark_files(alloc, files, &mut marks)?;
+    mark_artefact(alloc, library, artefact, &mut marks)?;
+    Ok(marks)
+}
+
+/// The libraries of files, of which that of the last is lent apart.
+fn libraries_of(
+    alloc: Global,
+    files: &[BuiltFile],
+    library: &Text,
+) -> Result<KeyMap<UnitName, bool>, NoMemory>
+    ensures { (last : BuiltFile) → last.name.library ≡ library.now →
+        IfOk result (KnowsLibraries (files.now ++ last ∷ [])) }
+{
+    let mut libraries = KeyMap::new(alloc);
+    for file in files {
+        libraries.insert(library_key(alloc, &file.name.library)?, true)?;
+    }
+    libraries.insert(library_key(alloc, library)?, true)?;
+    Ok(libraries)
+}
+
+/// Whether a unit that is wanted is missing.
+fn is_missing(
+    alloc: Global,
+    unit: &UnitName,
+    libraries: &KeyMap<UnitName, bool>,
+    marks: &KeyMap<UnitName, bool>,
+) -> Result<bool, NoMemory>
+    ensures { (files : List BuiltFile) (units : List UnitName) →
+        KnowsLibraries files libraries.now → KnowsUnits files units marks.now →
+        IsTrue (list_any (λ other. is_same_unit other unit.now) units) →
+        IfOk result (λ missing. missing ≡ is_missing files unit.now) }
+{
+    let library = library_key(alloc, &unit.library)?;
+    if libraries.get(&library).is_none() {
+        return Ok(false);
+    }
+    match marks.get(unit) {
+        Some(found) => Ok(!found),
+        None => Ok(true),
+    }
+}
+
+/// The first of some units that is missing.
+fn first_of<'a>(
+    alloc: Global,
+    units: &'a [UnitName],
+    libraries: &KeyMap<UnitName, bool>,
+    marks: &KeyMap<UnitName, bool>,
+) -> Result<Option<&'a UnitName>, NoMemory>
+    ensures { (files : List BuiltFile) →
+        KnowsLibraries files libraries.now → KnowsUnits files units.now marks.now →
+        IfOk result (λ found. MatchOption found
+        (first_missing files units.now ≡ None)
+        (λ unit. first_missing files units.now ≡ Some unit.now)) }
+{
+    for unit in units {
+        let missing = is_missing(alloc, unit, libraries, marks)?;
+        if missing {
+            return Ok(Some(unit));
+        }
+    }
+    Ok(None)
+}
+
+/// The first of some units that neither the files that were built nor one more, of a library and with an artefact, export,
+/// though its library is that of one of them. Time goes by n log n of units, files and lines of artefacts.
+pub fn first_missing<'a>(
+    alloc: Global,
+    units: &'a [UnitName],
+    files: &[BuiltFile],
+    library: &Text,
+    artefact: &[u8],
+) -> Result<Option<&'a UnitName>, NoMemory>
+    ensures { (last : BuiltFile) → last.name.library ≡ library.now → last.artefact ≡ artefact.now →
+        IfOk result (λ found. MatchOption found
+        (first_missing (files.now ++ last ∷ []) units.now ≡ None)
+        (λ unit. first_missing (files.now ++ last ∷ []) units.now ≡ Some unit.now)) }
+{
+    let libraries = libraries_of(alloc, files, library)?;
+    let marks = marks_of(alloc, units, files, library, artefact)?;
+    first_of(alloc, units, &libraries, &marks)
+}

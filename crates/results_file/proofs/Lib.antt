@@ -1,0 +1,3 @@
+-- The lemmas.
+pub mod NameSets
+pub mod Sayings

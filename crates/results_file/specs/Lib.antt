@@ -1,0 +1,3 @@
+-- The definitions.
+pub mod Lines
+pub mod Starts

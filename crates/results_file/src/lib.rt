@@ -1,0 +1,12 @@
+//! The verdicts of test cases, read from the results text that a simulator left.
+#![tactic(auto)]
+
+mod lines;
+mod names;
+mod starts;
+mod table;
+
+pub use table::verdicts;
+
+#[cfg(test)]
+mod tests;

@@ -1,0 +1,128 @@
+-- Runs are started in order.
+use Rattle.std.proofs.Common.{◌≡◌, ℕ, zero, suc, ◌<◌, ◌≤◌, ◌==◌, nat_lt, Bool, true, false, not, ◌&&◌, ◌||◌, cond, List, [], ◌∷◌, ◌++◌, length, Some, None, refl, sym, ap, subst, ◌∙◌, arith, inl, inr}
+use Rattle.std.specs.Prelude.{Option}
+use Rattle.std.specs.List.{list_any}
+use Rattle.std.proofs.lemmas.Bool.{cases_Bool, cond-true, cond-false, ltb-true, ne_eqb}
+use Rattle.std.proofs.lemmas.List.{length-append}
+use Rattle.vr_base.specs.PresentGraph.{below}
+use Rattle.vr_base.specs.declared.child.Event.{Event}
+use Rattle.run_spec.specs.Moves.{Job, Core, RunningChild, EndedChild, Move, Starts, Ends, Loses, Halts, empty_core, next_start, start_now, position_of, without_child, ended_child, after_move, after_moves, LawfulMoves}
+use Rattle.test_journal.specs.TestJournal.{TestSetting, TestBook, test_job, test_moves, after_test, after_tests, empty_tests, book_of_tests, LawfulTests}
+use Rattle.test_journal.proofs.InLine.{IsInLine, first_in_line}
+
+abbrev pub AreLow : List RunningChild → ℕ → Type 0
+AreLow [] next = Unit {0}
+AreLow (child ∷ children) next = (child.position < next) × AreLow children next
+
+abbrev pub AreLowEnds : List EndedChild → ℕ → Type 0
+AreLowEnds [] next = Unit {0}
+AreLowEnds (end ∷ ends) next = (end.position < next) × AreLowEnds ends next
+
+low_pushed : (children : List RunningChild) (next ticket : ℕ) → AreLow children next → AreLow (children ++ (record { ticket = ticket; position = next }) ∷ []) (suc next)
+low_pushed [] next ticket low = (omega arith, record {})
+low_pushed (child ∷ children) next ticket low = (omega (arith, low.0), low_pushed children next ticket low.1)
+
+low_ends_more : (ends : List EndedChild) (next : ℕ) → AreLowEnds ends next → AreLowEnds ends (suc next)
+low_ends_more [] next low = record {}
+low_ends_more (end ∷ ends) next low = (omega (arith, low.0), low_ends_more ends next low.1)
+
+low_without : (children : List RunningChild) (next ticket : ℕ) → AreLow children next → AreLow (without_child ticket children) next
+low_without [] next ticket low = record {}
+low_without (child ∷ children) next ticket low = elim (cases_Bool (child.ticket == ticket)) [
+  | inl is ↦ subst (λ xs. AreLow xs next) (sym (cond-true (child.ticket == ticket) children (child ∷ without_child ticket children) is)) low.1
+  | inr is ↦ subst (λ xs. AreLow xs next) (sym (cond-false (child.ticket == ticket) children (child ∷ without_child ticket children) is)) (low.0, low_without children next ticket low.1)
+]
+
+low_position : (children : List RunningChild) (next ticket at : ℕ) → AreLow children next → position_of ticket children ≡ Some at → at < next
+low_position [] next ticket at low h = absurd (let nothing : ⊥ = cc in nothing)
+low_position (child ∷ children) next ticket at low h = elim (cases_Bool (child.ticket == ticket)) [
+  | inl is ↦
+      let e : Some child.position ≡ Some at = sym (cond-true (child.ticket == ticket) (Some child.position) (position_of ticket children) is) ∙ h in
+      let same : child.position ≡ at = cc in
+      omega (arith, low.0, same)
+  | inr is ↦ low_position children next ticket at low.1 (sym (cond-false (child.ticket == ticket) (Some child.position) (position_of ticket children) is) ∙ h)
+]
+
+low_ended : (ends : List EndedChild) (next : ℕ) (o : Option ℕ) (ok : Bool) → AreLowEnds ends next → ((at : ℕ) → o ≡ Some at → at < next) → AreLowEnds (ends ++ ended_child o ok) next
+low_ended [] next None ok low of = record {}
+low_ended [] next (Some at) ok low of = (of at refl, record {})
+low_ended (end ∷ ends) next o ok low of = (low.0, low_ended ends next o ok low.1 of)
+
+unmade_by : (ends : List EndedChild) (next k : ℕ) → AreLowEnds ends next → next ≤ k → list_any (λ (end : EndedChild). (end.position == k) && end.ok) ends ≡ false
+unmade_by [] next k low le = refl
+unmade_by (end ∷ ends) next k low le =
+    ap (λ b. (b && end.ok) || list_any (λ (e : EndedChild). (e.position == k) && e.ok) ends) (ne_eqb end.position k (λ e. omega (arith, low.0, e))) ∙ unmade_by ends next k low.1 le
+
+-- so many were started, in order, and no other runs or has ended
+pub record IsInOrder (job : Job) (core : Core) (next : ℕ) : Type 0 where
+  pub taken : core.taken ≡ below next
+  pub within : next ≤ job.count
+  pub running : AreLow core.running next
+  pub ended : AreLowEnds core.ended next
+
+in_line : (setting : TestSetting) (core : Core) (next : ℕ) → IsInOrder (test_job setting) core next → IsInLine (test_job setting) core next
+in_line setting core next is = record { deps = λ at. refl; taken = is.taken; unmade = λ at le. unmade_by core.ended next at is.ended le }
+
+start_some : (free : Bool) (o : Option ℕ) (at : ℕ) → cond free o None ≡ Some at → o ≡ Some at
+start_some true o at h = h
+start_some false o at h = absurd (let nothing : ⊥ = cc in nothing)
+
+left_some : (left : Bool) (next at : ℕ) → cond left (Some next) None ≡ Some at → (left ≡ true) × (next ≡ at)
+left_some true next at h = (refl, cc)
+left_some false next at h = absurd (let nothing : ⊥ = cc in nothing)
+
+-- a lawful start is that of the first in line
+pub starts_next : (setting : TestSetting) (core : Core) (next at : ℕ) → IsInOrder (test_job setting) core next → start_now (test_job setting) core ≡ Some at → (nat_lt next (length setting.plan.runs) ≡ true) × (next ≡ at)
+starts_next setting core next at is h =
+    left_some (nat_lt next (length setting.plan.runs)) next at
+    (sym (first_in_line (test_job setting) core next (in_line setting core next is)) ∙ start_some (nat_lt (length core.running) setting.slots && not core.halted) (next_start (test_job setting) core) at h)
+
+pub record HasOrder (job : Job) (core : Core) : Type 0 where
+  pub next : ℕ
+  pub is : IsInOrder job core next
+
+after_orderly : (setting : TestSetting) (core : Core) (next : ℕ) (moves : List Move) → IsInOrder (test_job setting) core next → LawfulMoves (test_job setting) core moves → HasOrder (test_job setting) (after_moves (test_job setting) core moves)
+unfolding LawfulMoves after_moves after_move below
+after_orderly setting core next [] is lawful = record { next = next; is = is }
+after_orderly setting core next (Starts at ticket ∷ moves) is lawful =
+    let start = starts_next setting core next at is lawful.0 in
+    after_orderly setting (after_move (test_job setting) core (Starts at ticket)) (suc next) moves
+    (subst (λ i. IsInOrder (test_job setting) (after_move (test_job setting) core (Starts i ticket)) (suc next)) start.1 (record {
+      taken = ap (λ xs. xs ++ next ∷ []) is.taken;
+      within = omega (arith, ltb-true next (length setting.plan.runs) start.0);
+      running = low_pushed core.running next ticket is.running;
+      ended = low_ends_more core.ended next is.ended;
+    })) lawful.1
+after_orderly setting core next (Ends ticket ok ∷ moves) is lawful =
+    after_orderly setting (after_move (test_job setting) core (Ends ticket ok)) next moves (record {
+      taken = is.taken;
+      within = is.within;
+      running = low_without core.running next ticket is.running;
+      ended = low_ended core.ended next (position_of ticket core.running) ok is.ended (λ at h. low_position core.running next ticket at is.running h);
+    }) lawful.1
+after_orderly setting core next (Loses ticket ∷ moves) is lawful =
+    after_orderly setting (after_move (test_job setting) core (Loses ticket)) next moves (record {
+      taken = is.taken;
+      within = is.within;
+      running = low_without core.running next ticket is.running;
+      ended = is.ended;
+    }) lawful.1
+after_orderly setting core next (Halts ∷ moves) is lawful =
+    after_orderly setting (after_move (test_job setting) core Halts) next moves (record { taken = is.taken; within = is.within; running = is.running; ended = is.ended }) lawful.1
+
+-- the book's core is what the moves make
+pub core_after : (setting : TestSetting) (book : TestBook) (events : List Event) → (after_tests setting book events).core ≡ after_moves (test_job setting) book.core (test_moves setting book events)
+unfolding after_tests after_test after_moves test_moves
+core_after setting book [] = refl
+core_after setting book (event ∷ events) = core_after setting (after_test setting book event) events
+
+pub has_order : (setting : TestSetting) (events : List Event) → LawfulTests setting events → HasOrder (test_job setting) (book_of_tests setting events).core
+unfolding below
+has_order setting events lawful =
+    subst (HasOrder (test_job setting)) (sym (core_after setting empty_tests events))
+    (after_orderly setting empty_core 0 (test_moves setting empty_tests events) (record { taken = refl; within = omega arith; running = record {}; ended = record {} }) lawful.moves)
+
+pub length_below : (n : ℕ) → length (below n) ≡ n
+unfolding below
+length_below zero = refl
+length_below (suc n) = length-append (below n) (n ∷ []) ∙ omega (arith, length_below n)

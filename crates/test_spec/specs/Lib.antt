@@ -1,0 +1,5 @@
+-- The definitions.
+pub mod Runs
+pub mod Configuration
+pub mod BenchJobs
+pub mod Verdicts

@@ -1,0 +1,36 @@
+//! What became of test cases.
+
+use vr_base::{Items, Text, TextList};
+
+/// The most bytes of a run's output that are shown.
+pub const SHOWN_LIMIT: usize = 4_096;
+
+/// What became of a test case.
+#[derive(Clone, Copy, Debug, PartialEq, Eq)]
+pub enum Verdict {
+    Passed,
+    Failed,
+    /// It was never started.
+    Skipped,
+}
+
+/// The verdicts of cases, in their order.
+pub type VerdictList = Items<Verdict>;
+
+/// What became of a run: the full names of its cases, a verdict for each, and the first 4,096 bytes of what its child
+/// printed; nothing where it was never started.
+#[derive(Drop)]
+pub struct RunEnd {
+    pub names: TextList,
+    pub verdicts: VerdictList,
+    pub output: Text,
+}
+
+/// The ends of runs, in the order of the runs.
+pub type RunList = Items<RunEnd>;
+
+/// What became of all runs, in their order.
+#[derive(Drop)]
+pub struct TestEnd {
+    pub runs: RunList,
+}
