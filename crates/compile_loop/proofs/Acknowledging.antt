@@ -1,6 +1,6 @@
 -- What is committed and acknowledged, event after event, and what the disk holds of it.
-use Rattle.std.proofs.Common.{◌≡◌, ℕ, ◌+◌, ◌≤◌, Bool, true, false, List, [], ◌∷◌, ◌++◌, length, take, Option, refl, sym, ap, subst, ◌∙◌, arith}
-use Rattle.std.specs.Bool.{OnTrue, OnFalse}
+use Rattle.std.proofs.Common.{◌≡◌, ℕ, ◌+◌, ◌≤◌, Bool, true, false, List, [], ◌∷◌, ◌++◌, length, take, Option, sym, ap, subst, ◌∙◌, arith}
+use Rattle.std.specs.Bool.{OnFalse}
 use Rattle.std.proofs.Math.Seq.{take-append-add, take-length}
 use Rattle.std.proofs.lemmas.Bool.{OnTrue_at, OnTrue_from}
 use Rattle.std.proofs.lemmas.List.{append-nil, append_assoc, length-append, take-append-le}
@@ -10,18 +10,18 @@ use Rattle.vr_outside.specs.declared.records.Record.{Record}
 use Rattle.vr_outside.specs.Disks.{Image, Moments, reads_of}
 use Rattle.vr_outside.specs.Commits.{CommitsFirst, one_if}
 use Rattle.vr_outside.proofs.CommitLaws.{commits_longer, commits_then}
-use Rattle.run_spec.specs.ChildJournal.{Setting, EachAfter}
+use Rattle.run_spec.specs.ChildJournal.{Work, EachAfter}
 use Rattle.run_spec.proofs.Journal.{EachAfter-append}
 use Rattle.run_spec.proofs.Waiting.{waits_more}
 use Rattle.run_spec.specs.Commits.{commits, ComesAfterCommits, Waits}
 use Rattle.compile_loop.specs.Commits.{latest_after, Acknowledges, HoldsFirst}
 use Rattle.compile_loop.proofs.Latest.{latest_then}
 
-waits_then : (setting : Setting) (acknowledged : ℕ) (events : List Event) (event : Event) → Waits setting acknowledged events → ComesAfterCommits setting acknowledged events event → Waits setting acknowledged (events ++ event ∷ [])
+waits_then : (setting : Work) (acknowledged : ℕ) (events : List Event) (event : Event) → Waits setting acknowledged events → ComesAfterCommits setting acknowledged events event → Waits setting acknowledged (events ++ event ∷ [])
 unfolding EachAfter
 waits_then setting acknowledged events event all here = EachAfter-append (ComesAfterCommits setting acknowledged) [] events (event ∷ []) all (here, tt)
 
-module _ (setting : Setting) (events : List Event) (all : Bool) (before now : FileName → Option Record) (acknowledged : ℕ) (is : Acknowledges setting events all before now acknowledged) where
+module _ (setting : Work) (events : List Event) (all : Bool) (before now : FileName → Option Record) (acknowledged : ℕ) (is : Acknowledges setting events all before now acknowledged) where
   -- where all is committed, all is known
   pub knows_all : all ≡ true → (name : FileName) → now name ≡ latest_after (commits setting events) before name
   knows_all on name =

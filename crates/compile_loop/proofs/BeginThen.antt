@@ -5,16 +5,16 @@ use Rattle.std.proofs.lemmas.List.{length-map, get_or-map, take_all}
 use Rattle.std.proofs.lemmas.Option.{slice_get-get_or}
 use Rattle.vr_base.specs.declared.file.FileName.{FileName}
 use Rattle.vr_base.specs.declared.graph.Entry.{Entry}
-use Rattle.vr_base.specs.declared.outcome.Mark.{Mark}
+use Rattle.run_spec.specs.declared.marks.Mark.{Mark}
 use Rattle.vr_base.proofs.Below.{map-below_is}
 use Rattle.vr_outside.specs.declared.records.Record.{Record}
 use Rattle.vr_outside.specs.declared.records.Need.{Need}
 use Rattle.vr_outside.specs.declared.records.Need.TheVariants.{Fresh, Stale}
 use Rattle.vr_outside.specs.Records.{AreNeeds}
-use Rattle.run_spec.specs.ChildJournal.{Setting, job_of, exit_at, output_at, or_else, artefact_so_far, after_all}
+use Rattle.run_spec.specs.ChildJournal.{Work, job_of, exit_at, output_at, or_else, artefact_so_far, after_all}
 use Rattle.run_spec.specs.Marks.{mark_of, mark_at, marks_of}
 use Rattle.run_spec.specs.Recorded.{recorded_at}
-use Rattle.run_spec.specs.Commits.{setting_of}
+use Rattle.run_spec.specs.Commits.{work_of}
 use Rattle.run_spec.proofs.RecordedArtefacts.{recorded_of_record, none_at_stale}
 use Rattle.slot_machine.specs.Counts.{is_stale}
 use Rattle.slot_machine.specs.Machines.{IsJobOf}
@@ -26,8 +26,8 @@ or_nothing None = refl
 or_nothing (Some artefact) = refl
 
 module _ (latest_of : FileName → Option Record) (graph : List Entry) (needs : List Need) (are : AreNeeds latest_of graph needs) (slots : ℕ) (keep_going : Bool) where
-  abbrev s : Setting
-  s = setting_of latest_of graph slots keep_going
+  abbrev s : Work
+  s = work_of latest_of graph slots keep_going
 
   -- what is recorded of a file, by its need
   recorded_by : (at : ℕ) → at < length graph → (need : Need) → get_or needs at Fresh ≡ need → is_none (recorded_at latest_of graph at) ≡ is_stale need

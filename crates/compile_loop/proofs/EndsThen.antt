@@ -9,13 +9,13 @@ use Rattle.vr_base.specs.declared.graph.Entry.{Entry}
 use Rattle.vr_base.specs.declared.child.Exit.{Exit}
 use Rattle.vr_base.specs.declared.child.Event.{Event}
 use Rattle.vr_base.specs.declared.child.Event.TheVariants.{Ended}
-use Rattle.vr_base.specs.declared.outcome.Mark.{Mark}
-use Rattle.vr_base.specs.declared.outcome.Mark.TheVariants.{Compiled, Refused}
+use Rattle.run_spec.specs.declared.marks.Mark.{Mark}
+use Rattle.run_spec.specs.declared.marks.Mark.TheVariants.{Compiled, Refused}
 use Rattle.vr_outside.specs.declared.records.Record.{Record}
 use Rattle.vr_outside.specs.Disks.{Image, Moments}
 use Rattle.vr_outside.proofs.CommitLaws.{one_if}
 use Rattle.run_spec.specs.Moves.{Job, Core, Ends, start_now, is_running, position_of, after_move}
-use Rattle.run_spec.specs.ChildJournal.{Setting, job_of, core_of, book_of}
+use Rattle.run_spec.specs.ChildJournal.{Work, job_of, core_of, book_of}
 use Rattle.run_spec.specs.Commits.{record_at, commit_of, commits}
 use Rattle.slot_machine.specs.declared.slots.Slots.{Slots}
 use Rattle.slot_machine.specs.Machines.{IsMachineOf}
@@ -23,7 +23,8 @@ use Rattle.compile_loop.specs.declared.faults.BuildFault.{BuildFault}
 use Rattle.compile_loop.specs.declared.faults.BuildFault.TheVariants.{NoMemory, StartFailed, ChildLost, DiskFailed}
 use Rattle.compile_loop.specs.Commits.{latest_after, HoldsFirst}
 use Rattle.compile_loop.specs.Faults.{noted_with, is_no_memory, is_all_committed, CountsCommit, is_disk_failed, ComesFirst}
-use Rattle.compile_loop.specs.UnderWay.{Origin, setting_from, halted_if, IsUnderWay, TakesEnd}
+use Rattle.compile_loop.specs.UnderWay.{Origin, BuildState, work_from, IsUnderWay, TakesEnd}
+use Rattle.child_steps.specs.Steps.{halted_if}
 use Rattle.compile_loop.proofs.MarksThen.{mark_of_exit}
 use Rattle.compile_loop.proofs.RecordsThen.{record_of_good, no_record}
 use Rattle.compile_loop.proofs.Acknowledging.{all_few, acknowledges_left, acknowledges_one, holds_left, holds_one}
@@ -49,40 +50,43 @@ no_both h = let nothing : ⊥ = cc in absurd nothing
 pub usable_where_all : (noted : Option BuildFault) (broken : Bool) → is_all_committed noted broken ≡ true → broken ≡ false
 usable_where_all noted broken on = not-true broken (and_parts (not (is_no_memory noted)) (not broken) on).1
 
-module _ (told : Type 0) (records_of : Image → List Record) (graph : List Entry) (from : Origin) (first : Moments) (events : List Event) (acknowledged : ℕ) (machine : Slots) (marks : List Mark) (noted : Option BuildFault)
-    (latest_of : FileName → Option Record) (broken : Bool) (moments : Moments) (is : IsUnderWay graph from events acknowledged machine marks noted latest_of broken)
-    (holds : told → HoldsFirst acknowledged broken (commits (setting_from graph from) events) records_of first moments)
+module _ (told : Type 0) (records_of : Image → List Record) (graph : List Entry) (from : Origin) (events : List Event) (acknowledged : ℕ) (state : BuildState) (moments : Moments)
+    (is : IsUnderWay graph from events acknowledged state) (holds : told → HoldsFirst acknowledged state.broken (commits (work_from graph from) events) records_of from.moments moments)
     (ticket at : ℕ) (exit : Exit) (inside : at < length graph) (machine' : Slots) where
-  abbrev s : Setting
-  s = setting_from graph from
+  abbrev s : Work
+  s = work_from graph from
 
   abbrev core : Core
   core = core_of (book_of s events)
 
   abbrev all : Bool
-  all = is_all_committed noted broken
+  all = is_all_committed state.noted state.broken
 
   abbrev ended : Event
   ended = Ended ticket exit
 
-  module _ (there : position_of ticket core.running ≡ Some at) (runs : is_running core ticket ≡ true) (greedy : start_now (job_of s) (halted_if (is_some noted) core) ≡ None)
-      (step : IsMachineOf machine' (job_of s) (after_move (job_of s) (halted_if (is_some noted) core) (Ends ticket (eqb exit.code 0)))) where
-    in_step : IsMachineOf machine' (job_of s) (halted_if (is_some noted) (core_of (book_of s (events ++ ended ∷ []))))
-    in_step = machine_ended graph from events acknowledged machine marks noted latest_of broken is ticket at exit there inside machine' step
+  -- the state once the file is marked, and nothing else is done
+  abbrev with_mark : Mark → BuildState
+  with_mark mark = record { machine = machine'; marks = set state.marks at mark; noted = state.noted; latest_of = state.latest_of; broken = state.broken }
+
+  module _ (there : position_of ticket core.running ≡ Some at) (runs : is_running core ticket ≡ true) (greedy : start_now (job_of s) (halted_if (is_some state.noted) core) ≡ None)
+      (step : IsMachineOf machine' (job_of s) (after_move (job_of s) (halted_if (is_some state.noted) core) (Ends ticket (eqb exit.code 0)))) where
+    in_step : IsMachineOf machine' (job_of s) (halted_if (is_some state.noted) (core_of (book_of s (events ++ ended ∷ []))))
+    in_step = machine_ended graph from events acknowledged state is ticket at exit there inside machine' step
 
     commits_are : commits s (events ++ ended ∷ []) ≡ commits s events ++ commit_of graph at exit
-    commits_are = commits_ended graph from events acknowledged machine marks noted latest_of broken is ticket at exit there inside
+    commits_are = commits_ended graph from events acknowledged state is ticket at exit there inside
 
-    pub takes_refused : eqb exit.code 0 ≡ false → TakesEnd told records_of graph from first (events ++ ended ∷ []) machine' (set marks at (Refused exit.code exit.output)) noted latest_of broken moments
+    pub takes_refused : eqb exit.code 0 ≡ false → TakesEnd told records_of graph from (events ++ ended ∷ []) (with_mark (Refused exit.code exit.output)) moments
     takes_refused code =
         let none : commits s (events ++ ended ∷ []) ≡ commits s events ++ [] = commits_are ∙ ap (λ (l : List Record). commits s events ++ l) (no_record graph at exit code) in
         record {
           acknowledged = acknowledged;
-          under_way = ended_under_way graph from events acknowledged machine marks noted latest_of broken is ticket at exit there inside runs greedy (Refused exit.code exit.output)
-              (sym (cond-false (eqb exit.code 0) Compiled (Refused exit.code exit.output) code)) acknowledged machine' noted latest_of broken (λ n. (n, is.usable n)) in_step
-              (acknowledges_left s events all from.latest_of latest_of acknowledged is.committed ended [] all tt none (λ on. (on, refl)))
-              (first_kept s events acknowledged broken noted ended is.comes_first);
-          images = λ t. subst (λ (l : List Record). HoldsFirst acknowledged broken l records_of first moments) (sym (none ∙ append-nil (commits s events))) (holds t);
+          under_way = ended_under_way graph from events acknowledged state is ticket at exit there inside runs greedy (Refused exit.code exit.output)
+              (sym (cond-false (eqb exit.code 0) Compiled (Refused exit.code exit.output) code)) acknowledged machine' state.noted state.latest_of state.broken (λ n. (n, is.usable n)) in_step
+              (acknowledges_left s events all from.latest_of state.latest_of acknowledged is.committed ended [] all tt none (λ on. (on, refl)))
+              (first_kept s events acknowledged state.broken state.noted ended is.comes_first);
+          images = λ t. subst (λ (l : List Record). HoldsFirst acknowledged state.broken l records_of from.moments moments) (sym (none ∙ append-nil (commits s events))) (holds t);
         }
 
     module _ (code : eqb exit.code 0 ≡ true) where
@@ -95,42 +99,42 @@ module _ (told : Type 0) (records_of : Image → List Record) (graph : List Entr
       compiled_is : Compiled ≡ mark_of_exit exit
       compiled_is = sym (cond-true (eqb exit.code 0) Compiled (Refused exit.code exit.output) code)
 
-      pub takes_uncommitted : all ≡ false → TakesEnd told records_of graph from first (events ++ ended ∷ []) machine' (set marks at Compiled) noted latest_of broken moments
+      pub takes_uncommitted : all ≡ false → TakesEnd told records_of graph from (events ++ ended ∷ []) (with_mark Compiled) moments
       takes_uncommitted off = record {
         acknowledged = acknowledged;
-        under_way = ended_under_way graph from events acknowledged machine marks noted latest_of broken is ticket at exit there inside runs greedy Compiled compiled_is
-            acknowledged machine' noted latest_of broken (λ n. (n, is.usable n)) in_step
-            (acknowledges_left s events all from.latest_of latest_of acknowledged is.committed ended (one ∷ []) all tt commits_one_more (λ on. no_both (sym off ∙ on)))
-            (first_kept s events acknowledged broken noted ended is.comes_first);
-        images = λ t. subst (λ (l : List Record). HoldsFirst acknowledged broken l records_of first moments) (sym commits_one_more)
-            (holds_left acknowledged broken (commits s events) (one ∷ []) records_of first moments is.committed.few (holds t));
+        under_way = ended_under_way graph from events acknowledged state is ticket at exit there inside runs greedy Compiled compiled_is
+            acknowledged machine' state.noted state.latest_of state.broken (λ n. (n, is.usable n)) in_step
+            (acknowledges_left s events all from.latest_of state.latest_of acknowledged is.committed ended (one ∷ []) all tt commits_one_more (λ on. no_both (sym off ∙ on)))
+            (first_kept s events acknowledged state.broken state.noted ended is.comes_first);
+        images = λ t. subst (λ (l : List Record). HoldsFirst acknowledged state.broken l records_of from.moments moments) (sym commits_one_more)
+            (holds_left acknowledged state.broken (commits s events) (one ∷ []) records_of from.moments moments is.committed.few (holds t));
       }
 
       pub takes_commit : all ≡ true → (ok : Bool) (machine'' : Slots) (noted' : Option BuildFault) (later : FileName → Option Record) (broken' : Bool) (last : Moments) →
-          (noted' ≡ None → (noted ≡ None) × (broken' ≡ false)) → (is_all_committed noted' broken' ≡ true → ok ≡ true) →
-          ((job : Job) (c : Core) → IsMachineOf machine' job (halted_if (is_some noted) c) → IsMachineOf machine'' job (halted_if (is_some noted') c)) →
-          ((name : FileName) → later name ≡ latest_after (take (one_if ok) (one ∷ [])) latest_of name) → (told → HoldsFirst (one_if ok) broken' (one ∷ []) records_of moments last) →
-          ComesFirst noted' s (events ++ ended ∷ []) (acknowledged + one_if ok) broken' → TakesEnd told records_of graph from first (events ++ ended ∷ []) machine'' (set marks at Compiled) noted' later broken' last
+          (noted' ≡ None → (state.noted ≡ None) × (broken' ≡ false)) → (is_all_committed noted' broken' ≡ true → ok ≡ true) →
+          ((job : Job) (c : Core) → IsMachineOf machine' job (halted_if (is_some state.noted) c) → IsMachineOf machine'' job (halted_if (is_some noted') c)) →
+          ((name : FileName) → later name ≡ latest_after (take (one_if ok) (one ∷ [])) state.latest_of name) → (told → HoldsFirst (one_if ok) broken' (one ∷ []) records_of moments last) →
+          ComesFirst noted' s (events ++ ended ∷ []) (acknowledged + one_if ok) broken' → TakesEnd told records_of graph from (events ++ ended ∷ []) (record { machine = machine''; marks = set state.marks at Compiled; noted = noted'; latest_of = later; broken = broken' }) last
       takes_commit on ok machine'' noted' later broken' last none still halts latest images comes =
-          let usable : broken ≡ false = usable_where_all noted broken on in
-          let count : acknowledged ≡ length (commits s events) = all_few s events all from.latest_of latest_of acknowledged is.committed on in
+          let usable : state.broken ≡ false = usable_where_all state.noted state.broken on in
+          let count : acknowledged ≡ length (commits s events) = all_few s events all from.latest_of state.latest_of acknowledged is.committed on in
           record {
             acknowledged = acknowledged + one_if ok;
-            under_way = ended_under_way graph from events acknowledged machine marks noted latest_of broken is ticket at exit there inside runs greedy Compiled compiled_is
+            under_way = ended_under_way graph from events acknowledged state is ticket at exit there inside runs greedy Compiled compiled_is
                 (acknowledged + one_if ok) machine'' noted' later broken' none (halts (job_of s) (core_of (book_of s (events ++ ended ∷ []))) in_step)
-                (acknowledges_one s events all from.latest_of latest_of acknowledged is.committed ended one ok (is_all_committed noted' broken') later on tt commits_one_more latest still) comes;
-            images = λ t. subst (λ (l : List Record). HoldsFirst (acknowledged + one_if ok) broken' l records_of first last) (sym commits_one_more)
-                (holds_one acknowledged ok broken' (commits s events) one records_of first moments last count
-                (subst (λ (b : Bool). HoldsFirst acknowledged b (commits s events) records_of first moments) usable (holds t)) (images t));
+                (acknowledges_one s events all from.latest_of state.latest_of acknowledged is.committed ended one ok (is_all_committed noted' broken') later on tt commits_one_more latest still) comes;
+            images = λ t. subst (λ (l : List Record). HoldsFirst (acknowledged + one_if ok) broken' l records_of from.moments last) (sym commits_one_more)
+                (holds_one acknowledged ok broken' (commits s events) one records_of from.moments moments last count
+                (subst (λ (b : Bool). HoldsFirst acknowledged b (commits s events) records_of from.moments moments) usable (holds t)) (images t));
           }
 
       -- the fault that is noted after a commit
-      pub first_committed : all ≡ true → (broken' : Bool) → ComesFirst noted s (events ++ ended ∷ []) (acknowledged + 1) broken'
+      pub first_committed : all ≡ true → (broken' : Bool) → ComesFirst state.noted s (events ++ ended ∷ []) (acknowledged + 1) broken'
       first_committed on broken' =
-          first_acknowledged s (events ++ ended ∷ []) acknowledged broken noted (acknowledged + 1) broken' (usable_where_all noted broken on) (omega arith) (first_kept s events acknowledged broken noted ended is.comes_first)
+          first_acknowledged s (events ++ ended ∷ []) acknowledged state.broken state.noted (acknowledged + 1) broken' (usable_where_all state.noted state.broken on) (omega arith) (first_kept s events acknowledged state.broken state.noted ended is.comes_first)
 
       pub first_failed : all ≡ true → (fault : BuildFault) (before now : ℕ) → CountsCommit {T = Unit {0}} (Err fault) before now → (broken' : Bool) → broken' ≡ is_disk_failed {T = Unit {0}} (Err fault) →
-          ComesFirst (Some (noted_with noted fault)) s (events ++ ended ∷ []) (acknowledged + 0) broken'
+          ComesFirst (Some (noted_with state.noted fault)) s (events ++ ended ∷ []) (acknowledged + 0) broken'
       first_failed on fault before now cause broken' breaks =
-          first_uncommitted s events acknowledged noted broken ended one fault broken' before now cause breaks is.none_lost refl (all_few s events all from.latest_of latest_of acknowledged is.committed on) commits_one_more
-          (usable_where_all noted broken on) is.comes_first
+          first_uncommitted s events acknowledged state.noted state.broken ended one fault broken' before now cause breaks is.none_lost refl (all_few s events all from.latest_of state.latest_of acknowledged is.committed on) commits_one_more
+          (usable_where_all state.noted state.broken on) is.comes_first

@@ -9,15 +9,15 @@ use Rattle.vr_base.specs.declared.child.Exit.{Exit}
 use Rattle.vr_base.specs.declared.child.Event.{Event}
 use Rattle.vr_base.specs.declared.child.Event.TheVariants.{Started, Ended, Gone}
 use Rattle.run_spec.specs.Moves.{Core, empty_core, Move, Loses, IsLawfulMove, LawfulMoves, IsGreedyMove, GreedyMoves, after_move, position_of}
-use Rattle.run_spec.specs.ChildJournal.{Setting, Run, Book, empty_book, job_of, core_of, child_of_run, run_of, end_of, after, after_all, book_of, move_of, moves_after, moves_of, IsRequested, AreRequested, Greedy, is_gone}
+use Rattle.run_spec.specs.ChildJournal.{Work, Run, Book, empty_book, job_of, core_of, child_of_run, run_of, end_of, after, after_all, book_of, move_of, moves_after, moves_of, IsRequested, AreRequested, Greedy, is_gone}
 use Rattle.run_spec.proofs.Journal.{after_all-append, core_after, core_after_all, moves-append, LawfulMoves-append, GreedyMoves-append, AreRequested-append}
 use Rattle.slot_machine.specs.declared.slots.Slots.{Slots}
 use Rattle.slot_machine.specs.Machines.{IsMachineOf}
-use Rattle.compile_loop.specs.UnderWay.{halted_if}
-use Rattle.compile_loop.proofs.Halting.{halted_after, lost_halts}
+use Rattle.child_steps.specs.Steps.{halted_if}
+use Rattle.child_steps.proofs.Halting.{halted_after, lost_halts}
 use Rattle.compile_loop.proofs.Orderly.{AreOrderly, orderly_at_first, orderly_after}
 
-module _ (s : Setting) (events : List Event) where
+module _ (s : Work) (events : List Event) where
   abbrev book : Book
   book = book_of s events
 
@@ -81,16 +81,16 @@ run_at ticket position (run ∷ runs) is =
     ]
 
 -- what a running child's end adds
-pub ends_then : (s : Setting) (events : List Event) (ticket : ℕ) (exit : Exit) (run : Run) → run_of ticket (book_of s events).runs ≡ Some run →
+pub ends_then : (s : Work) (events : List Event) (ticket : ℕ) (exit : Exit) (run : Run) → run_of ticket (book_of s events).runs ≡ Some run →
     (book_of s (events ++ Ended ticket exit ∷ [])).ends ≡ (book_of s events).ends ++ (record { position = run.position; request = run.request; exit = exit }) ∷ []
 unfolding after
 ends_then s events ticket exit run found =
     ap (λ (b : Book). b.ends) (book_then s events (Ended ticket exit)) ∙ ap (λ (r : Option Run). (book_of s events).ends ++ end_of r exit) found
 
-pub ends_started : (s : Setting) (events : List Event) (ticket : ℕ) (request : Request) → (book_of s (events ++ Started ticket request ∷ [])).ends ≡ (book_of s events).ends
+pub ends_started : (s : Work) (events : List Event) (ticket : ℕ) (request : Request) → (book_of s (events ++ Started ticket request ∷ [])).ends ≡ (book_of s events).ends
 unfolding after
 ends_started s events ticket request = ap (λ (b : Book). b.ends) (book_then s events (Started ticket request))
 
-pub ends_gone : (s : Setting) (events : List Event) (ticket : ℕ) → (book_of s (events ++ Gone ticket ∷ [])).ends ≡ (book_of s events).ends
+pub ends_gone : (s : Work) (events : List Event) (ticket : ℕ) → (book_of s (events ++ Gone ticket ∷ [])).ends ≡ (book_of s events).ends
 unfolding after
 ends_gone s events ticket = ap (λ (b : Book). b.ends) (book_then s events (Gone ticket))

@@ -8,7 +8,7 @@ use Rattle.std.proofs.lemmas.List.Sums.{take_while-cons}
 use Rattle.vr_base.specs.declared.child.Event.{Event}
 use Rattle.vr_base.specs.declared.child.Event.TheVariants.{Gone}
 use Rattle.vr_outside.specs.declared.records.Record.{Record}
-use Rattle.run_spec.specs.ChildJournal.{Setting, is_gone}
+use Rattle.run_spec.specs.ChildJournal.{Work, is_gone}
 use Rattle.run_spec.specs.Commits.{commits}
 use Rattle.run_spec.proofs.Prefixes.{commits_prefix}
 use Rattle.compile_loop.specs.declared.faults.BuildFault.{BuildFault}
@@ -40,7 +40,7 @@ before_same (event ∷ events) more lost =
           ∙ sym (take_while-cons goes_by event events ∙ cond-true (goes_by event) (event ∷ before_loss events) [] (ap not stays))
     ]
 
-module _ (s : Setting) (events : List Event) where
+module _ (s : Work) (events : List Event) where
   before_all : list_any is_gone events ≡ false → before_loss events ≡ events
   before_all none = ap before_loss (sym (append-nil events)) ∙ before_more events [] none ∙ append-nil events
 
@@ -114,7 +114,7 @@ module _ (s : Setting) (events : List Event) where
       first_lost (Some first) DiskFailed kind none is = first_kept (Some first) (Gone ticket) is
 
 -- a record isn't committed, once all before was
-pub first_uncommitted : (s : Setting) (events : List Event) (acknowledged : ℕ) (noted : Option BuildFault) (broken : Bool) (event : Event) (one : Record) (fault : BuildFault) (broken' : Bool) (before now : ℕ) → CountsCommit {T = Unit {0}} (Err fault) before now →
+pub first_uncommitted : (s : Work) (events : List Event) (acknowledged : ℕ) (noted : Option BuildFault) (broken : Bool) (event : Event) (one : Record) (fault : BuildFault) (broken' : Bool) (before now : ℕ) → CountsCommit {T = Unit {0}} (Err fault) before now →
     broken' ≡ is_disk_failed {T = Unit {0}} (Err fault) → (noted ≡ None → list_any is_gone events ≡ false) → is_gone event ≡ false → acknowledged ≡ length (commits s events) →
     commits s (events ++ event ∷ []) ≡ commits s events ++ one ∷ [] → broken ≡ false → ComesFirst noted s events acknowledged broken → ComesFirst (Some (noted_with noted fault)) s (events ++ event ∷ []) (acknowledged + 0) broken'
 first_uncommitted s events acknowledged noted broken event one NoMemory broken' before now cause breaks none here all more usable is = tt

@@ -11,13 +11,13 @@ use Rattle.vr_outside.specs.declared.procs.WaitFault.{WaitFault}
 use Rattle.vr_outside.specs.declared.procs.WaitFault.TheVariants as wait
 use Rattle.vr_outside.specs.Children.{started_with, IsFresh, end_event}
 use Rattle.run_spec.specs.Moves.{is_running}
-use Rattle.run_spec.specs.ChildJournal.{Setting, Book, EachAfter, HasFreshTicket, core_of, after, book_of}
+use Rattle.run_spec.specs.ChildJournal.{Work, Book, EachAfter, HasFreshTicket, core_of, after, book_of}
 use Rattle.run_spec.proofs.Journal.{EachAfter-append, answered_more}
 use Rattle.run_spec.proofs.Steps.{run_found, run_of_running, started_all, ended_all, gone_all, fresh_after}
 use Rattle.compile_loop.specs.UnderWay.{AreStartedIn, IsJournalled}
 use Rattle.compile_loop.proofs.EventsThen.{book_then}
 
-module _ (answer : Request → Exit) (s : Setting) (events old journal : List Event) (is : IsJournalled answer s events old journal) where
+module _ (answer : Request → Exit) (s : Work) (events old journal : List Event) (is : IsJournalled answer s events old journal) where
   follows_then : (event : Event) (new : List Event) → new ≡ journal ++ event ∷ [] → new ≡ old ++ (events ++ event ∷ [])
   follows_then event new then = then ∙ ap (λ (l : List Event). l ++ event ∷ []) is.follows ∙ append_assoc old events (event ∷ [])
 

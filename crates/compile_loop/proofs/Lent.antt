@@ -27,7 +27,7 @@ use Rattle.clean_laws.proofs.CleanPlaces.{filter_map-cons, filter_map-same}
 use Rattle.run_spec.specs.Commits.{record_at, commits_of}
 use Rattle.compile_loop.specs.Commits.{latest_after}
 use Rattle.compile_loop.specs.Requests.{lent_file, lent_at, lent_request}
-use Rattle.compile_loop.specs.UnderWay.{Origin, setting_from, HasRecords}
+use Rattle.compile_loop.specs.UnderWay.{Origin, work_from, HasRecords}
 
 -- the file at a position, with its form
 pub entry_is : (graph : List Entry) (position : ℕ) (entry : Entry) → IsGraph graph → slice_get graph position ≡ Some entry → IsEntryAt graph position entry
@@ -56,7 +56,7 @@ lent_same graph latest_of made position entry artefact at is latest =
 
 module _ (graph : List Entry) (from : Origin) (ends : List End) (latest_of : FileName → Option Record) (has : HasRecords graph from ends) (knows : (name : FileName) → latest_of name ≡ latest_after (commits_of graph ends) from.latest_of name) where
   abbrev made : ℕ → Option (List ℕ)
-  made = artefact_so_far (setting_from graph from) ends
+  made = artefact_so_far (work_from graph from) ends
 
   -- the store knows the record of a made file
   pub knows_made : (position : ℕ) (entry : Entry) (artefact : List ℕ) → slice_get graph position ≡ Some entry → made position ≡ Some artefact → latest_of entry.name ≡ Some (record_at graph position artefact)
@@ -77,7 +77,7 @@ module _ (graph : List Entry) (from : Origin) (ends : List End) (latest_of : Fil
 
   -- what a compiler is asked over lent artefacts is what it is to be asked
   pub request_is : IsGraph graph → (position : ℕ) → position < length graph → All (λ dep. is_some (made dep) ≡ true) (deps_of (slice_get graph position)) →
-      lent_request latest_of graph position ≡ request_at (setting_from graph from) ends position
+      lent_request latest_of graph position ≡ request_at (work_from graph from) ends position
   unfolding request_at
   request_is is position lt all =
       let entry = item_at graph position lt in

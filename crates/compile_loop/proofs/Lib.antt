@@ -1,7 +1,6 @@
 -- The lemmas.
 pub mod Latest
 mod Orderly
-mod Halting
 mod MarksThen
 mod RecordsThen
 mod EventsThen

@@ -5,11 +5,11 @@ use Rattle.std.proofs.lemmas.Bool.{cases_eq, eq-eqb, cond-true, cond-false}
 use Rattle.std.proofs.lemmas.List.{length-map, get_or-map, get_or-set_same, get_or-set_other, take_all}
 use Rattle.vr_base.specs.declared.child.Request.{Request}
 use Rattle.vr_base.specs.declared.child.Exit.{Exit}
-use Rattle.vr_base.specs.declared.outcome.Mark.{Mark}
-use Rattle.vr_base.specs.declared.outcome.Mark.TheVariants.{Compiled, Refused}
+use Rattle.run_spec.specs.declared.marks.Mark.{Mark}
+use Rattle.run_spec.specs.declared.marks.Mark.TheVariants.{Compiled, Refused}
 use Rattle.vr_base.specs.PresentGraph.{below}
 use Rattle.vr_base.proofs.Below.{length-below, get_or-below, map-below_is}
-use Rattle.run_spec.specs.ChildJournal.{Setting, End, exit_at, output_at, or_else, artefact_so_far}
+use Rattle.run_spec.specs.ChildJournal.{Work, End, exit_at, output_at, or_else, artefact_so_far}
 use Rattle.run_spec.specs.Marks.{mark_of, mark_at}
 use Rattle.run_spec.proofs.Journal.{exit_at-pushed, exit_at-push_other, output_at-pushed, output_at-push_other}
 
@@ -29,7 +29,7 @@ mark_here keep_going exit printed true code is =
 mark_here keep_going exit printed false code is =
     ap (mark_of keep_going (Some exit)) is ∙ sym (cond-false (eqb exit.code 0) Compiled (Refused exit.code exit.output) code)
 
-module _ (setting : Setting) (ends : List End) (position : ℕ) (request : Request) (exit : Exit) (unmade : artefact_so_far setting ends position ≡ None) where
+module _ (setting : Work) (ends : List End) (position : ℕ) (request : Request) (exit : Exit) (unmade : artefact_so_far setting ends position ≡ None) where
   abbrev end : End
   end = record { position = position; request = request; exit = exit }
 

@@ -16,7 +16,7 @@ use Rattle.run_spec.specs.Recorded.{recorded_at}
 use Rattle.run_spec.proofs.RecordedArtefacts.{record_of_recorded}
 use Rattle.run_spec.specs.Commits.{record_at, commit_of, commits_of}
 use Rattle.compile_loop.specs.Commits.{latest_after}
-use Rattle.compile_loop.specs.UnderWay.{Origin, setting_from, HasRecords}
+use Rattle.compile_loop.specs.UnderWay.{Origin, work_from, HasRecords}
 use Rattle.compile_loop.proofs.Latest.{latest_after-append, latest_here, latest_elsewhere}
 use Rattle.compile_loop.proofs.MarksThen.{artefact_here, artefact_elsewhere}
 
@@ -45,7 +45,7 @@ module _ (graph : List Entry) (from : Origin) where
       ap (λ (e : Entry). from.latest_of e.name) (sym same) ∙ found.0.is ∙ ap (λ (a : List ℕ). Some (record_at graph position a)) found.1
 
   module _ (is : IsGraph graph) (ends : List End) (has : HasRecords graph from ends) (position : ℕ) (here : Entry) (at_here : slice_get graph position ≡ Some here) (request : Request) (exit : Exit)
-      (unmade : artefact_so_far (setting_from graph from) ends position ≡ None) where
+      (unmade : artefact_so_far (work_from graph from) ends position ≡ None) where
     abbrev end : End
     end = record { position = position; request = request; exit = exit }
 
@@ -74,8 +74,8 @@ module _ (graph : List Entry) (from : Origin) where
         elim (cases_eq position k) [
           | inl same ↦
               let there : slice_get graph position ≡ Some entry = ap (slice_get graph) same ∙ at in
-              let has_made : artefact_so_far (setting_from graph from) (ends ++ end ∷ []) position ≡ Some artefact = ap (artefact_so_far (setting_from graph from) (ends ++ end ∷ [])) same ∙ made in
-              at_position entry artefact (eqb exit.code 0) there refl (sym (artefact_here (setting_from graph from) ends position request exit unmade) ∙ has_made) ∙ ap (λ (p : ℕ). Some (record_at graph p artefact)) same
+              let has_made : artefact_so_far (work_from graph from) (ends ++ end ∷ []) position ≡ Some artefact = ap (artefact_so_far (work_from graph from) (ends ++ end ∷ [])) same ∙ made in
+              at_position entry artefact (eqb exit.code 0) there refl (sym (artefact_here (work_from graph from) ends position request exit unmade) ∙ has_made) ∙ ap (λ (p : ℕ). Some (record_at graph p artefact)) same
           | inr other ↦
-              elsewhere k entry at other (eqb exit.code 0) refl ∙ has k entry artefact at (sym (artefact_elsewhere (setting_from graph from) ends position request exit unmade k other) ∙ made)
+              elsewhere k entry at other (eqb exit.code 0) refl ∙ has k entry artefact at (sym (artefact_elsewhere (work_from graph from) ends position request exit unmade k other) ∙ made)
         ]

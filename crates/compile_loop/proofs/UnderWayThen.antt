@@ -14,7 +14,7 @@ use Rattle.vr_base.specs.declared.child.Request.{Request}
 use Rattle.vr_base.specs.declared.child.Exit.{Exit}
 use Rattle.vr_base.specs.declared.child.Event.{Event}
 use Rattle.vr_base.specs.declared.child.Event.TheVariants.{Started, Ended, Gone}
-use Rattle.vr_base.specs.declared.outcome.Mark.{Mark}
+use Rattle.run_spec.specs.declared.marks.Mark.{Mark}
 use Rattle.vr_base.specs.PresentGraph.{below}
 use Rattle.vr_base.proofs.Below.{length-below}
 use Rattle.vr_outside.specs.declared.records.Record.{Record}
@@ -23,22 +23,24 @@ use Rattle.vr_outside.specs.declared.procs.WaitFault.TheVariants as wait
 use Rattle.vr_outside.specs.Children.{end_event}
 use Rattle.vr_outside.specs.Records.{IsRecorded, deps_at}
 use Rattle.run_spec.specs.Moves.{Job, Core, Starts, Ends, Loses, is_made_so_far, start_now, is_running, position_of, IsLawfulMove, after_move}
-use Rattle.run_spec.specs.ChildJournal.{Setting, Run, End, Book, job_of, core_of, child_of_end, next_position, request_at, run_of, deps_of, exit_at, artefact_so_far, book_of, move_of}
+use Rattle.run_spec.specs.ChildJournal.{Work, Run, End, Book, job_of, core_of, child_of_end, next_position, request_at, run_of, deps_of, exit_at, artefact_so_far, book_of, move_of}
 use Rattle.run_spec.specs.Marks.{mark_at, marks_of}
 use Rattle.run_spec.specs.Commits.{commit_of, commits_of, commits}
 use Rattle.run_spec.proofs.Journal.{made_so_far}
 use Rattle.run_spec.proofs.Steps.{now_parts}
 use Rattle.slot_machine.specs.declared.slots.Slots.{Slots}
-use Rattle.slot_machine.specs.declared.step.Step.TheVariants.{Start}
-use Rattle.slot_machine.specs.Machines.{IsMachineOf, step_of, step_at}
+use Rattle.child_steps.specs.declared.step.Step.TheVariants.{Start}
+use Rattle.slot_machine.specs.Machines.{IsMachineOf}
+use Rattle.child_steps.specs.Steps.{step_of, step_at}
 use Rattle.compile_loop.specs.declared.faults.BuildFault.{BuildFault}
 use Rattle.compile_loop.specs.declared.faults.BuildFault.TheVariants.{NoMemory, StartFailed, ChildLost, DiskFailed}
 use Rattle.compile_loop.specs.Commits.{latest_after, Acknowledges}
 use Rattle.compile_loop.specs.Faults.{noted_with, is_all_committed, is_of_disk, ComesFirst}
 use Rattle.compile_loop.specs.Requests.{lent_request}
-use Rattle.compile_loop.specs.UnderWay.{Origin, setting_from, halted_if, HasRecords, IsUnderWay}
+use Rattle.compile_loop.specs.UnderWay.{Origin, BuildState, with_machine, work_from, HasRecords, IsUnderWay}
+use Rattle.child_steps.specs.Steps.{halted_if}
 use Rattle.compile_loop.proofs.Orderly.{AreOrderly, is_end_of, found_child, startable_parts, started_now}
-use Rattle.compile_loop.proofs.Halting.{halted_not, start_while}
+use Rattle.child_steps.proofs.Halting.{halted_not, start_while}
 use Rattle.compile_loop.proofs.EventsThen.{moves_then, greedy_then, requests_then, none_lost_then, machine_then, machine_lost, orderly, run_at, ends_then, ends_started, ends_gone}
 use Rattle.compile_loop.proofs.Lent.{entry_is, item_at, All-from_test, made_recorded, request_is}
 use Rattle.compile_loop.proofs.MarksThen.{mark_of_exit, marks_then}
@@ -101,10 +103,9 @@ pub deps_same : (here : Option Entry) → option_map_or (λ entry. entry.deps) h
 deps_same None = refl
 deps_same (Some entry) = refl
 
-module _ (graph : List Entry) (from : Origin) (events : List Event) (acknowledged : ℕ) (machine : Slots) (marks : List Mark) (noted : Option BuildFault) (latest_of : FileName → Option Record) (broken : Bool)
-    (is : IsUnderWay graph from events acknowledged machine marks noted latest_of broken) where
-  abbrev s : Setting
-  s = setting_from graph from
+module _ (graph : List Entry) (from : Origin) (events : List Event) (acknowledged : ℕ) (state : BuildState) (is : IsUnderWay graph from events acknowledged state) where
+  abbrev s : Work
+  s = work_from graph from
 
   abbrev book : Book
   book = book_of s events
@@ -113,14 +114,14 @@ module _ (graph : List Entry) (from : Origin) (events : List Event) (acknowledge
   core = core_of book
 
   abbrev all : Bool
-  all = is_all_committed noted broken
+  all = is_all_committed state.noted state.broken
 
   -- each file has a mark
-  pub marks_count : length marks ≡ length graph
+  pub marks_count : length state.marks ≡ length graph
   marks_count = ap length is.marked ∙ length-map (below (length graph)) (mark_at s book.ends) ∙ length-below (length graph)
 
-  knows : all ≡ true → (name : FileName) → latest_of name ≡ latest_after (commits_of graph book.ends) from.latest_of name
-  knows on = knows_all s events all from.latest_of latest_of acknowledged is.committed on
+  knows : all ≡ true → (name : FileName) → state.latest_of name ≡ latest_after (commits_of graph book.ends) from.latest_of name
+  knows on = knows_all s events all from.latest_of state.latest_of acknowledged is.committed on
 
   -- of all that a file depends on there is an artefact where all of it is made
   made_deps : (position : ℕ) → list_all (is_made_so_far (job_of s) core) (deps_of (slice_get graph position)) ≡ true → All (λ dep. is_some (artefact_so_far s book.ends dep) ≡ true) (deps_of (slice_get graph position))
@@ -129,26 +130,26 @@ module _ (graph : List Entry) (from : Origin) (events : List Event) (acknowledge
       (λ dep h. sym (made_so_far s book dep) ∙ h) (deps_of (slice_get graph position)) (All-from_test (is_made_so_far (job_of s) core) (deps_of (slice_get graph position)) made)
 
   -- and a record of its present view
-  recorded_deps : all ≡ true → (position : ℕ) → position < length graph → list_all (is_made_so_far (job_of s) core) (deps_of (slice_get graph position)) ≡ true → All (IsRecorded latest_of graph) (deps_at graph position)
+  recorded_deps : all ≡ true → (position : ℕ) → position < length graph → list_all (is_made_so_far (job_of s) core) (deps_of (slice_get graph position)) ≡ true → All (IsRecorded state.latest_of graph) (deps_at graph position)
   recorded_deps on position lt made =
       let entry = item_at graph position lt in
       let deps : deps_at graph position ≡ deps_of (slice_get graph position) = deps_same (slice_get graph position) in
       let is_entry : deps_of (slice_get graph position) ≡ entry.0.deps = ap deps_of entry.1 in
       let before : All (λ dep. dep < position) entry.0.deps = (entry_is graph position entry.0 is.is_graph entry.1).before in
       let there : All (λ dep. is_some (artefact_so_far s book.ends dep) ≡ true) entry.0.deps = subst (All (λ dep. is_some (artefact_so_far s book.ends dep) ≡ true)) is_entry (made_deps position made) in
-      subst (All (IsRecorded latest_of graph)) (sym (deps ∙ is_entry))
-      (λ k d l. made_recorded graph from book.ends latest_of is.recorded (knows on) (get_or entry.0.deps k d) (omega (arith, before k d l, lt)) (there k d l))
+      subst (All (IsRecorded state.latest_of graph)) (sym (deps ∙ is_entry))
+      (λ k d l. made_recorded graph from book.ends state.latest_of is.recorded (knows on) (get_or entry.0.deps k d) (omega (arith, before k d l, lt)) (there k d l))
 
   -- a file is to be started
-  module _ (at : ℕ) (start : start_now (job_of s) (halted_if (is_some noted) core) ≡ Some at) where
-    pub nothing_noted : noted ≡ None
-    nothing_noted = none_noted noted (start_while (job_of s) (is_some noted) core at start).0
+  module _ (at : ℕ) (start : start_now (job_of s) (halted_if (is_some state.noted) core) ≡ Some at) where
+    pub nothing_noted : state.noted ≡ None
+    nothing_noted = none_noted state.noted (start_while (job_of s) (is_some state.noted) core at start).0
 
     start_here : start_now (job_of s) core ≡ Some at
-    start_here = (start_while (job_of s) (is_some noted) core at start).1
+    start_here = (start_while (job_of s) (is_some state.noted) core at start).1
 
     all_here : all ≡ true
-    all_here = all_while noted broken nothing_noted is.usable
+    all_here = all_while state.noted state.broken nothing_noted is.usable
 
     deps_made : list_all (is_made_so_far (job_of s) core) (deps_of (slice_get graph at)) ≡ true
     deps_made = (startable_parts (job_of s) core at (started_now (job_of s) core at start_here).1).2
@@ -156,13 +157,13 @@ module _ (graph : List Entry) (from : Origin) (events : List Event) (acknowledge
     inside : at < length graph
     inside = (started_now (job_of s) core at start_here).0
 
-    pub start_recorded : All (IsRecorded latest_of graph) (deps_at graph at)
+    pub start_recorded : All (IsRecorded state.latest_of graph) (deps_at graph at)
     start_recorded = recorded_deps all_here at inside deps_made
 
     next_is : next_position s book ≡ Some at
     next_is = (now_parts s book at start_here).2
 
-    module _ (ticket : ℕ) (request : Request) (asked : lent_request latest_of graph at ≡ Some request) where
+    module _ (ticket : ℕ) (request : Request) (asked : lent_request state.latest_of graph at ≡ Some request) where
       abbrev event : Event
       event = Started ticket request
 
@@ -172,7 +173,7 @@ module _ (graph : List Entry) (from : Origin) (events : List Event) (acknowledge
       requested : option_and_then (request_at s book.ends) (next_position s book) ≡ Some request
       requested =
           ap (option_and_then (request_at s book.ends)) next_is
-          ∙ sym (request_is graph from book.ends latest_of is.recorded (knows all_here) is.is_graph at inside (made_deps at deps_made)) ∙ asked
+          ∙ sym (request_is graph from book.ends state.latest_of is.recorded (knows all_here) is.is_graph at inside (made_deps at deps_made)) ∙ asked
 
       ends_same : (book_of s (events ++ event ∷ [])).ends ≡ book.ends
       ends_same = ends_started s events ticket request
@@ -181,11 +182,11 @@ module _ (graph : List Entry) (from : Origin) (events : List Event) (acknowledge
       commits_started = ap (commits_of graph) ends_same
 
       in_time : length (commits s events) ≤ acknowledged
-      in_time = omega (arith, all_few s events all from.latest_of latest_of acknowledged is.committed all_here)
+      in_time = omega (arith, all_few s events all from.latest_of state.latest_of acknowledged is.committed all_here)
 
       -- after its start
-      pub started_under_way : (machine' : Slots) → IsMachineOf machine' (job_of s) (after_move (job_of s) (halted_if (is_some noted) core) (Starts at ticket)) →
-          IsUnderWay graph from (events ++ event ∷ []) acknowledged machine' marks noted latest_of broken
+      pub started_under_way : (machine' : Slots) → IsMachineOf machine' (job_of s) (after_move (job_of s) (halted_if (is_some state.noted) core) (Starts at ticket)) →
+          IsUnderWay graph from (events ++ event ∷ []) acknowledged (with_machine machine' state.noted state)
       started_under_way machine' step = record {
         is_graph = is.is_graph;
         moves = moves_then s events event is.moves (subst (IsLawfulMove (job_of s) core) move_is start_here);
@@ -193,16 +194,16 @@ module _ (graph : List Entry) (from : Origin) (events : List Event) (acknowledge
         greedy = λ none. greedy_then s events event (is.greedy none) tt;
         none_lost = λ none. none_lost_then s events event (is.none_lost none) refl;
         usable = is.usable;
-        in_step = machine_then s events machine' (is_some noted) event (Starts at ticket) move_is step;
+        in_step = machine_then s events machine' (is_some state.noted) event (Starts at ticket) move_is step;
         marked = is.marked ∙ ap (λ (ends : List End). map (mark_at s ends) (below (length graph))) (sym ends_same);
         recorded = subst (HasRecords graph from) (sym ends_same) is.recorded;
-        committed = acknowledges_left s events all from.latest_of latest_of acknowledged is.committed event [] all in_time (commits_started ∙ sym (append-nil (commits s events))) (λ on. (on, refl));
-        comes_first = first_of_none s (events ++ event ∷ []) acknowledged broken noted nothing_noted;
+        committed = acknowledges_left s events all from.latest_of state.latest_of acknowledged is.committed event [] all in_time (commits_started ∙ sym (append-nil (commits s events))) (λ on. (on, refl));
+        comes_first = first_of_none s (events ++ event ∷ []) acknowledged state.broken state.noted nothing_noted;
       }
 
   -- a fault halts it
-  pub halted_under_way : (machine' : Slots) (fault : BuildFault) → IsMachineOf machine' (job_of s) (halted_if true core) → (is_all_committed (Some fault) broken ≡ true → all ≡ true) → ComesFirst (Some fault) s events acknowledged broken →
-      IsUnderWay graph from events acknowledged machine' marks (Some fault) latest_of broken
+  pub halted_under_way : (machine' : Slots) (fault : BuildFault) → IsMachineOf machine' (job_of s) (halted_if true core) → (is_all_committed (Some fault) state.broken ≡ true → all ≡ true) → ComesFirst (Some fault) s events acknowledged state.broken →
+      IsUnderWay graph from events acknowledged (with_machine machine' (Some fault) state)
   halted_under_way machine' fault step still first = record {
     is_graph = is.is_graph;
     moves = is.moves;
@@ -215,22 +216,22 @@ module _ (graph : List Entry) (from : Origin) (events : List Event) (acknowledge
     recorded = is.recorded;
     committed = record {
       few = is.committed.few;
-      whole = weaker_all (is_all_committed (Some fault) broken) still;
+      whole = weaker_all (is_all_committed (Some fault) state.broken) still;
       waits = is.committed.waits;
       latest = is.committed.latest;
     };
     comes_first = first;
   } where
     weaker_all : (b : Bool) → (b ≡ true → all ≡ true) → OnTrue b (acknowledged ≡ length (commits s events))
-    weaker_all true h = all_few s events all from.latest_of latest_of acknowledged is.committed (h refl)
+    weaker_all true h = all_few s events all from.latest_of state.latest_of acknowledged is.committed (h refl)
     weaker_all false h = tt
 
   -- the end of a child is lost
-  pub lost_under_way : (ticket : ℕ) (machine' : Slots) (fault : BuildFault) → is_of_disk fault ≡ false → is_running core ticket ≡ true → IsMachineOf machine' (job_of s) (after_move (job_of s) (halted_if (is_some noted) core) (Loses ticket)) →
-      IsUnderWay graph from (events ++ Gone ticket ∷ []) acknowledged machine' marks (Some (noted_with noted fault)) latest_of broken
+  pub lost_under_way : (ticket : ℕ) (machine' : Slots) (fault : BuildFault) → is_of_disk fault ≡ false → is_running core ticket ≡ true → IsMachineOf machine' (job_of s) (after_move (job_of s) (halted_if (is_some state.noted) core) (Loses ticket)) →
+      IsUnderWay graph from (events ++ Gone ticket ∷ []) acknowledged (with_machine machine' (Some (noted_with state.noted fault)) state)
   lost_under_way ticket machine' why kind runs step =
-      let fault : BuildFault = noted_with noted why in
-      let still : is_all_committed (Some fault) broken ≡ true → all ≡ true = still_all noted why broken in
+      let fault : BuildFault = noted_with state.noted why in
+      let still : is_all_committed (Some fault) state.broken ≡ true → all ≡ true = still_all state.noted why state.broken in
       let same : (book_of s (events ++ Gone ticket ∷ [])).ends ≡ book.ends = ends_gone s events ticket in
       record {
         is_graph = is.is_graph;
@@ -239,14 +240,14 @@ module _ (graph : List Entry) (from : Origin) (events : List Event) (acknowledge
         greedy = not_noted fault;
         none_lost = not_noted fault;
         usable = not_noted fault;
-        in_step = machine_lost s events machine' (is_some noted) true ticket step;
+        in_step = machine_lost s events machine' (is_some state.noted) true ticket step;
         marked = is.marked ∙ ap (λ (ends : List End). map (mark_at s ends) (below (length graph))) (sym same);
         recorded = subst (HasRecords graph from) (sym same) is.recorded;
-        committed = acknowledges_left s events all from.latest_of latest_of acknowledged is.committed (Gone ticket) [] (is_all_committed (Some fault) broken) tt (ap (commits_of graph) same ∙ sym (append-nil (commits s events))) (λ on. (still on, refl));
-        comes_first = first_lost s events acknowledged broken ticket noted why kind (λ none. (is.none_lost none, all_at_first none)) is.comes_first;
+        committed = acknowledges_left s events all from.latest_of state.latest_of acknowledged is.committed (Gone ticket) [] (is_all_committed (Some fault) state.broken) tt (ap (commits_of graph) same ∙ sym (append-nil (commits s events))) (λ on. (still on, refl));
+        comes_first = first_lost s events acknowledged state.broken ticket state.noted why kind (λ none. (is.none_lost none, all_at_first none)) is.comes_first;
       } where
-        all_at_first : noted ≡ None → length (commits s events) ≤ acknowledged
-        all_at_first none = omega (arith, all_few s events all from.latest_of latest_of acknowledged is.committed (all_while noted broken none is.usable))
+        all_at_first : state.noted ≡ None → length (commits s events) ≤ acknowledged
+        all_at_first none = omega (arith, all_few s events all from.latest_of state.latest_of acknowledged is.committed (all_while state.noted state.broken none is.usable))
 
   commits_lost : (ticket : ℕ) → commits s (events ++ Gone ticket ∷ []) ≡ commits s events
   commits_lost ticket = ap (commits_of graph) (ends_gone s events ticket)
@@ -277,7 +278,7 @@ module _ (graph : List Entry) (from : Origin) (events : List Event) (acknowledge
         no_exit at book.ends (subst (λ (p : ℕ). list_any (is_end_of p) core.ended ≡ false) found.1 found.2)
 
     -- all that its file depends on is recorded
-    pub end_recorded : all ≡ true → All (IsRecorded latest_of graph) (deps_at graph at)
+    pub end_recorded : all ≡ true → All (IsRecorded state.latest_of graph) (deps_at graph at)
     end_recorded on =
         let found = found_child (λ c. list_all (is_made_so_far (job_of s) core) ((job_of s).deps c.position) ≡ true) ticket at core.running there children.ready in
         recorded_deps on at inside (subst (λ (p : ℕ). list_all (is_made_so_far (job_of s) core) (deps_of (slice_get graph p)) ≡ true) found.1 found.2)
@@ -291,7 +292,7 @@ module _ (graph : List Entry) (from : Origin) (events : List Event) (acknowledge
     pub commits_ended : commits s (events ++ ended ∷ []) ≡ commits s events ++ commit_of graph at exit
     commits_ended = ap (commits_of graph) ends_are ∙ commits_then graph book.ends end
 
-    marks_ended : (mark : Mark) → mark ≡ mark_of_exit exit → set marks at mark ≡ marks_of s (events ++ ended ∷ [])
+    marks_ended : (mark : Mark) → mark ≡ mark_of_exit exit → set state.marks at mark ≡ marks_of s (events ++ ended ∷ [])
     marks_ended mark mark_is =
         ap (λ (l : List Mark). set l at mark) is.marked ∙ marks_then s book.ends at run.0.request exit unmade unended (length graph) inside mark mark_is
         ∙ ap (λ (ends : List End). map (mark_at s ends) (below (length graph))) (sym ends_are)
@@ -302,16 +303,16 @@ module _ (graph : List Entry) (from : Origin) (events : List Event) (acknowledge
         subst (HasRecords graph from) (sym ends_are) (records_then graph from is.is_graph book.ends is.recorded at entry.0 entry.1 run.0.request exit unmade)
 
     -- its machine is that of what has happened
-    pub machine_ended : (machine' : Slots) → IsMachineOf machine' (job_of s) (after_move (job_of s) (halted_if (is_some noted) core) (Ends ticket (eqb exit.code 0))) →
-        IsMachineOf machine' (job_of s) (halted_if (is_some noted) (core_of (book_of s (events ++ ended ∷ []))))
-    machine_ended machine' step = machine_then s events machine' (is_some noted) ended (Ends ticket (eqb exit.code 0)) refl step
+    pub machine_ended : (machine' : Slots) → IsMachineOf machine' (job_of s) (after_move (job_of s) (halted_if (is_some state.noted) core) (Ends ticket (eqb exit.code 0))) →
+        IsMachineOf machine' (job_of s) (halted_if (is_some state.noted) (core_of (book_of s (events ++ ended ∷ []))))
+    machine_ended machine' step = machine_then s events machine' (is_some state.noted) ended (Ends ticket (eqb exit.code 0)) refl step
 
     -- after its end
-    pub ended_under_way : (runs : is_running core ticket ≡ true) (greedy : start_now (job_of s) (halted_if (is_some noted) core) ≡ None) (mark : Mark) → mark ≡ mark_of_exit exit →
-        (acknowledged' : ℕ) (machine' : Slots) (noted' : Option BuildFault) (later : FileName → Option Record) (broken' : Bool) → (noted' ≡ None → (noted ≡ None) × (broken' ≡ false)) →
+    pub ended_under_way : (runs : is_running core ticket ≡ true) (greedy : start_now (job_of s) (halted_if (is_some state.noted) core) ≡ None) (mark : Mark) → mark ≡ mark_of_exit exit →
+        (acknowledged' : ℕ) (machine' : Slots) (noted' : Option BuildFault) (later : FileName → Option Record) (broken' : Bool) → (noted' ≡ None → (state.noted ≡ None) × (broken' ≡ false)) →
         IsMachineOf machine' (job_of s) (halted_if (is_some noted') (core_of (book_of s (events ++ ended ∷ [])))) →
         Acknowledges s (events ++ ended ∷ []) (is_all_committed noted' broken') from.latest_of later acknowledged' → ComesFirst noted' s (events ++ ended ∷ []) acknowledged' broken' →
-        IsUnderWay graph from (events ++ ended ∷ []) acknowledged' machine' (set marks at mark) noted' later broken'
+        IsUnderWay graph from (events ++ ended ∷ []) acknowledged' (record { machine = machine'; marks = set state.marks at mark; noted = noted'; latest_of = later; broken = broken' })
     ended_under_way runs greedy mark mark_is acknowledged' machine' noted' later broken' none step committed first = record {
       is_graph = is.is_graph;
       moves = moves_then s events ended is.moves runs;
@@ -325,5 +326,5 @@ module _ (graph : List Entry) (from : Origin) (events : List Event) (acknowledge
       committed = committed;
       comes_first = first;
     } where
-      start_none : noted ≡ None → start_now (job_of s) core ≡ None
+      start_none : state.noted ≡ None → start_now (job_of s) core ≡ None
       start_none n = ap (start_now (job_of s)) (sym (halted_not core)) ∙ ap (λ (o : Option BuildFault). start_now (job_of s) (halted_if (is_some o) core)) (sym n) ∙ greedy

@@ -13,7 +13,7 @@ use Rattle.vr_base.specs.declared.graph.Entry.{Entry}
 use Rattle.vr_base.specs.declared.child.Request.{Request}
 use Rattle.vr_base.specs.declared.child.Exit.{Exit}
 use Rattle.vr_base.specs.declared.child.Event.{Event}
-use Rattle.vr_base.specs.declared.outcome.Mark.{Mark}
+use Rattle.run_spec.specs.declared.marks.Mark.{Mark}
 use Rattle.vr_base.specs.declared.graph.BuiltFile.{BuiltFile}
 use Rattle.vr_base.specs.Graphs.{IsGraph}
 use Rattle.vr_base.specs.PresentGraph.{below}
@@ -25,8 +25,8 @@ use Rattle.vr_outside.specs.Children.{started_with}
 use Rattle.vr_outside.specs.Disks.{Image, Moments, IsDurable, reads_of}
 use Rattle.vr_outside.specs.Commits.{CommitsFirst}
 use Rattle.vr_outside.proofs.CommitLaws.{commits_nothing}
-use Rattle.run_spec.specs.Moves.{empty_core, LawfulMoves, GreedyMoves, IsFinished}
-use Rattle.run_spec.specs.ChildJournal.{Setting, Run, job_of, core_of, after_all, book_of, moves_after, AreRequested, EachAfter, Lawful, exit_at, artefact_after, built_file}
+use Rattle.run_spec.specs.Moves.{Core, empty_core, LawfulMoves, GreedyMoves, IsFinished}
+use Rattle.run_spec.specs.ChildJournal.{Work, Run, job_of, core_of, after_all, book_of, moves_after, AreRequested, EachAfter, Lawful, exit_at, artefact_after, built_file}
 use Rattle.run_spec.specs.Marks.{mark_of, mark_at, marks_of}
 use Rattle.run_spec.specs.Commits.{record_at, commits}
 use Rattle.run_spec.proofs.Waiting.{waits_none}
@@ -34,16 +34,17 @@ use Rattle.slot_machine.specs.declared.slots.Slots.{Slots}
 use Rattle.slot_machine.specs.Machines.{IsMachineOf}
 use Rattle.compile_loop.specs.declared.faults.BuildFault.{BuildFault}
 use Rattle.compile_loop.specs.declared.faults.BuildFault.TheVariants.{NoMemory}
-use Rattle.compile_loop.specs.Commits.{HoldsFirst}
+use Rattle.compile_loop.specs.Commits.{Acknowledges, HoldsFirst}
 use Rattle.compile_loop.specs.Faults.{is_all_committed, FaultCounts, CountsBy}
-use Rattle.compile_loop.specs.UnderWay.{Origin, setting_from, halted_if, IsUnderWay, IsJournalled, GoesOn, Goes}
+use Rattle.compile_loop.specs.UnderWay.{Origin, BuildState, with_machine, Told, work_from, IsUnderWay, IsJournalled, GoesOn, Goes}
+use Rattle.child_steps.specs.Steps.{halted_if}
 use Rattle.compile_loop.specs.Requests.{lent_at}
-use Rattle.compile_loop.specs.Ran.{BuildRan, is_made, built_by, whole_of}
+use Rattle.compile_loop.specs.Ran.{BuildObjects, BuildRan, is_made, built_by, whole_of}
 use Rattle.compile_loop.proofs.Acknowledging.{knows_all}
-use Rattle.compile_loop.proofs.Halting.{halted_not}
+use Rattle.child_steps.proofs.Halting.{halted_not}
 use Rattle.compile_loop.proofs.Lent.{some_there, item_at, All-from_test, knows_made, made_recorded, lent_same}
 use Rattle.compile_loop.proofs.RecordsThen.{records_at_first}
-use Rattle.compile_loop.proofs.UnderWayThen.{not_noted, all_while}
+use Rattle.compile_loop.proofs.UnderWayThen.{all_while}
 
 zero_committed : (all : Bool) → OnTrue all (◌≡◌ {A = ℕ} 0 0)
 zero_committed true = refl
@@ -54,8 +55,8 @@ on_false true a = tt
 on_false false a = a
 
 -- nothing has happened yet
-pub first_under_way : (graph : List Entry) (from : Origin) (machine : Slots) (marks : List Mark) (broken : Bool) → IsGraph graph → IsMachineOf machine (job_of (setting_from graph from)) empty_core → marks ≡ marks_of (setting_from graph from) [] →
-    broken ≡ false → IsUnderWay graph from [] 0 machine marks None from.latest_of broken
+pub first_under_way : (graph : List Entry) (from : Origin) (machine : Slots) (marks : List Mark) (broken : Bool) → IsGraph graph → IsMachineOf machine (job_of (work_from graph from)) empty_core → marks ≡ marks_of (work_from graph from) [] →
+    broken ≡ false → IsUnderWay graph from [] 0 (record { machine = machine; marks = marks; noted = None; latest_of = from.latest_of; broken = broken })
 unfolding after_all moves_after LawfulMoves GreedyMoves AreRequested
 first_under_way graph from machine marks broken is step marked usable = record {
   is_graph = is;
@@ -70,13 +71,13 @@ first_under_way graph from machine marks broken is step marked usable = record {
   committed = record {
     few = omega arith;
     whole = zero_committed (is_all_committed None broken);
-    waits = waits_none (setting_from graph from) 0;
+    waits = waits_none (work_from graph from) 0;
     latest = λ name. refl;
   };
   comes_first = tt;
 }
 
-pub first_journal : (answer : Request → Exit) (s : Setting) (journal : List Event) → IsJournalled answer s [] journal journal
+pub first_journal : (answer : Request → Exit) (s : Work) (journal : List Event) → IsJournalled answer s [] journal journal
 unfolding after_all EachAfter
 first_journal answer s journal = record {
   follows = sym (append-nil journal);
@@ -94,17 +95,17 @@ holds_nothing broken more records_of moments usable durable = record {
       (commits_nothing (records_of (reads_of moments.now)) more records_of moments (λ image is. ap records_of (durable image is)));
 }
 
-pub no_commits : (s : Setting) → commits s [] ≡ []
+pub no_commits : (s : Work) → commits s [] ≡ []
 unfolding after_all
 no_commits s = refl
 
 -- what was done before the first event: nothing
-pub ran_nothing : (tells told : Type 0) (answer : Request → Exit) (records_of : Image → List Record) (s : Setting) (journal : List Event) (moments : Moments) (before : FileName → Option Record) (broken : Bool) (Says : List Event → Type 0) →
-    broken ≡ false → (told → IsDurable moments.now) → BuildRan tells told answer records_of s journal journal moments moments before before false (Some NoMemory) broken Says
+pub ran_nothing : (tells told : Type 0) (answer : Request → Exit) (records_of : Image → List Record) (s : Work) (objects : BuildObjects) (broken : Bool) (Says : List Event → Type 0) →
+    broken ≡ false → (told → IsDurable objects.moments.now) → BuildRan tells told answer records_of s objects objects (record { ended = false; fault = Some NoMemory; broken = broken }) Says
 unfolding after_all moves_after LawfulMoves AreRequested EachAfter
-ran_nothing tells told answer records_of s journal moments before broken Says usable durable = record {
+ran_nothing tells told answer records_of s objects broken Says usable durable = record {
   events = [];
-  journal = λ t. sym (append-nil journal);
+  journal = λ t. sym (append-nil objects.journal);
   moves = tt;
   requests = tt;
   greedy = tt;
@@ -118,28 +119,32 @@ ran_nothing tells told answer records_of s journal moments before broken Says us
   committed = record { few = omega arith; whole = tt; waits = waits_none s 0; latest = λ name. refl };
   comes_first = tt;
   recorded = tt;
-  images = λ t. holds_nothing broken (commits s []) records_of moments usable (durable t);
+  images = λ t. holds_nothing broken (commits s []) records_of objects.moments usable (durable t);
 }
 
-module _ (tells told : Type 0) (answer : Request → Exit) (records_of : Image → List Record) (graph : List Entry) (from : Origin) (old : List Event) (first : Moments) (machine : Slots) (marks : List Mark)
-    (latest_of : FileName → Option Record) (broken : Bool) (new : List Event) (moments : Moments) where
-  abbrev s : Setting
-  s = setting_from graph from
+module _ (tells told : Type 0) (answer : Request → Exit) (records_of : Image → List Record) (graph : List Entry) (from : Origin) (state : BuildState) (now : Told)
+    (goes : Goes tells told answer records_of graph from state now) where
+  abbrev s : Work
+  s = work_from graph from
+
+  abbrev at_first : BuildObjects
+  at_first = record { latest_of = from.latest_of; journal = from.journal; moments = from.moments }
+
+  abbrev at_last : BuildObjects
+  at_last = record { latest_of = state.latest_of; journal = now.journal; moments = now.moments }
 
   -- the latest records of the files that are made
-  module _ (noted : Option BuildFault) (goes : Goes tells told answer records_of graph from old first machine marks noted latest_of broken new moments) where
-    knows_files : is_all_committed noted broken ≡ true → (position : ℕ) (entry : Entry) (artefact : List ℕ) → slice_get graph position ≡ Some entry → artefact_after s goes.events position ≡ Some artefact →
-        latest_of entry.name ≡ Some (record_at graph position artefact)
-    knows_files on position entry artefact at is =
-        knows_made graph from (book_of s goes.events).ends latest_of goes.under_way.recorded (knows_all s goes.events (is_all_committed noted broken) from.latest_of latest_of goes.acknowledged goes.under_way.committed on) position entry artefact at is
+  knows_files : is_all_committed state.noted state.broken ≡ true → (position : ℕ) (entry : Entry) (artefact : List ℕ) → slice_get graph position ≡ Some entry → artefact_after s goes.events position ≡ Some artefact →
+      state.latest_of entry.name ≡ Some (record_at graph position artefact)
+  knows_files on position entry artefact at is =
+      knows_made graph from (book_of s goes.events).ends state.latest_of goes.under_way.recorded (knows_all s goes.events (is_all_committed state.noted state.broken) from.latest_of state.latest_of goes.acknowledged goes.under_way.committed on) position entry artefact at is
 
-    lawful_of : tells → Lawful s goes.events
-    lawful_of t = record { moves = goes.under_way.moves; requests = goes.under_way.requests; tickets = (goes.journal t).tickets }
+  lawful_of : tells → Lawful s goes.events
+  lawful_of t = record { moves = goes.under_way.moves; requests = goes.under_way.requests; tickets = (goes.journal t).tickets }
 
   -- a fault has ended it
-  pub ran_halted : (noted : Option BuildFault) → Goes tells told answer records_of graph from old first machine marks noted latest_of broken new moments → (Says : List Event → Type 0) →
-      BuildRan tells told answer records_of s old new first moments from.latest_of latest_of false noted broken Says
-  ran_halted noted goes Says = record {
+  ran_halted : (Says : List Event → Type 0) → BuildRan tells told answer records_of s at_first at_last (record { ended = false; fault = state.noted; broken = state.broken }) Says
+  ran_halted Says = record {
     events = goes.events;
     journal = λ t. (goes.journal t).follows;
     moves = goes.under_way.moves;
@@ -147,56 +152,47 @@ module _ (tells told : Type 0) (answer : Request → Exit) (records_of : Image �
     greedy = tt;
     finished = tt;
     none_lost = tt;
-    lawful = lawful_of noted goes;
+    lawful = lawful_of;
     answered = λ t. (goes.journal t).answered;
     whole = λ t. tt;
     says = tt;
     acknowledged = goes.acknowledged;
     committed = goes.under_way.committed;
     comes_first = goes.under_way.comes_first;
-    recorded = OnTrue_from (is_all_committed noted broken) _ (knows_files noted goes);
+    recorded = OnTrue_from (is_all_committed state.noted state.broken) _ knows_files;
     images = goes.images;
   }
 
+  pub ran_fault : (fault : BuildFault) → state.noted ≡ Some fault → (Says : List Event → Type 0) →
+      BuildRan tells told answer records_of s at_first at_last (record { ended = false; fault = Some fault; broken = state.broken }) Says
+  ran_fault fault is Says =
+      subst (λ (o : Option BuildFault). BuildRan tells told answer records_of s at_first at_last (record { ended = false; fault = o; broken = state.broken }) Says) is (ran_halted Says)
+
   -- it has ended by itself
-  pub ran_whole : (goes : Goes tells told answer records_of graph from old first machine marks None latest_of broken new moments) → IsFinished (job_of s) (halted_if false (core_of (book_of s goes.events))) → (Says : List Event → Type 0) → Says goes.events →
-      BuildRan tells told answer records_of s old new first moments from.latest_of latest_of true None broken Says
-  ran_whole goes finished Says says =
-      let over : IsFinished (job_of s) (core_of (book_of s goes.events)) = subst (IsFinished (job_of s)) (halted_not (core_of (book_of s goes.events))) finished in
+  pub ran_done : state.noted ≡ None → IsFinished (job_of s) (halted_if (is_some state.noted) (core_of (book_of s goes.events))) → (said : List Mark) → said ≡ state.marks →
+      BuildRan tells told answer records_of s at_first at_last (record { ended = true; fault = None; broken = state.broken }) (λ events. said ≡ marks_of s events)
+  ran_done none finished said same =
+      let core : Core = core_of (book_of s goes.events) in
+      let over : IsFinished (job_of s) core = subst (IsFinished (job_of s)) (ap (λ (o : Option BuildFault). halted_if (is_some o) core) none ∙ halted_not core) finished in
+      let still : is_all_committed state.noted state.broken ≡ is_all_committed None state.broken = ap (λ (o : Option BuildFault). is_all_committed o state.broken) none in
       record {
         events = goes.events;
         journal = λ t. (goes.journal t).follows;
         moves = goes.under_way.moves;
         requests = goes.under_way.requests;
-        greedy = goes.under_way.greedy refl;
+        greedy = goes.under_way.greedy none;
         finished = over;
-        none_lost = goes.under_way.none_lost refl;
-        lawful = lawful_of None goes;
+        none_lost = goes.under_way.none_lost none;
+        lawful = lawful_of;
         answered = λ t. (goes.journal t).answered;
-        whole = λ t. record { lawful = lawful_of None goes t; greedy = goes.under_way.greedy refl; finished = over; none_lost = goes.under_way.none_lost refl };
-        says = says;
+        whole = λ t. record { lawful = lawful_of t; greedy = goes.under_way.greedy none; finished = over; none_lost = goes.under_way.none_lost none };
+        says = same ∙ goes.under_way.marked;
         acknowledged = goes.acknowledged;
-        committed = goes.under_way.committed;
+        committed = subst (λ (all : Bool). Acknowledges s goes.events all from.latest_of state.latest_of goes.acknowledged) still goes.under_way.committed;
         comes_first = tt;
-        recorded = OnTrue_from (is_all_committed None broken) _ (knows_files None goes);
+        recorded = OnTrue_from (is_all_committed None state.broken) _ (λ on. knows_files (still ∙ on));
         images = goes.images;
       }
-
--- the same, by what is noted
-module _ (tells told : Type 0) (answer : Request → Exit) (records_of : Image → List Record) (graph : List Entry) (from : Origin) (old : List Event) (first : Moments) (machine : Slots) (marks : List Mark)
-    (latest_of : FileName → Option Record) (broken : Bool) (new : List Event) (moments : Moments) where
-  pub ran_done : (noted : Option BuildFault) → noted ≡ None → (goes : Goes tells told answer records_of graph from old first machine marks noted latest_of broken new moments) →
-      IsFinished (job_of (setting_from graph from)) (halted_if (is_some noted) (core_of (book_of (setting_from graph from) goes.events))) → (said : List Mark) → said ≡ marks →
-      BuildRan tells told answer records_of (setting_from graph from) old new first moments from.latest_of latest_of true None broken (λ events. said ≡ marks_of (setting_from graph from) events)
-  ran_done None none goes finished said same =
-      ran_whole tells told answer records_of graph from old first machine marks latest_of broken new moments goes finished (λ events. said ≡ marks_of (setting_from graph from) events) (same ∙ goes.under_way.marked)
-  ran_done (Some fault) none goes finished said same = not_noted fault none
-
-  pub ran_fault : (noted : Option BuildFault) (fault : BuildFault) → noted ≡ Some fault → Goes tells told answer records_of graph from old first machine marks noted latest_of broken new moments → (Says : List Event → Type 0) →
-      BuildRan tells told answer records_of (setting_from graph from) old new first moments from.latest_of latest_of false (Some fault) broken Says
-  ran_fault noted fault is goes Says =
-      subst (λ (o : Option BuildFault). BuildRan tells told answer records_of (setting_from graph from) old new first moments from.latest_of latest_of false o broken Says) is
-      (ran_halted tells told answer records_of graph from old first machine marks latest_of broken new moments noted goes Says)
 
 -- no fault was counted yet
 pub counts_at_first : (broken : Bool) (first : FaultCounts) → broken ≡ false → CountsBy None broken first first
@@ -215,7 +211,7 @@ marked_has true None None made = absurd (false≢true made)
 marked_has false None None made = absurd (false≢true made)
 
 -- the mark of a file, and its artefact where it is made
-pub mark_is : (s : Setting) (events : List Event) (position : ℕ) (mark : Mark) → slice_get (marks_of s events) position ≡ Some mark → is_made mark ≡ true → (position < length s.graph) × (is_some (artefact_after s events position) ≡ true)
+pub mark_is : (s : Work) (events : List Event) (position : ℕ) (mark : Mark) → slice_get (marks_of s events) position ≡ Some mark → is_made mark ≡ true → (position < length s.graph) × (is_some (artefact_after s events position) ≡ true)
 mark_is s events position mark at made =
     let marks : ℕ → Mark = mark_at s (book_of s events).ends in
     let inside : position < length s.graph = subst (λ (n : ℕ). position < n) (length-map (below (length s.graph)) marks ∙ length-below (length s.graph)) (slice_get_within (map marks (below (length s.graph))) position mark at) in
@@ -225,19 +221,18 @@ mark_is s events position mark at made =
     (inside, marked_has s.keep_going (exit_at (book_of s events).ends position) (artefact_after s events position) (ap is_made same ∙ made))
 
 -- each file that is fresh or compiled has a record of its present view
-pub marks_recorded : (graph : List Entry) (from : Origin) (events : List Event) (acknowledged : ℕ) (machine : Slots) (marks : List Mark) (noted : Option BuildFault) (latest_of : FileName → Option Record) (broken : Bool) → noted ≡ None →
-    IsUnderWay graph from events acknowledged machine marks noted latest_of broken →
-    (position : ℕ) (mark : Mark) → slice_get marks position ≡ Some mark → is_made mark ≡ true → IsRecorded latest_of graph position
-marks_recorded graph from events acknowledged machine marks noted latest_of broken none is position mark at made =
-    let s : Setting = setting_from graph from in
-    let on : is_all_committed noted broken ≡ true = all_while noted broken none is.usable in
+pub marks_recorded : (graph : List Entry) (from : Origin) (events : List Event) (acknowledged : ℕ) (state : BuildState) → IsUnderWay graph from events acknowledged state → state.noted ≡ None →
+    (position : ℕ) (mark : Mark) → slice_get state.marks position ≡ Some mark → is_made mark ≡ true → IsRecorded state.latest_of graph position
+marks_recorded graph from events acknowledged state is none position mark at made =
+    let s : Work = work_from graph from in
+    let on : is_all_committed state.noted state.broken ≡ true = all_while state.noted state.broken none is.usable in
     let there = mark_is s events position mark (ap (λ (l : List Mark). slice_get l position) (sym is.marked) ∙ at) made in
-    made_recorded graph from (book_of s events).ends latest_of is.recorded (knows_all s events (is_all_committed noted broken) from.latest_of latest_of acknowledged is.committed on) position there.0 there.1
+    made_recorded graph from (book_of s events).ends state.latest_of is.recorded (knows_all s events (is_all_committed state.noted state.broken) from.latest_of state.latest_of acknowledged is.committed on) position there.0 there.1
 
-module _ (tells told : Type 0) (answer : Request → Exit) (records_of : Image → List Record) (s : Setting) (old new : List Event) (first last : Moments) (before now : FileName → Option Record) where
+module _ (tells told : Type 0) (answer : Request → Exit) (records_of : Image → List Record) (s : Work) (old new : BuildObjects) where
   -- what a build says is of what it did, where it has ended by itself
-  pub ran_says : (fault : Option BuildFault) (broken : Bool) (Says Other : List Event → Type 0) → (ran : BuildRan tells told answer records_of s old new first last before now true fault broken Says) → Other ran.events →
-      BuildRan tells told answer records_of s old new first last before now true fault broken Other
+  pub ran_says : (fault : Option BuildFault) (broken : Bool) (Says Other : List Event → Type 0) → (ran : BuildRan tells told answer records_of s old new (record { ended = true; fault = fault; broken = broken }) Says) → Other ran.events →
+      BuildRan tells told answer records_of s old new (record { ended = true; fault = fault; broken = broken }) Other
   ran_says fault broken Says Other ran says = record {
     events = ran.events;
     journal = ran.journal;
@@ -258,8 +253,8 @@ module _ (tells told : Type 0) (answer : Request → Exit) (records_of : Image �
   }
 
   -- it has ended by itself, but then something was out of memory
-  pub ran_in_vain : (fault : Option BuildFault) (broken : Bool) (Says Other : List Event → Type 0) → BuildRan tells told answer records_of s old new first last before now true fault broken Says →
-      BuildRan tells told answer records_of s old new first last before now false (Some NoMemory) broken Other
+  pub ran_in_vain : (fault : Option BuildFault) (broken : Bool) (Says Other : List Event → Type 0) → BuildRan tells told answer records_of s old new (record { ended = true; fault = fault; broken = broken }) Says →
+      BuildRan tells told answer records_of s old new (record { ended = false; fault = Some NoMemory; broken = broken }) Other
   ran_in_vain fault broken Says Other ran = record {
     events = ran.events;
     journal = ran.journal;
@@ -280,7 +275,7 @@ module _ (tells told : Type 0) (answer : Request → Exit) (records_of : Image �
   }
 
 -- all files with their artefacts are what the store lends
-pub whole_is : (s : Setting) (events : List Event) (latest_of : FileName → Option Record) (marks : List Mark) (whole : Option (List BuiltFile)) → marks ≡ marks_of s events →
+pub whole_is : (s : Work) (events : List Event) (latest_of : FileName → Option Record) (marks : List Mark) (whole : Option (List BuiltFile)) → marks ≡ marks_of s events →
     ((position : ℕ) (entry : Entry) (artefact : List ℕ) → slice_get s.graph position ≡ Some entry → artefact_after s events position ≡ Some artefact → latest_of entry.name ≡ Some (record_at s.graph position artefact)) →
     (list_all is_made marks ≡ true → whole ≡ Some (filter_map (lent_at latest_of s.graph) (below (length s.graph)))) → (list_all is_made marks ≡ false → whole ≡ None) → whole ≡ whole_of s events
 whole_is s events latest_of marks whole marked knows all none =
@@ -306,17 +301,16 @@ whole_is s events latest_of marks whole marked knows all none =
           (sym (lent_same s.graph latest_of (artefact_after s events) k entry.0 artefact.0 entry.1 artefact.1 (knows k entry.0 artefact.0 entry.1 artefact.1)))
 
 -- after a start, or where it failed
-pub goes_on : (tells told : Type 0) (answer answers : Request → Exit) (records_of : Image → List Record) (graph : List Entry) (from : Origin) (old : List Event) (first : Moments) (machine machine' : Slots) (marks : List Mark) (noted noted' : Option BuildFault)
-    (latest_of : FileName → Option Record) (broken : Bool) (new new' : List Event) (moments : Moments) → answers ≡ answer →
-    (goes : Goes tells told answer records_of graph from old first machine marks noted latest_of broken new moments) →
-    (((tells → IsJournalled answers (setting_from graph from) goes.events old new) → GoesOn tells answers graph from old goes.events goes.acknowledged machine' marks noted' latest_of broken new')) →
-    Goes tells told answer records_of graph from old first machine' marks noted' latest_of broken new' moments
-goes_on tells told answer answers records_of graph from old first machine machine' marks noted noted' latest_of broken new new' moments same goes then =
-    let on = then (λ t. subst (λ (a : Request → Exit). IsJournalled a (setting_from graph from) goes.events old new) (sym same) (goes.journal t)) in
+pub goes_on : (tells told : Type 0) (answer answers : Request → Exit) (records_of : Image → List Record) (graph : List Entry) (from : Origin) (state : BuildState) (now : Told) (machine : Slots) (noted : Option BuildFault) (journal : List Event) → answers ≡ answer →
+    (goes : Goes tells told answer records_of graph from state now) →
+    ((tells → IsJournalled answers (work_from graph from) goes.events from.journal now.journal) → GoesOn tells answers graph from goes.events goes.acknowledged (with_machine machine noted state) journal) →
+    Goes tells told answer records_of graph from (with_machine machine noted state) (record { journal = journal; moments = now.moments })
+goes_on tells told answer answers records_of graph from state now machine noted journal same goes then =
+    let on = then (λ t. subst (λ (a : Request → Exit). IsJournalled a (work_from graph from) goes.events from.journal now.journal) (sym same) (goes.journal t)) in
     record {
       events = goes.events ++ on.more;
       acknowledged = goes.acknowledged;
       under_way = on.under_way;
-      journal = λ t. subst (λ (a : Request → Exit). IsJournalled a (setting_from graph from) (goes.events ++ on.more) old new') same (on.journal t);
-      images = λ t. subst (λ (more : List Record). HoldsFirst goes.acknowledged broken more records_of first moments) (sym on.same) (goes.images t);
+      journal = λ t. subst (λ (a : Request → Exit). IsJournalled a (work_from graph from) (goes.events ++ on.more) from.journal journal) same (on.journal t);
+      images = λ t. subst (λ (more : List Record). HoldsFirst goes.acknowledged state.broken more records_of from.moments now.moments) (sym on.same) (goes.images t);
     }

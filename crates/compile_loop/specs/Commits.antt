@@ -7,7 +7,7 @@ use Rattle.vr_outside.specs.declared.records.Record.{Record}
 use Rattle.vr_outside.specs.Disks.{Image, Moments, reads_of}
 use Rattle.vr_outside.specs.Records.{with_record}
 use Rattle.vr_outside.specs.Commits.{CommitsFirst}
-use Rattle.run_spec.specs.ChildJournal.{Setting}
+use Rattle.run_spec.specs.ChildJournal.{Work}
 use Rattle.run_spec.specs.Commits.{commits, Waits}
 
 -- the latest record of each name, with more records
@@ -17,7 +17,7 @@ latest_after (first ∷ rest) latest_of = latest_after rest (with_record first l
 
 -- Of what is to be committed the first so many are acknowledged, all of them where nothing kept the build from it; the
 -- store knows them, and each child was started over them.
-pub record Acknowledges (setting : Setting) (events : List Event) (all : Bool) (before now : FileName → Option Record) (acknowledged : ℕ) : Type 0 where
+pub record Acknowledges (setting : Work) (events : List Event) (all : Bool) (before now : FileName → Option Record) (acknowledged : ℕ) : Type 0 where
   pub few : acknowledged ≤ length (commits setting events)
   pub whole : OnTrue all (acknowledged ≡ length (commits setting events))
   pub waits : Waits setting acknowledged events

@@ -3,7 +3,7 @@ use Rattle.std.specs.Prelude.{◌≡◌, ℕ, ◌<◌, ◌≤◌, Bool, true, fa
 use Rattle.std.specs.List.{list_any, take_while}
 use Rattle.vr_base.specs.declared.child.Event.{Event}
 use Rattle.vr_outside.specs.Counts.{Rose, Counted}
-use Rattle.run_spec.specs.ChildJournal.{Setting, is_gone}
+use Rattle.run_spec.specs.ChildJournal.{Work, is_gone}
 use Rattle.run_spec.specs.Commits.{commits}
 use Rattle.compile_loop.specs.declared.faults.BuildFault.{BuildFault}
 use Rattle.compile_loop.specs.declared.faults.BuildFault.TheVariants.{NoMemory, StartFailed, ChildLost, DiskFailed}
@@ -107,22 +107,22 @@ abbrev pub before_loss : List Event → List Event
 before_loss events = take_while (λ event. not (is_gone event)) events
 
 -- how many records are to be committed of what ended before the first lost child
-abbrev pub given_before_loss : Setting → List Event → ℕ
+abbrev pub given_before_loss : Work → List Event → ℕ
 given_before_loss setting events = length (commits setting (before_loss events))
 
 -- a child is lost, and all that was given before is acknowledged
-pub record IsLossFirst (setting : Setting) (events : List Event) (acknowledged : ℕ) : Type 0 where
+pub record IsLossFirst (setting : Work) (events : List Event) (acknowledged : ℕ) : Type 0 where
   pub lost : list_any is_gone events ≡ true
   pub before : given_before_loss setting events ≤ acknowledged
 
 -- the store is broken, and of what was given before the first lost child not all is acknowledged
-pub record IsDiskFirst (setting : Setting) (events : List Event) (acknowledged : ℕ) (broken : Bool) : Type 0 where
+pub record IsDiskFirst (setting : Work) (events : List Event) (acknowledged : ℕ) (broken : Bool) : Type 0 where
   pub breaks : broken ≡ true
   pub before : acknowledged < given_before_loss setting events
 
 -- Of a lost child and the disk the one that came first is answered. A failed start comes before either, by the counts;
 -- out of memory takes the place of any other.
-abbrev pub ComesFirst : Option BuildFault → Setting → List Event → (acknowledged : ℕ) → (broken : Bool) → Type 0
+abbrev pub ComesFirst : Option BuildFault → Work → List Event → (acknowledged : ℕ) → (broken : Bool) → Type 0
 ComesFirst None setting events acknowledged broken = Unit {0}
 ComesFirst (Some NoMemory) setting events acknowledged broken = Unit {0}
 ComesFirst (Some StartFailed) setting events acknowledged broken = Unit {0}

@@ -8,13 +8,13 @@ use Rattle.vr_base.specs.declared.graph.Entry.{Entry}
 use Rattle.vr_base.specs.declared.child.Request.{Request}
 use Rattle.vr_base.specs.declared.child.Exit.{Exit}
 use Rattle.vr_base.specs.declared.child.Event.{Event}
-use Rattle.vr_base.specs.declared.outcome.Mark.{Mark}
-use Rattle.vr_base.specs.declared.outcome.Mark.TheVariants as mark
+use Rattle.run_spec.specs.declared.marks.Mark.{Mark}
+use Rattle.run_spec.specs.declared.marks.Mark.TheVariants as mark
 use Rattle.vr_base.specs.PresentGraph.{below}
 use Rattle.vr_outside.specs.declared.records.Record.{Record}
 use Rattle.vr_outside.specs.Disks.{Image, Moments}
 use Rattle.run_spec.specs.Moves.{empty_core, LawfulMoves, IsFinished}
-use Rattle.run_spec.specs.ChildJournal.{Setting, Lawful, Answered, Greedy, core_of, book_of, empty_book, job_of, moves_of, AreRequested, IsWhole, artefact_after, built_file, is_gone}
+use Rattle.run_spec.specs.ChildJournal.{Work, Lawful, Answered, Greedy, core_of, book_of, empty_book, job_of, moves_of, AreRequested, IsWhole, artefact_after, built_file, is_gone}
 use Rattle.run_spec.specs.Marks.{marks_of}
 use Rattle.run_spec.specs.Commits.{commits, record_at}
 use Rattle.compile_loop.specs.Commits.{Acknowledges, HoldsFirst}
@@ -30,41 +30,54 @@ is_made mark.Skipped = false
 is_made mark.Left = false
 
 -- each file that is made, with its artefact
-abbrev pub built_by : Setting → List Event → List BuiltFile
+abbrev pub built_by : Work → List Event → List BuiltFile
 built_by setting events = filter_map (λ position. built_file (slice_get setting.graph position) (artefact_after setting events position)) (below (length setting.graph))
 
 -- all files with their artefacts, where each one is made
-abbrev pub whole_of : Setting → List Event → Option (List BuiltFile)
+abbrev pub whole_of : Work → List Event → Option (List BuiltFile)
 whole_of setting events = if list_all is_made (marks_of setting events) then Some (built_by setting events) else None
 
 -- what a build says in the end: its marks are those of what happened, and where each file is made it has them all
-pub record SaysEnd (setting : Setting) (events : List Event) (marks : List Mark) (whole : Option (List BuiltFile)) : Type 0 where
+pub record SaysEnd (setting : Work) (events : List Event) (marks : List Mark) (whole : Option (List BuiltFile)) : Type 0 where
   pub marked : marks ≡ marks_of setting events
   pub built : whole ≡ whole_of setting events
+
+-- what the objects of a build have at one moment: the latest records of its store, the events of the journal, and the
+-- moments of the disk
+pub record BuildObjects : Type 0 where
+  pub latest_of : FileName → Option Record
+  pub journal : List Event
+  pub moments : Moments
+
+-- how a build ended: whether by itself, the fault that it answers, and whether its store is broken
+pub record Ending : Type 0 where
+  pub ended : Bool
+  pub fault : Option BuildFault
+  pub broken : Bool
 
 -- What a build did. Its events are what the journal has since it was old. They are lawful after a fault too: each start is
 -- of the least file that may be started, with its request, and while a slot is free. Of what its children gave the first
 -- so many records are acknowledged. The fault that it answers came first. Where it ended by itself its events are whole.
-pub record BuildRan (tells told : Type 0) (answer : Request → Exit) (records_of : Image → List Record) (setting : Setting) (old new : List Event) (first last : Moments) (before now : FileName → Option Record) (ended : Bool) (fault : Option BuildFault) (broken : Bool) (Says : List Event → Type 0) : Type 0 where
+pub record BuildRan (tells told : Type 0) (answer : Request → Exit) (records_of : Image → List Record) (setting : Work) (old new : BuildObjects) (ending : Ending) (Says : List Event → Type 0) : Type 0 where
   pub events : List Event
-  pub journal : tells → new ≡ old ++ events
+  pub journal : tells → new.journal ≡ old.journal ++ events
   -- whatever objects tell, the moves are lawful and have their requests; where the build ended by itself no end was waited
   -- for too early, none is lost, and nothing is left to do
   pub moves : LawfulMoves (job_of setting) empty_core (moves_of setting events)
   pub requests : AreRequested setting empty_book events
-  pub greedy : OnTrue ended (Greedy setting events)
-  pub finished : OnTrue ended (IsFinished (job_of setting) (core_of (book_of setting events)))
-  pub none_lost : OnTrue ended (list_any is_gone events ≡ false)
+  pub greedy : OnTrue ending.ended (Greedy setting events)
+  pub finished : OnTrue ending.ended (IsFinished (job_of setting) (core_of (book_of setting events)))
+  pub none_lost : OnTrue ending.ended (list_any is_gone events ≡ false)
   -- where the journal is told, tickets are fresh too, and each end is the answer to its start
   pub lawful : tells → Lawful setting events
   pub answered : tells → Answered answer events
-  pub whole : tells → OnTrue ended (IsWhole setting events)
-  pub says : OnTrue ended (Says events)
+  pub whole : tells → OnTrue ending.ended (IsWhole setting events)
+  pub says : OnTrue ending.ended (Says events)
   -- the records that are committed
   pub acknowledged : ℕ
-  pub committed : Acknowledges setting events (is_all_committed fault broken) before now acknowledged
+  pub committed : Acknowledges setting events (is_all_committed ending.fault ending.broken) old.latest_of new.latest_of acknowledged
   -- which fault is answered
-  pub comes_first : ComesFirst fault setting events acknowledged broken
+  pub comes_first : ComesFirst ending.fault setting events acknowledged ending.broken
   -- where all is committed, the latest record of each file that is made is of its present view, with its artefact
-  pub recorded : OnTrue (is_all_committed fault broken) ((position : ℕ) (entry : Entry) (artefact : List ℕ) → slice_get setting.graph position ≡ Some entry → artefact_after setting events position ≡ Some artefact → now entry.name ≡ Some (record_at setting.graph position artefact))
-  pub images : told → HoldsFirst acknowledged broken (commits setting events) records_of first last
+  pub recorded : OnTrue (is_all_committed ending.fault ending.broken) ((position : ℕ) (entry : Entry) (artefact : List ℕ) → slice_get setting.graph position ≡ Some entry → artefact_after setting events position ≡ Some artefact → new.latest_of entry.name ≡ Some (record_at setting.graph position artefact))
+  pub images : told → HoldsFirst acknowledged ending.broken (commits setting events) records_of old.moments new.moments

@@ -6,56 +6,74 @@ use Rattle.vr_base.specs.declared.graph.Entry.{Entry}
 use Rattle.vr_base.specs.declared.child.Request.{Request}
 use Rattle.vr_base.specs.declared.child.Exit.{Exit}
 use Rattle.vr_base.specs.declared.child.Event.{Event}
-use Rattle.vr_base.specs.declared.outcome.Mark.{Mark}
+use Rattle.run_spec.specs.declared.marks.Mark.{Mark}
 use Rattle.vr_base.specs.Graphs.{IsGraph}
 use Rattle.vr_outside.specs.declared.records.Record.{Record}
 use Rattle.vr_outside.specs.Children.{started_with}
 use Rattle.vr_outside.specs.Disks.{Image, Moments}
 use Rattle.run_spec.specs.Moves.{Core, empty_core, LawfulMoves}
-use Rattle.run_spec.specs.ChildJournal.{Setting, Run, End, core_of, book_of, empty_book, job_of, moves_of, AreRequested, EachAfter, HasFreshTicket, Answered, Greedy, artefact_so_far, is_gone}
+use Rattle.run_spec.specs.ChildJournal.{Work, Run, End, core_of, book_of, empty_book, job_of, moves_of, AreRequested, EachAfter, HasFreshTicket, Answered, Greedy, artefact_so_far, is_gone}
 use Rattle.run_spec.specs.Marks.{marks_of}
 use Rattle.slot_machine.specs.declared.slots.Slots.{Slots}
 use Rattle.slot_machine.specs.Machines.{IsMachineOf}
+use Rattle.child_steps.specs.Steps.{halted_if}
 use Rattle.compile_loop.specs.declared.faults.BuildFault.{BuildFault}
-use Rattle.run_spec.specs.Commits.{setting_of, record_at, commits, commits_of}
+use Rattle.run_spec.specs.Commits.{work_of, record_at, commits, commits_of}
 use Rattle.compile_loop.specs.Commits.{latest_after, Acknowledges, HoldsFirst}
 use Rattle.compile_loop.specs.Faults.{is_all_committed, ComesFirst}
 
--- what a build began with: the latest records, how many children run at once, and whether it goes on after a refusal
+-- What a build began with: the latest records, how many children run at once, whether it goes on after a refusal, the
+-- events that the journal had, and the moments of the disk.
 pub record Origin : Type 0 where
   pub latest_of : FileName → Option Record
   pub slots : ℕ
   pub keep_going : Bool
+  pub journal : List Event
+  pub moments : Moments
 
-abbrev pub setting_from : List Entry → Origin → Setting
-setting_from graph from = setting_of from.latest_of graph from.slots from.keep_going
+-- what a build has at one moment: its machine, its marks, the fault that it has noted, the latest records of its store,
+-- and whether the store is broken
+pub record BuildState : Type 0 where
+  pub machine : Slots
+  pub marks : List Mark
+  pub noted : Option BuildFault
+  pub latest_of : FileName → Option Record
+  pub broken : Bool
 
--- what has happened, but nothing more is started where something else halts the build
-abbrev pub halted_if : Bool → Core → Core
-halted_if halts core = record { taken = core.taken; running = core.running; ended = core.ended; halted = core.halted || halts }
+-- the same state, but for the machine and the noted fault
+abbrev pub with_machine : Slots → Option BuildFault → BuildState → BuildState
+with_machine machine noted state = record { machine = machine; marks = state.marks; noted = noted; latest_of = state.latest_of; broken = state.broken }
+
+-- what children and disk tell at one moment: the events of the journal, and the moments of the disk
+pub record Told : Type 0 where
+  pub journal : List Event
+  pub moments : Moments
+
+abbrev pub work_from : List Entry → Origin → Work
+work_from graph from = work_of from.latest_of graph from.slots from.keep_going
 
 -- The artefact that a file has after these ends is that of the latest record of its name, once all that is to be
 -- committed is.
 abbrev pub HasRecords : List Entry → Origin → List End → Type 0
 HasRecords graph from ends =
-    (position : ℕ) (entry : Entry) (artefact : List ℕ) → slice_get graph position ≡ Some entry → artefact_so_far (setting_from graph from) ends position ≡ Some artefact →
+    (position : ℕ) (entry : Entry) (artefact : List ℕ) → slice_get graph position ≡ Some entry → artefact_so_far (work_from graph from) ends position ≡ Some artefact →
     latest_after (commits_of graph ends) from.latest_of entry.name ≡ Some (record_at graph position artefact)
 
 -- What holds after these events, whatever objects tell: they are lawful moves with their requests, the machine and the
 -- marks are those of what has happened, the first so many commits are acknowledged, the fault that is noted came first,
 -- and while none is noted no end was waited for too early and none is lost.
-pub record IsUnderWay (graph : List Entry) (from : Origin) (events : List Event) (acknowledged : ℕ) (machine : Slots) (marks : List Mark) (noted : Option BuildFault) (latest_of : FileName → Option Record) (broken : Bool) : Type 0 where
+pub record IsUnderWay (graph : List Entry) (from : Origin) (events : List Event) (acknowledged : ℕ) (state : BuildState) : Type 0 where
   pub is_graph : IsGraph graph
-  pub moves : LawfulMoves (job_of (setting_from graph from)) empty_core (moves_of (setting_from graph from) events)
-  pub requests : AreRequested (setting_from graph from) empty_book events
-  pub greedy : noted ≡ None → Greedy (setting_from graph from) events
-  pub none_lost : noted ≡ None → list_any is_gone events ≡ false
-  pub usable : noted ≡ None → broken ≡ false
-  pub in_step : IsMachineOf machine (job_of (setting_from graph from)) (halted_if (is_some noted) (core_of (book_of (setting_from graph from) events)))
-  pub marked : marks ≡ marks_of (setting_from graph from) events
-  pub recorded : HasRecords graph from (book_of (setting_from graph from) events).ends
-  pub committed : Acknowledges (setting_from graph from) events (is_all_committed noted broken) from.latest_of latest_of acknowledged
-  pub comes_first : ComesFirst noted (setting_from graph from) events acknowledged broken
+  pub moves : LawfulMoves (job_of (work_from graph from)) empty_core (moves_of (work_from graph from) events)
+  pub requests : AreRequested (work_from graph from) empty_book events
+  pub greedy : state.noted ≡ None → Greedy (work_from graph from) events
+  pub none_lost : state.noted ≡ None → list_any is_gone events ≡ false
+  pub usable : state.noted ≡ None → state.broken ≡ false
+  pub in_step : IsMachineOf state.machine (job_of (work_from graph from)) (halted_if (is_some state.noted) (core_of (book_of (work_from graph from) events)))
+  pub marked : state.marks ≡ marks_of (work_from graph from) events
+  pub recorded : HasRecords graph from (book_of (work_from graph from) events).ends
+  pub committed : Acknowledges (work_from graph from) events (is_all_committed state.noted state.broken) from.latest_of state.latest_of acknowledged
+  pub comes_first : ComesFirst state.noted (work_from graph from) events acknowledged state.broken
 
 -- each running child was started with its request
 abbrev pub AreStartedIn : List Event → List Run → Type 0
@@ -63,7 +81,7 @@ AreStartedIn journal runs = All (λ run. started_with run.ticket journal ≡ Som
 
 -- The events are what a journal has since it was old: no ticket is given twice, each end is the answer to its start, and
 -- each running child was started with its request.
-pub record IsJournalled (answer : Request → Exit) (setting : Setting) (events : List Event) (old new : List Event) : Type 0 where
+pub record IsJournalled (answer : Request → Exit) (setting : Work) (events : List Event) (old new : List Event) : Type 0 where
   pub follows : new ≡ old ++ events
   pub tickets : EachAfter HasFreshTicket [] events
   pub answered : Answered answer events
@@ -71,29 +89,29 @@ pub record IsJournalled (answer : Request → Exit) (setting : Setting) (events 
   pub started_since : AreStartedIn new (book_of setting events).runs
 
 -- after more events of which none is the end of a child with code 0
-pub record GoesOn (tells : Type 0) (answer : Request → Exit) (graph : List Entry) (from : Origin) (old : List Event) (events : List Event) (acknowledged : ℕ) (machine : Slots) (marks : List Mark) (noted : Option BuildFault) (latest_of : FileName → Option Record) (broken : Bool) (new : List Event) : Type 0 where
+pub record GoesOn (tells : Type 0) (answer : Request → Exit) (graph : List Entry) (from : Origin) (events : List Event) (acknowledged : ℕ) (state : BuildState) (journalled : List Event) : Type 0 where
   pub more : List Event
-  pub under_way : IsUnderWay graph from (events ++ more) acknowledged machine marks noted latest_of broken
-  pub journal : tells → IsJournalled answer (setting_from graph from) (events ++ more) old new
-  pub same : commits (setting_from graph from) (events ++ more) ≡ commits (setting_from graph from) events
+  pub under_way : IsUnderWay graph from (events ++ more) acknowledged state
+  pub journal : tells → IsJournalled answer (work_from graph from) (events ++ more) from.journal journalled
+  pub same : commits (work_from graph from) (events ++ more) ≡ commits (work_from graph from) events
 
 -- after the end of a child: more may be acknowledged, and the disk holds it
-pub record TakesEnd (told : Type 0) (records_of : Image → List Record) (graph : List Entry) (from : Origin) (first : Moments) (events : List Event) (machine : Slots) (marks : List Mark) (noted : Option BuildFault) (latest_of : FileName → Option Record) (broken : Bool) (moments : Moments) : Type 0 where
+pub record TakesEnd (told : Type 0) (records_of : Image → List Record) (graph : List Entry) (from : Origin) (events : List Event) (state : BuildState) (moments : Moments) : Type 0 where
   pub acknowledged : ℕ
-  pub under_way : IsUnderWay graph from events acknowledged machine marks noted latest_of broken
-  pub images : told → HoldsFirst acknowledged broken (commits (setting_from graph from) events) records_of first moments
+  pub under_way : IsUnderWay graph from events acknowledged state
+  pub images : told → HoldsFirst acknowledged state.broken (commits (work_from graph from) events) records_of from.moments moments
 
 -- all that holds of a build that is under way, over objects that tell
-pub record Goes (tells told : Type 0) (answer : Request → Exit) (records_of : Image → List Record) (graph : List Entry) (from : Origin) (old : List Event) (first : Moments) (machine : Slots) (marks : List Mark) (noted : Option BuildFault) (latest_of : FileName → Option Record) (broken : Bool) (new : List Event) (moments : Moments) : Type 0 where
+pub record Goes (tells told : Type 0) (answer : Request → Exit) (records_of : Image → List Record) (graph : List Entry) (from : Origin) (state : BuildState) (now : Told) : Type 0 where
   pub events : List Event
   pub acknowledged : ℕ
-  pub under_way : IsUnderWay graph from events acknowledged machine marks noted latest_of broken
-  pub journal : tells → IsJournalled answer (setting_from graph from) events old new
-  pub images : told → HoldsFirst acknowledged broken (commits (setting_from graph from) events) records_of first moments
+  pub under_way : IsUnderWay graph from events acknowledged state
+  pub journal : tells → IsJournalled answer (work_from graph from) events from.journal now.journal
+  pub images : told → HoldsFirst acknowledged state.broken (commits (work_from graph from) events) records_of from.moments now.moments
 
 -- a build that began somehow is under way
-pub record IsGoing (graph : List Entry) (machine : Slots) (marks : List Mark) (noted : Option BuildFault) (latest_of : FileName → Option Record) (broken : Bool) : Type 0 where
+pub record IsGoing (graph : List Entry) (state : BuildState) : Type 0 where
   pub from : Origin
   pub events : List Event
   pub acknowledged : ℕ
-  pub under_way : IsUnderWay graph from events acknowledged machine marks noted latest_of broken
+  pub under_way : IsUnderWay graph from events acknowledged state

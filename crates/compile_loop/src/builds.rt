@@ -6,13 +6,13 @@ ghost use Rattle.std.specs.Result.{is_ok};
 ghost use Rattle.std.specs.List.{filter_map, list_all};
 ghost use Rattle.vr_base.specs.Graphs.{IsGraph};
 ghost use Rattle.vr_base.specs.PresentGraph.{below};
-ghost use Rattle.vr_base.specs.declared.outcome.Mark.{Mark};
+ghost use Rattle.run_spec.specs.declared.marks.Mark.{Mark};
 ghost use Rattle.vr_outside.specs.Records.{AreNeeds, IsRecorded};
 ghost use Rattle.run_spec.specs.Moves.{Job, empty_core};
 ghost use Rattle.slot_machine.specs.Machines.{IsJobOf, IsMachineOf, tickets_of, files_of};
 ghost use Rattle.run_spec.specs.Marks.{marks_of};
 ghost use Rattle.run_spec.specs.ChildJournal.{job_of};
-ghost use Rattle.run_spec.specs.Commits.{setting_of};
+ghost use Rattle.run_spec.specs.Commits.{work_of};
 ghost use Rattle.compile_loop.specs.Faults.{CountsBy, fault_of};
 ghost use Rattle.compile_loop.specs.Requests.{lent_at};
 ghost use Rattle.compile_loop.specs.Ran.{BuildRan, SaysEnd, is_made};
@@ -23,9 +23,11 @@ use crate::marks::{are_made, first_marks};
 use crate::requests::built_files;
 use crate::starts::start_one;
 use build_plan::plan;
-use slot_machine::{Slots, Step};
+use child_steps::Step;
+use run_spec::{Mark, MarkList};
+use slot_machine::Slots;
 use std::alloc::Global;
-use vr_base::{Built, FILE_LIMIT, Graph, Items, Mark, MarkList, NoMemory, SLOT_LIMIT};
+use vr_base::{Built, FILE_LIMIT, Graph, Items, NoMemory, SLOT_LIMIT};
 use vr_outside::{Disk, Procs, Records};
 
 /// How a build ended that no fault ended.
@@ -56,9 +58,9 @@ fn begin<K: Records>(
     ensures graph { IfOk result (λ begun. IsGraph graph.now) }
     ensures files { IfOk result (λ begun. files_of begun.slots ≡ length graph.now) }
     ensures tickets { IfOk result (λ begun. tickets_of begun.slots ≡ []) }
-    ensures in_step { let setting = setting_of (K.latest_of store.now) graph.now limit keep_going in
+    ensures in_step { let setting = work_of (K.latest_of store.now) graph.now limit keep_going in
         IfOk result (λ begun. IsMachineOf begun.slots (job_of setting) empty_core) }
-    ensures marked { let setting = setting_of (K.latest_of store.now) graph.now limit keep_going in
+    ensures marked { let setting = work_of (K.latest_of store.now) graph.now limit keep_going in
         IfOk result (λ begun. begun.marks.items ≡ marks_of setting []) }
 {
     prove!(graph.len() <= FILE_LIMIT as u64);
@@ -90,11 +92,19 @@ pub fn build_marks<K: Records, D: Disk, P: Procs>(
     ensures running { P.running procs.new ≡ [] }
     ensures same { P.answer procs.new ≡ P.answer procs.old }
     ensures count { IfOk result (λ marks. length marks ≡ length graph.now) }
-    ensures ran { let setting = setting_of (K.latest_of store.old) graph.now limit keep_going in
+    ensures ran { let setting = work_of (K.latest_of store.old) graph.now limit keep_going in
         BuildRan P.tells D.tells (P.answer procs.old) K.records_of setting
-        (P.journal procs.old) (P.journal procs.new) (D.moments disk.old) (D.moments disk.new)
-        (K.latest_of store.old) (K.latest_of store.new) (is_ok result) (fault_of result)
-        (K.broken store.new)
+        (record {
+          latest_of = K.latest_of store.old;
+          journal = P.journal procs.old;
+          moments = D.moments disk.old;
+        })
+        (record {
+          latest_of = K.latest_of store.new;
+          journal = P.journal procs.new;
+          moments = D.moments disk.new;
+        })
+        (record { ended = is_ok result; fault = fault_of result; broken = K.broken store.new })
         (λ events. IfOk result (λ marks. marks ≡ marks_of setting events)) }
     // Of each file that is fresh or compiled the store has a record of its present view.
     ensures recorded { IfOk result (λ marks. (position : ℕ) (mark : Mark) →
@@ -199,11 +209,19 @@ pub fn build<K: Records, D: Disk, P: Procs>(
     ensures running { P.running procs.new ≡ [] }
     ensures same { P.answer procs.new ≡ P.answer procs.old }
     ensures count { IfOk result (λ end. length end.marks ≡ length graph.now) }
-    ensures ran { let setting = setting_of (K.latest_of store.old) graph.now limit keep_going in
+    ensures ran { let setting = work_of (K.latest_of store.old) graph.now limit keep_going in
         BuildRan P.tells D.tells (P.answer procs.old) K.records_of setting
-        (P.journal procs.old) (P.journal procs.new) (D.moments disk.old) (D.moments disk.new)
-        (K.latest_of store.old) (K.latest_of store.new) (is_ok result) (fault_of result)
-        (K.broken store.new)
+        (record {
+          latest_of = K.latest_of store.old;
+          journal = P.journal procs.old;
+          moments = D.moments disk.old;
+        })
+        (record {
+          latest_of = K.latest_of store.new;
+          journal = P.journal procs.new;
+          moments = D.moments disk.new;
+        })
+        (record { ended = is_ok result; fault = fault_of result; broken = K.broken store.new })
         (λ events. IfOk result (λ end. SaysEnd setting events end.marks end.whole)) }
     // Of each file that is fresh or compiled the store has a record of its present view.
     ensures recorded { IfOk result (λ end. (position : ℕ) (mark : Mark) →

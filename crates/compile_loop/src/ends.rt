@@ -6,26 +6,27 @@ ghost use Rattle.vr_base.specs.declared.file.FileName.{FileName};
 ghost use Rattle.vr_base.specs.declared.graph.Entry.{Entry};
 ghost use Rattle.vr_base.specs.declared.child.Event.{Event};
 ghost use Rattle.vr_base.specs.declared.child.Event.TheVariants as event;
-ghost use Rattle.vr_base.specs.declared.outcome.Mark.{Mark};
+ghost use Rattle.run_spec.specs.declared.marks.Mark.{Mark};
 ghost use Rattle.vr_outside.specs.declared.records.Record.{Record};
 ghost use Rattle.vr_outside.specs.Children.{FitsExit, without, ended_ticket, end_event};
 ghost use Rattle.vr_outside.specs.Counts.{ChildCounts};
 ghost use Rattle.run_spec.specs.Moves.{Job, Core, is_running};
 ghost use Rattle.vr_outside.specs.Disks.{Moments};
-ghost use Rattle.slot_machine.specs.declared.step.Step.TheVariants.{Wait};
+ghost use Rattle.child_steps.specs.declared.step.Step.TheVariants.{Wait};
 ghost use Rattle.slot_machine.specs.Machines.{IsMachineOf, next_of, tickets_of, files_of, to_come};
 ghost use Rattle.run_spec.specs.Commits.{commits};
 ghost use Rattle.compile_loop.specs.Commits.{HoldsFirst};
 ghost use Rattle.compile_loop.specs.Faults.{FaultCounts, CountsBy, noted_with, is_of_disk};
-ghost use Rattle.compile_loop.specs.UnderWay.{Origin, setting_from, IsUnderWay, IsGoing, TakesEnd, Goes};
+ghost use Rattle.compile_loop.specs.UnderWay.{Origin, BuildState, with_machine, work_from, IsUnderWay, IsGoing, TakesEnd, Goes};
 
 use crate::commits::commit_made;
 use crate::faults::BuildFault;
 use crate::notes::{is_committing, note};
 use crate::starts::halt;
+use run_spec::Mark;
 use slot_machine::Slots;
 use std::alloc::Global;
-use vr_base::{Exit, Graph, Mark};
+use vr_base::{Exit, Graph};
 use vr_outside::{Disk, Ended, Procs, Records, WaitFault};
 
 /// The end of a child is lost: nothing more is started.
@@ -37,10 +38,10 @@ fn lose(slots: &mut Slots, noted: &mut Option<BuildFault>, ticket: u64, fault: B
     ensures tickets { tickets_of slots.new ≡ without ticket (tickets_of slots.old) }
     ensures nearer { to_come slots.new < to_come slots.old }
     ensures goes { (graph : List Entry) (from : Origin) (events : List Event) (acknowledged : ℕ)
-        (marks : List Mark) (latest_of : FileName → Option Record) (broken : Bool) →
-        IsUnderWay graph from events acknowledged slots.old marks noted.old latest_of broken →
-        IsUnderWay graph from (events ++ event.Gone ticket ∷ []) acknowledged slots.new marks
-        noted.new latest_of broken }
+        (state : BuildState) →
+        IsUnderWay graph from events acknowledged (with_machine slots.old noted.old state) →
+        IsUnderWay graph from (events ++ event.Gone ticket ∷ []) acknowledged
+        (with_machine slots.new noted.new state) }
 {
     let _at = slots.lost(ticket);
     note(noted, fault);
@@ -54,10 +55,10 @@ fn lose_by(slots: &mut Slots, noted: &mut Option<BuildFault>, fault: WaitFault)
         (tickets_of slots.old) }
     ensures nearer { to_come slots.new < to_come slots.old }
     ensures goes { (graph : List Entry) (from : Origin) (events : List Event) (acknowledged : ℕ)
-        (marks : List Mark) (latest_of : FileName → Option Record) (broken : Bool) →
-        IsUnderWay graph from events acknowledged slots.old marks noted.old latest_of broken →
-        IsUnderWay graph from (events ++ end_event (Err fault) ∷ []) acknowledged slots.new marks
-        noted.new latest_of broken }
+        (state : BuildState) →
+        IsUnderWay graph from events acknowledged (with_machine slots.old noted.old state) →
+        IsUnderWay graph from (events ++ end_event (Err fault) ∷ []) acknowledged
+        (with_machine slots.new noted.new state) }
     ensures counts { (first now : FaultCounts) (losses : ℕ) (broken : Bool) →
         ChildCounts {T = Ended} (Err fault) now.losses losses →
         CountsBy noted.old broken first now →
@@ -90,8 +91,14 @@ fn take_exit<K: Records, D: Disk>(
     requires step { next_of slots.old ≡ Wait }
     requires size { FitsExit exit }
     requires files { files_of slots.old ≡ length graph.now }
-    requires going { IsGoing graph.now slots.old marks.old.items noted.old (K.latest_of store.old)
-        (K.broken store.old) }
+    requires going { IsGoing graph.now
+        (record {
+          machine = slots.old;
+          marks = marks.old.items;
+          noted = noted.old;
+          latest_of = K.latest_of store.old;
+          broken = K.broken store.old;
+        }) }
     requires in_step { D.tells →
         OnFalse (K.broken store.old) (K.in_step store.old (D.moments disk.old).now) }
     ensures files { files_of slots.new ≡ files_of slots.old }
@@ -101,13 +108,26 @@ fn take_exit<K: Records, D: Disk>(
         OnFalse (K.broken store.new) (K.in_step store.new (D.moments disk.new).now) }
     ensures runs { (job : Job) (core : Core) → IsMachineOf slots.old job core →
         IsTrue (is_running core ticket) }
-    ensures goes { (from : Origin) (first : Moments) (events : List Event) (acknowledged : ℕ) →
-        IsUnderWay graph.now from events acknowledged slots.old marks.old.items noted.old
-        (K.latest_of store.old) (K.broken store.old) →
-        (D.tells → HoldsFirst acknowledged (K.broken store.old)
-        (commits (setting_from graph.now from) events) K.records_of first (D.moments disk.old)) →
-        TakesEnd D.tells K.records_of graph.now from first (events ++ event.Ended ticket exit ∷ [])
-        slots.new marks.new.items noted.new (K.latest_of store.new) (K.broken store.new)
+    ensures goes { (from : Origin) (events : List Event) (acknowledged : ℕ) →
+        let before : BuildState = record {
+          machine = slots.old;
+          marks = marks.old.items;
+          noted = noted.old;
+          latest_of = K.latest_of store.old;
+          broken = K.broken store.old;
+        } in
+        let after : BuildState = record {
+          machine = slots.new;
+          marks = marks.new.items;
+          noted = noted.new;
+          latest_of = K.latest_of store.new;
+          broken = K.broken store.new;
+        } in
+        IsUnderWay graph.now from events acknowledged before →
+        (D.tells → HoldsFirst acknowledged before.broken
+        (commits (work_from graph.now from) events) K.records_of from.moments
+        (D.moments disk.old)) →
+        TakesEnd D.tells K.records_of graph.now from (events ++ event.Ended ticket exit ∷ []) after
         (D.moments disk.new) }
     ensures counts { (first : FaultCounts) (starts losses : ℕ) →
         CountsBy noted.old (K.broken store.old) first (record {
@@ -156,8 +176,14 @@ pub(crate) fn end_one<K: Records, D: Disk, P: Procs>(
     requires some { 0 < length (tickets_of slots.old) }
     requires step { next_of slots.old ≡ Wait }
     requires files { files_of slots.old ≡ length graph.now }
-    requires going { IsGoing graph.now slots.old marks.old.items noted.old (K.latest_of store.old)
-        (K.broken store.old) }
+    requires going { IsGoing graph.now
+        (record {
+          machine = slots.old;
+          marks = marks.old.items;
+          noted = noted.old;
+          latest_of = K.latest_of store.old;
+          broken = K.broken store.old;
+        }) }
     requires in_step { D.tells →
         OnFalse (K.broken store.old) (K.in_step store.old (D.moments disk.old).now) }
     ensures running { P.running procs.new ≡ tickets_of slots.new }
@@ -166,13 +192,25 @@ pub(crate) fn end_one<K: Records, D: Disk, P: Procs>(
     ensures nearer { to_come slots.new < to_come slots.old }
     ensures in_step { D.tells →
         OnFalse (K.broken store.new) (K.in_step store.new (D.moments disk.new).now) }
-    ensures goes { (from : Origin) (old : List Event) (first : Moments) →
-        Goes P.tells D.tells (P.answer procs.old) K.records_of graph.now from old first slots.old
-        marks.old.items noted.old (K.latest_of store.old) (K.broken store.old)
-        (P.journal procs.old) (D.moments disk.old) →
-        Goes P.tells D.tells (P.answer procs.old) K.records_of graph.now from old first slots.new
-        marks.new.items noted.new (K.latest_of store.new) (K.broken store.new)
-        (P.journal procs.new) (D.moments disk.new) }
+    ensures goes { (from : Origin) →
+        let before : BuildState = record {
+          machine = slots.old;
+          marks = marks.old.items;
+          noted = noted.old;
+          latest_of = K.latest_of store.old;
+          broken = K.broken store.old;
+        } in
+        let after : BuildState = record {
+          machine = slots.new;
+          marks = marks.new.items;
+          noted = noted.new;
+          latest_of = K.latest_of store.new;
+          broken = K.broken store.new;
+        } in
+        Goes P.tells D.tells (P.answer procs.old) K.records_of graph.now from before
+        (record { journal = P.journal procs.old; moments = D.moments disk.old }) →
+        Goes P.tells D.tells (P.answer procs.old) K.records_of graph.now from after
+        (record { journal = P.journal procs.new; moments = D.moments disk.new }) }
     ensures counts { (first : FaultCounts) →
         CountsBy noted.old (K.broken store.old) first
         (record {

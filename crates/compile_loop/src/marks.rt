@@ -5,8 +5,9 @@ ghost use Rattle.std.specs.List.{list_all};
 ghost use Rattle.compile_loop.specs.Ran.{is_made};
 ghost use Rattle.compile_loop.specs.Marks.{first_mark};
 
+use run_spec::Mark;
 use std::alloc::Global;
-use vr_base::{Mark, NoMemory};
+use vr_base::NoMemory;
 use vr_outside::Need;
 
 fn first_mark(need: Need, keep_going: bool) -> Mark

@@ -6,16 +6,17 @@ ghost use Rattle.vr_base.specs.declared.graph.Entry.{Entry};
 ghost use Rattle.vr_base.specs.declared.child.Event.{Event};
 ghost use Rattle.vr_base.specs.declared.child.Event.TheVariants.{Started, Gone};
 ghost use Rattle.vr_base.specs.declared.child.Request.{Request};
-ghost use Rattle.vr_base.specs.declared.outcome.Mark.{Mark};
+ghost use Rattle.run_spec.specs.declared.marks.Mark.{Mark};
 ghost use Rattle.vr_outside.specs.declared.records.Record.{Record};
 ghost use Rattle.vr_outside.specs.Children.{IsFresh, without};
 ghost use Rattle.vr_outside.specs.Records.{IsRecorded, deps_at};
 ghost use Rattle.run_spec.specs.Moves.{Job, Core};
-ghost use Rattle.slot_machine.specs.declared.step.Step.TheVariants.{Start};
+ghost use Rattle.child_steps.specs.declared.step.Step.TheVariants.{Start};
 ghost use Rattle.slot_machine.specs.Machines.{IsMachineOf, next_of, tickets_of, files_of, to_come};
 ghost use Rattle.compile_loop.specs.Requests.{lent_request};
 ghost use Rattle.compile_loop.specs.Faults.{FaultCounts, CountsBy, CountsStart, noted_with};
-ghost use Rattle.compile_loop.specs.UnderWay.{Origin, setting_from, halted_if, IsUnderWay, IsJournalled, GoesOn};
+ghost use Rattle.compile_loop.specs.UnderWay.{Origin, BuildState, with_machine, work_from, IsUnderWay, IsJournalled, GoesOn};
+ghost use Rattle.child_steps.specs.Steps.{halted_if};
 
 use crate::faults::BuildFault;
 use crate::notes::note;
@@ -90,14 +91,20 @@ pub(crate) fn start_one<K: Records, P: Procs>(
     ensures same { P.answer procs.new ≡ P.answer procs.old }
     ensures files { files_of slots.new ≡ files_of slots.old }
     ensures nearer { to_come slots.new < to_come slots.old }
-    ensures goes { (from : Origin) (old : List Event) (events : List Event) (acknowledged : ℕ)
-        (marks : List Mark) (broken : Bool) →
-        IsUnderWay graph.now from events acknowledged slots.old marks noted.old
-        (K.latest_of store.now) broken →
-        (P.tells → IsJournalled (P.answer procs.old) (setting_from graph.now from) events old
-        (P.journal procs.old)) →
-        GoesOn P.tells (P.answer procs.old) graph.now from old events acknowledged slots.new marks
-        noted.new (K.latest_of store.now) broken (P.journal procs.new) }
+    ensures goes { (from : Origin) (events : List Event) (acknowledged : ℕ) (marks : List Mark)
+        (broken : Bool) →
+        let before : BuildState = record {
+          machine = slots.old;
+          marks = marks;
+          noted = noted.old;
+          latest_of = K.latest_of store.now;
+          broken = broken;
+        } in
+        IsUnderWay graph.now from events acknowledged before →
+        (P.tells → IsJournalled (P.answer procs.old) (work_from graph.now from) events
+        from.journal (P.journal procs.old)) →
+        GoesOn P.tells (P.answer procs.old) graph.now from events acknowledged
+        (with_machine slots.new noted.new before) (P.journal procs.new) }
     ensures counts { (first : FaultCounts) (disks : ℕ) (broken : Bool) →
         CountsBy noted.old broken first (record {
           starts = P.failed_starts procs.old;

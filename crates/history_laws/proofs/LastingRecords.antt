@@ -14,9 +14,9 @@ use Rattle.vr_outside.specs.Commits.{HasFirst, most_committed, last_state, Commi
 use Rattle.vr_outside.specs.Phases.{IsCommitting, IsSettled, IsOpening, IsBase, HasPhases, unopened, opened, committed}
 use Rattle.vr_outside.proofs.CommitLaws.{never_stays}
 use Rattle.vr_outside.proofs.MomentLaws.{all_weaker, keeps_inside, keeps-append}
-use Rattle.run_spec.specs.ChildJournal.{Setting, book_of}
+use Rattle.run_spec.specs.ChildJournal.{Work, book_of}
 use Rattle.run_spec.specs.Commits.{commits}
-use Rattle.run_spec.specs.Histories.{Order, World, ProgramRun, IsReadable, latest_before, run_setting, IsBuildRun}
+use Rattle.history_spec.specs.Histories.{Order, World, ProgramRun, IsReadable, IsBuildRun, work_over, latest_over}
 use Rattle.run_spec.proofs.LatestRecords.{latest_before_none, latest_last, none_of_take}
 use Rattle.clean_laws.proofs.EndsOnce.{ended_once}
 use Rattle.history_laws.specs.Spares.{HasFileAt}
@@ -110,9 +110,9 @@ settled_latest records_of name first image (inr none) = let nothing : ⊥ = cc i
 
 -- at most one record of the name of a file is committed
 pub one_of_name : (world : World) (name : FileName) (kept : Record) (order : Order) (run : ProgramRun) (first : DiskState) (build : IsBuildRun world order run first) → HasFileAt order name kept.view →
-    (list_any (is_of name) (commits (run_setting world order first) run.events) ≡ false) ⊎ HasOne name (commits (run_setting world order first) run.events)
+    (list_any (is_of name) (commits (work_over world.records_of order first) run.events) ≡ false) ⊎ HasOne name (commits (work_over world.records_of order first) run.events)
 one_of_name world name kept order run first build file =
-    let setting : Setting = run_setting world order first in
+    let setting : Work = work_over world.records_of order first in
     subst (λ (n : FileName). (list_any (is_of n) (commits setting run.events) ≡ false) ⊎ HasOne n (commits setting run.events)) file.is_name
     (one_committed order.graph build.graph file.position file.entry file.is_entry (book_of setting run.events).ends (ended_once world.answer setting file.position run.events build.lawful build.answered))
 
@@ -121,7 +121,7 @@ module _ (world : World) (name : FileName) (kept : Record) (order : Order) (run 
   records_of = world.records_of
 
   abbrev more : List Record
-  more = commits (run_setting world order first) run.events
+  more = commits (work_over world.records_of order first) run.events
 
   abbrev Latest : Image → Type 0
   Latest image = latest name (records_of image) ≡ Some kept
@@ -131,7 +131,7 @@ module _ (world : World) (name : FileName) (kept : Record) (order : Order) (run 
   not_base true e base from one is = none-some kept (sym (nothing_latest name base from) ∙ is)
   not_base false e base from one is =
       let knows : latest name (records_of (reads_of first)) ≡ Some kept = sym (same_latest name (records_of (reads_of first)) base from) ∙ is in
-      let known : latest_before world order first name ≡ Some kept = ap (λ (clean : Bool). cond clean None (latest name (records_of (reads_of first)))) e ∙ knows in
+      let known : latest_over world.records_of order.clean first name ≡ Some kept = ap (λ (clean : Bool). cond clean None (latest name (records_of (reads_of first)))) e ∙ knows in
       both_ways (list_any (is_of name) more) (uncommitted world name kept order run first build e known file) (one_is_there name more one)
 
   stays_commits : (acknowledged : ℕ) (broken : Bool) (base : List Record) → IsBase records_of order.clean first base → (disk : DiskState) (later : List DiskState) → CommitsFirstIn acknowledged broken base more records_of disk later →
@@ -156,7 +156,7 @@ module _ (world : World) (name : FileName) (kept : Record) (order : Order) (run 
 module _ (world : World) (name : FileName) (kept : Record) (order : Order) (run : ProgramRun) (first : DiskState) (readable : IsReadable first) (build : IsBuildRun world order run first) (file : HasFileAt order name kept.view)
     (counts : (order.clean ≡ false) ⊎ (latest name (world.records_of (reads_of first)) ≡ Some kept → ⊥)) where
   abbrev committed_by : List Record
-  committed_by = commits (run_setting world order first) run.events
+  committed_by = commits (work_over world.records_of order first) run.events
 
   abbrev IsLatest : Image → Type 0
   IsLatest image = latest name (world.records_of image) ≡ Some kept

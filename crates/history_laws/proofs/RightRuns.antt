@@ -16,11 +16,11 @@ use Rattle.vr_outside.specs.Phases.{HasBaseAndPrefix}
 use Rattle.vr_outside.proofs.ImageLaws.{settled_sound, settled_disk_only}
 use Rattle.vr_outside.proofs.MomentLaws.{all_last, all_weaker}
 use Rattle.vr_outside.proofs.PhaseLaws.{phases_give}
-use Rattle.run_spec.specs.ChildJournal.{Setting, Lawful, Answered}
+use Rattle.run_spec.specs.ChildJournal.{Work, Lawful, Answered}
 use Rattle.run_spec.specs.CleanBuild.{RecordsClean}
 use Rattle.run_spec.specs.Commits.{commits}
 use Rattle.run_spec.specs.Faithful.{IsTrueRecord, IsFaithful, IsFaithfulDisk}
-use Rattle.run_spec.specs.Histories.{Sources, Order, World, ProgramRun, HistoryStep, Edited, Ran, Stopped, empty_image, IsReadable, latest_before, run_setting, IsBuildRun, IsIdleRun, RunStep, IsHistory}
+use Rattle.history_spec.specs.Histories.{Sources, Order, World, ProgramRun, HistoryStep, Edited, Ran, Stopped, empty_image, IsReadable, IsBuildRun, IsIdleRun, RunStep, IsHistory, work_over, latest_over}
 use Rattle.run_spec.proofs.Prefixes.{lawful_prefix, lawful_none}
 use Rattle.clean_laws.proofs.CleanCommits.{commits_true}
 use Rattle.clean_laws.proofs.JournalStarted.{asked}
@@ -66,13 +66,13 @@ module _ (world : World) where
   latest_true records all false name kept is = All-latest True name records kept all is
 
   -- what a run goes by is what a clean build makes
-  pub run_clean : (order : Order) (first : DiskState) → IsGraph order.graph → IsReadable first → Faithful first → RecordsClean world.answer order.graph (run_setting world order first).recorded
+  pub run_clean : (order : Order) (first : DiskState) → IsGraph order.graph → IsReadable first → Faithful first → RecordsClean world.answer order.graph (work_over world.records_of order first).recorded
   run_clean order first graph readable faithful =
-      records_clean world.answer (latest_before world order first) order.graph graph (latest_true (world.records_of (reads_of first)) (faithful (reads_of first) readable) order.clean)
+      records_clean world.answer (latest_over world.records_of order.clean first) order.graph graph (latest_true (world.records_of (reads_of first)) (faithful (reads_of first) readable) order.clean)
 
   pub build_right : (order : Order) (run : ProgramRun) (first : DiskState) → IsReadable first → Faithful first → IsBuildRun world order run first → IsRightRun world order run first
   build_right order run first readable faithful build =
-      let setting : Setting = run_setting world order first in
+      let setting : Work = work_over world.records_of order first in
       let clean : RecordsClean world.answer order.graph setting.recorded = run_clean order first build.graph readable faithful in
       let all : All True (commits setting run.events) = commits_true world.answer setting build.graph clean run.events build.lawful build.answered in
       record {
@@ -87,7 +87,7 @@ module _ (world : World) where
   idle_right : (order : Order) (run : ProgramRun) (first : DiskState) → Faithful first → IsIdleRun run → IsRightRun world order run first
   idle_right order run first faithful idle = record {
     faithful = (faithful, subst (AllByRecursion Faithful) (sym idle.later) tt);
-    lawful = λ before rest e. subst (Lawful (run_setting world order first)) (sym (nothing_before before rest (subst (λ (l : List Event). l ≡ before ++ rest) idle.events e))) (lawful_none (run_setting world order first));
+    lawful = λ before rest e. subst (Lawful (work_over world.records_of order first)) (sym (nothing_before before rest (subst (λ (l : List Event). l ≡ before ++ rest) idle.events e))) (lawful_none (work_over world.records_of order first));
     asked = λ before rest ticket request e. absurd (nothing_after before rest (Started ticket request) (subst (λ (l : List Event). l ≡ before ++ Started ticket request ∷ rest) idle.events e));
   }
 

@@ -15,10 +15,10 @@ use Rattle.vr_outside.specs.Commits.{last_state}
 use Rattle.vr_outside.specs.Phases.{HasBaseAndPrefix}
 use Rattle.vr_outside.proofs.MomentLaws.{all_last, all_weaker}
 use Rattle.vr_outside.proofs.PhaseLaws.{phases_give}
-use Rattle.run_spec.specs.ChildJournal.{Setting, Book, after_all, book_of}
+use Rattle.run_spec.specs.ChildJournal.{Work, Book, after_all, book_of}
 use Rattle.run_spec.specs.Commits.{record_at, commits}
 use Rattle.run_spec.specs.Recorded.{recorded_at}
-use Rattle.run_spec.specs.Histories.{Sources, Order, World, ProgramRun, HistoryStep, Edited, Ran, Stopped, IsReadable, latest_before, run_setting, IsBuildRun, RunStep, IsHistory}
+use Rattle.history_spec.specs.Histories.{Sources, Order, World, ProgramRun, HistoryStep, Edited, Ran, Stopped, IsReadable, IsBuildRun, RunStep, IsHistory, work_over, latest_over}
 use Rattle.run_spec.proofs.LatestRecords.{latest_before_none, none_of_prefix}
 use Rattle.run_spec.proofs.RecordedArtefacts.{recorded_of_record}
 use Rattle.clean_laws.proofs.EndsOnce.{no_end}
@@ -42,33 +42,33 @@ unheld taken k none =
       | inr other ↦ other
     ]
 
-nothing_taken : (setting : Setting) (k : ℕ) → Contains (book_of setting []).taken k → ⊥
+nothing_taken : (setting : Work) (k : ℕ) → Contains (book_of setting []).taken k → ⊥
 unfolding after_all
 nothing_taken setting k contains = absurd (omega (arith, contains.1))
 
 module _ (world : World) (name : FileName) (kept : Record) where
   -- what a run goes by has the acknowledged record, unless all is built anew
-  pub known : (order : Order) (first : DiskState) → IsReadable first → order.clean ≡ false → IsAcknowledged world name kept first → latest_before world order first name ≡ Some kept
+  pub known : (order : Order) (first : DiskState) → IsReadable first → order.clean ≡ false → IsAcknowledged world name kept first → latest_over world.records_of order.clean first name ≡ Some kept
   known order first readable over here = ap (λ (clean : Bool). cond clean None (latest name (world.records_of (reads_of first)))) over ∙ here (reads_of first) readable
 
   module _ (order : Order) (run : ProgramRun) (first : DiskState) (build : IsBuildRun world order run first) (over : order.clean ≡ false) where
-    abbrev setting : Setting
-    setting = run_setting world order first
+    abbrev setting : Work
+    setting = work_over world.records_of order first
 
     -- a file that is known at its present view isn't started
-    pub unstarted : latest_before world order first name ≡ Some kept → (file : HasFileAt order name kept.view) → Contains (book_of setting run.events).taken file.position → ⊥
+    pub unstarted : latest_over world.records_of order.clean first name ≡ Some kept → (file : HasFileAt order name kept.view) → Contains (book_of setting run.events).taken file.position → ⊥
     unstarted knows file contains =
-        let recorded = recorded_of_record (latest_before world order first) order.graph file.position (record {
+        let recorded = recorded_of_record (latest_over world.records_of order.clean first) order.graph file.position (record {
           entry = file.entry;
           is_entry = file.is_entry;
           artefact = kept.artefact;
-          is = ap (latest_before world order first) file.is_name ∙ knows ∙ ap (λ (v : List Entry). Some (record { view = v; artefact = kept.artefact })) (sym file.is_view);
+          is = ap (latest_over world.records_of order.clean first) file.is_name ∙ knows ∙ ap (λ (v : List Entry). Some (record { view = v; artefact = kept.artefact })) (sym file.is_view);
         }) in
         let none = All-contains (λ position. setting.recorded position ≡ None) (book_of setting run.events).taken file.position (started_unrecorded world.answer setting run.events build.lawful build.answered) contains in
         none-some kept.artefact (sym none ∙ recorded)
 
     -- of such a file nothing is committed
-    pub uncommitted : latest_before world order first name ≡ Some kept → HasFileAt order name kept.view → list_any (is_of name) (commits setting run.events) ≡ false
+    pub uncommitted : latest_over world.records_of order.clean first name ≡ Some kept → HasFileAt order name kept.view → list_any (is_of name) (commits setting run.events) ≡ false
     uncommitted knows file =
         let book : Book = book_of setting run.events in
         let fresh : was_taken book file.position ≡ false = unheld book.taken file.position (unstarted knows file) in
@@ -88,14 +88,14 @@ module _ (world : World) (name : FileName) (kept : Record) where
         (image_keeps (commits setting run.events) none here) (phases_give world.records_of order.clean (commits setting run.events) first readable build.acknowledged run.later build.phases)
 
   left_none : (order : Order) (run : ProgramRun) (first : DiskState) (build : IsBuildRun world order run first) (over : order.clean ≡ false) → IsReadable first → IsAcknowledged world name kept first →
-      HasFileAt order name kept.view ⊎ (list_any (is_of name) (commits (run_setting world order first) run.events) ≡ false) → list_any (is_of name) (commits (run_setting world order first) run.events) ≡ false
+      HasFileAt order name kept.view ⊎ (list_any (is_of name) (commits (work_over world.records_of order first) run.events) ≡ false) → list_any (is_of name) (commits (work_over world.records_of order first) run.events) ≡ false
   left_none order run first build over readable here (inl file) = uncommitted order run first build over (known order first readable over here) file
   left_none order run first build over readable here (inr none) = none
 
   run_spares : (order : Option Order) (run : ProgramRun) (first : DiskState) → IsReadable first → IsAcknowledged world name kept first → RunStep world order run first → SparesFile world order name kept.view run first
   run_spares None run first readable here step = tt
   run_spares (Some order) run first readable here (inl idle) = λ over file contains.
-      nothing_taken (run_setting world order first) file.position (subst (λ (events : List Event). Contains (book_of (run_setting world order first) events).taken file.position) idle.events contains)
+      nothing_taken (work_over world.records_of order first) file.position (subst (λ (events : List Event). Contains (book_of (work_over world.records_of order first) events).taken file.position) idle.events contains)
   run_spares (Some order) run first readable here (inr build) = λ over file. unstarted order run first build over (known order first readable over here) file
 
   run_leaves : (order : Option Order) (run : ProgramRun) (first : DiskState) → IsReadable first → IsAcknowledged world name kept first → RunStep world order run first → LeavesRecord world order name kept run first →
@@ -130,13 +130,13 @@ module _ (world : World) (name : FileName) (kept : Record) where
 pub nothing_started : (world : World) (order : Order) (run : ProgramRun) (first : DiskState) → IsReadable first → RunStep world (Some order) run first → order.clean ≡ false →
     ((position : ℕ) (entry : Entry) → slice_get order.graph position ≡ Some entry → (artefact : List ℕ) × IsAcknowledged world entry.name (record_at order.graph position artefact) first) → run.events ≡ []
 nothing_started world order run first readable (inl idle) over each = idle.events
-nothing_started world order run first readable (inr build) over each = nothing_due (run_setting world order first) recorded run.events build.lawful where
-  recorded : (position : ℕ) → position < length order.graph → recorded_at (latest_before world order first) order.graph position ≡ None → ⊥
+nothing_started world order run first readable (inr build) over each = nothing_due (work_over world.records_of order first) recorded run.events build.lawful where
+  recorded : (position : ℕ) → position < length order.graph → recorded_at (latest_over world.records_of order.clean first) order.graph position ≡ None → ⊥
   recorded position lt none =
       elim (slice_get_cases order.graph position).1 [
         | inl here ↦
             let kept = each position here.0 here.2 in
-            let is = recorded_of_record (latest_before world order first) order.graph position (record {
+            let is = recorded_of_record (latest_over world.records_of order.clean first) order.graph position (record {
               entry = here.0;
               is_entry = here.2;
               artefact = kept.0;

@@ -16,9 +16,9 @@ use Rattle.vr_outside.specs.Disks.{DiskState, Image, EachImage, StaysTrue, reads
 use Rattle.vr_outside.specs.Records.{latest, is_of}
 use Rattle.vr_outside.specs.Commits.{HasFirst, most_committed, last_state}
 use Rattle.vr_outside.specs.Phases.{IsCommitting, HasPhases, unopened, opened, committed}
-use Rattle.run_spec.specs.ChildJournal.{Setting}
+use Rattle.run_spec.specs.ChildJournal.{Work}
 use Rattle.run_spec.specs.Commits.{commits, ComesAfterCommits, Waits}
-use Rattle.run_spec.specs.Histories.{Sources, Order, World, ProgramRun, Stop, HistoryStep, Stopped, IsReadable, IsMoment, run_setting, IsBuildRun, RunStep, IsHistory}
+use Rattle.history_spec.specs.Histories.{Sources, Order, World, ProgramRun, Stop, HistoryStep, Stopped, IsReadable, IsMoment, IsBuildRun, RunStep, IsHistory, work_over}
 use Rattle.run_spec.proofs.Prefixes.{each_at, commits_prefix}
 use Rattle.run_spec.proofs.LatestRecords.{latest_last, none_of_take}
 use Rattle.run_spec.proofs.RecordNames.{is_of_own}
@@ -64,7 +64,7 @@ module _ (world : World) (name : FileName) (kept : Record) (order : Order) (run 
 
 -- also where all is built anew, from the first commit on
 pub lasts_anew : (world : World) (name : FileName) (kept : Record) (order : Order) (run : ProgramRun) (first : DiskState) (build : IsBuildRun world order run first) (file : HasFileAt order name kept.view)
-    (acknowledged : ℕ) (broken : Bool) (committing : IsCommitting world.records_of order.clean acknowledged broken (commits (run_setting world order first) run.events) first run.later) → IsReadable first →
+    (acknowledged : ℕ) (broken : Bool) (committing : IsCommitting world.records_of order.clean acknowledged broken (commits (work_over world.records_of order first) run.events) first run.later) → IsReadable first →
     (moment : DiskState) (is : IsMoment moment (last_state first committing.opening) committing.committing) → IsAcknowledged world name kept moment → AllByRecursion (IsAcknowledged world name kept) (moment ∷ is.after)
 lasts_anew world name kept order run first build file acknowledged broken committing readable moment is here =
     stays_all (λ image. latest name (world.records_of image) ≡ Some kept) moment is.after
@@ -107,7 +107,7 @@ none_after name (y ∷ b) o a (x ∷ before) only after e none_b none_a of =
 
 module _ (world : World) (order : Order) (run : ProgramRun) (first : DiskState) (build : IsBuildRun world order run first) (name : FileName) (only : Record) (file : HasFileAt order name only.view) where
   abbrev more : List Record
-  more = commits (run_setting world order first) run.events
+  more = commits (work_over world.records_of order first) run.events
 
   only_of : is_of name only ≡ true
   only_of =
@@ -151,9 +151,9 @@ module _ (world : World) (order : Order) (run : ProgramRun) (first : DiskState) 
 -- so is what was committed before the last start of the run
 pub start_acknowledged : (world : World) (order : Order) (run : ProgramRun) (first : DiskState) (build : IsBuildRun world order run first) (name : FileName) (only : Record) → HasFileAt order name only.view →
     (before rest : List Event) (ticket : ℕ) (request : Request) → run.events ≡ before ++ Started ticket request ∷ rest →
-    (earlier later : List Record) → commits (run_setting world order first) before ≡ earlier ++ only ∷ later → IsAcknowledged world name only (last_state first run.later)
+    (earlier later : List Record) → commits (work_over world.records_of order first) before ≡ earlier ++ only ∷ later → IsAcknowledged world name only (last_state first run.later)
 start_acknowledged world order run first build name only file before rest ticket request e earlier later parts =
-    let setting : Setting = run_setting world order first in
+    let setting : Work = work_over world.records_of order first in
     let waits : Waits setting build.acknowledged (before ++ Started ticket request ∷ rest) = subst (Waits setting build.acknowledged) e build.waits in
     let reached : length (commits setting before) ≤ build.acknowledged = each_at (ComesAfterCommits setting build.acknowledged) [] before (Started ticket request) rest waits in
     let more = commits_prefix setting before (Started ticket request ∷ rest) in

@@ -10,7 +10,7 @@ use Rattle.vr_outside.specs.Records.{latest, is_of}
 use Rattle.vr_outside.specs.Commits.{last_state}
 use Rattle.run_spec.specs.ChildJournal.{book_of}
 use Rattle.run_spec.specs.Commits.{commits}
-use Rattle.run_spec.specs.Histories.{Sources, Order, World, ProgramRun, HistoryStep, Edited, Ran, Stopped, run_setting}
+use Rattle.history_spec.specs.Histories.{Sources, Order, World, ProgramRun, HistoryStep, Edited, Ran, Stopped, work_over}
 
 -- a record is acknowledged: whatever a stop can leave has it as the latest of its name
 abbrev pub IsAcknowledged : World → FileName → Record → DiskState → Type 0
@@ -28,14 +28,14 @@ pub record HasFileAt (order : Order) (name : FileName) (present : List Entry) : 
 abbrev pub SparesFile : World → Option Order → FileName → List Entry → ProgramRun → DiskState → Type 0
 SparesFile world None name present run first = Unit {0}
 SparesFile world (Some order) name present run first =
-    order.clean ≡ false → (file : HasFileAt order name present) → Contains (book_of (run_setting world order first) run.events).taken file.position → ⊥
+    order.clean ≡ false → (file : HasFileAt order name present) → Contains (book_of (work_over world.records_of order first) run.events).taken file.position → ⊥
 
 -- A run after which the record still counts: the store isn't emptied, and the file is at the record's view, or the run
 -- commits no record of its name.
 abbrev pub LeavesRecord : World → Option Order → FileName → Record → ProgramRun → DiskState → Type 0
 LeavesRecord world None name kept run first = Unit {0}
 LeavesRecord world (Some order) name kept run first =
-    (order.clean ≡ false) × (HasFileAt order name kept.view ⊎ (list_any (is_of name) (commits (run_setting world order first) run.events) ≡ false))
+    (order.clean ≡ false) × (HasFileAt order name kept.view ⊎ (list_any (is_of name) (commits (work_over world.records_of order first) run.events) ≡ false))
 
 -- From a disk on, no run starts the file at the record's view, and the record stays acknowledged, until a run that doesn't
 -- leave it.

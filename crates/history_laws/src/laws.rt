@@ -14,7 +14,7 @@ ghost use Rattle.vr_outside.specs.Commits.{last_state};
 ghost use Rattle.vr_outside.specs.Phases.{IsCommitting};
 ghost use Rattle.run_spec.specs.Commits.{record_at, commits};
 ghost use Rattle.run_spec.specs.Faithful.{IsFaithfulDisk};
-ghost use Rattle.run_spec.specs.Histories.{World, Sources, Order, ProgramRun, Stop, HistoryStep, Stopped, IsHistory, RunStep, IsBuildRun, run_setting, IsReadable, IsMoment, IsLeft, empty_image};
+ghost use Rattle.history_spec.specs.Histories.{World, Sources, Order, ProgramRun, Stop, HistoryStep, Stopped, IsHistory, RunStep, IsBuildRun, IsReadable, IsMoment, IsLeft, empty_image, work_over};
 ghost use Rattle.history_laws.specs.Rights.{AllRight};
 ghost use Rattle.history_laws.specs.Spares.{IsAcknowledged, HasFileAt, AllSpare};
 
@@ -72,7 +72,7 @@ pub fn laws_of_runs()
     ensures lasts_anew { (world : World) (order : Order) (run : ProgramRun) (first : DiskState)
         (name : FileName) (kept : Record) (acknowledged : ℕ) (broken : Bool)
         (committing : IsCommitting world.records_of order.clean acknowledged broken
-        (commits (run_setting world order first) run.events) first run.later) →
+        (commits (work_over world.records_of order first) run.events) first run.later) →
         IsReadable first → IsBuildRun world order run first → HasFileAt order name kept.view →
         (moment : DiskState)
         (is : IsMoment moment (last_state first committing.opening) committing.committing) →
@@ -89,7 +89,7 @@ pub fn laws_of_runs()
     ensures acknowledged { (world : World) (order : Order) (run : ProgramRun) (first : DiskState)
         (build : IsBuildRun world order run first) (name : FileName) (only : Record)
         (before after : List Record) → HasFileAt order name only.view →
-        commits (run_setting world order first) run.events ≡ before ++ only ∷ after →
+        commits (work_over world.records_of order first) run.events ≡ before ++ only ∷ after →
         length before < build.acknowledged →
         IsAcknowledged world name only (last_state first run.later) }
     // So is each commit of a child that ended before the last start.
@@ -99,7 +99,7 @@ pub fn laws_of_runs()
         (before rest : List Event) (ticket : ℕ) (request : Request) →
         run.events ≡ before ++ Started ticket request ∷ rest →
         (earlier later : List Record) →
-        commits (run_setting world order first) before ≡ earlier ++ only ∷ later →
+        commits (work_over world.records_of order first) before ≡ earlier ++ only ∷ later →
         IsAcknowledged world name only (last_state first run.later) }
 {}
 

@@ -10,39 +10,40 @@ use Rattle.vr_base.specs.declared.graph.Entry.{Entry}
 use Rattle.vr_base.specs.declared.child.Request.{Request}
 use Rattle.vr_base.specs.declared.child.Exit.{Exit}
 use Rattle.vr_base.specs.declared.child.Event.{Event}
-use Rattle.vr_base.specs.declared.outcome.Outcome.{Outcome}
-use Rattle.vr_base.specs.declared.outcome.Outcome.TheVariants as outcome
+use Rattle.outcomes.specs.declared.outcome.Outcome.{Outcome}
+use Rattle.outcomes.specs.declared.outcome.Outcome.TheVariants as outcome
 use Rattle.vr_outside.specs.declared.records.Record.{Record}
-use Rattle.vr_outside.specs.Disks.{DiskState, Moments, AreSound, reads_of, added_since}
+use Rattle.vr_outside.specs.Disks.{DiskState, Moments, AreSound, reads_of, settled_disk, added_since}
 use Rattle.vr_outside.specs.Commits.{last_state}
-use Rattle.run_spec.specs.ChildJournal.{Setting, Lawful, Answered, EachAfter, book_of, artefact_after}
+use Rattle.run_spec.specs.ChildJournal.{Work, Lawful, Answered, EachAfter, book_of, artefact_after}
 use Rattle.run_spec.specs.Faithful.{IsFaithfulDisk}
-use Rattle.run_spec.specs.Histories.{Sources, Order, ProgramRun, Ran, Stopped, IsReadable, IsMoment, IsLeft, RunStep, IsHistory, run_setting}
-use Rattle.run_spec.specs.JournalParts.{compile_part}
+use Rattle.history_spec.specs.Histories.{Sources, Order, ProgramRun, HistoryStep, Ran, Stopped, empty_image, IsReadable, IsMoment, IsLeft, RunStep, IsHistory, work_over, latest_over}
+use Rattle.run_spec.specs.JournalParts.{compile_part, test_part}
 use Rattle.run_spec.specs.Recorded.{recorded_at}
+use Rattle.run_spec.proofs.Parts.{all_compiled}
 use Rattle.run_spec.proofs.RecordedArtefacts.{recorded_of_record}
 use Rattle.clean_laws.proofs.JournalKeeps.{was_taken, orderly_book, none_of_untaken}
 use Rattle.clean_laws.proofs.JournalStarted.{held, nothing_due, started_unrecorded}
 use Rattle.history_laws.specs.Rights.{AllRight}
 use Rattle.history_laws.specs.Spares.{IsAcknowledged, SparesFile, AllSpare}
-use Rattle.history_laws.proofs.RightRuns.{all_right}
+use Rattle.history_laws.proofs.RightRuns.{all_right, all_right_from_empty}
 use Rattle.history_laws.proofs.StoppedRuns.{stopped_spares}
 use Rattle.scan_spec.specs.Scans.{Finding}
 use Rattle.vunit_top.specs.Store.{records_in_image}
-use Rattle.vunit_top.specs.Orders.{latest_for}
 use Rattle.vunit_top.specs.Reading.{Reading, reading}
-use Rattle.vunit_top.specs.Runs.{world_of, run_of, has_risen, RunsAs}
-use Rattle.vunit_top.specs.Said.{IsSaid, no_order, order_of, order_in, build_of}
-use Rattle.vunit_top.proofs.RunTruths.{readable_now}
+use Rattle.disk_runs.specs.Building.{has_risen}
+use Rattle.vunit_top.specs.Runs.{world_of, run_of, RunsAs}
+use Rattle.vunit_top.specs.Said.{HasEnded, no_order, order_of, order_in}
+use Rattle.vunit_top.proofs.RunTruths.{none_in_empty_image, readable_now}
 use Rattle.run_chains.specs.Chains.{Deeds, run_by, RanTwice, RanAfterStop}
 
 module _ (scan : List ℕ → Finding) (answer : Request → Exit) (run : ProgramRun) (first : DiskState) where
   -- where something is recorded of each file, a run starts nothing
   nothing_started : (order : Option Order) → RunStep (world_of scan answer) order run first
-      → ((position : ℕ) → position < length (unwrap_or order no_order).graph → (build_of first (unwrap_or order no_order)).recorded position ≡ None → ⊥) → run.events ≡ []
+      → ((position : ℕ) → position < length (unwrap_or order no_order).graph → (work_over records_in_image (unwrap_or order no_order) first).recorded position ≡ None → ⊥) → run.events ≡ []
   nothing_started None step each = step.events
   nothing_started (Some order) (inl idle) each = idle.events
-  nothing_started (Some order) (inr build) each = nothing_due (build_of first order) each run.events build.lawful
+  nothing_started (Some order) (inr build) each = nothing_due (work_over records_in_image order first) each run.events build.lawful
 
   -- the events of a run are its compilers' answers
   answered_in : (order : Option Order) → RunStep (world_of scan answer) order run first → Answered answer run.events
@@ -53,10 +54,10 @@ module _ (scan : List ℕ → Finding) (answer : Request → Exit) (run : Progra
 
   -- a run that is done has started exactly the files that nothing was recorded of
   exact_starts : (r : Reading) (last : DiskState) → RunsAs scan answer r run first last → IsFaithfulDisk answer records_in_image first → run.outcome ≡ outcome.Done → (position : ℕ) → position < length (order_in r).graph →
-      Contains (book_of (build_of first (order_in r)) run.events).taken position ↔ ((build_of first (order_in r)).recorded position ≡ None)
+      Contains (book_of (work_over records_in_image (order_in r) first) run.events).taken position ↔ ((work_over records_in_image (order_in r) first).recorded position ≡ None)
   exact_starts r last did faithful done position inside =
-      let setting : Setting = build_of first (order_in r) in
-      let lawful : Lawful setting run.events = (did.whole (subst IsSaid (sym done) tt)).lawful in
+      let setting : Work = work_over records_in_image (order_in r) first in
+      let lawful : Lawful setting run.events = (did.whole (subst HasEnded (sym done) tt)).lawful in
       let answered : Answered answer run.events = answered_in (order_of r) did.step in
       let made : is_some (artefact_after setting run.events position) ≡ true = did.made faithful done position inside in (
         λ contains. All-contains (λ p. setting.recorded p ≡ None) (book_of setting run.events).taken position (started_unrecorded answer setting run.events lawful answered) contains,
@@ -78,20 +79,20 @@ module _ (scan : List ℕ → Finding) (answer : Request → Exit) (words : List
 
   -- after a run that is done each file has a current record
   each_recorded : (first middle : DiskState) → IsReadable middle → First first middle → IsFaithfulDisk answer records_in_image first → (order_in r).clean ≡ false → one ≡ outcome.Done → (position : ℕ) → position < length (order_in r).graph
-      → (build_of middle (order_in r)).recorded position ≡ None → ⊥
+      → (work_over records_in_image (order_in r) middle).recorded position ≡ None → ⊥
   each_recorded first middle readable did faithful kept_store done position inside none =
-      let kept = did.recorded (subst IsSaid (sym done) tt) position inside (did.made faithful done position inside) (reads_of middle) readable in
-      none-some kept.artefact (sym (subst (λ (clean : Bool). recorded_at (latest_for records_in_image clean middle) (order_in r).graph position ≡ None) kept_store none) ∙ recorded_of_record (latest_for records_in_image false middle) (order_in r).graph position kept)
+      let kept = did.recorded (subst HasEnded (sym done) tt) position inside (did.made faithful done position inside) (reads_of middle) readable in
+      none-some kept.artefact (sym (subst (λ (clean : Bool). recorded_at (latest_over records_in_image clean middle) (order_in r).graph position ≡ None) kept_store none) ∙ recorded_of_record (latest_over records_in_image false middle) (order_in r).graph position kept)
 
-  pub ran_twice : (first middle last : DiskState) (old new : List Event) → IsReadable middle → First first middle → Second middle last → new ≡ (old ++ before.events) ++ after.events → RanTwice scan answer words sources one two first last old new
+  pub ran_twice : (first middle last : DiskState) (old new : List Event) → IsReadable middle → First first middle → Second middle last → new ≡ (old ++ before.events) ++ after.events → test_part after.events ≡ [] → RanTwice scan answer words sources (record { first = one; second = two }) (record { disk = first; journal = old }) (record { disk = last; journal = new })
   unfolding IsHistory
-  ran_twice first middle last old new readable did next journal = record {
+  ran_twice first middle last old new readable did next journal untested = record {
     before = before;
     after = after;
     history = (did.step, (subst (RunStep (world_of scan answer) (order_of r) (run_by words two after)) (sym did.ends) next.step, tt));
     ends = ap (λ (disk : DiskState). last_state disk after.later) did.ends ∙ next.ends;
     journal = journal;
-    idle = λ faithful kept done. nothing_started scan answer (run_by words two after) middle (order_of r) next.step (each_recorded first middle readable did faithful kept done);
+    idle = λ faithful kept done. sym (all_compiled after.events untested) ∙ nothing_started scan answer (run_by words two after) middle (order_of r) next.step (each_recorded first middle readable did faithful kept done);
   }
 
   -- a stop at a moment of the first run has left what the second finds
@@ -113,7 +114,8 @@ module _ (scan : List ℕ → Finding) (answer : Request → Exit) (words : List
         (all_right (world_of scan answer) (Stopped (run_by words one before) (record { events = compile_part before.events; moment = moment; disk = left }) ∷ []) sources first readable faithful
         (did.step, record { rest = []; prefix = sym (append-nil (compile_part before.events)); moment = is; left = stop }, tt)).1
 
-    pub ran_after_stop : (old new : List Event) → IsReadable first → new ≡ (old ++ before.events) ++ after.events → RanAfterStop scan answer words sources one two before.disk_failed first before.later moment left last old new
+    pub ran_after_stop : (old new : List Event) → IsReadable first → new ≡ (old ++ before.events) ++ after.events →
+        RanAfterStop scan answer words sources (record { first = one; second = two }) (record { failed = before.disk_failed; first = first; later = before.later; moment = moment }) (record { disk = left; journal = old }) (record { disk = last; journal = new })
     ran_after_stop old new readable journal = record {
       before = before.events;
       after = after;
@@ -123,3 +125,8 @@ module _ (scan : List ℕ → Finding) (answer : Request → Exit) (words : List
       spares = spares;
       exact = λ faithful done position inside. exact_starts scan answer (run_by words two after) left r last next (still_true readable faithful) done position inside;
     }
+
+-- from an empty disk each run of the program is right
+pub right_from_empty : (scan : List ℕ → Finding) (answer : Request → Exit) (sources : Sources) (steps : List HistoryStep) → IsHistory (world_of scan answer) sources (settled_disk empty_image) steps →
+    AllRight (world_of scan answer) sources (settled_disk empty_image) steps
+right_from_empty scan answer sources steps history = all_right_from_empty (world_of scan answer) steps sources none_in_empty_image history

@@ -3,14 +3,15 @@
 ghost use Rattle.std.specs.Prelude.{◌≡◌, [], ℕ, List};
 ghost use Rattle.vr_outside.specs.Disks.{DiskState, added_since};
 ghost use Rattle.run_spec.specs.ChildJournal.{since};
-ghost use Rattle.run_spec.specs.Histories.{IsMoment, IsLeft};
+ghost use Rattle.history_spec.specs.Histories.{IsMoment, IsLeft};
 ghost use Rattle.scan_spec.specs.Scans.{Finding, IsScanner};
-ghost use Rattle.vunit_top.specs.Runs.{has_risen};
+ghost use Rattle.disk_runs.specs.Building.{has_risen};
 ghost use Rattle.run_chains.specs.Chains.{RanTwice, RanAfterStop};
 
+use outcomes::Outcome;
 use report_files::Reports;
 use std::alloc::Global;
-use vr_base::{Outcome, TextList};
+use vr_base::TextList;
 use vr_outside::{Disk, Procs, Sink, Source, Tree};
 use vunit_top::run_vunit;
 
@@ -40,9 +41,9 @@ pub fn run_twice<I: Source, T: Tree, D: Disk, P: Procs, O: Sink, R: Reports>(
     ensures ran { (scan : List ℕ → Finding) → IsScanner scan → T.tells → D.tells → P.tells →
         RanTwice scan (P.answer procs.old) words.now
         (record { file = T.file tree.old; listed = T.listed tree.old })
-        result.first result.second
-        (D.moments disk.old).now (D.moments disk.new).now
-        (P.journal procs.old) (P.journal procs.new) }
+        result
+        (record { disk = (D.moments disk.old).now; journal = P.journal procs.old })
+        (record { disk = (D.moments disk.new).now; journal = P.journal procs.new }) }
 {
     let first = run_vunit(alloc, words, input, tree, disk, procs, out, reports);
     let second = run_vunit(alloc, words, input, tree, disk, procs, out, reports);
@@ -74,11 +75,15 @@ pub fn run_after_stop<I: Source, T: Tree, D: Disk, E: Disk, P: Procs, O: Sink, R
         IsLeft moment (E.moments left.old).now →
         RanAfterStop scan (P.answer procs.old) words.now
         (record { file = T.file tree.old; listed = T.listed tree.old })
-        result.first result.second
-        (has_risen (D.failed_disk_calls disk.old) (D.failed_disk_calls disk.new))
-        (D.moments disk.old).now (added_since (D.moments disk.old) (D.moments disk.new)) moment
-        (E.moments left.old).now (E.moments left.new).now
-        (P.journal procs.old) (P.journal procs.new) }
+        result
+        (record {
+          failed = has_risen (D.failed_disk_calls disk.old) (D.failed_disk_calls disk.new);
+          first = (D.moments disk.old).now;
+          later = added_since (D.moments disk.old) (D.moments disk.new);
+          moment = moment;
+        })
+        (record { disk = (E.moments left.old).now; journal = P.journal procs.old })
+        (record { disk = (E.moments left.new).now; journal = P.journal procs.new }) }
 {
     let first = run_vunit(alloc, words, input, tree, disk, procs, out, reports);
     let second = run_vunit(alloc, words, input, tree, left, procs, out, reports);

@@ -3,8 +3,10 @@
 #![tactic(auto)]
 
 mod chains;
+mod laws;
 
 pub use chains::{Outcomes, run_after_stop, run_twice};
+pub use laws::laws_of_program;
 
 #[cfg(test)]
 mod tests;

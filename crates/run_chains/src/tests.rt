@@ -2,12 +2,11 @@
 
 use crate::{Outcomes, run_after_stop, run_twice};
 use memory_reports::MemReports;
+use outcomes::Outcome;
 use std::alloc::Global;
 use std::process::Abort;
 use std::test::Fail;
-use vr_base::{
-    Items, NamedText, NamedTextList, NoMemory, Numbers, Outcome, Positions, Text, TextList,
-};
+use vr_base::{Items, NamedText, NamedTextList, NoMemory, Numbers, Positions, Text, TextList};
 use vr_memory::{MemDisk, MemSink, MemSource, MemTree, ScriptProcs, can_answer, have_paths};
 
 fn add_file(

@@ -10,9 +10,9 @@ use Rattle.vr_base.specs.declared.child.Exit.{Exit}
 use Rattle.vr_base.specs.declared.child.Event.{Event}
 use Rattle.vr_base.specs.declared.child.Event.TheVariants.{Started, Ended, Gone}
 use Rattle.run_spec.specs.Moves.{Job, RunningChild, Core, empty_core, Move, is_made_so_far, is_startable, position_of, without_child, ended_child, after_move, after_moves, LawfulMoves, GreedyMoves}
-use Rattle.run_spec.specs.ChildJournal.{Setting, Run, End, Book, empty_book, exit_at, output_at, artefact_so_far, deps_of, job_of, child_of_run, child_of_end, core_of, next_position, run_of, others_of, end_of, after, after_all, book_of, move_of, moves_after, moves_of, AreRequested, EachAfter, HasFreshTicket, HoldsAnswer, Answered, Lawful, Greedy, since, starts_of}
+use Rattle.run_spec.specs.ChildJournal.{Work, Run, End, Book, empty_book, exit_at, output_at, artefact_so_far, deps_of, job_of, child_of_run, child_of_end, core_of, next_position, run_of, others_of, end_of, after, after_all, book_of, move_of, moves_after, moves_of, AreRequested, EachAfter, HasFreshTicket, HoldsAnswer, Answered, Lawful, Greedy, since, starts_of}
 
-pub after_all-append : (s : Setting) (b : Book) (xs ys : List Event) → after_all s b (xs ++ ys) ≡ after_all s (after_all s b xs) ys
+pub after_all-append : (s : Work) (b : Book) (xs ys : List Event) → after_all s b (xs ++ ys) ≡ after_all s (after_all s b xs) ys
 unfolding after_all
 after_all-append s b [] ys = refl
 after_all-append s b (x ∷ xs) ys = after_all-append s (after s b x) xs ys
@@ -35,13 +35,13 @@ ended_is ticket (run ∷ runs) exit =
     ]
 
 -- what has happened after an event is what has happened after its move
-pub core_after : (s : Setting) (b : Book) (event : Event) → core_of (after s b event) ≡ after_move (job_of s) (core_of b) (move_of s b event)
+pub core_after : (s : Work) (b : Book) (event : Event) → core_of (after s b event) ≡ after_move (job_of s) (core_of b) (move_of s b event)
 unfolding after after_move
 core_after s b (Started t r) = rw map_push refl
 core_after s b (Ended t e) = rw (running_without t b.runs, map-append child_of_end b.ends (end_of (run_of t b.runs) e), ended_is t b.runs e) refl
 core_after s b (Gone t) = rw (running_without t b.runs) refl
 
-pub core_after_all : (s : Setting) (b : Book) (xs : List Event) → core_of (after_all s b xs) ≡ after_moves (job_of s) (core_of b) (moves_after s b xs)
+pub core_after_all : (s : Work) (b : Book) (xs : List Event) → core_of (after_all s b xs) ≡ after_moves (job_of s) (core_of b) (moves_after s b xs)
 unfolding after_all after_moves moves_after
 core_after_all s b [] = refl
 core_after_all s b (x ∷ xs) = core_after_all s (after s b x) xs ∙ ap (λ (core : Core). after_moves (job_of s) core (moves_after s (after s b x) xs)) (core_after s b x)
@@ -56,7 +56,7 @@ good_end (end ∷ ends) k =
       | inr f ↦ rw f (good_end ends k)
     ]
 
-pub made_so_far : (s : Setting) (b : Book) (k : ℕ) → is_made_so_far (job_of s) (core_of b) k ≡ is_some (artefact_so_far s b.ends k)
+pub made_so_far : (s : Work) (b : Book) (k : ℕ) → is_made_so_far (job_of s) (core_of b) k ≡ is_some (artefact_so_far s b.ends k)
 unfolding artefact_so_far output_at
 made_so_far s b k = from (s.recorded k) refl where
   from : (recorded : Option (List ℕ)) → s.recorded k ≡ recorded → is_made_so_far (job_of s) (core_of b) k ≡ is_some (artefact_so_far s b.ends k)
@@ -64,7 +64,7 @@ made_so_far s b k = from (s.recorded k) refl where
   from None e = rw e (good_end b.ends k)
 
 -- a file may be started where it wasn't, has no artefact, and all that it depends on has one
-pub startable_is : (s : Setting) (b : Book) (k : ℕ) →
+pub startable_is : (s : Work) (b : Book) (k : ℕ) →
     is_startable (job_of s) (core_of b) k ≡
     (not (list_any (λ other. eqb other k) b.taken) && is_none (artefact_so_far s b.ends k) && list_all (λ dep. is_some (artefact_so_far s b.ends dep)) (deps_of (slice_get s.graph k)))
 unfolding is_startable
@@ -73,7 +73,7 @@ startable_is s b k =
     ap (λ (made : ℕ → Bool). not (list_any (λ other. eqb other k) b.taken) && not (made k) && list_all made (deps_of (slice_get s.graph k))) same
 
 -- two parts
-pub moves-append : (s : Setting) (b : Book) (xs ys : List Event) → moves_after s b (xs ++ ys) ≡ moves_after s b xs ++ moves_after s (after_all s b xs) ys
+pub moves-append : (s : Work) (b : Book) (xs ys : List Event) → moves_after s b (xs ++ ys) ≡ moves_after s b xs ++ moves_after s (after_all s b xs) ys
 unfolding after_all moves_after
 moves-append s b [] ys = refl
 moves-append s b (x ∷ xs) ys = ap (λ (moves : List Move). move_of s b x ∷ moves) (moves-append s (after s b x) xs ys)
@@ -88,7 +88,7 @@ unfolding GreedyMoves after_moves
 GreedyMoves-append job core [] ys h k = k
 GreedyMoves-append job core (x ∷ xs) ys h k = (h.0, GreedyMoves-append job (after_move job core x) xs ys h.1 k)
 
-pub AreRequested-append : (s : Setting) (b : Book) (xs ys : List Event) → AreRequested s b xs → AreRequested s (after_all s b xs) ys → AreRequested s b (xs ++ ys)
+pub AreRequested-append : (s : Work) (b : Book) (xs ys : List Event) → AreRequested s b xs → AreRequested s (after_all s b xs) ys → AreRequested s b (xs ++ ys)
 unfolding AreRequested after_all
 AreRequested-append s b [] ys h k = k
 AreRequested-append s b (x ∷ xs) ys h k = (h.0, AreRequested-append s (after s b x) xs ys h.1 k)
@@ -99,7 +99,7 @@ EachAfter-append P before [] ys h k = subst (λ (l : List Event). EachAfter P l 
 EachAfter-append P before (x ∷ xs) ys h k = (h.0, EachAfter-append P (before ++ x ∷ []) xs ys h.1 (subst (λ (l : List Event). EachAfter P l ys) (sym (append_assoc before (x ∷ []) xs)) k))
 
 -- more events after lawful ones
-pub lawful_more : (s : Setting) (events more : List Event) → Lawful s events →
+pub lawful_more : (s : Work) (events more : List Event) → Lawful s events →
     LawfulMoves (job_of s) (core_of (book_of s events)) (moves_after s (book_of s events) more) → AreRequested s (book_of s events) more → EachAfter HasFreshTicket events more →
     Lawful s (events ++ more)
 lawful_more s events more lawful moves requests tickets = record {
@@ -110,7 +110,7 @@ lawful_more s events more lawful moves requests tickets = record {
   tickets = EachAfter-append HasFreshTicket [] events more lawful.tickets tickets;
 }
 
-pub greedy_more : (s : Setting) (events more : List Event) → Greedy s events → GreedyMoves (job_of s) (core_of (book_of s events)) (moves_after s (book_of s events) more) → Greedy s (events ++ more)
+pub greedy_more : (s : Work) (events more : List Event) → Greedy s events → GreedyMoves (job_of s) (core_of (book_of s events)) (moves_after s (book_of s events) more) → Greedy s (events ++ more)
 greedy_more s events more greedy moves =
     subst (GreedyMoves (job_of s) empty_core) (sym (moves-append s empty_book events more))
     (GreedyMoves-append (job_of s) empty_core (moves_of s events) (moves_after s (book_of s events) more) greedy
@@ -123,12 +123,12 @@ answered_more answer events more answered then = EachAfter-append (HoldsAnswer a
 pub since-added : (old added : List Event) → since old (old ++ added) ≡ added
 since-added old added = drop_at old added (length old) refl
 
-pub after_two : (s : Setting) (b : Book) (x y : Event) → after_all s b (x ∷ y ∷ []) ≡ after s (after s b x) y
+pub after_two : (s : Work) (b : Book) (x y : Event) → after_all s b (x ∷ y ∷ []) ≡ after s (after s b x) y
 unfolding after_all
 after_two s b x y = refl
 
 -- one child has run where none ran
-pub after_run : (s : Setting) (b : Book) (t i : ℕ) (r : Request) (e : Exit) → b.runs ≡ [] → next_position s b ≡ Some i →
+pub after_run : (s : Work) (b : Book) (t i : ℕ) (r : Request) (e : Exit) → b.runs ≡ [] → next_position s b ≡ Some i →
     after s (after s b (Started t r)) (Ended t e) ≡ record { taken = b.taken ++ i ∷ []; runs = []; ends = b.ends ++ (record { position = i; request = r; exit = e }) ∷ []; halted = b.halted || (not s.keep_going && not (eqb e.code 0)) }
 unfolding after
 after_run s b t i r e idle next = rw (next, idle, eq-eqb t t refl) refl

@@ -9,4 +9,3 @@ pub mod Prefixes
 pub mod Waiting
 pub mod RecordNames
 pub mod LatestRecords
-pub mod RunSteps

@@ -4,7 +4,7 @@ use Rattle.vr_base.specs.declared.child.Request.{Request}
 use Rattle.vr_base.specs.declared.child.Exit.{Exit}
 use Rattle.vr_base.specs.declared.child.Event.{Event}
 use Rattle.vr_base.specs.declared.child.Event.TheVariants.{Started, Ended, Gone}
-use Rattle.run_spec.specs.ChildJournal.{Setting, EachAfter}
+use Rattle.run_spec.specs.ChildJournal.{Work, EachAfter}
 use Rattle.run_spec.specs.Commits.{commits, ComesAfterCommits, Waits}
 use Rattle.run_spec.proofs.Journal.{EachAfter-append}
 
@@ -14,7 +14,7 @@ unfolding EachAfter
 each_weaker P Q to before [] each = tt
 each_weaker P Q to before (event ∷ events) each = (to before event each.0, each_weaker P Q to (before ++ event ∷ []) events each.1)
 
-module _ (setting : Setting) where
+module _ (setting : Work) where
   after_fewer : (acknowledged more : ℕ) → acknowledged ≤ more → (before : List Event) (event : Event) → ComesAfterCommits setting acknowledged before event → ComesAfterCommits setting more before event
   after_fewer acknowledged more le before (Started ticket request) h = omega arith
   after_fewer acknowledged more le before (Ended ticket exit) h = tt

@@ -14,7 +14,7 @@ use Rattle.run_spec.specs.Moves.{Job, RunningChild, EndedChild, Core, empty_core
 
 -- what a build works on: the graph, the recorded artefact of each file whose record is current, how many
 -- children run at once, and whether it goes on after a refusal
-pub record Setting : Type 0 where
+pub record Work : Type 0 where
   pub graph : List Entry
   pub recorded : ℕ → Option (List ℕ)
   pub slots : ℕ
@@ -57,7 +57,7 @@ or_else None other = other
 or_else (Some artefact) other = Some artefact
 
 -- the artefact that the file at a position has after these ends: the recorded one, or what a compiler printed that ended with code 0
-unfoldable pub artefact_so_far : Setting → List End → ℕ → Option (List ℕ)
+unfoldable pub artefact_so_far : Work → List End → ℕ → Option (List ℕ)
 artefact_so_far setting ends position = or_else (setting.recorded position) (output_at ends position)
 
 abbrev pub deps_of : Option Entry → List ℕ
@@ -65,7 +65,7 @@ deps_of None = []
 deps_of (Some entry) = entry.deps
 
 -- what the order of a build follows from: a file is due that has no artefact before any child has ended
-abbrev pub job_of : Setting → Job
+abbrev pub job_of : Work → Job
 job_of setting = record {
   count = length setting.graph;
   deps = λ position. deps_of (slice_get setting.graph position);
@@ -92,12 +92,12 @@ built_file (Some entry) None = None
 built_file None artefact = None
 
 -- what a compiler is started with for the file at a position, after these ends
-unfoldable pub request_at : Setting → List End → ℕ → Option Request
+unfoldable pub request_at : Work → List End → ℕ → Option Request
 request_at setting ends position =
     option_map (λ entry. compile_request entry (filter_map (λ dep. built_file (slice_get setting.graph dep) (artefact_so_far setting ends dep)) entry.deps)) (slice_get setting.graph position)
 
 -- the position of the file that the next start is of
-abbrev pub next_position : Setting → Book → Option ℕ
+abbrev pub next_position : Work → Book → Option ℕ
 next_position setting book = next_start (job_of setting) (core_of book)
 
 -- the running child of a ticket
@@ -116,7 +116,7 @@ end_of None exit = []
 end_of (Some run) exit = record { position = run.position; request = run.request; exit = exit } ∷ []
 
 -- what has happened after one more event
-unfoldable pub after : Setting → Book → Event → Book
+unfoldable pub after : Work → Book → Event → Book
 after setting book (Started ticket request) =
     let position = unwrap_or (next_position setting book) 0 in
     record { taken = book.taken ++ position ∷ []; runs = book.runs ++ (record { ticket = ticket; position = position; request = request }) ∷ []; ends = book.ends; halted = book.halted }
@@ -126,39 +126,39 @@ after setting book (Gone ticket) =
     record { taken = book.taken; runs = others_of ticket book.runs; ends = book.ends; halted = true }
 
 -- what has happened after events
-unfoldable pub after_all : Setting → Book → List Event → Book
+unfoldable pub after_all : Work → Book → List Event → Book
 after_all setting book [] = book
 after_all setting book (event ∷ events) = after_all setting (after setting book event) events
 
 -- what has happened after events, from the start
-abbrev pub book_of : Setting → List Event → Book
+abbrev pub book_of : Work → List Event → Book
 book_of setting events = after_all setting empty_book events
 
 -- the artefact that the file at a position has after events
-abbrev pub artefact_after : Setting → List Event → ℕ → Option (List ℕ)
+abbrev pub artefact_after : Work → List Event → ℕ → Option (List ℕ)
 artefact_after setting events position = artefact_so_far setting (book_of setting events).ends position
 
 -- the move of an event
-abbrev pub move_of : Setting → Book → Event → Move
+abbrev pub move_of : Work → Book → Event → Move
 move_of setting book (Started ticket request) = Starts (unwrap_or (next_position setting book) 0) ticket
 move_of setting book (Ended ticket exit) = Ends ticket (exit.code == 0)
 move_of setting book (Gone ticket) = Loses ticket
 
 -- the moves of events
-unfoldable pub moves_after : Setting → Book → List Event → List Move
+unfoldable pub moves_after : Work → Book → List Event → List Move
 moves_after setting book [] = []
 moves_after setting book (event ∷ events) = move_of setting book event ∷ moves_after setting (after setting book event) events
 
-abbrev pub moves_of : Setting → List Event → List Move
+abbrev pub moves_of : Work → List Event → List Move
 moves_of setting events = moves_after setting empty_book events
 
 -- a start is made with what its file's compiler is started with, over the artefacts so far
-abbrev pub IsRequested : Setting → Book → Event → Type 0
+abbrev pub IsRequested : Work → Book → Event → Type 0
 IsRequested setting book (Started ticket request) = option_and_then (request_at setting book.ends) (next_position setting book) ≡ Some request
 IsRequested setting book (Ended ticket exit) = Unit {0}
 IsRequested setting book (Gone ticket) = Unit {0}
 
-unfoldable pub AreRequested : Setting → Book → List Event → Type 0
+unfoldable pub AreRequested : Work → Book → List Event → Type 0
 AreRequested setting book [] = Unit {0}
 AreRequested setting book (event ∷ events) = IsRequested setting book event × AreRequested setting (after setting book event) events
 
@@ -174,13 +174,13 @@ HasFreshTicket before (Ended ticket exit) = Unit {0}
 HasFreshTicket before (Gone ticket) = Unit {0}
 
 -- The events' moves are lawful, each start has the request of its file, and no ticket is given twice.
-pub record Lawful (setting : Setting) (events : List Event) : Type 0 where
+pub record Lawful (setting : Work) (events : List Event) : Type 0 where
   pub moves : LawfulMoves (job_of setting) empty_core (moves_of setting events)
   pub requests : AreRequested setting empty_book events
   pub tickets : EachAfter HasFreshTicket [] events
 
 -- a child's end is asked for only where nothing is to be started
-abbrev pub Greedy : Setting → List Event → Type 0
+abbrev pub Greedy : Work → List Event → Type 0
 Greedy setting events = GreedyMoves (job_of setting) empty_core (moves_of setting events)
 
 -- an end holds the answer to what its ticket was started with
@@ -200,7 +200,7 @@ is_gone (Ended ticket exit) = false
 is_gone (Gone ticket) = true
 
 -- the events of a build that ended by itself
-pub record IsWhole (setting : Setting) (events : List Event) : Type 0 where
+pub record IsWhole (setting : Work) (events : List Event) : Type 0 where
   pub lawful : Lawful setting events
   pub greedy : Greedy setting events
   pub finished : IsFinished (job_of setting) (core_of (book_of setting events))

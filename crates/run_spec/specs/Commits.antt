@@ -8,12 +8,12 @@ use Rattle.vr_base.specs.declared.child.Event.TheVariants.{Started, Ended, Gone}
 use Rattle.vr_base.specs.declared.child.Exit.{Exit}
 use Rattle.vr_base.specs.View.{view}
 use Rattle.vr_outside.specs.declared.records.Record.{Record}
-use Rattle.run_spec.specs.ChildJournal.{Setting, End, EachAfter, book_of}
+use Rattle.run_spec.specs.ChildJournal.{Work, End, EachAfter, book_of}
 use Rattle.run_spec.specs.Recorded.{recorded_at}
 
 -- what a build over a store works on, by the latest record of each name
-abbrev pub setting_of : (FileName → Option Record) → List Entry → ℕ → Bool → Setting
-setting_of latest_of graph slots keep_going = record { graph = graph; recorded = recorded_at latest_of graph; slots = slots; keep_going = keep_going }
+abbrev pub work_of : (FileName → Option Record) → List Entry → ℕ → Bool → Work
+work_of latest_of graph slots keep_going = record { graph = graph; recorded = recorded_at latest_of graph; slots = slots; keep_going = keep_going }
 
 -- the record of a file that was made
 abbrev pub record_at : List Entry → ℕ → List ℕ → Record
@@ -27,15 +27,15 @@ abbrev pub commits_of : List Entry → List End → List Record
 commits_of graph ends = flat_map (λ end. commit_of graph end.position end.exit) ends
 
 -- the records that a build with these events commits, in order
-abbrev pub commits : Setting → List Event → List Record
+abbrev pub commits : Work → List Event → List Record
 commits setting events = commits_of setting.graph (book_of setting events).ends
 
 -- a start comes where all commits so far are among so many
-abbrev pub ComesAfterCommits : Setting → ℕ → List Event → Event → Type 0
+abbrev pub ComesAfterCommits : Work → ℕ → List Event → Event → Type 0
 ComesAfterCommits setting acknowledged before (Started ticket request) = length (commits setting before) ≤ acknowledged
 ComesAfterCommits setting acknowledged before (Ended ticket exit) = Unit {0}
 ComesAfterCommits setting acknowledged before (Gone ticket) = Unit {0}
 
 -- where so many commits are acknowledged: each start comes where all commits so far are
-abbrev pub Waits : Setting → (acknowledged : ℕ) → List Event → Type 0
+abbrev pub Waits : Work → (acknowledged : ℕ) → List Event → Type 0
 Waits setting acknowledged events = EachAfter (ComesAfterCommits setting acknowledged) [] events

@@ -7,4 +7,3 @@ pub mod Marks
 pub mod Recorded
 pub mod Faithful
 pub mod Commits
-pub mod Histories

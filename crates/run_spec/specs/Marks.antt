@@ -5,13 +5,13 @@ use Rattle.vr_base.specs.declared.graph.Entry.{Entry}
 use Rattle.vr_base.specs.declared.file.FileName.{FileName}
 use Rattle.vr_base.specs.declared.child.Event.{Event}
 use Rattle.vr_base.specs.declared.child.Exit.{Exit}
-use Rattle.vr_base.specs.declared.outcome.Mark.{Mark}
-use Rattle.vr_base.specs.declared.outcome.Mark.TheVariants.{Fresh, Compiled, Refused, Skipped, Left}
+use Rattle.run_spec.specs.declared.marks.Mark.{Mark}
+use Rattle.run_spec.specs.declared.marks.Mark.TheVariants.{Fresh, Compiled, Refused, Skipped, Left}
 use Rattle.vr_base.specs.declared.child.Request.{Request}
 use Rattle.vr_base.specs.PresentGraph.{below}
 use Rattle.run_spec.specs.CleanBuild.{Result, Made, Blocked, clean_build}
 use Rattle.run_spec.specs.CleanBuild as clean
-use Rattle.run_spec.specs.ChildJournal.{Setting, End, exit_at, artefact_so_far, book_of}
+use Rattle.run_spec.specs.ChildJournal.{Work, End, exit_at, artefact_so_far, book_of}
 
 -- What became of a file, by whether a child of it has ended and whether there is an artefact of it: compiled with both;
 -- refused with an end alone; fresh with an artefact alone; with neither it waits for a file that isn't made, or was
@@ -23,11 +23,11 @@ mark_of keep_going None (Some artefact) = Fresh
 mark_of keep_going None None = if keep_going then Skipped else Left
 
 -- the mark of the file at a position after these ends
-abbrev pub mark_at : Setting → List End → ℕ → Mark
+abbrev pub mark_at : Work → List End → ℕ → Mark
 mark_at setting ends position = mark_of setting.keep_going (exit_at ends position) (artefact_so_far setting ends position)
 
 -- the marks of all files, by what happened
-abbrev pub marks_of : Setting → List Event → List Mark
+abbrev pub marks_of : Work → List Event → List Mark
 marks_of setting events = map (mark_at setting (book_of setting events).ends) (below (length setting.graph))
 
 -- what a clean build says of a file
@@ -50,7 +50,7 @@ is_refused Skipped = false
 is_refused Left = false
 
 -- no refusal halts the build: it goes on after one, or no file is refused
-abbrev pub NoRefusalHalts : Setting → List Event → Type 0
+abbrev pub NoRefusalHalts : Work → List Event → Type 0
 NoRefusalHalts setting events = (setting.keep_going ≡ true) ⊎ (list_any is_refused (marks_of setting events) ≡ false)
 
 abbrev pub is_compiled : Mark → Bool

@@ -3,5 +3,7 @@
 #![tactic(auto)]
 
 mod laws;
+mod marks;
 
 pub use laws::laws_of_recorded;
+pub use marks::{Mark, MarkList};

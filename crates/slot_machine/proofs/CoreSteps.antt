@@ -6,23 +6,13 @@ use Rattle.std.proofs.lemmas.Bool.{cases_eq, cases_Bool, eq-eqb, ne_eqb, cond-tr
 use Rattle.std.proofs.lemmas.List.Folds.{list_any-append}
 use Rattle.run_spec.specs.Moves.{Job, Core, EndedChild, Starts, is_taken, is_made_so_far, is_startable, first_from, after_move}
 use Rattle.slot_machine.specs.Counts.{is_waiting, unmade_deps, times}
-use Rattle.slot_machine.specs.Machines.{with_end}
+use Rattle.child_steps.specs.Steps.{with_end}
+use Rattle.child_steps.proofs.PlainSteps.{made_after_end}
 use Rattle.slot_machine.proofs.Times.{count-cons, count_same}
 
 or_false : (x : Bool) → (x || false) ≡ x
 or_false true = refl
 or_false false = refl
-
-or_both : (n x y ok : Bool) → (n || (x || ((y && ok) || false))) ≡ ((n || x) || (y && ok))
-or_both true x y ok = refl
-or_both false true y ok = refl
-or_both false false y ok = or_false (y && ok)
-
--- what is made after an end
-pub made_after_end : (job : Job) (core : Core) (at : ℕ) (ok : Bool) (k : ℕ) → is_made_so_far job (with_end job core at ok) k ≡ (is_made_so_far job core k || ((at == k) && ok))
-made_after_end job core at ok k =
-    ap (λ b. not (job.is_due k) || b) (list_any-append (λ (end : EndedChild). (end.position == k) && end.ok) core.ended ((record { position = at; ok = ok }) ∷ []))
-    ∙ or_both (not (job.is_due k)) (list_any (λ (end : EndedChild). (end.position == k) && end.ok) core.ended) (at == k) ok
 
 and_other : (m e : Bool) → e ≡ false → (m || (e && true)) ≡ m
 and_other true e fails = refl

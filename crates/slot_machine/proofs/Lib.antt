@@ -2,6 +2,5 @@
 pub mod WordBits
 pub mod Times
 pub mod CoreSteps
-pub mod ChildLists
 pub mod MachineSteps
 pub mod NewMachine

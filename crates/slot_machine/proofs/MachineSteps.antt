@@ -11,10 +11,12 @@ use Rattle.run_spec.specs.Moves.{Job, Core, RunningChild, Starts, Ends, is_taken
 use Rattle.run_spec.proofs.Places.{first_found, first_none}
 use Rattle.slot_machine.specs.Bits.{has_bit, IsLeast}
 use Rattle.slot_machine.specs.Counts.{is_waiting, unmade_deps, times, AreReady}
-use Rattle.slot_machine.specs.Machines.{running_child, step_of, step_at, candidate_of, next_of, to_come, IsMachineOf, with_end, without_ticket}
+use Rattle.slot_machine.specs.Machines.{candidate_of, next_of, to_come, IsMachineOf}
+use Rattle.child_steps.specs.Steps.{running_child, step_of, step_at, with_end, without_ticket}
 use Rattle.slot_machine.specs.declared.slots.Slots.{Slots}
-use Rattle.slot_machine.specs.declared.child.Child.{Child}
-use Rattle.slot_machine.specs.declared.step.Step.TheVariants.{Start, Wait, Finished}
+use Rattle.child_steps.specs.declared.child.Child.{Child}
+use Rattle.child_steps.specs.declared.step.Step.TheVariants.{Start, Wait, Finished}
+use Rattle.child_steps.proofs.PlainSteps.{step_starts, step_waits, step_ends, no_running, over_none}
 use Rattle.slot_machine.proofs.CoreSteps.{waiting_by, unmade_by, made_other, made_here, not_waiting_made, unmade_after_made, waiting_after_start, not_waiting_started, made_after_start, unmade_after_start, startable_when, due_from_waiting, first_same, first_is}
 
 -- the lists are unchanged, and so is what waits and what is made
@@ -136,25 +138,6 @@ module _ (machine : Slots) (exact : AreReady (has_bit machine.ready.words) machi
   next_in_step job core step =
       ap (λ o. step_of o (length machine.children.items == 0)) (candidate_same job core step) ∙ ap (λ n. step_of (start_now job core) (n == 0)) (running_count machine job core step)
 
-step_starts : (o : Option ℕ) (idle : Bool) (at : ℕ) → step_of o idle ≡ Start at → o ≡ Some at
-step_starts (Some position) idle at h = cc
-step_starts None true at h = absurd (let nothing : ⊥ = cc in nothing)
-step_starts None false at h = absurd (let nothing : ⊥ = cc in nothing)
-
-step_waits : (o : Option ℕ) (idle : Bool) → step_of o idle ≡ Wait → (o ≡ None) × (idle ≡ false)
-step_waits (Some position) idle h = absurd (let nothing : ⊥ = cc in nothing)
-step_waits None true h = absurd (let nothing : ⊥ = cc in nothing)
-step_waits None false h = (refl, refl)
-
-step_ends : (o : Option ℕ) (idle : Bool) → step_of o idle ≡ Finished → idle ≡ true
-step_ends (Some position) idle h = absurd (let nothing : ⊥ = cc in nothing)
-step_ends None true h = refl
-step_ends None false h = absurd (let nothing : ⊥ = cc in nothing)
-
-step_none : (o : Option ℕ) (idle : Bool) → step_of o idle ≡ Finished → o ≡ None
-step_none (Some position) idle h = absurd (let nothing : ⊥ = cc in nothing)
-step_none None idle h = refl
-
 pub next_starts : (machine : Slots) (at : ℕ) → next_of machine ≡ Start at → candidate_of machine ≡ Some at
 unfolding next_of
 next_starts machine at h = step_starts (candidate_of machine) (length machine.children.items == 0) at h
@@ -169,11 +152,11 @@ next_runs machine h = eqb-false (length machine.children.items) 0 (step_waits (c
 
 pub next_finishes : (machine : Slots) → next_of machine ≡ Finished → candidate_of machine ≡ None
 unfolding next_of
-next_finishes machine h = step_none (candidate_of machine) (length machine.children.items == 0) h
+next_finishes machine h = (step_ends (candidate_of machine) (length machine.children.items == 0) h).0
 
 pub next_ends : (machine : Slots) → next_of machine ≡ Finished → length machine.children.items ≡ 0
 unfolding next_of
-next_ends machine h = eqb-true (length machine.children.items) 0 (step_ends (candidate_of machine) (length machine.children.items == 0) h)
+next_ends machine h = eqb-true (length machine.children.items) 0 (step_ends (candidate_of machine) (length machine.children.items == 0) h).1
 
 -- what a start says of the machine
 pub record IsStart (machine : Slots) (at : ℕ) : Type 0 where
@@ -210,23 +193,11 @@ pub no_halt : (h n : Bool) → n ≡ true → (h || (not n && not false)) ≡ h
 no_halt true n is = refl
 no_halt false n is = ap (λ b. not b && not false) is
 
-pub step_finished : (o : Option ℕ) (idle : Bool) → o ≡ None → idle ≡ true → Finished ≡ step_of o idle
-step_finished o idle none is = sym (ap (λ p. step_of p idle) none ∙ ap (λ b. step_of None b) is)
-
-pub step_wait : (o : Option ℕ) (idle : Bool) → o ≡ None → idle ≡ false → Wait ≡ step_of o idle
-step_wait o idle none is = sym (ap (λ p. step_of p idle) none ∙ ap (λ b. step_of None b) is)
-
 pub lawful_start : (machine : Slots) (job : Job) (core : Core) (at : ℕ) → IsMachineOf machine job core → next_of machine ≡ Start at → start_now job core ≡ Some at
 lawful_start machine job core at step h = sym (candidate_same machine machine.exact job core step) ∙ next_starts machine at h
 
 pub greedy_end : (machine : Slots) (job : Job) (core : Core) → IsMachineOf machine job core → next_of machine ≡ Wait → start_now job core ≡ None
 greedy_end machine job core step h = sym (candidate_same machine machine.exact job core step) ∙ next_waits machine h
-
--- an end is that of the file at the position of its ticket
-pub ends_as : (job : Job) (core : Core) (ticket at : ℕ) (ok : Bool) → position_of ticket core.running ≡ Some at → with_end job (without_ticket ticket core) at ok ≡ after_move job core (Ends ticket ok)
-unfolding after_move
-ends_as job core ticket at ok is =
-    ap (λ (o : Option ℕ). record { taken = core.taken; running = without_child ticket core.running; ended = core.ended ++ ended_child o ok; halted = core.halted || (not job.keep_going && not ok) }) (sym is)
 
 -- a file that may be started waits
 pub start_waits : (machine : Slots) (at : ℕ) → next_of machine ≡ Start at → get_or machine.waiting.items at false ≡ true
@@ -234,19 +205,6 @@ start_waits machine at h =
     (and_parts (get_or machine.waiting.items at false) (get_or machine.missing.items at 0 == 0) (sym (machine.exact at) ∙ (start_is machine at h).ready)).0
 
 -- where nothing is to be started and no child runs, the build is finished
-no_running : (children : List RunningChild) → length children ≡ 0 → children ≡ []
-no_running [] none = refl
-no_running (child ∷ children) none = absurd (omega arith)
-
-over_none : (halted : Bool) (n slots : ℕ) (o : Option ℕ) → n ≡ 0 → 1 ≤ slots → cond (nat_lt n slots && not halted) o None ≡ None → IsTrue (is_none o || halted)
-over_none true n slots (Some x) zeros some none = refl
-over_none true n slots None zeros some none = refl
-over_none false n slots None zeros some none = refl
-over_none false n slots (Some x) zeros some none =
-    let free : nat_lt n slots ≡ true = lt-ltb n slots (omega arith) in
-    let is : Some x ≡ None = sym (ap (λ b. cond (b && not false) (Some x) None) free) ∙ none in
-    absurd (let nothing : ⊥ = cc in nothing)
-
 pub finished_is : (machine : Slots) (job : Job) (core : Core) → IsMachineOf machine job core → next_of machine ≡ Finished → IsFinished job core
 finished_is machine job core step h =
     let none : length core.running ≡ 0 = sym (running_count machine job core step) ∙ next_ends machine h in
@@ -255,19 +213,6 @@ finished_is machine job core step h =
       over = over_none core.halted (length core.running) job.slots (next_start job core) none (omega (arith, step.slots, machine.some))
           (sym (candidate_same machine machine.exact job core step) ∙ next_finishes machine h);
     }
-
--- a child with a position has a ticket that runs
-running_has : (children : List RunningChild) (ticket at : ℕ) → position_of ticket children ≡ Some at → list_any (λ (child : RunningChild). child.ticket == ticket) children ≡ true
-running_has [] ticket at h = absurd (let nothing : ⊥ = cc in nothing)
-running_has (child ∷ children) ticket at h = elim (cases_Bool (child.ticket == ticket)) [
-  | inl is ↦ or_left (child.ticket == ticket) (list_any (λ (c : RunningChild). c.ticket == ticket) children) is
-  | inr other ↦
-      or_right (child.ticket == ticket) (list_any (λ (c : RunningChild). c.ticket == ticket) children)
-      (running_has children ticket at (sym (cond-false (child.ticket == ticket) (Some child.position) (position_of ticket children) other) ∙ h))
-]
-
-pub lawful_end : (core : Core) (ticket at : ℕ) → position_of ticket core.running ≡ Some at → IsTrue (is_running core ticket)
-lawful_end core ticket at h = running_has core.running ticket at h
 
 -- how many files wait, after one doesn't
 pub fewer_wait : (waiting : List Bool) (at : ℕ) → at < length waiting → get_or waiting at false ≡ true → count_by (λ waits. waits) (set waiting at false) + 1 ≡ count_by (λ waits. waits) waiting

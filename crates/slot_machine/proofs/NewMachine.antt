@@ -10,7 +10,8 @@ use Rattle.vr_outside.specs.declared.records.Need.TheVariants.{Fresh}
 use Rattle.vr_outside.specs.Records.{deps_at}
 use Rattle.run_spec.specs.Moves.{Job, is_made_so_far, empty_core}
 use Rattle.slot_machine.specs.Counts.{is_stale, unmade_deps, times, AreCounted}
-use Rattle.slot_machine.specs.Machines.{running_child, IsJobOf, IsMachineOf}
+use Rattle.slot_machine.specs.Machines.{IsJobOf, IsMachineOf}
+use Rattle.child_steps.specs.Steps.{running_child}
 use Rattle.slot_machine.specs.declared.slots.Slots.{Slots}
 use Rattle.slot_machine.proofs.Times.{count-cons}
 

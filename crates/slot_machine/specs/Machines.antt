@@ -8,18 +8,8 @@ use Rattle.run_spec.specs.Moves.{Job, Core, RunningChild, is_made_so_far, first_
 use Rattle.slot_machine.specs.Bits.{has_bit}
 use Rattle.slot_machine.specs.Counts.{is_stale, is_waiting, unmade_deps, times}
 use Rattle.slot_machine.specs.declared.slots.Slots.{Slots}
-use Rattle.slot_machine.specs.declared.child.Child.{Child}
-use Rattle.slot_machine.specs.declared.step.Step.{Step}
-use Rattle.slot_machine.specs.declared.step.Step.TheVariants.{Start, Wait, Finished}
-
--- the step for a position to start, or none, while no child runs or some do
-abbrev pub step_of : Option ℕ → Bool → Step
-step_of (Some position) idle = Start position
-step_of None idle = if idle then Finished else Wait
-
--- the step that a build is to take after what has happened so far
-unfoldable pub step_at : Job → Core → Step
-step_at job core = step_of (start_now job core) (length core.running == 0)
+use Rattle.child_steps.specs.Steps.{step_of, running_child}
+use Rattle.child_steps.specs.declared.step.Step.{Step}
 
 -- the job of a build: the files of a graph, those that are due by a plan, the slots, and whether it goes on after a refusal
 pub record IsJobOf (job : Job) (graph : List Entry) (needs : List Need) (limit : ℕ) (goes_on : Bool) : Type 0 where
@@ -28,19 +18,6 @@ pub record IsJobOf (job : Job) (graph : List Entry) (needs : List Need) (limit :
   pub is_due : (at : ℕ) → at < length graph → job.is_due at ≡ is_stale (slice_index_or needs at Fresh)
   pub slots : job.slots ≡ limit
   pub keep_going : job.keep_going ≡ goes_on
-
--- a child as moves speak of it
-abbrev pub running_child : Child → RunningChild
-running_child child = record { ticket = child.ticket; position = child.position }
-
--- what has happened, but the child of a ticket runs no more
-abbrev pub without_ticket : ℕ → Core → Core
-without_ticket ticket core = record { taken = core.taken; running = without_child ticket core.running; ended = core.ended; halted = core.halted }
-
--- what has happened, and a child of the file at a position has ended
-abbrev pub with_end : Job → Core → ℕ → Bool → Core
-with_end job core position ok =
-    record { taken = core.taken; running = core.running; ended = core.ended ++ (record { position = position; ok = ok }) ∷ []; halted = core.halted || (not job.keep_going && not ok) }
 
 -- the position that a machine would start, where it may start one
 unfoldable pub candidate_of : Slots → Option ℕ

@@ -6,13 +6,12 @@ ghost use Rattle.vr_base.specs.declared.limits.TheConstants.{FILE_LIMIT, SLOT_LI
 ghost use Rattle.slot_machine.specs.Bits.{has_bit};
 ghost use Rattle.slot_machine.specs.Counts.{AreReady};
 
-use crate::child::{Child, has_ticket, index_of};
 use crate::counting::{
     count_files, due_files, lower, made_files, no_users, ready_files, take, zeros,
 };
 use crate::ready::ReadySet;
-use crate::step::Step;
 use build_plan::BuildPlan;
+use child_steps::{Child, Step, has_ticket, index_of};
 use std::alloc::Global;
 use vr_base::{FILE_LIMIT, Graph, NoMemory, Positions, SLOT_LIMIT};
 
@@ -49,8 +48,9 @@ impl Slots {
     ghost use Rattle.std.specs.Prelude.{◌≡◌, ◌≢◌, ◌↔◌, IsTrue, ℕ, ◌+◌, ◌<◌, ◌≤◌, ◌++◌, ◌==◌, nat_lt, not, ◌&&◌, Bool, true, false, [], ◌∷◌, length, Contains, Option, Some, None, IfOk, OnOk};
     ghost use Rattle.vr_outside.specs.Children.{without};
     ghost use Rattle.run_spec.specs.Moves.{Job, Core, Starts, Ends, Loses, Halts, IsLawfulMove, IsGreedyMove, IsFinished, empty_core, position_of, after_move};
-    ghost use Rattle.slot_machine.specs.declared.step.Step.TheVariants.{Start, Wait, Finished};
-    ghost use Rattle.slot_machine.specs.Machines.{IsJobOf, IsMachineOf, step_at, next_of, candidate_of, tickets_of, files_of, to_come, without_ticket, with_end};
+    ghost use Rattle.child_steps.specs.declared.step.Step.TheVariants.{Start, Wait, Finished};
+    ghost use Rattle.slot_machine.specs.Machines.{IsJobOf, IsMachineOf, next_of, candidate_of, tickets_of, files_of, to_come};
+    ghost use Rattle.child_steps.specs.Steps.{step_at, without_ticket, with_end};
 
     /// The machine for a build of a graph by a plan, with 1 to 64 slots, that goes on after a refusal or not. Nothing has
     /// happened yet.

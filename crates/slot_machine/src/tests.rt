@@ -1,7 +1,8 @@
 //! Builds of six files, whose children end in many orders.
 
-use crate::{Slots, Step};
+use crate::Slots;
 use build_plan::BuildPlan;
+use child_steps::Step;
 use record_codec::read_record;
 use std::alloc::Global;
 use std::process::Abort;

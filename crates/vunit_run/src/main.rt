@@ -1,24 +1,51 @@
 //! The program: the real tree, children, input and output, handed to the top call.
 #![tactic(auto)]
 
+mod causes;
+mod places;
+
+use crate::causes::{Outside, fault_cause};
+use crate::places::refusal_place;
 use child_procs::ChildProcs;
 use file_disk::FileDisk;
 use file_reports::FileReports;
 use file_tree::{FileTree, OUTPUT_FOLDER};
+use outcomes::{Outcome, Which};
 use run_report::status_of;
 use std::env;
-use std::io::ErrorKind;
+use std::io::{ErrorKind, IsTerminal, Stderr, Write};
 use std::process::ExitCode;
 use std_streams::{StdSink, StdSource};
-use vr_base::{NoMemory, Outcome, Text, TextList, Which};
+use told_procs::ToldProcs;
+use vr_base::{NoMemory, Text, TextList};
 use vunit_top::run_vunit;
 
+/// How a run ended, and the line that says more of it on standard error.
+#[derive(Drop)]
+struct Ran {
+    outcome: Outcome,
+    more: Option<Vec<u8>>,
+}
+
+impl From<Outcome> for Ran {
+    fn from(outcome: Outcome) -> Ran {
+        Ran {
+            outcome,
+            more: None,
+        }
+    }
+}
+
 fn main(rt: HostRuntime) -> ExitCode {
-    let outcome = run(rt);
+    let Ran { outcome, more } = run(rt);
     match &outcome {
         Outcome::OutsideFault(which) => tell(&rt, fault_line(*which)),
         Outcome::NoMemory => tell(&rt, "vunit_run: out of memory"),
         _ => {}
+    }
+    if let Some(line) = more {
+        // (a line that can't be put is dropped)
+        let _ = rt.stderr().write_all(line.as_slice());
     }
     ExitCode::from(status_of(&outcome))
 }
@@ -41,25 +68,25 @@ fn fault_line(which: Which) -> &'static str {
 }
 
 /// Runs the words of the command line in the present folder.
-fn run(rt: HostRuntime) -> Outcome {
+fn run(rt: HostRuntime) -> Ran {
     match words(rt) {
         Ok(words) => run_words(rt, &words),
-        Err(NoMemory) => Outcome::NoMemory,
+        Err(NoMemory) => Outcome::NoMemory.into(),
     }
 }
 
-fn run_words(rt: HostRuntime, words: &TextList) -> Outcome {
+fn run_words(rt: HostRuntime, words: &TextList) -> Ran {
     match StdSource::new(rt.alloc(), rt) {
         Ok(mut input) => run_from(rt, words, &mut input),
-        Err(NoMemory) => Outcome::NoMemory,
+        Err(NoMemory) => Outcome::NoMemory.into(),
     }
 }
 
 /// Runs the words with an input.
-fn run_from(rt: HostRuntime, words: &TextList, input: &mut StdSource<HostRuntime>) -> Outcome {
+fn run_from(rt: HostRuntime, words: &TextList, input: &mut StdSource<HostRuntime>) -> Ran {
     match FileTree::new(rt.alloc(), rt) {
         Ok(mut tree) => run_in(rt, words, input, &mut tree),
-        Err(NoMemory) => Outcome::NoMemory,
+        Err(NoMemory) => Outcome::NoMemory.into(),
     }
 }
 
@@ -69,10 +96,10 @@ fn run_in(
     words: &TextList,
     input: &mut StdSource<HostRuntime>,
     tree: &mut FileTree<HostRuntime>,
-) -> Outcome {
+) -> Ran {
     match FileDisk::new(rt.alloc(), rt, OUTPUT_FOLDER) {
         Ok(mut disk) => run_over(rt, words, input, tree, &mut disk),
-        Err(NoMemory) => Outcome::NoMemory,
+        Err(NoMemory) => Outcome::NoMemory.into(),
     }
 }
 
@@ -83,22 +110,49 @@ fn run_over(
     input: &mut StdSource<HostRuntime>,
     tree: &mut FileTree<HostRuntime>,
     disk: &mut FileDisk,
-) -> Outcome {
-    let Ok(mut procs) = ChildProcs::new(rt.alloc(), rt) else {
-        return Outcome::NoMemory;
+) -> Ran {
+    let Ok(procs) = ChildProcs::new(rt.alloc(), rt) else {
+        return Outcome::NoMemory.into();
     };
+    let mut children = ToldProcs::new(rt.alloc(), procs, screen(&rt));
     let mut out = StdSink::new(rt);
     let mut reports = FileReports::new(rt);
-    run_vunit(
+    let outcome = run_vunit(
         rt.alloc(),
         words,
         input,
         tree,
         disk,
-        &mut procs,
+        &mut children,
         &mut out,
         &mut reports,
-    )
+    );
+    let outside = Outside {
+        input,
+        tree,
+        disk,
+        children: &children,
+        out: &out,
+        reports: &reports,
+    };
+    let more = match &outcome {
+        Outcome::OutsideFault(which) => fault_cause(rt.alloc(), *which, &outside),
+        Outcome::Refused(refusal) => refusal_place(&rt, refusal),
+        _ => None,
+    };
+    Ran { outcome, more }
+}
+
+/// Standard error, where it is a terminal that can write a line over.
+fn screen(rt: &HostRuntime) -> Option<Stderr> {
+    let stderr = rt.stderr();
+    if !stderr.is_terminal() {
+        return None;
+    }
+    match env::var(rt, "TERM") {
+        Ok(kind) if kind.as_str() != "dumb" && !kind.as_str().is_empty() => Some(stderr),
+        _ => None,
+    }
 }
 
 /// The words of the command line without the program's name, or the one word `--not-utf8` where one isn't UTF-8.

@@ -1,4 +1,4 @@
 -- The lemmas.
 pub mod Tops
-mod OverStore
 pub mod RunTruths
+mod ActTruths

@@ -1,32 +1,32 @@
 -- What a run did, from its build, or where it built nothing.
 use Rattle.std.proofs.Common.{◌≡◌, ℕ, ◌<◌, Bool, true, false, List, [], ◌∷◌, ◌++◌, length, Option, Some, None, Result, Ok, Err, OnOk, refl, sym, ap, subst, ◌∙◌, arith, inl, inr}
-use Rattle.std.specs.Prelude.{is_some, IfOk}
+use Rattle.std.specs.Prelude.{is_some, unwrap_or, IfOk}
 use Rattle.std.specs.List.{AllByRecursion, list_any}
-use Rattle.std.proofs.lemmas.Bool.{cases_Bool, cond-true}
+use Rattle.std.proofs.lemmas.Bool.{cases_Bool, cond-true, false≢true}
 use Rattle.vr_base.specs.declared.graph.Entry.{Entry}
 use Rattle.vr_base.specs.declared.child.Request.{Request}
 use Rattle.vr_base.specs.declared.child.Exit.{Exit}
 use Rattle.vr_base.specs.declared.child.Event.{Event}
-use Rattle.vr_base.specs.declared.outcome.Mark.{Mark}
-use Rattle.vr_base.specs.declared.outcome.Refusal.TheVariants as refusal
-use Rattle.vr_base.specs.declared.outcome.Outcome.{Outcome}
-use Rattle.vr_base.specs.declared.outcome.Outcome.TheVariants as outcome
+use Rattle.run_spec.specs.declared.marks.Mark.{Mark}
+use Rattle.outcomes.specs.declared.outcome.Refusal.TheVariants as refusal
+use Rattle.outcomes.specs.declared.outcome.Outcome.{Outcome}
+use Rattle.outcomes.specs.declared.outcome.Outcome.TheVariants as outcome
 use Rattle.vr_base.specs.Graphs.{IsGraph}
-use Rattle.vr_outside.specs.Disks.{DiskState, Moments, IsSound, AreSound, reads_of, added_since}
+use Rattle.vr_outside.specs.Disks.{DiskState, EachImage, Moments, IsSound, AreSound, reads_of, added_since}
 use Rattle.vr_outside.specs.Commits.{last_state}
 use Rattle.vr_outside.proofs.MomentLaws.{last_is}
 use Rattle.vr_outside.proofs.PhaseLaws.{nothing_added}
 use Rattle.run_spec.specs.Moves.{LawfulMoves, GreedyMoves, next_start, first_from}
-use Rattle.run_spec.specs.ChildJournal.{Setting, AreRequested, EachAfter, moves_after, after_all, Lawful, Answered, IsWhole, artefact_after, since}
+use Rattle.run_spec.specs.ChildJournal.{Work, AreRequested, EachAfter, moves_after, after_all, Lawful, Answered, IsWhole, artefact_after, since}
 use Rattle.run_spec.specs.Commits.{commits, Waits}
 use Rattle.run_spec.specs.JournalParts.{compile_part}
 use Rattle.vr_outside.specs.Phases.{HasPhases}
 use Rattle.run_spec.specs.CleanBuild.{RecordsClean}
 use Rattle.run_spec.specs.Faithful.{IsFaithfulDisk}
-use Rattle.run_spec.specs.Histories.{Order, World, ProgramRun, IsReadable, IsBuildRun, IsIdleRun, RunStep}
+use Rattle.history_spec.specs.Histories.{Order, World, ProgramRun, empty_image, IsReadable, IsBuildRun, IsIdleRun, RunStep, work_over}
 use Rattle.run_spec.specs.Marks.{marks_of, is_refused, refused_files, NoRefusalHalts}
 use Rattle.run_spec.proofs.Parts.{build_parts}
-use Rattle.run_spec.proofs.RunSteps.{idle_run}
+use Rattle.history_spec.proofs.RunSteps.{idle_run}
 use Rattle.clean_laws.proofs.JournalMarks.{all_files_made}
 use Rattle.clean_laws.proofs.JournalOutcomes.{all_started, all_steady}
 use Rattle.history_laws.specs.Rights.{IsRightStep}
@@ -36,14 +36,13 @@ use Rattle.compile_loop.specs.declared.faults.BuildFault.TheVariants as fault
 use Rattle.run_report.specs.Outcomes.{build_outcome}
 use Rattle.scan_spec.specs.Scans.{Finding}
 use Rattle.vunit_top.specs.Store.{records_in_image}
-use Rattle.vunit_top.specs.Orders.{IsDurablyRecorded}
-use Rattle.project_reading.specs.Reading.{SourceReading}
-use Rattle.vunit_top.specs.declared.words.Job.{Job}
-use Rattle.vunit_top.specs.Reading.{Reading, Builds, full_reading}
-use Rattle.vunit_top.specs.Said.{IsSaid, order_of, order_in, build_of}
-use Rattle.vunit_top.specs.Building.{BuildsOver}
+use Rattle.disk_runs.specs.Orders.{IsDurablyRecorded}
+use Rattle.node_store.proofs.NodeRecords.{none_in_empty}
+use Rattle.vunit_top.specs.Reading.{Reading, Builds}
+use Rattle.vunit_top.specs.Said.{IsSaid, HasEnded, no_order, order_of, order_in}
+use Rattle.disk_runs.specs.Building.{BuildsOver}
 use Rattle.vunit_top.specs.Runs.{world_of, run_of, IsExact, RunsAs}
-use Rattle.vunit_top.proofs.Tops.{since_itself}
+use Rattle.disk_runs.proofs.OverStore.{since_itself}
 
 sound_last : (past : List DiskState) (now : DiskState) → AllByRecursion IsSound (past ++ now ∷ []) → IsSound now
 sound_last [] now sound = sound.0
@@ -67,13 +66,13 @@ right_step : (scan : List ℕ → Finding) (answer : Request → Exit) (order : 
 right_step scan answer order run first readable step faithful = run_right (world_of scan answer) order run first readable faithful step
 
 -- what is recorded is what a clean build makes
-recorded_clean : (scan : List ℕ → Finding) (answer : Request → Exit) (order : Order) (first : DiskState) → IsGraph order.graph → IsReadable first → IsFaithfulDisk answer records_in_image first → RecordsClean answer order.graph (build_of first order).recorded
+recorded_clean : (scan : List ℕ → Finding) (answer : Request → Exit) (order : Order) (first : DiskState) → IsGraph order.graph → IsReadable first → IsFaithfulDisk answer records_in_image first → RecordsClean answer order.graph (work_over records_in_image order first).recorded
 recorded_clean scan answer order first is readable faithful = run_clean (world_of scan answer) order first is readable faithful
 
 module _ (scan : List ℕ → Finding) (answer : Request → Exit) (order : Order) (warnings : List ℕ) (result : Result (List Mark) BuildFault) (failed : Bool) (old new : Moments) (sound : AreSound old) (events : List Event)
     (over : BuildsOver records_in_image answer order result failed old new events) (words : List (List ℕ)) (said : Outcome) where
-  abbrev s : Setting
-  s = build_of old.now order
+  abbrev s : Work
+  s = work_over records_in_image order old.now
 
   compiled : compile_part events ≡ events
   compiled = (build_parts s events over.lawful).0
@@ -101,27 +100,29 @@ module _ (scan : List ℕ → Finding) (answer : Request → Exit) (order : Orde
     clean : IsFaithfulDisk answer records_in_image old.now → RecordsClean answer order.graph s.recorded
     clean faithful = recorded_clean scan answer order old.now over.graph_form (readable_now old sound) faithful
 
-    pub runs_over : (IsSaid said → (marks : List Mark) × (result ≡ Ok marks)) → (said ≡ outcome.Done → list_any is_refused (marks_of s events) ≡ false) → RunsAs scan answer (Builds order warnings) run old.now new.now
+    pub runs_over : (HasEnded said → (marks : List Mark) × (result ≡ Ok marks)) → (said ≡ outcome.Done → list_any is_refused (marks_of s events) ≡ false) → RunsAs scan answer (Builds order warnings) run old.now new.now
     runs_over ends done =
-        let whole : IsSaid said → IsWhole s events = λ is. subst (λ (r : Result (List Mark) BuildFault). OnOk r (IsWhole s events)) (ends is).1 over.whole in
+        let whole : HasEnded said → IsWhole s events = λ is. subst (λ (r : Result (List Mark) BuildFault). OnOk r (IsWhole s events)) (ends is).1 over.whole in
         record {
           step = build_step;
           ends = last_is old new over.follows;
           whole = λ is. moved (λ l. IsWhole s l) (whole is);
           recorded = λ is. moved (λ l. (position : ℕ) → position < length order.graph → is_some (artefact_after s l position) ≡ true → IsDurablyRecorded records_in_image new.now order.graph position)
               (subst (λ (r : Result (List Mark) BuildFault). OnOk r ((position : ℕ) → position < length order.graph → is_some (artefact_after s events position) ≡ true → IsDurablyRecorded records_in_image new.now order.graph position)) (ends is).1 over.recorded);
+          emptied = λ is. moved (λ l. order.clean ≡ true → EachImage (λ image. records_in_image image ≡ commits s l) new.now)
+              (subst (λ (r : Result (List Mark) BuildFault). OnOk r (order.clean ≡ true → EachImage (λ image. records_in_image image ≡ commits s events) new.now)) (ends is).1 over.emptied);
           right = right_step scan answer (Some order) run old.now (readable_now old sound) build_step;
           exact = λ faithful is none. record {
             started = all_started answer s over.graph_form (clean faithful) (compile_part events) (moved (λ l. IsWhole s l) (whole is)) (moved (λ l. Answered answer l) over.answered) none;
             steady = all_steady answer s over.graph_form (clean faithful) (compile_part events) (moved (λ l. IsWhole s l) (whole is)) (moved (λ l. Answered answer l) over.answered) none;
           };
-          made = λ faithful is. all_files_made answer s over.graph_form (clean faithful) (compile_part events) (moved (λ l. IsWhole s l) (whole (subst IsSaid (sym is) tt))) (moved (λ l. Answered answer l) over.answered)
+          made = λ faithful is. all_files_made answer s over.graph_form (clean faithful) (compile_part events) (moved (λ l. IsWhole s l) (whole (subst HasEnded (sym is) tt))) (moved (λ l. Answered answer l) over.answered)
               (moved (λ l. list_any is_refused (marks_of s l) ≡ false) (done is));
         }
 
 -- the marks of a build are those of what its compilers did
-pub marked_over : (answer : Request → Exit) (order : Order) (marks : List Mark) (failed : Bool) (old new : Moments) (events : List Event) → BuildsOver records_in_image answer order (Ok marks) failed old new events → marks ≡ marks_of (build_of old.now order) (compile_part events)
-marked_over answer order marks failed old new events over = over.marks ∙ ap (marks_of (build_of old.now order)) (sym (build_parts (build_of old.now order) events over.lawful).0)
+pub marked_over : (answer : Request → Exit) (order : Order) (marks : List Mark) (failed : Bool) (old new : Moments) (events : List Event) → BuildsOver records_in_image answer order (Ok marks) failed old new events → marks ≡ marks_of (work_over records_in_image order old.now) (compile_part events)
+marked_over answer order marks failed old new events over = over.marks ∙ ap (marks_of (work_over records_in_image order old.now)) (sym (build_parts (work_over records_in_image order old.now) events over.lawful).0)
 
 -- a run whose build ended by itself
 pub ended_over : (scan : List ℕ → Finding) (answer : Request → Exit) (order : Order) (warnings : List ℕ) (marks : List Mark) (failed : Bool) (old new : Moments) → AreSound old → (events : List Event) → BuildsOver records_in_image answer order (Ok marks) failed old new events → (words : List (List ℕ)) (said : Outcome)
@@ -132,9 +133,9 @@ ended_over scan answer order warnings marks failed old new sound events over wor
 
 -- a run whose build had a fault
 pub faulted_over : (scan : List ℕ → Finding) (answer : Request → Exit) (order : Order) (warnings : List ℕ) (why : BuildFault) (failed : Bool) (old new : Moments) → AreSound old → (events : List Event) → BuildsOver records_in_image answer order (Err why) failed old new events → (words : List (List ℕ)) (said : Outcome)
-    → (IsSaid said → ⊥) → (why ≡ fault.NoMemory → said ≡ outcome.NoMemory) → RunsAs scan answer (Builds order warnings) (run_of words said failed events (added_since old new)) old.now new.now
+    → (HasEnded said → ⊥) → (why ≡ fault.NoMemory → said ≡ outcome.NoMemory) → RunsAs scan answer (Builds order warnings) (run_of words said failed events (added_since old new)) old.now new.now
 faulted_over scan answer order warnings why failed old new sound events over words said fails memory =
-    runs_over scan answer order warnings (Err why) failed old new sound events over words said (λ is. memory (same_fault why is)) (λ is. absurd (fails is)) (λ is. absurd (fails (subst IsSaid (sym is) tt))) where
+    runs_over scan answer order warnings (Err why) failed old new sound events over words said (λ is. memory (same_fault why is)) (λ is. absurd (fails is)) (λ is. absurd (fails (subst HasEnded (sym is) tt))) where
       same_fault : (why : BuildFault) → ◌≡◌ {A = Result (List Mark) BuildFault} (Err why) (Err fault.NoMemory) → why ≡ fault.NoMemory
       same_fault why is = cc
 
@@ -156,35 +157,37 @@ module _ (scan : List ℕ → Finding) (answer : Request → Exit) (r : Reading)
   idle : IsIdleRun rest
   idle = record { events = nothing; later = nothing_added moments }
 
-  -- without a graph, or after a fault or out of memory
-  pub runs_idle : (IsSaid said → (order_in r).graph ≡ []) → RunsAs scan answer r rest moments.now moments.now
+  -- where nothing is to be built, or after a fault or out of memory
+  pub runs_idle : (HasEnded said → order_of r ≡ None) → RunsAs scan answer r rest moments.now moments.now
   unfolding LawfulMoves GreedyMoves AreRequested EachAfter moves_after next_start first_from after_all
-  runs_idle none =
-      let s : Setting = build_of moments.now (order_in r) in
+  runs_idle unordered =
+      let s : Work = work_over records_in_image (order_in r) moments.now in
       let step = idle_step (world_of scan answer) (order_of r) rest moments.now idle in
-      let whole : IsSaid said → IsWhole s [] = λ is. record {
+      let none : HasEnded said → (order_in r).graph ≡ [] = λ is. ap (λ (o : Option Order). (unwrap_or o no_order).graph) (unordered is) in
+      let whole : HasEnded said → IsWhole s [] = λ is. record {
         lawful = record { moves = tt; requests = tt; tickets = tt };
         greedy = tt;
         finished = record { idle = refl; over = rw (none is) refl };
         none_lost = refl;
       } in
-      let empty : IsSaid said → IsGraph (order_in r).graph = λ is. subst IsGraph (sym (none is)) no_graph in
-      let no_file : IsSaid said → (position : ℕ) → position < length (order_in r).graph → ⊥ = λ is position inside.
+      let empty : HasEnded said → IsGraph (order_in r).graph = λ is. subst IsGraph (sym (none is)) no_graph in
+      let no_file : HasEnded said → (position : ℕ) → position < length (order_in r).graph → ⊥ = λ is position inside.
       let none_there : position < 0 = subst (λ (g : List Entry). position < length g) (none is) inside in omega (arith, none_there) in
-      let clean : IsSaid said → IsFaithfulDisk answer records_in_image moments.now → RecordsClean answer (order_in r).graph s.recorded = λ is faithful. recorded_clean scan answer (order_in r) moments.now (empty is) (readable_now moments sound) faithful in
+      let clean : HasEnded said → IsFaithfulDisk answer records_in_image moments.now → RecordsClean answer (order_in r).graph s.recorded = λ is faithful. recorded_clean scan answer (order_in r) moments.now (empty is) (readable_now moments sound) faithful in
       record {
         step = step;
         ends = ap (last_state moments.now) (nothing_added moments);
         whole = λ is. subst (IsWhole s) (sym nothing) (whole is);
         recorded = λ is position inside. absurd (no_file is position inside);
+        emptied = λ is clean. absurd (false≢true (sym (ap (λ (o : Option Order). (unwrap_or o no_order).clean) (unordered is)) ∙ clean));
         right = right_step scan answer (order_of r) rest moments.now (readable_now moments sound) step;
         exact = λ faithful is halts. record {
           started = all_started answer s (empty is) (clean is faithful) (compile_part (since journal journal)) (subst (IsWhole s) (sym nothing) (whole is)) (subst (Answered answer) (sym nothing) tt) halts;
           steady = all_steady answer s (empty is) (clean is faithful) (compile_part (since journal journal)) (subst (IsWhole s) (sym nothing) (whole is)) (subst (Answered answer) (sym nothing) tt) halts;
         };
-        made = λ faithful is position inside. absurd (no_file (subst IsSaid (sym is) tt) position inside);
+        made = λ faithful is position inside. absurd (no_file (subst HasEnded (sym is) tt) position inside);
       }
 
--- what a run did, where its words are said in two ways
-pub ran_by : (scan : List ℕ → Finding) (answer : Request → Exit) (j k : Result Job Reading) (s : Bool → SourceReading) (run : ProgramRun) (first last : DiskState) → j ≡ k → RunsAs scan answer (full_reading k s) run first last → RunsAs scan answer (full_reading j s) run first last
-ran_by scan answer j k s run first last same did = subst (λ (i : Result Job Reading). RunsAs scan answer (full_reading i s) run first last) (sym same) did
+-- the empty disk holds no record of the program's store
+pub none_in_empty_image : records_in_image empty_image ≡ []
+none_in_empty_image = none_in_empty

@@ -1,8 +1,8 @@
 -- What the parts of a run put and answer.
 use Rattle.std.specs.Prelude.{◌≡◌, ℕ, List, Option, Err}
-use Rattle.vr_base.specs.declared.outcome.Which.TheVariants as which
-use Rattle.vr_base.specs.declared.outcome.Outcome.{Outcome}
-use Rattle.vr_base.specs.declared.outcome.Outcome.TheVariants as outcome
+use Rattle.outcomes.specs.declared.outcome.Which.TheVariants as which
+use Rattle.outcomes.specs.declared.outcome.Outcome.{Outcome}
+use Rattle.outcomes.specs.declared.outcome.Outcome.TheVariants as outcome
 use Rattle.vr_outside.specs.Counts.{Rose}
 use Rattle.report_files.specs.Reports.{HasWritten, IsSameBut}
 use Rattle.project_reading.specs.declared.stops.ReadStop.{ReadStop}
@@ -10,25 +10,15 @@ use Rattle.project_reading.specs.Sources.{ReadCounts}
 
 -- After each answer of a part that only puts: a fault of the output was counted, and else its count is unchanged.
 abbrev pub OutCauses : Outcome → ℕ → ℕ → Type 0
-OutCauses (outcome.OutsideFault which.Tree) old new = ⊥
-OutCauses (outcome.OutsideFault which.Disk) old new = ⊥
-OutCauses (outcome.OutsideFault which.Start) old new = ⊥
-OutCauses (outcome.OutsideFault which.Child) old new = ⊥
 OutCauses (outcome.OutsideFault which.Out) old new = Rose old new
-OutCauses (outcome.OutsideFault which.Report) old new = ⊥
-OutCauses (outcome.OutsideFault which.Input) old new = ⊥
+OutCauses (outcome.OutsideFault other) old new = ⊥
 OutCauses answer old new = new ≡ old
 
 -- After each answer of a part that only writes a report: a fault of the report was counted, and else its count is
 -- unchanged.
 abbrev pub ReportCauses : Outcome → ℕ → ℕ → Type 0
-ReportCauses (outcome.OutsideFault which.Tree) old new = ⊥
-ReportCauses (outcome.OutsideFault which.Disk) old new = ⊥
-ReportCauses (outcome.OutsideFault which.Start) old new = ⊥
-ReportCauses (outcome.OutsideFault which.Child) old new = ⊥
-ReportCauses (outcome.OutsideFault which.Out) old new = ⊥
 ReportCauses (outcome.OutsideFault which.Report) old new = Rose old new
-ReportCauses (outcome.OutsideFault which.Input) old new = ⊥
+ReportCauses (outcome.OutsideFault other) old new = ⊥
 ReportCauses answer old new = new ≡ old
 
 -- What an answer of a part that only writes a report leaves of the files of reports: after `Done` the file of the path has

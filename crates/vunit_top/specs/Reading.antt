@@ -2,15 +2,15 @@
 use Rattle.std.specs.Prelude.{ℕ, ◌≤◌, nat_lt, Bool, true, false, if◌then◌else◌, List, [], ◌∷◌, map, codes, Option, Some, None, Result, Ok, Err}
 use Rattle.std.specs.Str.{bytes_eq}
 use Rattle.vr_base.specs.declared.graph.Entry.{Entry}
-use Rattle.vr_base.specs.declared.outcome.Refusal.{Refusal}
-use Rattle.vr_base.specs.declared.outcome.Refusal.TheVariants as refusal
-use Rattle.vr_base.specs.declared.outcome.Limit.{Limit}
-use Rattle.vr_base.specs.declared.outcome.Limit.TheVariants as limit
-use Rattle.vr_base.specs.declared.bench.Bench.{Bench}
+use Rattle.outcomes.specs.declared.outcome.Refusal.{Refusal}
+use Rattle.outcomes.specs.declared.outcome.Refusal.TheVariants as refusal
+use Rattle.outcomes.specs.declared.outcome.Limit.{Limit}
+use Rattle.outcomes.specs.declared.outcome.Limit.TheVariants as limit
+use Rattle.vhdl_benches.specs.declared.bench.Bench.{Bench}
 use Rattle.vr_base.specs.declared.child.MaybeText.{MaybeText}
 use Rattle.vr_base.specs.declared.child.MaybeText.TheVariants.{Given, Nothing}
 use Rattle.vr_base.specs.declared.limits.TheConstants.{SLOT_LIMIT}
-use Rattle.run_spec.specs.Histories.{Sources, Order}
+use Rattle.history_spec.specs.Histories.{Sources, Order}
 use Rattle.run_report.specs.Texts.{warning_text}
 use Rattle.test_report.specs.Export.{export_text}
 use Rattle.test_select.specs.Patterns.{pieces_of}
@@ -20,7 +20,8 @@ use Rattle.command_line.specs.declared.setting.Setting.{Setting}
 use Rattle.command_line.specs.Words.{setting_of}
 use Rattle.project_reading.specs.Reading.{SourceReading, project_reading}
 use Rattle.project_reading.specs.Reading as sources
-use Rattle.vunit_top.specs.declared.building.BuildOptions.{BuildOptions}
+use Rattle.disk_runs.specs.declared.building.BuildOptions.{BuildOptions}
+use Rattle.disk_runs.specs.Orders.{order_by}
 use Rattle.vunit_top.specs.declared.words.Job.{Job}
 use Rattle.vunit_top.specs.declared.words.Job.TheVariants as job
 
@@ -65,31 +66,24 @@ job_of setting = if nat_lt 0 setting.generate then None else job_but_generate se
 
 -- whether a job looks for tests in the sources
 abbrev pub reads_tests : Job → Bool
-reads_tests job.ListFiles = false
 reads_tests (job.ListTests patterns) = true
 reads_tests (job.Export path patterns) = true
-reads_tests (job.Build options) = false
+reads_tests _ = false
 
 -- whether a job may build, and so touch the disk and children
 abbrev pub is_build : Job → Bool
-is_build job.ListFiles = false
-is_build (job.ListTests patterns) = false
-is_build (job.Export path patterns) = false
 is_build (job.Build options) = true
+is_build _ = false
 
 -- whether a job may write a report
 abbrev pub is_export : Job → Bool
-is_export job.ListFiles = false
-is_export (job.ListTests patterns) = false
 is_export (job.Export path patterns) = true
-is_export (job.Build options) = false
+is_export _ = false
 
 -- a build has from 1 to 64 children at once
 abbrev pub HasSlots : Job → Type 0
-HasSlots job.ListFiles = Unit {0}
-HasSlots (job.ListTests patterns) = Unit {0}
-HasSlots (job.Export path patterns) = Unit {0}
 HasSlots (job.Build options) = (1 ≤ options.slots) × (options.slots ≤ SLOT_LIMIT)
+HasSlots _ = Unit {0}
 
 abbrev pub built_job : Option Job → Result Job Reading
 built_job None = Err (Stops refusal.NotBuilt)
@@ -106,10 +100,6 @@ maybe_job (Some setting) = setting_job setting
 -- what words say is done with the sources, or what they say alone
 abbrev pub words_job : List (List ℕ) → Result Job Reading
 words_job words = if begins_as_child words then Err Child else if begins_with (codes "child-bench") words then Err Bad else maybe_job (setting_of words)
-
--- the order to build a graph so
-abbrev pub order_by : BuildOptions → List Entry → Order
-order_by options graph = record { graph = graph; slots = options.slots; keep_going = options.keep_going; clean = options.clean }
 
 -- the tests that some of these patterns match
 abbrev pub chosen : List (List ℕ) → List Bench → List Bench

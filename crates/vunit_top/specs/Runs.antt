@@ -1,32 +1,29 @@
 -- What a run of the program did: a step of a history, and what follows of it.
-use Rattle.std.specs.Prelude.{◌≡◌, ◌↔◌, ℕ, ◌+◌, ◌-◌, ◌^◌, ◌<◌, nat_le, min, Bool, true, false, List, length, Option, Some, is_some, Contains}
+use Rattle.std.specs.Prelude.{◌≡◌, ◌↔◌, ℕ, ◌<◌, Bool, true, false, List, length, Option, Some, is_some, Contains}
 use Rattle.vr_base.specs.declared.child.Request.{Request}
 use Rattle.vr_base.specs.declared.child.Exit.{Exit}
 use Rattle.vr_base.specs.declared.child.Event.{Event}
-use Rattle.vr_base.specs.declared.outcome.Outcome.{Outcome}
-use Rattle.vr_base.specs.declared.outcome.Outcome.TheVariants as outcome
-use Rattle.vr_outside.specs.Disks.{DiskState}
+use Rattle.outcomes.specs.declared.outcome.Outcome.{Outcome}
+use Rattle.outcomes.specs.declared.outcome.Outcome.TheVariants as outcome
+use Rattle.vr_outside.specs.Disks.{DiskState, EachImage}
 use Rattle.vr_outside.specs.Commits.{last_state}
-use Rattle.run_spec.specs.ChildJournal.{Setting, IsWhole, book_of, artefact_after}
+use Rattle.run_spec.specs.ChildJournal.{Work, IsWhole, book_of, artefact_after}
 use Rattle.run_spec.specs.CleanBuild.{request_unless}
+use Rattle.run_spec.specs.Commits.{commits}
 use Rattle.run_spec.specs.Faithful.{IsFaithfulDisk}
-use Rattle.run_spec.specs.Histories.{World, ProgramRun, RunStep}
+use Rattle.history_spec.specs.Histories.{World, ProgramRun, RunStep, work_over}
 use Rattle.run_spec.specs.JournalParts.{compile_part}
 use Rattle.run_spec.specs.Marks.{marks_of, steady_marks, NoRefusalHalts}
 use Rattle.history_laws.specs.Rights.{IsRightStep}
 use Rattle.scan_spec.specs.Scans.{Finding}
 use Rattle.vunit_top.specs.Store.{records_in_image}
-use Rattle.vunit_top.specs.Orders.{IsDurablyRecorded}
+use Rattle.disk_runs.specs.Orders.{IsDurablyRecorded}
 use Rattle.vunit_top.specs.Reading.{Reading, reading}
-use Rattle.vunit_top.specs.Said.{IsSaid, order_of, order_in, build_of}
+use Rattle.vunit_top.specs.Said.{HasEnded, order_of, order_in}
 
 -- what runs of the program have in common, over one compiler
 abbrev pub world_of : (List ℕ → Finding) → (Request → Exit) → World
 world_of scan answer = record { answer = answer; records_of = records_in_image; reading = λ words sources. order_of (reading scan words sources) }
-
--- a count of faults rose
-abbrev pub has_risen : ℕ → ℕ → Bool
-has_risen before now = nat_le (min (before + 1) (2 ^ 64 - 1)) now
 
 -- a run with these words and this answer, in which these events and these moments of the disk were added
 abbrev pub run_of : List (List ℕ) → Outcome → Bool → List Event → List DiskState → ProgramRun
@@ -34,20 +31,22 @@ run_of words result disk_failed events later = record { words = words; outcome =
 
 -- The started files are those that differ from their records and that a clean build doesn't block, and the marks are those
 -- that it says.
-pub record IsExact (answer : Request → Exit) (setting : Setting) (events : List Event) : Type 0 where
+pub record IsExact (answer : Request → Exit) (setting : Work) (events : List Event) : Type 0 where
   pub started : (position : ℕ) → Contains (book_of setting events).taken position ↔ ((request : Request) × (request_unless answer setting.graph setting.recorded position ≡ Some request))
   pub steady : marks_of setting events ≡ steady_marks answer setting.graph setting.recorded
 
 -- What a run did, over the moment of the disk before it and the last one. It is the step of a history, which goes on from
--- that last moment. Where neither a fault nor out of memory is answered, its build ended by itself, and each file that is made has a record of its present
--- view in whatever a stop can leave. From a disk of true records it is right: at each of its moments a stop can leave true
--- records alone, and each compiler is asked what a clean build asks it; where it ended by itself and no refusal halted
--- it, it is exact; and where it is done, each file is made.
+-- that last moment. Where it has ended its build did so by itself, and each file that is made has a record of its present
+-- view in whatever a stop can leave; with a store that is to be emptied that has the records of this build alone. From a
+-- disk of true records it is right: at each of its moments a stop can leave true records alone, and each compiler is asked
+-- what a clean build asks it; where it has ended and no refusal halted it, it is exact; and where it is done, each file is
+-- made.
 pub record RunsAs (scan : List ℕ → Finding) (answer : Request → Exit) (r : Reading) (run : ProgramRun) (first last : DiskState) : Type 0 where
   pub step : RunStep (world_of scan answer) (order_of r) run first
   pub ends : last_state first run.later ≡ last
-  pub whole : IsSaid run.outcome → IsWhole (build_of first (order_in r)) run.events
-  pub recorded : IsSaid run.outcome → (position : ℕ) → position < length (order_in r).graph → is_some (artefact_after (build_of first (order_in r)) run.events position) ≡ true → IsDurablyRecorded records_in_image last (order_in r).graph position
+  pub whole : HasEnded run.outcome → IsWhole (work_over records_in_image (order_in r) first) run.events
+  pub recorded : HasEnded run.outcome → (position : ℕ) → position < length (order_in r).graph → is_some (artefact_after (work_over records_in_image (order_in r) first) run.events position) ≡ true → IsDurablyRecorded records_in_image last (order_in r).graph position
+  pub emptied : HasEnded run.outcome → (order_in r).clean ≡ true → EachImage (λ image. records_in_image image ≡ commits (work_over records_in_image (order_in r) first) run.events) last
   pub right : IsFaithfulDisk answer records_in_image first → IsRightStep (world_of scan answer) (order_of r) run first
-  pub exact : IsFaithfulDisk answer records_in_image first → IsSaid run.outcome → NoRefusalHalts (build_of first (order_in r)) run.events → IsExact answer (build_of first (order_in r)) run.events
-  pub made : IsFaithfulDisk answer records_in_image first → run.outcome ≡ outcome.Done → (position : ℕ) → position < length (order_in r).graph → is_some (artefact_after (build_of first (order_in r)) run.events position) ≡ true
+  pub exact : IsFaithfulDisk answer records_in_image first → HasEnded run.outcome → NoRefusalHalts (work_over records_in_image (order_in r) first) run.events → IsExact answer (work_over records_in_image (order_in r) first) run.events
+  pub made : IsFaithfulDisk answer records_in_image first → run.outcome ≡ outcome.Done → (position : ℕ) → position < length (order_in r).graph → is_some (artefact_after (work_over records_in_image (order_in r) first) run.events position) ≡ true

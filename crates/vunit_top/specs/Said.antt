@@ -1,21 +1,17 @@
 -- What a run answers and puts, and what each of its answers comes of.
 use Rattle.std.specs.Prelude.{◌≡◌, ℕ, ◌≤◌, nat_le, false, if◌then◌else◌, List, [], ◌++◌, length, Option, Some, None, unwrap_or}
 use Rattle.vr_base.specs.declared.graph.Entry.{Entry}
-use Rattle.vr_base.specs.declared.outcome.Mark.{Mark}
-use Rattle.vr_base.specs.declared.outcome.Which.TheVariants as which
-use Rattle.vr_base.specs.declared.outcome.Outcome.{Outcome}
-use Rattle.vr_base.specs.declared.outcome.Outcome.TheVariants as outcome
+use Rattle.run_spec.specs.declared.marks.Mark.{Mark}
+use Rattle.outcomes.specs.declared.outcome.Which.TheVariants as which
+use Rattle.outcomes.specs.declared.outcome.Outcome.{Outcome}
+use Rattle.outcomes.specs.declared.outcome.Outcome.TheVariants as outcome
 use Rattle.vr_outside.specs.Counts.{Rose}
 use Rattle.vr_outside.specs.Streams.{AddsPrefix}
-use Rattle.vr_outside.specs.Disks.{DiskState}
-use Rattle.run_spec.specs.ChildJournal.{Setting}
-use Rattle.run_spec.specs.Histories.{Order}
+use Rattle.history_spec.specs.Histories.{Order}
 use Rattle.run_report.specs.Outcomes.{build_outcome}
 use Rattle.run_report.specs.Texts.{shown_bytes, build_text, refusal_text, limit_text, usage_text, bad_request, files_list}
 use Rattle.test_report.specs.Listing.{tests_list}
-use Rattle.vunit_top.specs.Store.{records_in_image}
-use Rattle.vunit_top.specs.Orders.{setting_for}
-use Rattle.vunit_top.specs.Reading.{Reading, Bad, Child, Stops, Over, Lists, ListsTests, Exports, Builds}
+use Rattle.vunit_top.specs.Reading.{Reading, Bad, Stops, Over, Lists, ListsTests, Exports, Builds}
 
 -- an answer, and the text that is put with it
 pub record Said : Type 0 where
@@ -28,33 +24,17 @@ no_order = record { graph = []; slots = 1; keep_going = false; clean = false }
 
 -- the order of a reading, if it gives one
 abbrev pub order_of : Reading → Option Order
-order_of Bad = None
-order_of Child = None
-order_of (Stops reason) = None
-order_of (Over limit number) = None
-order_of (Lists graph) = None
-order_of (ListsTests tests) = None
-order_of (Exports path text) = None
 order_of (Builds order warnings) = Some order
+order_of _ = None
 
 -- the report of a reading, if it gives one: the path of its file, and its text
 abbrev pub report_of : Reading → Option (List ℕ × List ℕ)
-report_of Bad = None
-report_of Child = None
-report_of (Stops reason) = None
-report_of (Over limit number) = None
-report_of (Lists graph) = None
-report_of (ListsTests tests) = None
 report_of (Exports path text) = Some (path, text)
-report_of (Builds order warnings) = None
+report_of _ = None
 
 -- what is to be built: nothing, where there is no order
 abbrev pub order_in : Reading → Order
 order_in reading = unwrap_or (order_of reading) no_order
-
--- what a build of an order works on, over the disk that it finds
-abbrev pub build_of : DiskState → Order → Setting
-build_of disk order = setting_for records_in_image order disk
 
 -- what a build of these marks answers, and its text after that of warnings
 abbrev pub build_said : List ℕ → List Entry → List Mark → Said
@@ -71,13 +51,12 @@ child_said input = if nat_le (length input) input_bytes then record { outcome = 
 -- what is said where nothing is built
 abbrev pub plain_said : Reading → Option Said
 plain_said Bad = Some (record { outcome = outcome.BadWords; text = usage_text })
-plain_said Child = None
 plain_said (Stops reason) = Some (record { outcome = outcome.Refused reason; text = refusal_text reason })
 plain_said (Over limit number) = Some (record { outcome = outcome.OverLimit limit; text = limit_text limit number })
 plain_said (Lists graph) = Some (record { outcome = outcome.Done; text = files_list graph })
 plain_said (ListsTests tests) = Some (record { outcome = outcome.Done; text = tests_list tests })
 plain_said (Exports path text) = Some (record { outcome = outcome.Done; text = [] })
-plain_said (Builds order warnings) = None
+plain_said _ = None
 
 -- At each answer but a fault and out of memory that is the answer, and its text was put. After out of memory
 -- nothing was put. After a fault nothing was put, but for a prefix of the text where the output failed.
@@ -92,6 +71,14 @@ abbrev pub IsSaid : Outcome → Type 0
 IsSaid outcome.NoMemory = ⊥
 IsSaid (outcome.OutsideFault which) = ⊥
 IsSaid answer = Unit {0}
+
+-- the run did what it was to do, and answers that, or that what it then put or wrote failed
+abbrev pub HasEnded : Outcome → Type 0
+HasEnded outcome.NoMemory = ⊥
+HasEnded (outcome.OutsideFault which.Out) = Unit {0}
+HasEnded (outcome.OutsideFault which.Report) = Unit {0}
+HasEnded (outcome.OutsideFault which) = ⊥
+HasEnded answer = Unit {0}
 
 -- the counts of faults of the objects that a run is handed
 pub record Counts : Type 0 where

@@ -7,11 +7,14 @@ ghost use Rattle.run_report.specs.Texts.{shown_bytes, build_text, refusal_text, 
 ghost use Rattle.test_report.specs.Listing.{tests_list};
 ghost use Rattle.vunit_top.specs.Ends.{OutCauses, ReportCauses, Writes};
 
+use outcomes::{Limit, Outcome, Refusal, Which};
 use report_files::{ReportFault, Reports};
 use run_report::{build_outcome, build_text, limit_text, list_files, refusal_text};
+use run_spec::MarkList;
 use std::alloc::Global;
 use test_report::list_tests;
-use vr_base::{Graph, Limit, MarkList, NoMemory, Outcome, Refusal, Tests, Text, Which};
+use vhdl_benches::Tests;
+use vr_base::{Graph, NoMemory, Text};
 use vr_outside::{Sink, SinkFault};
 
 /// What is put where the words aren't a command line of the program.

@@ -1,11 +1,9 @@
 //! The top call: what the words and the sources say is read and done, and what became of it is put.
 #![tactic(auto)]
 
-mod building;
 mod ends;
 mod top;
 mod words;
 
-pub use building::BuildOptions;
 pub use top::run_vunit;
 pub use words::Job;

@@ -3,9 +3,10 @@
 ghost use Rattle.std.specs.Prelude.{◌≡◌, ◌≤◌, ◌⊎◌, ◌++◌, [], ℕ, List, codes, Option, Some, None, Ok, Err, true, false, IfOk};
 ghost use Rattle.vr_outside.specs.Disks.{added_since};
 ghost use Rattle.run_spec.specs.ChildJournal.{since};
-ghost use Rattle.run_spec.specs.Histories.{Order};
-ghost use Rattle.run_spec.specs.JournalParts.{compile_part};
+ghost use Rattle.history_spec.specs.Histories.{Order, work_over};
+ghost use Rattle.run_spec.specs.JournalParts.{compile_part, test_part};
 ghost use Rattle.run_spec.specs.Marks.{marks_of};
+ghost use Rattle.run_report.specs.Outcomes.{build_outcome};
 ghost use Rattle.run_report.specs.Texts.{warning_text};
 ghost use Rattle.scan_spec.specs.Scans.{Finding, IsScanner};
 ghost use Rattle.project_reading.specs.Asked.{AsksFirst, project_paths};
@@ -13,26 +14,32 @@ ghost use Rattle.project_reading.specs.Reading.{SourceReading, Found, project_re
 ghost use Rattle.project_reading.specs.Sources.{LeadsTo};
 ghost use Rattle.test_report.specs.Listing.{tests_list};
 ghost use Rattle.test_report.specs.Export.{export_text};
+ghost use Rattle.vunit_top.specs.Store.{records_in_image};
+ghost use Rattle.vunit_top.specs.Acts.{Acts, of_each, seen};
 ghost use Rattle.vunit_top.specs.Ends.{StopCounts, OutCauses, ReportCauses, Writes};
-ghost use Rattle.vunit_top.specs.Reading.{Reading, Builds, Exports, HasSlots, reading, full_reading, job_reading, setting_job, words_job, order_by, begins_as_child, chosen, reads_tests, is_build, is_export};
-ghost use Rattle.vunit_top.specs.Runs.{RunsAs, run_of, has_risen};
-ghost use Rattle.vunit_top.specs.Said.{Said, Says, IsSaid, Causes, IsAccounted, fault_counts, report_of, order_of, order_in, build_of, plain_said, build_said, child_said};
+ghost use Rattle.disk_runs.specs.Orders.{order_by};
+ghost use Rattle.vunit_top.specs.Reading.{Reading, Builds, Exports, HasSlots, reading, full_reading, job_reading, setting_job, words_job, begins_as_child, chosen, reads_tests, is_build, is_export};
+ghost use Rattle.disk_runs.specs.Building.{has_risen};
+ghost use Rattle.vunit_top.specs.Runs.{RunsAs, run_of};
+ghost use Rattle.vunit_top.specs.Said.{Said, Says, IsSaid, HasEnded, Causes, IsAccounted, fault_counts, report_of, order_of, plain_said, build_said, child_said};
 
-use crate::building::{BuildOptions, build_over};
 use crate::ends::{
     say, say_build, say_files, say_limit, say_refusal, say_tests, say_usage, write_report,
 };
 use crate::words::{Job, begins_with, job_of, patterns_of, reads_tests};
 use command_line::{Setting, WordsFault, read_words};
 use compile_loop::BuildFault;
+use disk_runs::{BuildOptions, build_over};
 use node_store::NodeStore;
+use outcomes::{Limit, Outcome, Refusal, Which};
 use project_reading::{ReadProject, ReadStop, read_project};
 use report_files::Reports;
 use run_report::warning_text;
 use std::alloc::Global;
 use test_report::export_json;
 use test_select::select;
-use vr_base::{Graph, Limit, NoMemory, Outcome, Refusal, SLOT_LIMIT, Tests, Text, TextList, Which};
+use vhdl_benches::Tests;
+use vr_base::{Graph, NoMemory, SLOT_LIMIT, Text, TextList};
 use vr_outside::{Disk, Procs, Sink, Source, SourceFault, TakeEnd, Tree};
 
 /// The most bytes that a child takes.
@@ -42,6 +49,7 @@ const INPUT_BYTES: u64 = 2147483648;
 fn run_as_child<I: Source, O: Sink>(alloc: Global, input: &mut I, out: &mut O) -> Outcome
     ensures said { I.tells → O.tells →
         Says result (child_said (I.left input.old)) (O.contents out.old) (O.contents out.new) }
+    ensures silent { I.tells → (child_said (I.left input.old)).text ≡ [] → out.new ≡ out.old }
     ensures counted { (tree disk start child report : ℕ) → IsAccounted result
         (fault_counts tree disk start child (O.failed_puts out.old) report
         (I.failed_takes input.old))
@@ -73,6 +81,8 @@ fn build_graph<D: Disk, P: Procs, O: Sink>(
     ensures kept { P.tells →
         (P.journal procs.new
         ≡ P.journal procs.old ++ since (P.journal procs.old) (P.journal procs.new)) }
+    ensures no_tests { P.tells →
+        test_part (since (P.journal procs.old) (P.journal procs.new)) ≡ [] }
     ensures ran { (scan : List ℕ → Finding) (words : List (List ℕ)) → D.tells → P.tells →
         RunsAs scan (P.answer procs.old) (Builds (order_by options graph.now) warnings)
         (run_of words result
@@ -83,9 +93,14 @@ fn build_graph<D: Disk, P: Procs, O: Sink>(
     ensures says { D.tells → P.tells → O.tells →
         let order = order_by options graph.now in
         let events = compile_part (since (P.journal procs.old) (P.journal procs.new)) in
-        let marks = marks_of (build_of (D.moments disk.old).now order) events in
+        let marks = marks_of (work_over records_in_image order (D.moments disk.old).now) events in
         Says result (build_said warnings graph.now marks)
         (O.contents out.old) (O.contents out.new) }
+    ensures answers { D.tells → P.tells →
+        let order = order_by options graph.now in
+        let events = compile_part (since (P.journal procs.old) (P.journal procs.new)) in
+        let marks = marks_of (work_over records_in_image order (D.moments disk.old).now) events in
+        IsSaid result → result ≡ build_outcome graph.now marks }
     ensures counted { (tree report input : ℕ) → IsAccounted result
         (fault_counts tree (D.failed_disk_calls disk.old) (P.failed_starts procs.old)
         (P.lost_children procs.old) (O.failed_puts out.old) report input)
@@ -117,6 +132,8 @@ fn build_project<D: Disk, P: Procs, O: Sink>(
     ensures kept { P.tells →
         (P.journal procs.new
         ≡ P.journal procs.old ++ since (P.journal procs.old) (P.journal procs.new)) }
+    ensures no_tests { P.tells →
+        test_part (since (P.journal procs.old) (P.journal procs.new)) ≡ [] }
     ensures ran { (scan : List ℕ → Finding) (words : List (List ℕ)) → D.tells → P.tells →
         RunsAs scan (P.answer procs.old) (Builds (order_by options read.now.graph)
         (warning_text read.now.project.files read.now.warnings))
@@ -129,9 +146,14 @@ fn build_project<D: Disk, P: Procs, O: Sink>(
         let order = order_by options read.now.graph in
         let warnings = warning_text read.now.project.files read.now.warnings in
         let events = compile_part (since (P.journal procs.old) (P.journal procs.new)) in
-        let marks = marks_of (build_of (D.moments disk.old).now order) events in
+        let marks = marks_of (work_over records_in_image order (D.moments disk.old).now) events in
         Says result (build_said warnings read.now.graph marks)
         (O.contents out.old) (O.contents out.new) }
+    ensures answers { D.tells → P.tells →
+        let order = order_by options read.now.graph in
+        let events = compile_part (since (P.journal procs.old) (P.journal procs.new)) in
+        let marks = marks_of (work_over records_in_image order (D.moments disk.old).now) events in
+        IsSaid result → result ≡ build_outcome read.now.graph marks }
     ensures counted { (tree report input : ℕ) → IsAccounted result
         (fault_counts tree (D.failed_disk_calls disk.old) (P.failed_starts procs.old)
         (P.lost_children procs.old) (O.failed_puts out.old) report input)
@@ -221,32 +243,19 @@ fn run_job<D: Disk, P: Procs, O: Sink, R: Reports>(
     ensures kept { P.tells →
         (P.journal procs.new
         ≡ P.journal procs.old ++ since (P.journal procs.old) (P.journal procs.new)) }
-    ensures ran { (scan : List ℕ → Finding) (words : List (List ℕ)) → D.tells → P.tells →
-        RunsAs scan (P.answer procs.old) (job_reading job (Found read.now))
-        (run_of words result
-        (has_risen (D.failed_disk_calls disk.old) (D.failed_disk_calls disk.new))
-        (since (P.journal procs.old) (P.journal procs.new))
-        (added_since (D.moments disk.old) (D.moments disk.new)))
-        (D.moments disk.old).now (D.moments disk.new).now }
-    ensures untouched { order_of (job_reading job (Found read.now)) ≡ None →
-        (disk.new ≡ disk.old) × (procs.new ≡ procs.old) }
+    ensures no_tests { P.tells →
+        test_part (since (P.journal procs.old) (P.journal procs.new)) ≡ [] }
+    ensures acts { (scan : List ℕ → Finding) (words : List (List ℕ)) →
+        Acts (of_each D.tells P.tells O.tells R.tells)
+        (of_each (disk.new ≡ disk.old) (procs.new ≡ procs.old) (out.new ≡ out.old)
+        (reports.new ≡ reports.old))
+        scan (P.answer procs.old) (job_reading job (Found read.now)) words result
+        (seen (P.journal procs.old) (D.moments disk.old) (D.failed_disk_calls disk.old)
+        (O.contents out.old) (R.report reports.old))
+        (seen (P.journal procs.new) (D.moments disk.new) (D.failed_disk_calls disk.new)
+        (O.contents out.new) (R.report reports.new)) }
     ensures unbuilt { is_build job ≡ false → (disk.new ≡ disk.old) × (procs.new ≡ procs.old) }
     ensures unwritten { is_export job ≡ false → reports.new ≡ reports.old }
-    ensures unreported { report_of (job_reading job (Found read.now)) ≡ None →
-        reports.new ≡ reports.old }
-    ensures writes { R.tells → (path text : List ℕ) →
-        job_reading job (Found read.now) ≡ Exports path text →
-        Writes result path text (R.report reports.old) (R.report reports.new) }
-    ensures says_plain { O.tells →
-        (what : Said) → plain_said (job_reading job (Found read.now)) ≡ Some what →
-        Says result what (O.contents out.old) (O.contents out.new) }
-    ensures says_build { D.tells → P.tells → O.tells →
-        (order : Order) (warnings : List ℕ) →
-        job_reading job (Found read.now) ≡ Builds order warnings →
-        let events = compile_part (since (P.journal procs.old) (P.journal procs.new)) in
-        let marks = marks_of (build_of (D.moments disk.old).now order) events in
-        Says result (build_said warnings order.graph marks)
-        (O.contents out.old) (O.contents out.new) }
     ensures counted { (tree input : ℕ) → IsAccounted result
         (fault_counts tree (D.failed_disk_calls disk.old) (P.failed_starts procs.old)
         (P.lost_children procs.old) (O.failed_puts out.old)
@@ -266,7 +275,10 @@ fn run_job<D: Disk, P: Procs, O: Sink, R: Reports>(
 /// Puts why nothing is done with the sources.
 fn say_stop<O: Sink>(alloc: Global, stop: ReadStop, out: &mut O) -> Outcome
     ensures rests { (job : Job) (found : SourceReading) → LeadsTo found (Err stop) →
-        IsSaid result → (order_in (job_reading job found)).graph ≡ [] }
+        HasEnded result → order_of (job_reading job found) ≡ None }
+    ensures silent { (job : Job) (found : SourceReading) → LeadsTo found (Err stop) →
+        (path text : List ℕ) → job_reading job found ≡ Exports path text →
+        out.new ≡ out.old }
     ensures says { O.tells → (job : Job) (found : SourceReading) → LeadsTo found (Err stop) →
         (what : Said) → plain_said (job_reading job found) ≡ Some what →
         Says result what (O.contents out.old) (O.contents out.new) }
@@ -315,44 +327,24 @@ fn run_sources<T: Tree, D: Disk, P: Procs, O: Sink, R: Reports>(
     ensures kept { P.tells →
         (P.journal procs.new
         ≡ P.journal procs.old ++ since (P.journal procs.old) (P.journal procs.new)) }
-    ensures ran { (scan : List ℕ → Finding) → IsScanner scan → (words : List (List ℕ)) →
-        T.tells → D.tells → P.tells →
+    ensures no_tests { P.tells →
+        test_part (since (P.journal procs.old) (P.journal procs.new)) ≡ [] }
+    ensures acts { (scan : List ℕ → Finding) → IsScanner scan → T.tells →
+        (words : List (List ℕ)) →
         let sources = project_reading scan (T.file tree.old) (T.listed tree.old) in
-        RunsAs scan (P.answer procs.old) (job_reading job (sources (reads_tests job)))
-        (run_of words result
-        (has_risen (D.failed_disk_calls disk.old) (D.failed_disk_calls disk.new))
-        (since (P.journal procs.old) (P.journal procs.new))
-        (added_since (D.moments disk.old) (D.moments disk.new)))
-        (D.moments disk.old).now (D.moments disk.new).now }
+        Acts (of_each D.tells P.tells O.tells R.tells)
+        (of_each (disk.new ≡ disk.old) (procs.new ≡ procs.old) (out.new ≡ out.old)
+        (reports.new ≡ reports.old))
+        scan (P.answer procs.old) (job_reading job (sources (reads_tests job))) words result
+        (seen (P.journal procs.old) (D.moments disk.old) (D.failed_disk_calls disk.old)
+        (O.contents out.old) (R.report reports.old))
+        (seen (P.journal procs.new) (D.moments disk.new) (D.failed_disk_calls disk.new)
+        (O.contents out.new) (R.report reports.new)) }
     ensures unbuilt { is_build job ≡ false → (disk.new ≡ disk.old) × (procs.new ≡ procs.old) }
     ensures unwritten { is_export job ≡ false → reports.new ≡ reports.old }
-    ensures unreported { (scan : List ℕ → Finding) → IsScanner scan → T.tells →
-        let sources = project_reading scan (T.file tree.old) (T.listed tree.old) in
-        report_of (job_reading job (sources (reads_tests job))) ≡ None →
-        reports.new ≡ reports.old }
-    ensures writes { (scan : List ℕ → Finding) → IsScanner scan → T.tells → R.tells →
-        let sources = project_reading scan (T.file tree.old) (T.listed tree.old) in
-        (path text : List ℕ) →
-        job_reading job (sources (reads_tests job)) ≡ Exports path text →
-        Writes result path text (R.report reports.old) (R.report reports.new) }
-    ensures untouched { (scan : List ℕ → Finding) → IsScanner scan → T.tells →
-        let sources = project_reading scan (T.file tree.old) (T.listed tree.old) in
-        order_of (job_reading job (sources (reads_tests job))) ≡ None →
-        (disk.new ≡ disk.old) × (procs.new ≡ procs.old) }
-    ensures says_plain { (scan : List ℕ → Finding) → IsScanner scan → T.tells → O.tells →
-        let sources = project_reading scan (T.file tree.old) (T.listed tree.old) in
-        (what : Said) →
-        plain_said (job_reading job (sources (reads_tests job))) ≡ Some what →
-        Says result what (O.contents out.old) (O.contents out.new) }
-    ensures says_build { (scan : List ℕ → Finding) → IsScanner scan →
-        T.tells → D.tells → P.tells → O.tells →
-        let sources = project_reading scan (T.file tree.old) (T.listed tree.old) in
-        (order : Order) (warnings : List ℕ) →
-        job_reading job (sources (reads_tests job)) ≡ Builds order warnings →
-        let events = compile_part (since (P.journal procs.old) (P.journal procs.new)) in
-        let marks = marks_of (build_of (D.moments disk.old).now order) events in
-        Says result (build_said warnings order.graph marks)
-        (O.contents out.old) (O.contents out.new) }
+    ensures placed { (result ≡ Outcome.OutsideFault Which.Tree)
+        ⊎ (result ≡ Outcome.OutsideFault Which.Input) →
+        (disk.new ≡ disk.old) × (procs.new ≡ procs.old) × (reports.new ≡ reports.old) }
     ensures counted { (input : ℕ) → IsAccounted result
         (fault_counts (T.failed_reads tree.old) (D.failed_disk_calls disk.old)
         (P.failed_starts procs.old) (P.lost_children procs.old) (O.failed_puts out.old)
@@ -392,15 +384,19 @@ fn run_setting<T: Tree, D: Disk, P: Procs, O: Sink, R: Reports>(
     ensures kept { P.tells →
         (P.journal procs.new
         ≡ P.journal procs.old ++ since (P.journal procs.old) (P.journal procs.new)) }
-    ensures ran { (scan : List ℕ → Finding) → IsScanner scan → (words : List (List ℕ)) →
-        T.tells → D.tells → P.tells →
+    ensures no_tests { P.tells →
+        test_part (since (P.journal procs.old) (P.journal procs.new)) ≡ [] }
+    ensures acts { (scan : List ℕ → Finding) → IsScanner scan → T.tells →
+        (words : List (List ℕ)) →
         let sources = project_reading scan (T.file tree.old) (T.listed tree.old) in
-        RunsAs scan (P.answer procs.old) (full_reading (setting_job setting) sources)
-        (run_of words result
-        (has_risen (D.failed_disk_calls disk.old) (D.failed_disk_calls disk.new))
-        (since (P.journal procs.old) (P.journal procs.new))
-        (added_since (D.moments disk.old) (D.moments disk.new)))
-        (D.moments disk.old).now (D.moments disk.new).now }
+        Acts (of_each D.tells P.tells O.tells R.tells)
+        (of_each (disk.new ≡ disk.old) (procs.new ≡ procs.old) (out.new ≡ out.old)
+        (reports.new ≡ reports.old))
+        scan (P.answer procs.old) (full_reading (setting_job setting) sources) words result
+        (seen (P.journal procs.old) (D.moments disk.old) (D.failed_disk_calls disk.old)
+        (O.contents out.old) (R.report reports.old))
+        (seen (P.journal procs.new) (D.moments disk.new) (D.failed_disk_calls disk.new)
+        (O.contents out.new) (R.report reports.new)) }
     ensures words_alone { (r : Reading) → setting_job setting ≡ Err r →
         (tree.new ≡ tree.old) × (disk.new ≡ disk.old) × (procs.new ≡ procs.old)
         × (reports.new ≡ reports.old) }
@@ -408,35 +404,12 @@ fn run_setting<T: Tree, D: Disk, P: Procs, O: Sink, R: Reports>(
         (disk.new ≡ disk.old) × (procs.new ≡ procs.old) }
     ensures unwritten { (job : Job) → setting_job setting ≡ Ok job → is_export job ≡ false →
         reports.new ≡ reports.old }
-    ensures unreported { (scan : List ℕ → Finding) → IsScanner scan → T.tells →
-        let sources = project_reading scan (T.file tree.old) (T.listed tree.old) in
-        report_of (full_reading (setting_job setting) sources) ≡ None →
-        reports.new ≡ reports.old }
-    ensures writes { (scan : List ℕ → Finding) → IsScanner scan → T.tells → R.tells →
-        let sources = project_reading scan (T.file tree.old) (T.listed tree.old) in
-        (path text : List ℕ) →
-        full_reading (setting_job setting) sources ≡ Exports path text →
-        Writes result path text (R.report reports.old) (R.report reports.new) }
-    ensures untouched { (scan : List ℕ → Finding) → IsScanner scan → T.tells →
-        let sources = project_reading scan (T.file tree.old) (T.listed tree.old) in
-        order_of (full_reading (setting_job setting) sources) ≡ None →
-        (disk.new ≡ disk.old) × (procs.new ≡ procs.old) }
     ensures says_words { O.tells → (r : Reading) → setting_job setting ≡ Err r →
         (what : Said) → plain_said r ≡ Some what →
         Says result what (O.contents out.old) (O.contents out.new) }
-    ensures says_plain { (scan : List ℕ → Finding) → IsScanner scan → T.tells → O.tells →
-        let sources = project_reading scan (T.file tree.old) (T.listed tree.old) in (what : Said) →
-        plain_said (full_reading (setting_job setting) sources) ≡ Some what →
-        Says result what (O.contents out.old) (O.contents out.new) }
-    ensures says_build { (scan : List ℕ → Finding) → IsScanner scan →
-        T.tells → D.tells → P.tells → O.tells →
-        (order : Order) (warnings : List ℕ) →
-        full_reading (setting_job setting)
-        (project_reading scan (T.file tree.old) (T.listed tree.old)) ≡ Builds order warnings →
-        let events = compile_part (since (P.journal procs.old) (P.journal procs.new)) in
-        let marks = marks_of (build_of (D.moments disk.old).now order) events in
-        Says result (build_said warnings order.graph marks)
-        (O.contents out.old) (O.contents out.new) }
+    ensures placed { (result ≡ Outcome.OutsideFault Which.Tree)
+        ⊎ (result ≡ Outcome.OutsideFault Which.Input) →
+        (disk.new ≡ disk.old) × (procs.new ≡ procs.old) × (reports.new ≡ reports.old) }
     ensures counted { (input : ℕ) → IsAccounted result
         (fault_counts (T.failed_reads tree.old) (D.failed_disk_calls disk.old)
         (P.failed_starts procs.old) (P.lost_children procs.old) (O.failed_puts out.old)
@@ -479,7 +452,7 @@ pub fn run_vunit<I: Source, T: Tree, D: Disk, P: Procs, O: Sink, R: Reports>(
     requires { P.running procs.old ≡ [] }
 
     // No child runs at the return, the compilers and the sources are as before, and the journal has grown at its end
-    // alone.
+    // alone, by compilers' children alone.
     ensures running { P.running procs.new ≡ [] }
     ensures same { P.answer procs.new ≡ P.answer procs.old }
     ensures sources { T.file tree.new ≡ T.file tree.old }
@@ -487,6 +460,8 @@ pub fn run_vunit<I: Source, T: Tree, D: Disk, P: Procs, O: Sink, R: Reports>(
     ensures kept { P.tells →
         (P.journal procs.new
         ≡ P.journal procs.old ++ since (P.journal procs.old) (P.journal procs.new)) }
+    ensures no_tests { P.tells →
+        test_part (since (P.journal procs.old) (P.journal procs.new)) ≡ [] }
 
     // What the run did is a step of a history, and right from a disk of true records.
     ensures ran { (scan : List ℕ → Finding) → IsScanner scan → T.tells → D.tells → P.tells →
@@ -506,9 +481,15 @@ pub fn run_vunit<I: Source, T: Tree, D: Disk, P: Procs, O: Sink, R: Reports>(
         ⊎ (AsksFirst paths (T.asked tree.old) (T.asked tree.new)
         × (disk.new ≡ disk.old) × (procs.new ≡ procs.old)) }
 
+    // A fault of the tree or of the input is answered only before a report, the disk or children are touched.
+    ensures placed { (result ≡ Outcome.OutsideFault Which.Tree)
+        ⊎ (result ≡ Outcome.OutsideFault Which.Input) →
+        (disk.new ≡ disk.old) × (procs.new ≡ procs.old) × (reports.new ≡ reports.old) }
+
     // What isn't needed isn't touched: input but by a child of the program; tree, disk, children and reports where the words
     // alone say what is done; disk and children where nothing is to be built, by the words, and where the sources give
-    // nothing to build; reports where none is to be written, and where the sources give none. All this on every answer.
+    // nothing to build; reports where none is to be written, and where the sources give none; the output where nothing is
+    // said. All this on every answer.
     ensures no_input { begins_as_child words.now ≡ false → input.new ≡ input.old }
     ensures words_alone { (r : Reading) → words_job words.now ≡ Err r →
         (tree.new ≡ tree.old) × (disk.new ≡ disk.old) × (procs.new ≡ procs.old)
@@ -525,6 +506,13 @@ pub fn run_vunit<I: Source, T: Tree, D: Disk, P: Procs, O: Sink, R: Reports>(
         order_of (reading scan words.now
         (record { file = T.file tree.old; listed = T.listed tree.old })) ≡ None →
         (disk.new ≡ disk.old) × (procs.new ≡ procs.old) }
+
+    ensures silent_child { I.tells → begins_as_child words.now ≡ true →
+        (child_said (I.left input.old)).text ≡ [] → out.new ≡ out.old }
+    ensures silent_export { (scan : List ℕ → Finding) → IsScanner scan → T.tells →
+        (path text : List ℕ) →
+        reading scan words.now (record { file = T.file tree.old; listed = T.listed tree.old })
+        ≡ Exports path text → out.new ≡ out.old }
 
     // The answer and the text that is put: of a child of the program; of words alone; of words and sources with which nothing
     // is built; of a build, by its marks.
@@ -544,9 +532,17 @@ pub fn run_vunit<I: Source, T: Tree, D: Disk, P: Procs, O: Sink, R: Reports>(
         reading scan words.now (record { file = T.file tree.old; listed = T.listed tree.old })
         ≡ Builds order warnings →
         let events = compile_part (since (P.journal procs.old) (P.journal procs.new)) in
-        let marks = marks_of (build_of (D.moments disk.old).now order) events in
+        let marks = marks_of (work_over records_in_image order (D.moments disk.old).now) events in
         Says result (build_said warnings order.graph marks)
         (O.contents out.old) (O.contents out.new) }
+    // The answer of a build is that of its marks, whatever is told of the output.
+    ensures answers { (scan : List ℕ → Finding) → IsScanner scan → T.tells → D.tells → P.tells →
+        (order : Order) (warnings : List ℕ) →
+        reading scan words.now (record { file = T.file tree.old; listed = T.listed tree.old })
+        ≡ Builds order warnings →
+        let events = compile_part (since (P.journal procs.old) (P.journal procs.new)) in
+        let marks = marks_of (work_over records_in_image order (D.moments disk.old).now) events in
+        IsSaid result → result ≡ build_outcome order.graph marks }
 
     // The report that is written: the file of its path has exactly the text after `Done`, and no other file is changed.
     ensures writes { (scan : List ℕ → Finding) → IsScanner scan → T.tells → R.tells →

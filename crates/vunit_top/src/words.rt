@@ -5,8 +5,8 @@ ghost use Rattle.std.specs.Str.{bytes_eq};
 ghost use Rattle.test_select.specs.Patterns.{pieces_of};
 ghost use Rattle.vunit_top.specs.Reading.{HasSlots, begins_with, job_of, reads_tests};
 
-use crate::building::BuildOptions;
 use command_line::Setting;
+use disk_runs::BuildOptions;
 use std::alloc::Global;
 use test_select::{PatternList, read_pattern};
 use vr_base::{MaybeText, NoMemory, SLOT_LIMIT, Text, TextList};

@@ -1,13 +1,13 @@
 -- Answers to the goals of `build_marks`.
 use Rattle.std.proofs.Common.{List, [], length, refl, sym, ap, ◌∙◌}
 use Rattle.std.specs.Prelude.{slice_get}
-use Rattle.vr_base.specs.declared.outcome.Mark.{Mark}
+use Rattle.run_spec.specs.declared.marks.Mark.{Mark}
 use Rattle.compile_loop.proofs.UnderWayThen.{marks_count, started_at, nothing_noted, start_recorded}
 use Rattle.compile_loop.proofs.WholeBuilds.{first_under_way, first_journal, holds_nothing, on_false, counts_at_first, ran_nothing, ran_done, ran_fault, marks_recorded, goes_on}
 use Rattle.compile_loop.proofs.builds.build_marks.Goals as goal
 
 pub returns-in_default-clause-ran : goal.returns-in_default-clause-ran
-returns-in_default-clause-ran g c = ran_nothing _ _ _ _ _ _ _ _ _ _ c.requires.usable (λ tells. g.met.K.Records.durable c.args.store.now _ (c.requires.in_step tells))
+returns-in_default-clause-ran g c = ran_nothing _ _ _ _ _ _ _ _ c.requires.usable (λ tells. g.met.K.Records.durable c.args.store.now _ (c.requires.in_step tells))
 
 pub loop-at-init : goal.loop-at-init
 loop-at-init g c = record {
@@ -28,19 +28,19 @@ loop-at-init g c = record {
 pub start_one-requires-clause-recorded : goal.start_one-requires-clause-recorded
 start_one-requires-clause-recorded g c =
     let under = c.loop-at.invariant.going.under_way in
-    start_recorded _ _ _ _ _ _ _ _ _ under c.in-Start.at (started_at _ _ c.in-Start.at (c.in-Start.ensures.in_step _ _ under.in_step))
+    start_recorded _ _ _ _ _ under c.in-Start.at (started_at _ _ c.in-Start.at (c.in-Start.ensures.in_step _ _ under.in_step))
 
 pub start_one-requires-clause-unnoted : goal.start_one-requires-clause-unnoted
 start_one-requires-clause-unnoted g c =
     let under = c.loop-at.invariant.going.under_way in
-    nothing_noted _ _ _ _ _ _ _ _ _ under c.in-Start.at (started_at _ _ c.in-Start.at (c.in-Start.ensures.in_step _ _ under.in_step))
+    nothing_noted _ _ _ _ _ under c.in-Start.at (started_at _ _ c.in-Start.at (c.in-Start.ensures.in_step _ _ under.in_step))
 
 pub loop-at-preserved-in-Start : goal.loop-at-preserved-in-Start
 loop-at-preserved-in-Start g c =
     let before = c.loop-at.invariant in
     record {
-      going = goes_on _ _ _ _ _ _ _ _ _ _ _ _ _ _ _ _ _ _ _ before.same before.going
-          (λ journal. c.start_one.ensures.goes _ _ before.going.events before.going.acknowledged _ _ before.going.under_way journal);
+      going = goes_on _ _ _ _ _ _ _ _ _ _ _ _ before.same before.going
+          (λ journal. c.start_one.ensures.goes _ before.going.events before.going.acknowledged _ _ before.going.under_way journal);
       running = c.start_one.ensures.running;
       same = c.start_one.ensures.same ∙ before.same;
       files = c.start_one.ensures.files ∙ before.files;
@@ -49,16 +49,16 @@ loop-at-preserved-in-Start g c =
     }
 
 pub returns-in-None-clause-count : goal.returns-in-None-clause-count
-returns-in-None-clause-count g c = ap length c.from_vec.ensures ∙ marks_count _ _ _ _ _ _ _ _ _ c.loop-at.invariant.going.under_way
+returns-in-None-clause-count g c = ap length c.from_vec.ensures ∙ marks_count _ _ _ _ _ c.loop-at.invariant.going.under_way
 
 pub returns-in-None-clause-ran : goal.returns-in-None-clause-ran
 returns-in-None-clause-ran g c =
     let before = c.loop-at.invariant in
-    ran_done _ _ _ _ _ _ _ _ _ _ _ _ _ _ c.loop-at.noted c.in-None.is before.going (c.in-Finished.ensures.finished refl _ _ before.going.under_way.in_step) c.from_vec.result c.from_vec.ensures
+    ran_done _ _ _ _ _ _ _ _ before.going c.in-None.is (c.in-Finished.ensures.finished refl _ _ before.going.under_way.in_step) c.from_vec.result c.from_vec.ensures
 
 pub returns-in-None-clause-recorded : goal.returns-in-None-clause-recorded
 returns-in-None-clause-recorded g c = λ position mark at made.
-    marks_recorded c.args.graph.now _ _ _ _ c.loop-at.marks.items c.loop-at.noted _ _ c.in-None.is c.loop-at.invariant.going.under_way position mark (ap (λ (l : List Mark). slice_get l position) (sym c.from_vec.ensures) ∙ at) made
+    marks_recorded c.args.graph.now _ _ _ _ c.loop-at.invariant.going.under_way c.in-None.is position mark (ap (λ (l : List Mark). slice_get l position) (sym c.from_vec.ensures) ∙ at) made
 
 pub returns-clause-ran : goal.returns-clause-ran
-returns-clause-ran g c = ran_fault _ _ _ _ _ _ _ _ _ _ _ _ _ _ c.loop-at.noted c.in-Some.fault c.in-Some.is c.loop-at.invariant.going _
+returns-clause-ran g c = ran_fault _ _ _ _ _ _ _ _ c.loop-at.invariant.going c.in-Some.fault c.in-Some.is _

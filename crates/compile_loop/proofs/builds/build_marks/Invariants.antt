@@ -8,8 +8,10 @@ use Rattle.compile_loop.proofs.builds.build_marks.Given as goal
 
 abbrev pub invariant-loop-at : goal.invariant-loop-at
 invariant-loop-at g l = record {
-  going : Goes g.P.Procs.tells g.D.Disk.tells (g.P.Procs.answer l.fn.procs) g.K.Records.records_of l.graph (record { latest_of = g.K.Records.latest_of l.fn.store; slots = l.fn.limit; keep_going = l.fn.keep_going })
-      (g.P.Procs.journal l.fn.procs) (g.D.Disk.moments l.fn.disk) l.slots l.marks.items l.noted (g.K.Records.latest_of l.store) (g.K.Records.broken l.store) (g.P.Procs.journal l.procs) (g.D.Disk.moments l.disk);
+  going : Goes g.P.Procs.tells g.D.Disk.tells (g.P.Procs.answer l.fn.procs) g.K.Records.records_of l.graph
+      (record { latest_of = g.K.Records.latest_of l.fn.store; slots = l.fn.limit; keep_going = l.fn.keep_going; journal = g.P.Procs.journal l.fn.procs; moments = g.D.Disk.moments l.fn.disk })
+      (record { machine = l.slots; marks = l.marks.items; noted = l.noted; latest_of = g.K.Records.latest_of l.store; broken = g.K.Records.broken l.store })
+      (record { journal = g.P.Procs.journal l.procs; moments = g.D.Disk.moments l.disk });
   running : g.P.Procs.running l.procs ≡ tickets_of l.slots;
   same : g.P.Procs.answer l.procs ≡ g.P.Procs.answer l.fn.procs;
   files : files_of l.slots ≡ length l.graph;

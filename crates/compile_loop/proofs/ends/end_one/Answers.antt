@@ -9,35 +9,36 @@ use Rattle.vr_outside.specs.Counts.{ChildCounts}
 use Rattle.vr_outside.specs.declared.records.Record.{Record}
 use Rattle.compile_loop.specs.Commits.{HoldsFirst}
 use Rattle.compile_loop.specs.Faults.{CountsBy}
-use Rattle.compile_loop.specs.UnderWay.{setting_from}
+use Rattle.compile_loop.specs.UnderWay.{BuildState, work_from}
 use Rattle.compile_loop.proofs.UnderWayThen.{commits_fault}
 use Rattle.compile_loop.proofs.JournalThen.{journal_ended, journal_lost}
 use Rattle.compile_loop.proofs.ends.end_one.Goals as goal
 
 pub returns-in-Ok-clause-goes : goal.returns-in-Ok-clause-goes
-returns-in-Ok-clause-goes g c = λ from old first goes.
-    let taken = c.take_exit.ensures.goes from first goes.events goes.acknowledged goes.under_way goes.images in
+returns-in-Ok-clause-goes g c = λ from goes.
+    let taken = c.take_exit.ensures.goes from goes.events goes.acknowledged goes.under_way goes.images in
     record {
       events = goes.events ++ event.Ended c.in-Ok.field-0.ticket c.in-Ok.field-0.exit ∷ [];
       acknowledged = taken.acknowledged;
       under_way = taken.under_way;
-      journal = λ tells. journal_ended (g.P.Procs.answer c.args.procs.now) (setting_from c.args.graph.now from) goes.events old (g.P.Procs.journal c.args.procs.now) (goes.journal tells) c.in-Ok.field-0.ticket c.in-Ok.field-0.exit (g.P.Procs.journal c.wait_any.new.self)
+      journal = λ tells. journal_ended (g.P.Procs.answer c.args.procs.now) (work_from c.args.graph.now from) goes.events from.journal (g.P.Procs.journal c.args.procs.now) (goes.journal tells) c.in-Ok.field-0.ticket c.in-Ok.field-0.exit (g.P.Procs.journal c.wait_any.new.self)
           (c.take_exit.ensures.runs _ _ goes.under_way.in_step) (c.in-Ok.ensures.exit tells) (c.in-Ok.ensures.journal tells);
       images = taken.images;
     }
 
 pub returns-in-Err-clause-goes : goal.returns-in-Err-clause-goes
-returns-in-Err-clause-goes g c = λ from old first goes.
+returns-in-Err-clause-goes g c = λ from goes.
     let lost : Event = end_event (Err c.in-Err.fault) in
+    let before : BuildState = record { machine = c.args.slots.now; marks = c.args.marks.now.items; noted = c.args.noted.now; latest_of = g.K.Records.latest_of c.args.store.now; broken = g.K.Records.broken c.args.store.now } in
     record {
       events = goes.events ++ lost ∷ [];
       acknowledged = goes.acknowledged;
-      under_way = c.lose_by.ensures.goes c.args.graph.now from goes.events goes.acknowledged c.args.marks.now.items (g.K.Records.latest_of c.args.store.now) (g.K.Records.broken c.args.store.now) goes.under_way;
-      journal = λ tells. journal_lost (g.P.Procs.answer c.args.procs.now) (setting_from c.args.graph.now from) goes.events old (g.P.Procs.journal c.args.procs.now) (goes.journal tells) c.in-Err.fault (g.P.Procs.journal c.wait_any.new.self)
+      under_way = c.lose_by.ensures.goes c.args.graph.now from goes.events goes.acknowledged before goes.under_way;
+      journal = λ tells. journal_lost (g.P.Procs.answer c.args.procs.now) (work_from c.args.graph.now from) goes.events from.journal (g.P.Procs.journal c.args.procs.now) (goes.journal tells) c.in-Err.fault (g.P.Procs.journal c.wait_any.new.self)
           (c.in-Err.ensures.journal tells);
       images = λ tells.
-          subst (λ (more : List Record). HoldsFirst goes.acknowledged (g.K.Records.broken c.args.store.now) more g.K.Records.records_of first (g.D.Disk.moments c.args.disk.now))
-          (sym (commits_fault c.args.graph.now from goes.events goes.acknowledged c.args.slots.now c.args.marks.now.items c.args.noted.now (g.K.Records.latest_of c.args.store.now) (g.K.Records.broken c.args.store.now) goes.under_way c.in-Err.fault))
+          subst (λ (more : List Record). HoldsFirst goes.acknowledged before.broken more g.K.Records.records_of from.moments (g.D.Disk.moments c.args.disk.now))
+          (sym (commits_fault c.args.graph.now from goes.events goes.acknowledged before goes.under_way c.in-Err.fault))
           (goes.images tells);
     }
 

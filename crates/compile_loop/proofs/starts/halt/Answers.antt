@@ -3,8 +3,8 @@ use Rattle.std.proofs.Common.{Option, sym, ap, subst, ◌∙◌}
 use Rattle.std.specs.Prelude.{is_some}
 use Rattle.slot_machine.specs.Machines.{IsMachineOf}
 use Rattle.compile_loop.specs.declared.faults.BuildFault.{BuildFault}
-use Rattle.compile_loop.specs.UnderWay.{halted_if}
-use Rattle.compile_loop.proofs.Halting.{halts_now}
+use Rattle.child_steps.specs.Steps.{halted_if}
+use Rattle.child_steps.proofs.Halting.{halts_now}
 use Rattle.compile_loop.proofs.starts.halt.Goals as goal
 
 pub returns-clause-in_step : goal.returns-clause-in_step

@@ -2,7 +2,7 @@ use Rattle.std.proofs.Common.{List, ◌++◌, sym, ap, ◌∙◌}
 use Rattle.vr_base.specs.declared.child.Event.{Event}
 use Rattle.vr_outside.specs.Disks.{added_since}
 use Rattle.run_spec.specs.ChildJournal.{since}
-use Rattle.vunit_top.specs.Runs.{has_risen}
+use Rattle.disk_runs.specs.Building.{has_risen}
 use Rattle.vunit_top.proofs.RunTruths.{readable_now}
 use Rattle.run_chains.specs.Chains.{Deeds}
 use Rattle.run_chains.proofs.ChainTruths.{ran_twice}
@@ -28,3 +28,4 @@ returns-clause-ran g c = λ scan is t d p.
     (c.run_vunit-first.ensures.ran scan is t d p)
     (rw (sym c.run_vunit-first.ensures.same, sym c.run_vunit-first.ensures.sources, sym c.run_vunit-first.ensures.listed) (c.run_vunit-second.ensures.ran scan is t d p))
     (c.run_vunit-second.ensures.kept p ∙ ap (λ (l : List Event). l ++ after.events) (c.run_vunit-first.ensures.kept p))
+    (c.run_vunit-second.ensures.no_tests p)

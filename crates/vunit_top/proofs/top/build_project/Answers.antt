@@ -1,6 +1,8 @@
 use Rattle.std.proofs.Common.{sym}
 use Rattle.run_report.specs.Texts.{warning_text}
-use Rattle.vunit_top.specs.Reading.{Builds, order_by}
+use Rattle.disk_runs.specs.Orders.{order_by}
+use Rattle.vunit_top.specs.Reading.{Builds}
+use Rattle.disk_runs.proofs.OverStore.{no_test_since}
 use Rattle.vunit_top.proofs.RunTruths.{runs_idle}
 use Rattle.vunit_top.proofs.top.build_project.Goals as goal
 
@@ -10,3 +12,6 @@ returns-in-Ok-clause-ran g c = λ scan words d p. rw (sym c.in-Ok.ensures) (c.bu
 pub returns-in-Err-clause-ran : goal.returns-in-Err-clause-ran
 returns-in-Err-clause-ran g c = λ scan words d p.
     runs_idle scan _ (Builds (order_by c.args.options c.args.read.now.graph) (warning_text c.args.read.now.project.files c.args.read.now.warnings)) words _ _ (g.P.Procs.journal c.args.procs.now) (g.D.Disk.moments c.args.disk.now) (g.met.D.Disk.sound c.args.disk.now) (λ said. absurd said)
+
+pub returns-in-Err-clause-no_tests : goal.returns-in-Err-clause-no_tests
+returns-in-Err-clause-no_tests g c = λ runs. no_test_since (g.P.Procs.journal c.args.procs.now)

@@ -1,26 +1,63 @@
-use Rattle.std.proofs.Common.{refl}
+-- What a run did with the sources, by its job.
+use Rattle.std.proofs.Common.{◌≡◌, refl}
+use Rattle.run_report.specs.Texts.{warning_text}
 use Rattle.test_report.specs.Export.{export_text}
-use Rattle.vunit_top.specs.Reading.{Exports, Lists, ListsTests, chosen}
-use Rattle.vunit_top.proofs.RunTruths.{runs_idle}
+use Rattle.disk_runs.specs.Orders.{order_by}
+use Rattle.vunit_top.specs.Acts.{of_each, seen}
+use Rattle.vunit_top.specs.Reading.{Lists, ListsTests, chosen}
+use Rattle.disk_runs.proofs.OverStore.{no_test_since}
+use Rattle.vunit_top.proofs.ActTruths.{acts_said, acts_export, acts_built}
 use Rattle.vunit_top.proofs.top.run_job.Goals as goal
 
-pub returns-in-ListFiles-clause-ran : goal.returns-in-ListFiles-clause-ran
-returns-in-ListFiles-clause-ran g c = λ scan words d p.
+pub returns-in-ListFiles-clause-acts : goal.returns-in-ListFiles-clause-acts
+returns-in-ListFiles-clause-acts g c = λ scan words.
     rw c.in-ListFiles.is
-    (runs_idle scan _ (Lists c.args.read.now.graph) words c.say_files.result _ (g.P.Procs.journal c.args.procs.now) (g.D.Disk.moments c.args.disk.now) (g.met.D.Disk.sound c.args.disk.now) (λ said. refl))
+    (acts_said
+    (of_each g.D.Disk.tells g.P.Procs.tells g.O.Sink.tells g.R.Reports.tells)
+    (of_each (c.args.disk.now ≡ c.args.disk.now) (c.args.procs.now ≡ c.args.procs.now) (c.say_files.new.out ≡ c.args.out.now) (c.args.reports.now ≡ c.args.reports.now))
+    scan _ (Lists c.args.read.now.graph) words c.say_files.result (g.P.Procs.journal c.args.procs.now) (g.D.Disk.moments c.args.disk.now) (g.met.D.Disk.sound c.args.disk.now)
+    (g.D.Disk.failed_disk_calls c.args.disk.now) (g.O.Sink.contents c.args.out.now) (g.O.Sink.contents c.say_files.new.out) (g.R.Reports.report c.args.reports.now)
+    refl refl refl refl refl c.say_files.ensures.said)
 
-pub returns-in-Build-clause-ran : goal.returns-in-Build-clause-ran
-returns-in-Build-clause-ran g c = λ scan words d p. rw c.in-Build.is (c.build_project.ensures.ran scan words d p)
-
-pub returns-in-ListTests-clause-ran : goal.returns-in-ListTests-clause-ran
-returns-in-ListTests-clause-ran g c = λ scan words d p.
+pub returns-in-ListTests-clause-acts : goal.returns-in-ListTests-clause-acts
+returns-in-ListTests-clause-acts g c = λ scan words.
     rw c.in-ListTests.is
-    (runs_idle scan _ (ListsTests (chosen c.in-ListTests.patterns c.args.read.now.tests)) words c.list_chosen.result _ (g.P.Procs.journal c.args.procs.now) (g.D.Disk.moments c.args.disk.now) (g.met.D.Disk.sound c.args.disk.now) (λ said. refl))
+    (acts_said
+    (of_each g.D.Disk.tells g.P.Procs.tells g.O.Sink.tells g.R.Reports.tells)
+    (of_each (c.args.disk.now ≡ c.args.disk.now) (c.args.procs.now ≡ c.args.procs.now) (c.list_chosen.new.out ≡ c.args.out.now) (c.args.reports.now ≡ c.args.reports.now))
+    scan _ (ListsTests (chosen c.in-ListTests.patterns c.args.read.now.tests)) words c.list_chosen.result (g.P.Procs.journal c.args.procs.now) (g.D.Disk.moments c.args.disk.now) (g.met.D.Disk.sound c.args.disk.now)
+    (g.D.Disk.failed_disk_calls c.args.disk.now) (g.O.Sink.contents c.args.out.now) (g.O.Sink.contents c.list_chosen.new.out) (g.R.Reports.report c.args.reports.now)
+    refl refl refl refl refl c.list_chosen.ensures.said)
 
-pub returns-in-Export-clause-ran : goal.returns-in-Export-clause-ran
-returns-in-Export-clause-ran g c = λ scan words d p.
+pub returns-in-Export-clause-acts : goal.returns-in-Export-clause-acts
+returns-in-Export-clause-acts g c = λ scan words.
     rw c.in-Export.is
-    (runs_idle scan _ (Exports c.in-Export.path (export_text c.args.read.now.graph c.args.read.now.project.files (chosen c.in-Export.patterns c.args.read.now.tests))) words c.export_chosen.result _ (g.P.Procs.journal c.args.procs.now) (g.D.Disk.moments c.args.disk.now) (g.met.D.Disk.sound c.args.disk.now) (λ said. refl))
+    (acts_export
+    (of_each g.D.Disk.tells g.P.Procs.tells g.O.Sink.tells g.R.Reports.tells)
+    (of_each (c.args.disk.now ≡ c.args.disk.now) (c.args.procs.now ≡ c.args.procs.now) (c.args.out.now ≡ c.args.out.now) (c.export_chosen.new.reports ≡ c.args.reports.now))
+    scan _ c.in-Export.path (export_text c.args.read.now.graph c.args.read.now.project.files (chosen c.in-Export.patterns c.args.read.now.tests)) words c.export_chosen.result (g.P.Procs.journal c.args.procs.now) (g.D.Disk.moments c.args.disk.now) (g.met.D.Disk.sound c.args.disk.now)
+    (g.D.Disk.failed_disk_calls c.args.disk.now) (g.O.Sink.contents c.args.out.now) (g.R.Reports.report c.args.reports.now) (g.R.Reports.report c.export_chosen.new.reports)
+    refl refl refl (c.export_chosen.ensures.said (g.O.Sink.contents c.args.out.now)) c.export_chosen.ensures.writes)
+
+pub returns-in-Build-clause-acts : goal.returns-in-Build-clause-acts
+returns-in-Build-clause-acts g c = λ scan words.
+    rw c.in-Build.is
+    (acts_built
+    (of_each g.D.Disk.tells g.P.Procs.tells g.O.Sink.tells g.R.Reports.tells)
+    (of_each (c.build_project.new.disk ≡ c.args.disk.now) (c.build_project.new.procs ≡ c.args.procs.now) (c.build_project.new.out ≡ c.args.out.now) (c.args.reports.now ≡ c.args.reports.now))
+    scan _ (order_by c.in-Build.options c.args.read.now.graph) (warning_text c.args.read.now.project.files c.args.read.now.warnings) words c.build_project.result
+    (seen (g.P.Procs.journal c.args.procs.now) (g.D.Disk.moments c.args.disk.now) (g.D.Disk.failed_disk_calls c.args.disk.now) (g.O.Sink.contents c.args.out.now) (g.R.Reports.report c.args.reports.now))
+    (seen (g.P.Procs.journal c.build_project.new.procs) (g.D.Disk.moments c.build_project.new.disk) (g.D.Disk.failed_disk_calls c.build_project.new.disk) (g.O.Sink.contents c.build_project.new.out) (g.R.Reports.report c.args.reports.now))
+    refl (c.build_project.ensures.ran scan words) c.build_project.ensures.says c.build_project.ensures.answers)
 
 pub returns-in-Build-clause-counted : goal.returns-in-Build-clause-counted
 returns-in-Build-clause-counted g c = λ tree input. c.build_project.ensures.counted tree _ input
+
+pub returns-in-ListFiles-clause-no_tests : goal.returns-in-ListFiles-clause-no_tests
+returns-in-ListFiles-clause-no_tests g c = λ runs. no_test_since (g.P.Procs.journal c.args.procs.now)
+
+pub returns-in-ListTests-clause-no_tests : goal.returns-in-ListTests-clause-no_tests
+returns-in-ListTests-clause-no_tests g c = λ runs. no_test_since (g.P.Procs.journal c.args.procs.now)
+
+pub returns-in-Export-clause-no_tests : goal.returns-in-Export-clause-no_tests
+returns-in-Export-clause-no_tests g c = λ runs. no_test_since (g.P.Procs.journal c.args.procs.now)

@@ -1,34 +1,36 @@
-use Rattle.std.proofs.Common.{Bool, Err, arith, subst, sym}
+-- What a run did, by its job and the sources that it read.
+use Rattle.std.proofs.Common.{◌≡◌, Bool, Err, refl, subst, sym}
 use Rattle.project_reading.specs.Reading.{project_reading}
 use Rattle.project_reading.specs.Sources.{LeadsTo}
+use Rattle.vunit_top.specs.Acts.{of_each}
 use Rattle.vunit_top.specs.Reading.{job_reading, reads_tests}
-use Rattle.vunit_top.proofs.RunTruths.{runs_idle}
+use Rattle.disk_runs.proofs.OverStore.{no_test_since}
+use Rattle.vunit_top.proofs.ActTruths.{acts_idle, no_early}
 use Rattle.vunit_top.proofs.top.run_sources.Goals as goal
 
-pub returns-in-Ok-clause-ran : goal.returns-in-Ok-clause-ran
-returns-in-Ok-clause-ran g c = λ scan is words t d p. rw (sym c.reads_tests-with_tests.ensures, c.in-Ok.ensures.reading scan is t) (c.run_job.ensures.ran scan words d p)
+pub returns-in-Ok-clause-acts : goal.returns-in-Ok-clause-acts
+returns-in-Ok-clause-acts g c = λ scan is t words. rw (sym c.reads_tests-with_tests.ensures, c.in-Ok.ensures.reading scan is t) (c.run_job.ensures.acts scan words)
+
+pub returns-in-Ok-clause-placed : goal.returns-in-Ok-clause-placed
+returns-in-Ok-clause-placed g c = λ fault. absurd (no_early (c.run_job.ensures.counted 0 0) refl refl fault)
 
 pub returns-in-Ok-clause-counted : goal.returns-in-Ok-clause-counted
 returns-in-Ok-clause-counted g c = λ input. rw c.in-Ok.ensures.cause (c.run_job.ensures.counted _ input)
 
-pub returns-in-Err-clause-ran : goal.returns-in-Err-clause-ran
-returns-in-Err-clause-ran g c = λ scan is words t d p.
+pub returns-in-Err-clause-acts : goal.returns-in-Err-clause-acts
+returns-in-Err-clause-acts g c = λ scan is t words.
     let found = project_reading scan (g.T.Tree.file c.args.tree.now) (g.T.Tree.listed c.args.tree.now) (reads_tests c.args.job) in
     let led : LeadsTo found (Err c.in-Err.stop) = subst (λ (wanted : Bool). LeadsTo (project_reading scan (g.T.Tree.file c.args.tree.now) (g.T.Tree.listed c.args.tree.now) wanted) (Err c.in-Err.stop)) c.reads_tests-with_tests.ensures (c.in-Err.ensures.reading scan is t) in
-    runs_idle scan _ (job_reading c.args.job found) words c.say_stop.result _ (g.P.Procs.journal c.args.procs.now) (g.D.Disk.moments c.args.disk.now) (g.met.D.Disk.sound c.args.disk.now)
-    (c.say_stop.ensures.rests c.args.job found led)
+    acts_idle
+    (of_each g.D.Disk.tells g.P.Procs.tells g.O.Sink.tells g.R.Reports.tells)
+    (of_each (c.args.disk.now ≡ c.args.disk.now) (c.args.procs.now ≡ c.args.procs.now) (c.say_stop.new.out ≡ c.args.out.now) (c.args.reports.now ≡ c.args.reports.now))
+    scan _ (job_reading c.args.job found) words c.say_stop.result (g.P.Procs.journal c.args.procs.now) (g.D.Disk.moments c.args.disk.now) (g.met.D.Disk.sound c.args.disk.now)
+    (g.D.Disk.failed_disk_calls c.args.disk.now) (g.O.Sink.contents c.args.out.now) (g.O.Sink.contents c.say_stop.new.out) (g.R.Reports.report c.args.reports.now) (g.R.Reports.report c.args.reports.now)
+    (c.say_stop.ensures.rests c.args.job found led) refl refl (λ none. refl)
+    (c.say_stop.ensures.silent c.args.job found led)
+    (λ puts. c.say_stop.ensures.says puts c.args.job found led)
+    (λ puts. c.say_stop.ensures.says_build puts c.args.job found led)
+    (λ writes path text exports. c.say_stop.ensures.writes c.args.job found led path text exports (g.R.Reports.report c.args.reports.now))
 
-pub returns-in-Err-clause-says_plain : goal.returns-in-Err-clause-says_plain
-returns-in-Err-clause-says_plain g c = λ scan is t puts what said.
-    let led : LeadsTo (project_reading scan (g.T.Tree.file c.args.tree.now) (g.T.Tree.listed c.args.tree.now) (reads_tests c.args.job)) (Err c.in-Err.stop) = subst (λ (wanted : Bool). LeadsTo (project_reading scan (g.T.Tree.file c.args.tree.now) (g.T.Tree.listed c.args.tree.now) wanted) (Err c.in-Err.stop)) c.reads_tests-with_tests.ensures (c.in-Err.ensures.reading scan is t) in
-    c.say_stop.ensures.says puts c.args.job (project_reading scan (g.T.Tree.file c.args.tree.now) (g.T.Tree.listed c.args.tree.now) (reads_tests c.args.job)) led what said
-
-pub returns-in-Err-clause-says_build : goal.returns-in-Err-clause-says_build
-returns-in-Err-clause-says_build g c = λ scan is t d p puts order warnings builds.
-    let led : LeadsTo (project_reading scan (g.T.Tree.file c.args.tree.now) (g.T.Tree.listed c.args.tree.now) (reads_tests c.args.job)) (Err c.in-Err.stop) = subst (λ (wanted : Bool). LeadsTo (project_reading scan (g.T.Tree.file c.args.tree.now) (g.T.Tree.listed c.args.tree.now) wanted) (Err c.in-Err.stop)) c.reads_tests-with_tests.ensures (c.in-Err.ensures.reading scan is t) in
-    c.say_stop.ensures.says_build puts c.args.job (project_reading scan (g.T.Tree.file c.args.tree.now) (g.T.Tree.listed c.args.tree.now) (reads_tests c.args.job)) led order warnings builds _
-
-pub returns-in-Err-clause-writes : goal.returns-in-Err-clause-writes
-returns-in-Err-clause-writes g c = λ scan is t r path text exports.
-    let led : LeadsTo (project_reading scan (g.T.Tree.file c.args.tree.now) (g.T.Tree.listed c.args.tree.now) (reads_tests c.args.job)) (Err c.in-Err.stop) = subst (λ (wanted : Bool). LeadsTo (project_reading scan (g.T.Tree.file c.args.tree.now) (g.T.Tree.listed c.args.tree.now) wanted) (Err c.in-Err.stop)) c.reads_tests-with_tests.ensures (c.in-Err.ensures.reading scan is t) in
-    c.say_stop.ensures.writes c.args.job (project_reading scan (g.T.Tree.file c.args.tree.now) (g.T.Tree.listed c.args.tree.now) (reads_tests c.args.job)) led path text exports _
+pub returns-in-Err-clause-no_tests : goal.returns-in-Err-clause-no_tests
+returns-in-Err-clause-no_tests g c = λ runs. no_test_since (g.P.Procs.journal c.args.procs.now)

@@ -3,8 +3,10 @@ use Rattle.command_line.specs.declared.setting.WordsFault.{WordsFault}
 use Rattle.command_line.specs.Words.{setting_of, ReadsWords}
 use Rattle.project_reading.specs.Reading.{project_reading}
 use Rattle.vunit_top.specs.Reading.{Bad, Child, setting_job, words_job, reading}
-use Rattle.vunit_top.proofs.Tops.{nothing_by, child_job, bench_job, setting_read, bad_read, plain_by, builds_by, exports_by, reports_by}
-use Rattle.vunit_top.proofs.RunTruths.{runs_idle, ran_by}
+use Rattle.disk_runs.proofs.OverStore.{no_test_since}
+use Rattle.vunit_top.proofs.Tops.{nothing_by, child_job, bench_job, setting_read, bad_read}
+use Rattle.vunit_top.proofs.ActTruths.{acts_by}
+use Rattle.vunit_top.proofs.RunTruths.{runs_idle}
 use Rattle.vunit_top.proofs.top.run_vunit.Goals as goal
 
 pub returns-then-begins_with-clause-ran : goal.returns-then-begins_with-clause-ran
@@ -22,20 +24,39 @@ returns-then-begins_with-2-clause-ran g c = λ scan is t d p.
 
 pub returns-in-Ok-clause-ran : goal.returns-in-Ok-clause-ran
 returns-in-Ok-clause-ran g c = λ scan is t d p.
-    ran_by scan _ (words_job c.args.words.now) (setting_job c.in-Ok.setting) (project_reading scan (g.T.Tree.file c.args.tree.now) (g.T.Tree.listed c.args.tree.now)) _ _ _ (setting_read c.args.words.now (sym c.begins_with.ensures ∙ c.if-begins_with.false) (sym c.begins_with-2.ensures ∙ c.if-begins_with-2.false) c.in-Ok.setting c.in-Ok.ensures.read)
-    (c.run_setting.ensures.ran scan is c.args.words.now t d p)
+    (acts_by _ _ scan _ (words_job c.args.words.now) (setting_job c.in-Ok.setting) (project_reading scan (g.T.Tree.file c.args.tree.now) (g.T.Tree.listed c.args.tree.now)) (setting_read c.args.words.now (sym c.begins_with.ensures ∙ c.if-begins_with.false) (sym c.begins_with-2.ensures ∙ c.if-begins_with-2.false) c.in-Ok.setting c.in-Ok.ensures.read) (c.run_setting.ensures.acts scan is t c.args.words.now)).ran d p
+
+pub returns-in-Ok-clause-untouched : goal.returns-in-Ok-clause-untouched
+returns-in-Ok-clause-untouched g c = λ scan is t.
+    (acts_by _ _ scan _ (words_job c.args.words.now) (setting_job c.in-Ok.setting) (project_reading scan (g.T.Tree.file c.args.tree.now) (g.T.Tree.listed c.args.tree.now)) (setting_read c.args.words.now (sym c.begins_with.ensures ∙ c.if-begins_with.false) (sym c.begins_with-2.ensures ∙ c.if-begins_with-2.false) c.in-Ok.setting c.in-Ok.ensures.read) (c.run_setting.ensures.acts scan is t c.args.words.now)).untouched
+
+pub returns-in-Ok-clause-unreported : goal.returns-in-Ok-clause-unreported
+returns-in-Ok-clause-unreported g c = λ scan is t.
+    (acts_by _ _ scan _ (words_job c.args.words.now) (setting_job c.in-Ok.setting) (project_reading scan (g.T.Tree.file c.args.tree.now) (g.T.Tree.listed c.args.tree.now)) (setting_read c.args.words.now (sym c.begins_with.ensures ∙ c.if-begins_with.false) (sym c.begins_with-2.ensures ∙ c.if-begins_with-2.false) c.in-Ok.setting c.in-Ok.ensures.read) (c.run_setting.ensures.acts scan is t c.args.words.now)).unreported
+
+pub returns-in-Ok-clause-silent_export : goal.returns-in-Ok-clause-silent_export
+returns-in-Ok-clause-silent_export g c = λ scan is t.
+    (acts_by _ _ scan _ (words_job c.args.words.now) (setting_job c.in-Ok.setting) (project_reading scan (g.T.Tree.file c.args.tree.now) (g.T.Tree.listed c.args.tree.now)) (setting_read c.args.words.now (sym c.begins_with.ensures ∙ c.if-begins_with.false) (sym c.begins_with-2.ensures ∙ c.if-begins_with-2.false) c.in-Ok.setting c.in-Ok.ensures.read) (c.run_setting.ensures.acts scan is t c.args.words.now)).silent
+
+pub returns-in-Ok-clause-says_plain : goal.returns-in-Ok-clause-says_plain
+returns-in-Ok-clause-says_plain g c = λ scan is t.
+    (acts_by _ _ scan _ (words_job c.args.words.now) (setting_job c.in-Ok.setting) (project_reading scan (g.T.Tree.file c.args.tree.now) (g.T.Tree.listed c.args.tree.now)) (setting_read c.args.words.now (sym c.begins_with.ensures ∙ c.if-begins_with.false) (sym c.begins_with-2.ensures ∙ c.if-begins_with-2.false) c.in-Ok.setting c.in-Ok.ensures.read) (c.run_setting.ensures.acts scan is t c.args.words.now)).says_plain
+
+pub returns-in-Ok-clause-says_build : goal.returns-in-Ok-clause-says_build
+returns-in-Ok-clause-says_build g c = λ scan is t d p puts.
+    (acts_by _ _ scan _ (words_job c.args.words.now) (setting_job c.in-Ok.setting) (project_reading scan (g.T.Tree.file c.args.tree.now) (g.T.Tree.listed c.args.tree.now)) (setting_read c.args.words.now (sym c.begins_with.ensures ∙ c.if-begins_with.false) (sym c.begins_with-2.ensures ∙ c.if-begins_with-2.false) c.in-Ok.setting c.in-Ok.ensures.read) (c.run_setting.ensures.acts scan is t c.args.words.now)).says_build d p puts
+
+pub returns-in-Ok-clause-answers : goal.returns-in-Ok-clause-answers
+returns-in-Ok-clause-answers g c = λ scan is t d p.
+    (acts_by _ _ scan _ (words_job c.args.words.now) (setting_job c.in-Ok.setting) (project_reading scan (g.T.Tree.file c.args.tree.now) (g.T.Tree.listed c.args.tree.now)) (setting_read c.args.words.now (sym c.begins_with.ensures ∙ c.if-begins_with.false) (sym c.begins_with-2.ensures ∙ c.if-begins_with-2.false) c.in-Ok.setting c.in-Ok.ensures.read) (c.run_setting.ensures.acts scan is t c.args.words.now)).answers d p
+
+pub returns-in-Ok-clause-writes : goal.returns-in-Ok-clause-writes
+returns-in-Ok-clause-writes g c = λ scan is t.
+    (acts_by _ _ scan _ (words_job c.args.words.now) (setting_job c.in-Ok.setting) (project_reading scan (g.T.Tree.file c.args.tree.now) (g.T.Tree.listed c.args.tree.now)) (setting_read c.args.words.now (sym c.begins_with.ensures ∙ c.if-begins_with.false) (sym c.begins_with-2.ensures ∙ c.if-begins_with-2.false) c.in-Ok.setting c.in-Ok.ensures.read) (c.run_setting.ensures.acts scan is t c.args.words.now)).writes
 
 pub returns-in-Ok-clause-says_words : goal.returns-in-Ok-clause-says_words
 returns-in-Ok-clause-says_words g c = λ puts r is what said.
     c.run_setting.ensures.says_words puts r (sym (setting_read c.args.words.now (sym c.begins_with.ensures ∙ c.if-begins_with.false) (sym c.begins_with-2.ensures ∙ c.if-begins_with-2.false) c.in-Ok.setting c.in-Ok.ensures.read) ∙ is) what said
-
-pub returns-in-Ok-clause-says_plain : goal.returns-in-Ok-clause-says_plain
-returns-in-Ok-clause-says_plain g c = λ scan is t puts what said.
-    c.run_setting.ensures.says_plain scan is t puts what (plain_by (words_job c.args.words.now) (setting_job c.in-Ok.setting) (project_reading scan (g.T.Tree.file c.args.tree.now) (g.T.Tree.listed c.args.tree.now)) (setting_read c.args.words.now (sym c.begins_with.ensures ∙ c.if-begins_with.false) (sym c.begins_with-2.ensures ∙ c.if-begins_with-2.false) c.in-Ok.setting c.in-Ok.ensures.read) what said)
-
-pub returns-in-Ok-clause-says_build : goal.returns-in-Ok-clause-says_build
-returns-in-Ok-clause-says_build g c = λ scan is t d p puts order warnings builds.
-    c.run_setting.ensures.says_build scan is t d p puts order warnings (builds_by (words_job c.args.words.now) (setting_job c.in-Ok.setting) (project_reading scan (g.T.Tree.file c.args.tree.now) (g.T.Tree.listed c.args.tree.now)) (setting_read c.args.words.now (sym c.begins_with.ensures ∙ c.if-begins_with.false) (sym c.begins_with-2.ensures ∙ c.if-begins_with-2.false) c.in-Ok.setting c.in-Ok.ensures.read) order warnings builds)
 
 pub returns-in-Ok-clause-counted : goal.returns-in-Ok-clause-counted
 returns-in-Ok-clause-counted g c = c.run_setting.ensures.counted _
@@ -51,10 +72,14 @@ returns-in-Err-NoMemory-clause-ran g c = λ scan is t d p.
     runs_idle scan _ (reading scan c.args.words.now (record { file = g.T.Tree.file c.args.tree.now; listed = g.T.Tree.listed c.args.tree.now })) c.args.words.now _ _ (g.P.Procs.journal c.args.procs.now) (g.D.Disk.moments c.args.disk.now) (g.met.D.Disk.sound c.args.disk.now)
     (λ said. absurd said)
 
-pub returns-in-Ok-clause-writes : goal.returns-in-Ok-clause-writes
-returns-in-Ok-clause-writes g c = λ scan is t r path text exports.
-    c.run_setting.ensures.writes scan is t r path text (exports_by (words_job c.args.words.now) (setting_job c.in-Ok.setting) (project_reading scan (g.T.Tree.file c.args.tree.now) (g.T.Tree.listed c.args.tree.now)) (setting_read c.args.words.now (sym c.begins_with.ensures ∙ c.if-begins_with.false) (sym c.begins_with-2.ensures ∙ c.if-begins_with-2.false) c.in-Ok.setting c.in-Ok.ensures.read) path text exports)
+pub returns-then-begins_with-clause-no_tests : goal.returns-then-begins_with-clause-no_tests
+returns-then-begins_with-clause-no_tests g c = λ runs. no_test_since (g.P.Procs.journal c.args.procs.now)
 
-pub returns-in-Ok-clause-unreported : goal.returns-in-Ok-clause-unreported
-returns-in-Ok-clause-unreported g c = λ scan is t none.
-    c.run_setting.ensures.unreported scan is t (reports_by (words_job c.args.words.now) (setting_job c.in-Ok.setting) (project_reading scan (g.T.Tree.file c.args.tree.now) (g.T.Tree.listed c.args.tree.now)) (setting_read c.args.words.now (sym c.begins_with.ensures ∙ c.if-begins_with.false) (sym c.begins_with-2.ensures ∙ c.if-begins_with-2.false) c.in-Ok.setting c.in-Ok.ensures.read) none)
+pub returns-then-begins_with-2-clause-no_tests : goal.returns-then-begins_with-2-clause-no_tests
+returns-then-begins_with-2-clause-no_tests g c = λ runs. no_test_since (g.P.Procs.journal c.args.procs.now)
+
+pub returns-in-Err-Bad-clause-no_tests : goal.returns-in-Err-Bad-clause-no_tests
+returns-in-Err-Bad-clause-no_tests g c = λ runs. no_test_since (g.P.Procs.journal c.args.procs.now)
+
+pub returns-in-Err-NoMemory-clause-no_tests : goal.returns-in-Err-NoMemory-clause-no_tests
+returns-in-Err-NoMemory-clause-no_tests g c = λ runs. no_test_since (g.P.Procs.journal c.args.procs.now)

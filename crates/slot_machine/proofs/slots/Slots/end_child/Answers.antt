@@ -3,9 +3,10 @@ use Rattle.std.proofs.Common.{refl, sym, ap, subst, ◌∙◌, ◌+◌, ◌<◌,
 use Rattle.std.proofs.lemmas.List.Edits.{length-remove}
 use Rattle.std.specs.Prelude.{Contains}
 use Rattle.run_spec.specs.Moves.{position_of, without_child}
-use Rattle.slot_machine.specs.Machines.{running_child, files_of, tickets_of, without_ticket}
-use Rattle.slot_machine.specs.declared.child.Child.{Child}
-use Rattle.slot_machine.proofs.ChildLists.{IsFirst, first_position, first_without, first_ticket}
+use Rattle.slot_machine.specs.Machines.{files_of, tickets_of}
+use Rattle.child_steps.specs.Steps.{running_child, without_ticket}
+use Rattle.child_steps.specs.declared.child.Child.{Child}
+use Rattle.child_steps.proofs.ChildLists.{IsFirst, first_position, first_without, first_ticket}
 use Rattle.slot_machine.proofs.MachineSteps.{in_step_as, nearer_after_end}
 use Rattle.slot_machine.proofs.slots.Slots.end_child.Goals as goal
 

@@ -1,8 +1,10 @@
 -- What remains to be proved of `ended`.
 use Rattle.std.proofs.Common.{subst, sym, ap, ◌∙◌, true, false}
 use Rattle.run_spec.specs.Moves.{Ends, after_move}
-use Rattle.slot_machine.specs.Machines.{without_ticket, IsMachineOf}
-use Rattle.slot_machine.proofs.MachineSteps.{greedy_end, ends_as, lawful_end}
+use Rattle.slot_machine.specs.Machines.{IsMachineOf}
+use Rattle.child_steps.specs.Steps.{without_ticket}
+use Rattle.slot_machine.proofs.MachineSteps.{greedy_end}
+use Rattle.child_steps.proofs.PlainSteps.{ends_as, lawful_end}
 use Rattle.slot_machine.proofs.slots.Slots.ended.Goals as goal
 
 pub returns-then-ok-clause-greedy : goal.returns-then-ok-clause-greedy

@@ -2,7 +2,7 @@
 use Rattle.std.proofs.Common.{subst, List, map}
 use Rattle.std.specs.Prelude.{IsTrue, Contains, ◌↔◌}
 use Rattle.slot_machine.specs.Machines.{tickets_of}
-use Rattle.slot_machine.specs.declared.child.Child.{Child}
+use Rattle.child_steps.specs.declared.child.Child.{Child}
 use Rattle.slot_machine.proofs.slots.Slots.is_running.Goals as goal
 
 pub returns : goal.returns

@@ -3,7 +3,8 @@ use Rattle.std.proofs.Common.{arith, refl, sym, ap, subst, ◌∙◌, ◌≡◌,
 use Rattle.std.proofs.lemmas.List.{length-set, get_or_default}
 use Rattle.slot_machine.specs.Bits.{has_bit}
 use Rattle.slot_machine.specs.Counts.{AreReady, times}
-use Rattle.slot_machine.specs.Machines.{files_of, tickets_of, with_end}
+use Rattle.slot_machine.specs.Machines.{files_of, tickets_of}
+use Rattle.child_steps.specs.Steps.{with_end}
 use Rattle.slot_machine.proofs.CoreSteps.{made_again}
 use Rattle.slot_machine.proofs.MachineSteps.{in_step_as, in_step_made, or_and_false, nearer_after_made, nearer_same}
 use Rattle.slot_machine.proofs.slots.Slots.make.Goals as goal

@@ -4,7 +4,7 @@ use Rattle.vr_outside.specs.declared.records.Need.{Need}
 use Rattle.vr_outside.specs.declared.records.Need.TheVariants.{Fresh}
 use Rattle.slot_machine.specs.Counts.{is_stale, AreCounted}
 use Rattle.slot_machine.specs.Machines.{files_of, tickets_of}
-use Rattle.slot_machine.specs.declared.child.Child.{Child}
+use Rattle.child_steps.specs.declared.child.Child.{Child}
 use Rattle.slot_machine.proofs.NewMachine.{in_step_new}
 use Rattle.slot_machine.proofs.slots.Slots.new.Goals as goal
 

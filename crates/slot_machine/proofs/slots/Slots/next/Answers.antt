@@ -3,7 +3,7 @@ use Rattle.std.proofs.Common.{arith, sym, ◌∙◌}
 use Rattle.std.proofs.lemmas.List.{length-map}
 use Rattle.slot_machine.specs.Machines.{files_of, tickets_of}
 use Rattle.slot_machine.proofs.MachineSteps.{next_in_step, start_is, next_runs, next_ends, finished_is}
-use Rattle.slot_machine.proofs.ChildLists.{no_children}
+use Rattle.child_steps.proofs.ChildLists.{no_children}
 use Rattle.slot_machine.proofs.slots.Slots.next.Goals as goal
 
 pub returns-clause-in_step : goal.returns-clause-in_step

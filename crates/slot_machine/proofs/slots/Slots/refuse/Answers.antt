@@ -1,6 +1,7 @@
 -- What remains to be proved of `refuse`.
 use Rattle.std.proofs.Common.{arith, refl, ◌∙◌, false}
-use Rattle.slot_machine.specs.Machines.{files_of, tickets_of, with_end}
+use Rattle.slot_machine.specs.Machines.{files_of, tickets_of}
+use Rattle.child_steps.specs.Steps.{with_end}
 use Rattle.slot_machine.proofs.MachineSteps.{in_step_as, halt_refused, no_halt, nearer_same, halted_last}
 use Rattle.slot_machine.proofs.CoreSteps.{made_after_refusal}
 use Rattle.slot_machine.proofs.slots.Slots.refuse.Goals as goal

@@ -4,7 +4,7 @@ use Rattle.std.specs.Prelude.{All}
 use Rattle.std.proofs.lemmas.List.{length-set, map-append, length-append}
 use Rattle.std.proofs.lemmas.List.Elements.{All-push}
 use Rattle.slot_machine.specs.Machines.{files_of, tickets_of}
-use Rattle.slot_machine.specs.declared.child.Child.{Child}
+use Rattle.child_steps.specs.declared.child.Child.{Child}
 use Rattle.slot_machine.proofs.MachineSteps.{start_is, in_step_started, lawful_start, nearer_after_start}
 use Rattle.slot_machine.proofs.slots.Slots.started.Goals as goal
 

@@ -1,8 +1,9 @@
 -- What remains to be proved of `step`.
 use Rattle.std.proofs.Common.{arith, sym, ap, ◌∙◌, ◌==◌, ◌≡◌, length}
 use Rattle.std.specs.Vec.{vec_len}
-use Rattle.slot_machine.specs.Machines.{next_of, step_of}
-use Rattle.slot_machine.proofs.MachineSteps.{step_finished, step_wait}
+use Rattle.slot_machine.specs.Machines.{next_of}
+use Rattle.child_steps.specs.Steps.{step_of}
+use Rattle.child_steps.proofs.PlainSteps.{step_finished, step_wait}
 use Rattle.slot_machine.proofs.slots.Slots.step.Goals as goal
 
 pub returns-in-Some : goal.returns-in-Some

@@ -1,0 +1,3 @@
+-- The definitions.
+pub mod Orders
+pub mod Building

@@ -1,0 +1,131 @@
+//! A build over the records of a disk.
+
+ghost use Rattle.std.specs.Prelude.{◌≡◌, ◌≤◌, ◌++◌, [], false, length, IfOk, OnOk};
+ghost use Rattle.vr_outside.specs.Counts.{StoreCounts};
+ghost use Rattle.vr_outside.specs.Disks.{reads_of, AtAnyMoment, IsEither};
+ghost use Rattle.run_spec.specs.ChildJournal.{since};
+ghost use Rattle.run_spec.specs.JournalParts.{test_part};
+ghost use Rattle.compile_loop.specs.Faults.{Explains, NoneFell, fault_of};
+ghost use Rattle.disk_runs.specs.Building.{OpensStore, BuildsOver, has_risen};
+ghost use Rattle.disk_runs.specs.Orders.{order_by};
+
+use compile_loop::{BuildFault, build_marks};
+use run_spec::MarkList;
+use std::alloc::Global;
+use vr_base::{DiskFailed, FILE_LIMIT, Graph, SLOT_LIMIT};
+use vr_outside::{Disk, Procs, Records, StoreFault};
+
+/// How a graph is built: with so many children at once, going on after a refusal or not, and over the records that are there
+/// or over none.
+#[derive(Clone, Copy, Debug, PartialEq, Eq)]
+pub struct BuildOptions {
+    pub slots: u32,
+    pub keep_going: bool,
+    pub clean: bool,
+}
+
+/// Empties a store.
+fn emptied<K: Records + Drop, D: Disk>(mut store: K, disk: &mut D) -> Result<K, StoreFault>
+    requires usable { K.broken store ≡ false }
+    requires in_step { D.tells → K.in_step store (D.moments disk.old).now }
+    ensures any_moment { D.tells →
+        let before = K.records_of (reads_of (D.moments disk.old).now) in
+        AtAnyMoment (D.moments disk.old) (D.moments disk.new)
+        (λ image. IsEither (K.records_of image) before []) }
+    ensures none { D.tells → OnOk result (K.records_of (reads_of (D.moments disk.new).now) ≡ []) }
+    ensures in_step { D.tells → IfOk result (λ store. K.in_step store (D.moments disk.new).now) }
+    ensures usable { IfOk result (λ store. K.broken store ≡ false) }
+    ensures cause { StoreCounts result (D.failed_disk_calls disk.old)
+        (D.failed_disk_calls disk.new) }
+{
+    match store.reset(disk) {
+        Ok(()) => Ok(store),
+        Err(DiskFailed) => Err(StoreFault::DiskFailed),
+    }
+}
+
+/// Opens the store of a disk, and empties it where it is to be clean.
+fn open_store<K: Records + Drop, D: Disk>(
+    alloc: Global,
+    disk: &mut D,
+    clean: bool,
+) -> Result<K, StoreFault>
+    ensures opens { D.tells →
+        OpensStore K.records_of clean result (D.moments disk.old) (D.moments disk.new) }
+    ensures in_step { D.tells → IfOk result (λ store. K.in_step store (D.moments disk.new).now) }
+    ensures usable { IfOk result (λ store. K.broken store ≡ false) }
+    ensures cause { StoreCounts result (D.failed_disk_calls disk.old)
+        (D.failed_disk_calls disk.new) }
+{
+    match K::from_disk(alloc, disk) {
+        Ok(store) => {
+            if clean {
+                return emptied(store, disk);
+            }
+            Ok(store)
+        }
+        Err(fault) => Err(fault),
+    }
+}
+
+/// Opens the store of a disk, and builds over its records.
+pub fn build_over<K: Records + Drop, D: Disk, P: Procs>(
+    alloc: Global,
+    graph: &Graph,
+    options: BuildOptions,
+    disk: &mut D,
+    procs: &mut P,
+) -> Result<MarkList, BuildFault>
+    requires slots { (1 ≤ options.slots) × (options.slots ≤ SLOT_LIMIT) }
+    requires idle { P.running procs.old ≡ [] }
+    ensures running { P.running procs.new ≡ [] }
+    ensures same { P.answer procs.new ≡ P.answer procs.old }
+    ensures count { IfOk result (λ marks. length marks ≡ length graph.now) }
+    ensures follows { P.tells →
+        (P.journal procs.new
+        ≡ P.journal procs.old ++ since (P.journal procs.old) (P.journal procs.new)) }
+    ensures no_tests { P.tells →
+        test_part (since (P.journal procs.old) (P.journal procs.new)) ≡ [] }
+    ensures told { D.tells → P.tells →
+        BuildsOver K.records_of (P.answer procs.old) (order_by options graph.now) result
+        (has_risen (D.failed_disk_calls disk.old) (D.failed_disk_calls disk.new))
+        (D.moments disk.old) (D.moments disk.new)
+        (since (P.journal procs.old) (P.journal procs.new)) }
+    ensures fell { NoneFell
+        (record {
+          starts = P.failed_starts procs.old;
+          losses = P.lost_children procs.old;
+          disks = D.failed_disk_calls disk.old;
+        })
+        (record {
+          starts = P.failed_starts procs.new;
+          losses = P.lost_children procs.new;
+          disks = D.failed_disk_calls disk.new;
+        }) }
+    ensures explains { Explains (fault_of result)
+        (record {
+          starts = P.failed_starts procs.old;
+          losses = P.lost_children procs.old;
+          disks = D.failed_disk_calls disk.old;
+        })
+        (record {
+          starts = P.failed_starts procs.new;
+          losses = P.lost_children procs.new;
+          disks = D.failed_disk_calls disk.new;
+        }) }
+{
+    prove!(graph.len() <= FILE_LIMIT as u64);
+    match open_store::<K, D>(alloc, disk, options.clean) {
+        Ok(mut store) => build_marks(
+            alloc,
+            graph,
+            &mut store,
+            disk,
+            procs,
+            options.slots,
+            options.keep_going,
+        ),
+        Err(StoreFault::NoMemory) => Err(BuildFault::NoMemory),
+        Err(StoreFault::DiskFailed) => Err(BuildFault::DiskFailed),
+    }
+}

@@ -1,0 +1,20 @@
+//! The laws of histories, of the program.
+
+ghost use Rattle.std.specs.Prelude.{ℕ, List};
+ghost use Rattle.vr_base.specs.declared.child.Exit.{Exit};
+ghost use Rattle.vr_base.specs.declared.child.Request.{Request};
+ghost use Rattle.vr_outside.specs.Disks.{settled_disk};
+ghost use Rattle.history_spec.specs.Histories.{Sources, HistoryStep, IsHistory, empty_image};
+ghost use Rattle.history_laws.specs.Rights.{AllRight};
+ghost use Rattle.scan_spec.specs.Scans.{Finding};
+ghost use Rattle.vunit_top.specs.Runs.{world_of};
+
+/// What holds of every history of runs of the program, edits of the sources, and stops.
+pub fn laws_of_program()
+    // From an empty disk, whose store holds no record, each run is right: whatever a stop can leave has true records alone,
+    // and each start asks for its file what a clean build of its sources asks for it.
+    ensures from_empty { (scan : List ℕ → Finding) (answer : Request → Exit) (sources : Sources)
+        (steps : List HistoryStep) →
+        IsHistory (world_of scan answer) sources (settled_disk empty_image) steps →
+        AllRight (world_of scan answer) sources (settled_disk empty_image) steps }
+{}

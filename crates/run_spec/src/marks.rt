@@ -1,0 +1,19 @@
+//! What became of each file in a build.
+
+use vr_base::{Items, Text};
+
+/// What became of a file in a build.
+#[derive(Drop)]
+pub enum Mark {
+    /// Its record is current, so it wasn't compiled.
+    Fresh,
+    Compiled,
+    /// The compiler ended with this code, which isn't 0, and printed this.
+    Refused { code: u32, output: Text },
+    /// A file that it depends on was refused.
+    Skipped,
+    /// The build ended before it.
+    Left,
+}
+
+pub type MarkList = Items<Mark>;

@@ -1,0 +1,60 @@
+//! The line that says why an object over the system failed.
+
+use child_procs::ChildProcs;
+use fault_causes::{Cause, cause_line};
+use file_disk::FileDisk;
+use file_reports::FileReports;
+use file_tree::FileTree;
+use outcomes::Which;
+use std::alloc::Global;
+use std::io::Stderr;
+use std_streams::{StdSink, StdSource};
+use told_procs::ToldProcs;
+
+/// Children of the system, of which a terminal is told.
+pub type Children = ToldProcs<ChildProcs<HostRuntime>, Stderr>;
+
+/// What a run goes over.
+#[derive(Clone, Copy)]
+pub struct Outside<'a> {
+    pub input: &'a StdSource<HostRuntime>,
+    pub tree: &'a FileTree<HostRuntime>,
+    pub disk: &'a FileDisk,
+    pub children: &'a Children,
+    pub out: &'a StdSink<HostRuntime>,
+    pub reports: &'a FileReports,
+}
+
+/// The line of a fault of this object, which says of what a call was, which one, and what the system said.
+pub fn fault_cause(alloc: Global, which: Which, outside: &Outside) -> Option<Vec<u8>> {
+    let (subject, cause) = cause_of(which, outside)?;
+    match cause_line(alloc, subject, &cause) {
+        Ok(line) => Some(line),
+        Err(_) => None,
+    }
+}
+
+fn cause_of<'a>(which: Which, outside: &Outside<'a>) -> Option<(&'a [u8], Cause)> {
+    match which {
+        Which::Tree => outside.tree.cause(),
+        Which::Disk => outside.disk.cause(),
+        Which::Start => outside.children.procs.start_cause(),
+        Which::Child => lost_child(outside.children),
+        Which::Out => of("standard output", outside.out.cause()),
+        Which::Report => outside.reports.cause(),
+        Which::Input => of("standard input", outside.input.cause()),
+    }
+}
+
+fn of<'a>(subject: &'static str, cause: Option<Cause>) -> Option<(&'a [u8], Cause)> {
+    Some((subject.as_bytes(), cause?))
+}
+
+/// What the first lost child was about, and why it is lost.
+fn lost_child(children: &Children) -> Option<(&[u8], Cause)> {
+    let cause = children.procs.child_cause()?;
+    match children.lost_title() {
+        Some(title) => Some((title, cause)),
+        None => Some((b"a child", cause)),
+    }
+}

@@ -1,0 +1,102 @@
+//! The line that says where in a file a refusal is, for editors.
+
+use fault_causes::{Place, place_line, place_of};
+use limited_reading::read_file;
+use outcomes::Refusal;
+use run_report::refusal_text;
+use std::alloc::Global;
+use std::fs;
+use vr_base::{LexFault, ProjectFault, TEXT_LIMIT, UnitFault};
+use vr_outside::ReadEnd;
+
+/// The bytes that one read takes at most.
+const CHUNK: usize = 65536;
+
+/// The project file whose lines can be bad.
+const LINES_FILE: &[u8] = b"vunit.csv";
+
+/// The line of a refusal that is about a place in a file. There is none where the file can't be read any more, or is too
+/// short for the place by now.
+pub fn refusal_place(rt: &HostRuntime, refusal: &Refusal) -> Option<Vec<u8>> {
+    match refusal {
+        Refusal::Lex { file, fault } => {
+            let path = file.path.bytes();
+            told(rt, path, place_at(rt, path, lex_offset(fault))?, refusal)
+        }
+        Refusal::Units { file, fault } => {
+            let path = file.path.bytes();
+            told(rt, path, place_at(rt, path, unit_offset(fault))?, refusal)
+        }
+        Refusal::Project {
+            fault: ProjectFault::BadLine { line },
+        } => told(
+            rt,
+            LINES_FILE,
+            start_of_line(rt, LINES_FILE, *line)?,
+            refusal,
+        ),
+        _ => None,
+    }
+}
+
+fn lex_offset(fault: &LexFault) -> u32 {
+    match fault {
+        LexFault::UnclosedString { at }
+        | LexFault::UnclosedExtended { at }
+        | LexFault::UnclosedComment { at } => *at,
+    }
+}
+
+fn unit_offset(fault: &UnitFault) -> u32 {
+    match fault {
+        UnitFault::NotUnit { at } | UnitFault::NotEnded { at } => *at,
+    }
+}
+
+/// The place of an offset in a file as it is now.
+fn place_at(rt: &HostRuntime, path: &[u8], at: u32) -> Option<Place> {
+    let text = text_of(rt, path)?;
+    let at = at as usize;
+    if at > text.len() {
+        return None;
+    }
+    Some(place_of(text.as_slice(), at))
+}
+
+/// The place where a line of a file begins.
+fn start_of_line(rt: &HostRuntime, path: &[u8], line: u32) -> Option<Place> {
+    let text = text_of(rt, path)?;
+    let line = line as usize;
+    let end = place_of(text.as_slice(), text.len());
+    if line > end.line || line == end.line && end.column == 1 {
+        return None;
+    }
+    Some(Place { line, column: 1 })
+}
+
+/// The text of a regular file. Another one, as a pipe, may keep a second reader waiting.
+fn text_of(rt: &HostRuntime, path: &[u8]) -> Option<Vec<u8>> {
+    let name = str::from_utf8(path).ok()?;
+    if !fs::metadata(rt, name).ok()?.is_file() {
+        return None;
+    }
+    let mut buffer = vec![in rt.alloc(); 0; CHUNK].ok()?;
+    let limit = TEXT_LIMIT as u64;
+    match read_file(rt, buffer.as_mut_slice(), rt.alloc(), path, limit) {
+        Ok(ReadEnd::Got(text)) => Some(text.into_vec()),
+        _ => None,
+    }
+}
+
+/// The line of a place, with the words of the refusal.
+fn told(rt: &HostRuntime, path: &[u8], place: Place, refusal: &Refusal) -> Option<Vec<u8>> {
+    let text = refusal_text(rt.alloc(), refusal).ok()?;
+    let words = words_of(text.bytes());
+    place_line(rt.alloc(), path, place, words).ok()
+}
+
+/// The text of a refusal without the program's name before it and the end of its line.
+fn words_of(text: &[u8]) -> &[u8] {
+    let text = text.strip_prefix(b"vunit_run: ").unwrap_or(text);
+    text.strip_suffix(b"\n").unwrap_or(text)
+}

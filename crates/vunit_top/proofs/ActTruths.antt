@@ -1,0 +1,133 @@
+-- What a run did and said, from its parts.
+use Rattle.std.proofs.Common.{◌≡◌, ◌≤◌, ◌+◌, ◌-◌, ◌^◌, min, ℕ, Bool, List, [], Option, Some, None, Result, Err, refl, sym, ap, subst, ◌∙◌, arith, inl, inr}
+use Rattle.std.specs.Prelude.{◌⊎◌, IfSome}
+use Rattle.std.proofs.lemmas.Option.{none-some}
+use Rattle.vr_base.specs.declared.child.Request.{Request}
+use Rattle.vr_base.specs.declared.child.Exit.{Exit}
+use Rattle.vr_base.specs.declared.child.Event.{Event}
+use Rattle.outcomes.specs.declared.outcome.Outcome.{Outcome}
+use Rattle.outcomes.specs.declared.outcome.Outcome.TheVariants as outcome
+use Rattle.outcomes.specs.declared.outcome.Which.TheVariants as which
+use Rattle.vr_outside.specs.Disks.{Moments, AreSound}
+use Rattle.history_spec.specs.Histories.{Order}
+use Rattle.run_report.specs.Outcomes.{build_outcome}
+use Rattle.scan_spec.specs.Scans.{Finding}
+use Rattle.project_reading.specs.Reading.{SourceReading}
+use Rattle.vunit_top.specs.declared.words.Job.{Job}
+use Rattle.vunit_top.specs.Acts.{Object, Disk, Children, Out, Reports, Seen, seen, run_between, marks_between, Acts}
+use Rattle.vunit_top.specs.Ends.{Writes}
+use Rattle.vunit_top.specs.Reading.{Reading, Exports, Builds, full_reading}
+use Rattle.disk_runs.specs.Building.{has_risen}
+use Rattle.vunit_top.specs.Runs.{RunsAs}
+use Rattle.vunit_top.specs.Said.{Said, Says, IsSaid, HasEnded, Counts, Causes, IsAccounted, order_of, report_of, plain_said, build_said}
+use Rattle.vunit_top.proofs.Tops.{some_said}
+use Rattle.vunit_top.proofs.RunTruths.{runs_idle}
+
+-- an answer that is neither a fault nor out of memory is that of a run that has ended
+said_ended : (result : Outcome) → IsSaid result → HasEnded result
+said_ended outcome.Done is = tt
+said_ended outcome.TestsFailed is = tt
+said_ended (outcome.Refused reason) is = tt
+said_ended outcome.BadWords is = tt
+said_ended (outcome.OutsideFault which) is = absurd is
+said_ended outcome.NoMemory is = absurd is
+said_ended (outcome.OverLimit limit) is = tt
+said_ended (outcome.Child code) is = tt
+
+-- what is to be built is one order with one text of warnings
+same_order : (order other : Order) (warnings more : List ℕ) → Builds order warnings ≡ Builds other more → order ≡ other
+same_order order other warnings more is = cc
+
+same_warnings : (order other : Order) (warnings more : List ℕ) → Builds order warnings ≡ Builds other more → warnings ≡ more
+same_warnings order other warnings more is = cc
+
+same_path : (path other text more : List ℕ) → Exports path text ≡ Exports other more → path ≡ other
+same_path path other text more is = cc
+
+same_text : (path other text more : List ℕ) → Exports path text ≡ Exports other more → text ≡ more
+same_text path other text more is = cc
+
+module _ (tells same : Object → Type 0) (scan : List ℕ → Finding) (answer : Request → Exit) where
+  -- a run that leaves disk and children as they are
+  pub acts_idle : (r : Reading) (words : List (List ℕ)) (result : Outcome) (journal : List Event) (moments : Moments) → AreSound moments → (failures : ℕ) (put now : List ℕ) (report after : List ℕ → Option (List ℕ)) →
+      (HasEnded result → order_of r ≡ None) → same Disk → same Children → (report_of r ≡ None → same Reports) → ((path text : List ℕ) → r ≡ Exports path text → same Out) →
+      (tells Out → (what : Said) → plain_said r ≡ Some what → Says result what put now) → (tells Out → (order : Order) (warnings : List ℕ) → r ≡ Builds order warnings → (what : Said) → Says result what put now) →
+      (tells Reports → (path text : List ℕ) → r ≡ Exports path text → Writes result path text report after) →
+      Acts tells same scan answer r words result (seen journal moments failures put report) (seen journal moments failures now after)
+  acts_idle r words result journal moments sound failures put now report after unordered disk children reports out plain build writes = record {
+    ran = λ d c. runs_idle scan answer r words result (has_risen failures failures) journal moments sound unordered;
+    untouched = λ none. (disk, children);
+    unreported = reports;
+    silent = out;
+    says_plain = plain;
+    says_build = λ d c o order warnings is. build o order warnings is (build_said warnings order.graph (marks_between order (seen journal moments failures put report) (seen journal moments failures now after)));
+    answers = λ d c order warnings is said. absurd (none-some order (sym (unordered (said_ended result said)) ∙ ap order_of is));
+    writes = writes;
+  }
+
+  -- one that says what is said where nothing is built and no report is written
+  pub acts_quiet : (r : Reading) (words : List (List ℕ)) (result : Outcome) (journal : List Event) (moments : Moments) → AreSound moments → (failures : ℕ) (put now : List ℕ) (report : List ℕ → Option (List ℕ)) →
+      order_of r ≡ None → report_of r ≡ None → same Disk → same Children → same Reports → (tells Out → (what : Said) → plain_said r ≡ Some what → Says result what put now) →
+      Acts tells same scan answer r words result (seen journal moments failures put report) (seen journal moments failures now report)
+  acts_quiet r words result journal moments sound failures put now report unordered unreported disk children reports plain =
+      acts_idle r words result journal moments sound failures put now report report (λ ended. unordered) disk children (λ none. reports)
+      (λ path text is. absurd (none-some (path, text) (sym unreported ∙ ap report_of is)))
+      plain
+      (λ o order warnings is. absurd (none-some order (sym unordered ∙ ap order_of is)))
+      (λ w path text is. absurd (none-some (path, text) (sym unreported ∙ ap report_of is)))
+
+  says_of : (result : Outcome) (put now : List ℕ) (said : Option Said) → IfSome said (λ mine. tells Out → Says result mine put now) → tells Out → (what : Said) → said ≡ Some what → Says result what put now
+  says_of result put now None given o what is = absurd (none-some what is)
+  says_of result put now (Some mine) given o what is = subst (λ (w : Said). Says result w put now) (some_said mine what is) (given o)
+
+  -- one that says what is said where nothing is built
+  pub acts_said : (r : Reading) (words : List (List ℕ)) (result : Outcome) (journal : List Event) (moments : Moments) → AreSound moments → (failures : ℕ) (put now : List ℕ) (report : List ℕ → Option (List ℕ)) →
+      order_of r ≡ None → report_of r ≡ None → same Disk → same Children → same Reports → IfSome (plain_said r) (λ mine. tells Out → Says result mine put now) →
+      Acts tells same scan answer r words result (seen journal moments failures put report) (seen journal moments failures now report)
+  acts_said r words result journal moments sound failures put now report unordered unreported disk children reports says =
+      acts_quiet r words result journal moments sound failures put now report unordered unreported disk children reports (says_of result put now (plain_said r) says)
+
+  -- one that is out of memory before it did anything
+  pub acts_none : (r : Reading) (words : List (List ℕ)) (journal : List Event) (moments : Moments) → AreSound moments → (failures : ℕ) (put : List ℕ) (report : List ℕ → Option (List ℕ)) → same Disk → same Children → same Out → same Reports →
+      Acts tells same scan answer r words outcome.NoMemory (seen journal moments failures put report) (seen journal moments failures put report)
+  acts_none r words journal moments sound failures put report disk children out reports =
+      acts_idle r words outcome.NoMemory journal moments sound failures put put report report (λ ended. absurd ended) disk children (λ none. reports) (λ path text is. out) (λ o what is. refl) (λ o order warnings is what. refl) (λ w path text is. refl)
+
+  -- one that writes a report
+  pub acts_export : (path text : List ℕ) (words : List (List ℕ)) (result : Outcome) (journal : List Event) (moments : Moments) → AreSound moments → (failures : ℕ) (put : List ℕ) (report after : List ℕ → Option (List ℕ)) →
+      same Disk → same Children → same Out → Says result (record { outcome = outcome.Done; text = [] }) put put → (tells Reports → Writes result path text report after) →
+      Acts tells same scan answer (Exports path text) words result (seen journal moments failures put report) (seen journal moments failures put after)
+  acts_export path text words result journal moments sound failures put report after disk children out says writes =
+      acts_idle (Exports path text) words result journal moments sound failures put put report after (λ ended. refl) disk children (λ none. absurd (none-some (path, text) (sym none))) (λ other more is. out)
+      (λ o what said. subst (λ (w : Said). Says result w put put) (some_said (record { outcome = outcome.Done; text = [] }) what said) says)
+      (λ o order warnings is. absurd (none-some order (ap order_of is)))
+      (λ w other more is. subst (λ (t : List ℕ). Writes result other t report after) (same_text path other text more is) (subst (λ (p : List ℕ). Writes result p text report after) (same_path path other text more is) (writes w)))
+
+  -- one that builds
+  pub acts_built : (order : Order) (warnings : List ℕ) (words : List (List ℕ)) (result : Outcome) (before after : Seen) → same Reports →
+      (tells Disk → tells Children → RunsAs scan answer (Builds order warnings) (run_between words result before after) before.moments.now after.moments.now) →
+      (tells Disk → tells Children → tells Out → Says result (build_said warnings order.graph (marks_between order before after)) before.put after.put) →
+      (tells Disk → tells Children → IsSaid result → result ≡ build_outcome order.graph (marks_between order before after)) →
+      Acts tells same scan answer (Builds order warnings) words result before after
+  acts_built order warnings words result before after reports ran says answers = record {
+    ran = ran;
+    untouched = λ none. absurd (none-some order (sym none));
+    unreported = λ none. reports;
+    silent = λ path text is. absurd (none-some (path, text) (ap report_of is));
+    says_plain = λ o what said. absurd (none-some what said);
+    says_build = λ d c o other more is.
+        subst (λ (w : List ℕ). Says result (build_said w other.graph (marks_between other before after)) before.put after.put) (same_warnings order other warnings more is)
+        (subst (λ (b : Order). Says result (build_said warnings b.graph (marks_between b before after)) before.put after.put) (same_order order other warnings more is) (says d c o));
+    answers = λ d c other more is. subst (λ (b : Order). IsSaid result → result ≡ build_outcome b.graph (marks_between b before after)) (same_order order other warnings more is) (answers d c);
+    writes = λ w path text is. absurd (none-some (path, text) (ap report_of is));
+  }
+
+  -- what a run did, where its words are said in two ways
+  pub acts_by : {words : List (List ℕ)} {result : Outcome} {before after : Seen} (j k : Result Job Reading) (s : Bool → SourceReading) → j ≡ k → Acts tells same scan answer (full_reading k s) words result before after →
+      Acts tells same scan answer (full_reading j s) words result before after
+  acts_by {words} {result} {before} {after} j k s is acts = subst (λ (i : Result Job Reading). Acts tells same scan answer (full_reading i s) words result before after) (sym is) acts
+
+-- counts that a run leaves at 0 aren't the cause of its answer
+pub no_early : {result : Outcome} {old new : Counts} → IsAccounted result old new → new.tree ≡ 0 → new.input ≡ 0 → (result ≡ outcome.OutsideFault which.Tree) ⊎ (result ≡ outcome.OutsideFault which.Input) → ⊥
+no_early {result} {old} {new} accounted tree input (inl is) = let rose : min (old.tree + 1) (2 ^ 64 - 1) ≤ new.tree = subst (λ (o : Outcome). Causes o old new) is accounted.cause in omega (arith, tree)
+no_early {result} {old} {new} accounted tree input (inr is) = let rose : min (old.input + 1) (2 ^ 64 - 1) ≤ new.input = subst (λ (o : Outcome). Causes o old new) is accounted.cause in omega (arith, input)

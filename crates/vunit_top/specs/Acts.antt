@@ -1,0 +1,74 @@
+-- What a run did with its objects and said, by what words and sources say is to be done: one record, which each call hands on.
+use Rattle.std.specs.Prelude.{◌≡◌, ℕ, List, Option, Some, None}
+use Rattle.vr_base.specs.declared.child.Request.{Request}
+use Rattle.vr_base.specs.declared.child.Exit.{Exit}
+use Rattle.vr_base.specs.declared.child.Event.{Event}
+use Rattle.run_spec.specs.declared.marks.Mark.{Mark}
+use Rattle.outcomes.specs.declared.outcome.Outcome.{Outcome}
+use Rattle.vr_outside.specs.Disks.{Moments, added_since}
+use Rattle.run_spec.specs.ChildJournal.{since}
+use Rattle.history_spec.specs.Histories.{Order, ProgramRun, work_over}
+use Rattle.run_spec.specs.JournalParts.{compile_part}
+use Rattle.run_spec.specs.Marks.{marks_of}
+use Rattle.run_report.specs.Outcomes.{build_outcome}
+use Rattle.scan_spec.specs.Scans.{Finding}
+use Rattle.vunit_top.specs.Store.{records_in_image}
+use Rattle.vunit_top.specs.Ends.{Writes}
+use Rattle.vunit_top.specs.Reading.{Reading, Exports, Builds}
+use Rattle.disk_runs.specs.Building.{has_risen}
+use Rattle.vunit_top.specs.Runs.{RunsAs, run_of}
+use Rattle.vunit_top.specs.Said.{Said, Says, IsSaid, order_of, report_of, plain_said, build_said}
+
+-- the objects that a run may change
+pub data Object : Type 0 where
+  Disk : Object
+  Children : Object
+  Out : Object
+  Reports : Object
+
+-- what holds of each of them
+abbrev pub of_each : (disk children out reports : Type 0) → Object → Type 0
+of_each disk children out reports Disk = disk
+of_each disk children out reports Children = children
+of_each disk children out reports Out = out
+of_each disk children out reports Reports = reports
+
+-- what these objects tell at a moment: the journal of children, the moments of the disk and how often it failed, what was
+-- put, and the files of reports
+pub record Seen : Type 0 where
+  pub journal : List Event
+  pub moments : Moments
+  pub disk_failures : ℕ
+  pub put : List ℕ
+  pub report : List ℕ → Option (List ℕ)
+
+abbrev pub seen : List Event → Moments → (disk_failures : ℕ) → (put : List ℕ) → (report : List ℕ → Option (List ℕ)) → Seen
+seen journal moments disk_failures put report = record { journal = journal; moments = moments; disk_failures = disk_failures; put = put; report = report }
+
+-- the run of these words and this answer between two moments
+abbrev pub run_between : List (List ℕ) → Outcome → Seen → Seen → ProgramRun
+run_between words result before after =
+    run_of words result (has_risen before.disk_failures after.disk_failures) (since before.journal after.journal) (added_since before.moments after.moments)
+
+-- the marks of a build of an order between two moments
+abbrev pub marks_between : Order → Seen → Seen → List Mark
+marks_between order before after = marks_of (work_over records_in_image order before.moments.now) (compile_part (since before.journal after.journal))
+
+-- What a run did and said between two moments, by what is to be done. What each clause needs to be told, and which objects
+-- are the same, are its premises.
+pub record Acts (tells same : Object → Type 0) (scan : List ℕ → Finding) (answer : Request → Exit) (r : Reading) (words : List (List ℕ)) (result : Outcome) (before after : Seen) : Type 0 where
+  -- what it did is a step of a history, with what follows of it
+  pub ran : tells Disk → tells Children → RunsAs scan answer r (run_between words result before after) before.moments.now after.moments.now
+  -- where nothing is to be built, disk and children are as before; so are the reports where none is to be written, and the
+  -- output where a report is
+  pub untouched : order_of r ≡ None → same Disk × same Children
+  pub unreported : report_of r ≡ None → same Reports
+  pub silent : (path text : List ℕ) → r ≡ Exports path text → same Out
+  -- the answer and the text that is put: of what isn't a build; and of a build, by its marks
+  pub says_plain : tells Out → (what : Said) → plain_said r ≡ Some what → Says result what before.put after.put
+  pub says_build : tells Disk → tells Children → tells Out → (order : Order) (warnings : List ℕ) → r ≡ Builds order warnings →
+      Says result (build_said warnings order.graph (marks_between order before after)) before.put after.put
+  pub answers : tells Disk → tells Children → (order : Order) (warnings : List ℕ) → r ≡ Builds order warnings → IsSaid result →
+      result ≡ build_outcome order.graph (marks_between order before after)
+  -- the report that is written
+  pub writes : tells Reports → (path text : List ℕ) → r ≡ Exports path text → Writes result path text before.report after.report
