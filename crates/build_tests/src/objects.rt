@@ -6,12 +6,13 @@ use crate::shapes::{Shape, file_of, graph_of, input_of, letter, text};
 use compile_loop::{BuildEnd, BuildFault, build, build_marks};
 use record_store::RecordStore;
 use run_report::build_text;
+use run_spec::{Mark, MarkList};
 use std::alloc::Global;
 use std::process::Abort;
 use std::test::Fail;
 use vr_base::{
-    Built, Event, Exit, Graph, Items, Mark, MarkList, MaybeText, NoMemory, Numbers, Positions,
-    Request, Text, TextList,
+    Built, Event, Exit, Graph, Items, MaybeText, NoMemory, Numbers, Positions, Request, Text,
+    TextList,
 };
 use vr_memory::{Answer, AnswerList, MemDisk, ScriptProcs, can_answer};
 use vr_outside::{Records, StoreFault};

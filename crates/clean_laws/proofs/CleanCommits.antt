@@ -8,14 +8,14 @@ use Rattle.vr_base.specs.declared.child.Request.{Request}
 use Rattle.vr_base.specs.declared.child.Exit.{Exit}
 use Rattle.vr_base.specs.declared.child.Event.{Event}
 use Rattle.vr_base.specs.Graphs.{IsGraph}
-use Rattle.run_spec.specs.ChildJournal.{Setting, End, Lawful, Answered, book_of}
+use Rattle.run_spec.specs.ChildJournal.{Work, End, Lawful, Answered, book_of}
 use Rattle.run_spec.specs.CleanBuild.{Result, Made, Refused, RecordsClean, clean_build}
 use Rattle.run_spec.specs.Commits.{record_at, commit_of, commits_of, commits}
 use Rattle.run_spec.specs.Faithful.{IsTrueRecord}
 use Rattle.clean_laws.proofs.JournalBooks.{IsCleanEnd, clean_book}
 use Rattle.clean_laws.proofs.TrueRecords.{made_record}
 
-module _ (answer : Request → Exit) (setting : Setting) (graph : IsGraph setting.graph) where
+module _ (answer : Request → Exit) (setting : Work) (graph : IsGraph setting.graph) where
   -- what is committed of one child
   commit_true : (end : End) → IsCleanEnd answer setting end → All (IsTrueRecord answer) (commit_of setting.graph end.position end.exit)
   commit_true end clean =

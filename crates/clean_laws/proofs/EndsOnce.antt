@@ -9,7 +9,7 @@ use Rattle.vr_base.specs.declared.child.Request.{Request}
 use Rattle.vr_base.specs.declared.child.Exit.{Exit}
 use Rattle.vr_base.specs.declared.child.Event.{Event}
 use Rattle.vr_base.specs.declared.child.Event.TheVariants.{Started, Ended, Gone}
-use Rattle.run_spec.specs.ChildJournal.{Setting, Run, End, Book, empty_book, next_position, request_at, run_of, others_of, end_of, after, after_all, book_of, Lawful, Answered}
+use Rattle.run_spec.specs.ChildJournal.{Work, Run, End, Book, empty_book, next_position, request_at, run_of, others_of, end_of, after, after_all, book_of, Lawful, Answered}
 use Rattle.run_spec.proofs.Steps.{Steps, steps_of}
 use Rattle.clean_laws.proofs.JournalBooks.{startable_parts, next_parts}
 use Rattle.clean_laws.proofs.JournalKeeps.{was_taken, IsOrderly, started_orderly, ended_orderly, gone_orderly, orderly_at_first, ended_run}
@@ -79,7 +79,7 @@ fewer_runs k ticket (run ∷ runs) =
       | inr f ↦ rw f (omega (arith, fewer_runs k ticket runs))
     ]
 
-module _ (answer : Request → Exit) (setting : Setting) (k : ℕ) where
+module _ (answer : Request → Exit) (setting : Work) (k : ℕ) where
   abbrev IsOnce : Book → Type 0
   IsOnce book = count_runs k book.runs + count_ends k book.ends ≤ 1
 

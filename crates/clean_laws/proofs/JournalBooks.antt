@@ -16,31 +16,31 @@ use Rattle.vr_base.specs.Graphs.{IsGraph}
 use Rattle.vr_base.specs.Jobs.{compile_request}
 use Rattle.run_spec.specs.CleanBuild.{Result, Made, Refused, built_of, built_below, result_of, is_free, clean_build, clean_request, RecordsClean}
 use Rattle.run_spec.specs.Moves.{is_startable, first_from, next_start}
-use Rattle.run_spec.specs.ChildJournal.{Setting, Run, End, Book, empty_book, exit_at, output_at, or_else, artefact_so_far, deps_of, job_of, core_of, next_position, built_file, request_at, run_of, end_of, after, after_all, book_of, Lawful, Answered}
+use Rattle.run_spec.specs.ChildJournal.{Work, Run, End, Book, empty_book, exit_at, output_at, or_else, artefact_so_far, deps_of, job_of, core_of, next_position, built_file, request_at, run_of, end_of, after, after_all, book_of, Lawful, Answered}
 use Rattle.run_spec.proofs.Journal.{startable_is}
 use Rattle.run_spec.proofs.Steps.{Steps, run_found, All-others, steps_of}
 use Rattle.clean_laws.proofs.CleanPlaces.{clean_at, filter_map-same}
 
 -- nothing is recorded of the file at a position, and all that it depends on is made in the clean build
-pub record IsDue (answer : Request → Exit) (setting : Setting) (position : ℕ) : Type 0 where
+pub record IsDue (answer : Request → Exit) (setting : Work) (position : ℕ) : Type 0 where
   pub entry : Entry
   pub is_entry : slice_get setting.graph position ≡ Some entry
   pub stale : setting.recorded position ≡ None
   pub free : is_free (clean_build answer setting.graph) entry ≡ true
 
 -- a running child was started with what the clean build asks for its file
-pub record IsCleanRun (answer : Request → Exit) (setting : Setting) (run : Run) : Type 0 where
+pub record IsCleanRun (answer : Request → Exit) (setting : Work) (run : Run) : Type 0 where
   pub due : IsDue answer setting run.position
   pub asked : run.request ≡ compile_request due.entry (built_below (clean_build answer setting.graph) due.entry)
 
 -- a child that has ended was started so too, and its exit says of its file what the clean build does
-pub record IsCleanEnd (answer : Request → Exit) (setting : Setting) (end : End) : Type 0 where
+pub record IsCleanEnd (answer : Request → Exit) (setting : Work) (end : End) : Type 0 where
   pub due : IsDue answer setting end.position
   pub asked : end.request ≡ compile_request due.entry (built_below (clean_build answer setting.graph) due.entry)
   pub result : slice_get (clean_build answer setting.graph) end.position ≡ Some (result_of due.entry end.exit)
 
 -- all that has happened so far is what the clean build says
-pub record IsCleanBook (answer : Request → Exit) (setting : Setting) (book : Book) : Type 0 where
+pub record IsCleanBook (answer : Request → Exit) (setting : Work) (book : Book) : Type 0 where
   pub runs : All (IsCleanRun answer setting) book.runs
   pub ends : All (IsCleanEnd answer setting) book.ends
 
@@ -87,7 +87,7 @@ output_found P (end ∷ ends) position output h all =
     ]
 
 -- what has no artefact isn't recorded
-pub not_recorded : (setting : Setting) (ends : List End) (position : ℕ) → artefact_so_far setting ends position ≡ None → setting.recorded position ≡ None
+pub not_recorded : (setting : Work) (ends : List End) (position : ℕ) → artefact_so_far setting ends position ≡ None → setting.recorded position ≡ None
 unfolding artefact_so_far
 not_recorded setting ends position h = from (setting.recorded position) refl where
   from : (recorded : Option (List ℕ)) → setting.recorded position ≡ recorded → recorded ≡ None
@@ -140,7 +140,7 @@ found_deps_before graph is position = from (slice_get graph position) refl where
   from (Some entry) at = deps_before graph is position entry at
 
 -- a file that may be started
-pub startable_parts : (setting : Setting) (book : Book) (position : ℕ) → is_startable (job_of setting) (core_of book) position ≡ true →
+pub startable_parts : (setting : Work) (book : Book) (position : ℕ) → is_startable (job_of setting) (core_of book) position ≡ true →
     (list_any (λ other. eqb other position) book.taken ≡ false) × (setting.recorded position ≡ None) × (list_all (λ dep. is_some (artefact_so_far setting book.ends dep)) (deps_of (slice_get setting.graph position)) ≡ true)
 startable_parts setting book position h =
     let all = and_parts _ _ (sym (startable_is setting book position) ∙ h) in
@@ -148,32 +148,32 @@ startable_parts setting book position h =
     (not-true _ two.0, not_recorded setting book.ends position (none_value _ two.1), all.1)
 
 -- the least position of a file that may be started
-pub next_parts : (setting : Setting) (book : Book) (position : ℕ) → next_position setting book ≡ Some position →
+pub next_parts : (setting : Work) (book : Book) (position : ℕ) → next_position setting book ≡ Some position →
     (position < length setting.graph) × (is_startable (job_of setting) (core_of book) position ≡ true) × ((k : ℕ) → k < position → is_startable (job_of setting) (core_of book) k ≡ false)
 unfolding next_start
 next_parts setting book position h =
     let found = first_at (is_startable (job_of setting) (core_of book)) 0 (length setting.graph) position h in
     (omega (arith, found.1), found.2, λ k l. found.3 k (omega arith) l)
 
-pub next_missing : (setting : Setting) (book : Book) → next_position setting book ≡ None → (k : ℕ) → k < length setting.graph → is_startable (job_of setting) (core_of book) k ≡ false
+pub next_missing : (setting : Work) (book : Book) → next_position setting book ≡ None → (k : ℕ) → k < length setting.graph → is_startable (job_of setting) (core_of book) k ≡ false
 unfolding next_start
 next_missing setting book h k l = first_missing (is_startable (job_of setting) (core_of book)) 0 (length setting.graph) h k (omega arith) (omega arith)
 
-pub clean_due : (answer : Request → Exit) (setting : Setting) (position : ℕ) (due : IsDue answer setting position) →
+pub clean_due : (answer : Request → Exit) (setting : Work) (position : ℕ) (due : IsDue answer setting position) →
     clean_request answer setting.graph position ≡ Some (compile_request due.entry (built_below (clean_build answer setting.graph) due.entry))
 clean_due answer setting position due = rw (due.is_entry, due.free) refl
 
 -- a running child was started with what the clean build asks
-pub run_asked : (answer : Request → Exit) (setting : Setting) (run : Run) → IsCleanRun answer setting run → clean_request answer setting.graph run.position ≡ Some run.request
+pub run_asked : (answer : Request → Exit) (setting : Work) (run : Run) → IsCleanRun answer setting run → clean_request answer setting.graph run.position ≡ Some run.request
 run_asked answer setting run is = clean_due answer setting run.position is.due ∙ ap (λ (r : Request). Some r) (sym is.asked)
 
 -- what the clean build says of a file that is due
-pub result_due : (answer : Request → Exit) (setting : Setting) → IsGraph setting.graph → (position : ℕ) (due : IsDue answer setting position) →
+pub result_due : (answer : Request → Exit) (setting : Work) → IsGraph setting.graph → (position : ℕ) (due : IsDue answer setting position) →
     slice_get (clean_build answer setting.graph) position ≡ Some (result_of due.entry (answer (compile_request due.entry (built_below (clean_build answer setting.graph) due.entry))))
 result_due answer setting graph position due =
     clean_at answer setting.graph position due.entry due.is_entry (deps_before setting.graph graph position due.entry due.is_entry) ∙ ap (λ (r : Result). Some r) (cond-true _ _ _ due.free)
 
-module _ (answer : Request → Exit) (setting : Setting) (graph : IsGraph setting.graph) (clean : RecordsClean answer setting.graph setting.recorded) where
+module _ (answer : Request → Exit) (setting : Work) (graph : IsGraph setting.graph) (clean : RecordsClean answer setting.graph setting.recorded) where
   module _ (book : Book) (is : IsCleanBook answer setting book) where
     ended_clean : (k : ℕ) (entry : Entry) (artefact : List ℕ) → slice_get setting.graph k ≡ Some entry → output_at book.ends k ≡ Some artefact →
         slice_get (clean_build answer setting.graph) k ≡ Some (Made (record { name = entry.name; artefact = artefact }))

@@ -13,7 +13,7 @@ use Rattle.vr_base.specs.declared.child.Event.{Event}
 use Rattle.vr_base.specs.declared.child.Event.TheVariants.{Started, Ended, Gone}
 use Rattle.vr_base.specs.Graphs.{IsGraph}
 use Rattle.run_spec.specs.Moves.{is_startable}
-use Rattle.run_spec.specs.ChildJournal.{Setting, Run, End, Book, empty_book, exit_at, output_at, artefact_so_far, deps_of, job_of, core_of, next_position, run_of, others_of, end_of, after, after_all, book_of, Answered, Lawful, is_gone}
+use Rattle.run_spec.specs.ChildJournal.{Work, Run, End, Book, empty_book, exit_at, output_at, artefact_so_far, deps_of, job_of, core_of, next_position, run_of, others_of, end_of, after, after_all, book_of, Answered, Lawful, is_gone}
 use Rattle.run_spec.proofs.Journal.{startable_is}
 use Rattle.run_spec.proofs.Steps.{Steps, run_found, All-others, steps_of}
 use Rattle.clean_laws.proofs.JournalBooks.{found_deps_before, not_recorded}
@@ -33,7 +33,7 @@ is_refusal end = not (eqb end.exit.code 0)
 
 -- all that runs or has ended was taken; where no end was lost all that was taken runs or has ended, and what halts is a
 -- refusal; a build that is not halted has lost no end, and, unless it goes on after refusals, has none
-pub record IsOrderly (setting : Setting) (lost : Bool) (book : Book) : Type 0 where
+pub record IsOrderly (setting : Work) (lost : Bool) (book : Book) : Type 0 where
   pub runs : All (λ run. was_taken book run.position ≡ true) book.runs
   pub ends : All (λ end. was_taken book end.position ≡ true) book.ends
   pub in_step : lost ≡ false → (position : ℕ) → was_taken book position ≡ true → (runs_at book.runs position || has_ended book.ends position) ≡ true
@@ -78,7 +78,7 @@ pub ended_run : (answer : Request → Exit) (run : Option Run) (exit : Exit) →
 ended_run answer None exit h = absurd (none-some exit h)
 ended_run answer (Some run) exit h = (run, refl)
 
-module _ (answer : Request → Exit) (setting : Setting) where
+module _ (answer : Request → Exit) (setting : Work) where
   pub started_orderly : (lost : Bool) (book : Book) → IsOrderly setting lost book → (ticket : ℕ) (request : Request) → IsOrderly setting lost (after setting book (Started ticket request))
   unfolding after
   started_orderly lost book is ticket request =
@@ -200,7 +200,7 @@ any_found p P (x ∷ xs) h all =
     ]
 
 -- what is recorded is made
-pub recorded_made : (setting : Setting) (ends : List End) (position : ℕ) (artefact : List ℕ) → setting.recorded position ≡ Some artefact → is_some (artefact_so_far setting ends position) ≡ true
+pub recorded_made : (setting : Work) (ends : List End) (position : ℕ) (artefact : List ℕ) → setting.recorded position ≡ Some artefact → is_some (artefact_so_far setting ends position) ≡ true
 unfolding artefact_so_far
 recorded_made setting ends position artefact e = rw e refl
 
@@ -220,7 +220,7 @@ exit_output (end ∷ ends) position exit h z =
     ]
 
 -- and so is what ended with code 0
-pub ended_made : (setting : Setting) (ends : List End) (position : ℕ) (exit : Exit) → setting.recorded position ≡ None → exit_at ends position ≡ Some exit → eqb exit.code 0 ≡ true →
+pub ended_made : (setting : Work) (ends : List End) (position : ℕ) (exit : Exit) → setting.recorded position ≡ None → exit_at ends position ≡ Some exit → eqb exit.code 0 ≡ true →
     is_some (artefact_so_far setting ends position) ≡ true
 unfolding artefact_so_far
 ended_made setting ends position exit none e z = rw (none, exit_output ends position exit e z) refl
@@ -237,12 +237,12 @@ output_none book (end ∷ ends) position all fresh =
       | inr f ↦ cond-false _ _ _ f ∙ output_none book ends position (All-tail (λ e. was_taken book e.position ≡ true) end ends all) fresh
     ]
 
-pub none_of_untaken : (setting : Setting) (book : Book) (position : ℕ) → All (λ end. was_taken book end.position ≡ true) book.ends → was_taken book position ≡ false → setting.recorded position ≡ None →
+pub none_of_untaken : (setting : Work) (book : Book) (position : ℕ) → All (λ end. was_taken book end.position ≡ true) book.ends → was_taken book position ≡ false → setting.recorded position ≡ None →
     artefact_so_far setting book.ends position ≡ None
 unfolding artefact_so_far
 none_of_untaken setting book position ends fresh none = rw (none, output_none book book.ends position ends fresh) refl
 
-module _ (setting : Setting) (graph : IsGraph setting.graph) (book : Book) where
+module _ (setting : Work) (graph : IsGraph setting.graph) (book : Book) where
   -- a file that was not taken and has no artefact may be started where all earlier ones are made
   pub is_open : (position : ℕ) → ((k : ℕ) → k < position → is_some (artefact_so_far setting book.ends k) ≡ true) → was_taken book position ≡ false → artefact_so_far setting book.ends position ≡ None →
       is_startable (job_of setting) (core_of book) position ≡ true

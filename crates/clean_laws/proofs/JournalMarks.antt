@@ -14,7 +14,7 @@ use Rattle.vr_base.specs.PresentGraph.{below}
 use Rattle.run_spec.specs.CleanBuild.{Result, built_of, clean_build, RecordsClean}
 use Rattle.run_spec.specs.Marks.{mark_of, mark_at, marks_of, steady_mark, steady_marks, is_refused}
 use Rattle.run_spec.specs.Moves.{is_startable}
-use Rattle.run_spec.specs.ChildJournal.{Setting, Run, End, Book, exit_at, output_at, or_else, artefact_so_far, job_of, core_of, next_position, book_of, artefact_after, Answered, IsWhole}
+use Rattle.run_spec.specs.ChildJournal.{Work, Run, End, Book, exit_at, output_at, or_else, artefact_so_far, job_of, core_of, next_position, book_of, artefact_after, Answered, IsWhole}
 use Rattle.run_spec.proofs.Journal.{no_runs}
 use Rattle.clean_laws.proofs.JournalBooks.{refused_result, IsCleanEnd, IsCleanBook, some_value, none_value, exit_found, next_missing, clean_book, made_clean}
 use Rattle.clean_laws.proofs.JournalKeeps.{was_taken, runs_at, has_ended, is_refusal, IsOrderly, orderly_book, any_found, none_of_untaken, is_open, all_made}
@@ -49,11 +49,11 @@ refused_mark : (keep_going : Bool) (exit : Exit) → is_refused (mark_of keep_go
 refused_mark keep_going exit = refl
 
 -- what is recorded is there, whatever has ended
-pub recorded_there : (setting : Setting) (ends : List End) (position : ℕ) (artefact : List ℕ) → setting.recorded position ≡ Some artefact → artefact_so_far setting ends position ≡ Some artefact
+pub recorded_there : (setting : Work) (ends : List End) (position : ℕ) (artefact : List ℕ) → setting.recorded position ≡ Some artefact → artefact_so_far setting ends position ≡ Some artefact
 unfolding artefact_so_far
 recorded_there setting ends position artefact e = ap (λ (o : Option (List ℕ)). or_else o (output_at ends position)) e
 
-module _ (answer : Request → Exit) (setting : Setting) (graph : IsGraph setting.graph) (clean : RecordsClean answer setting.graph setting.recorded) (book : Book) (is : IsCleanBook answer setting book) (orderly : IsOrderly setting false book)
+module _ (answer : Request → Exit) (setting : Work) (graph : IsGraph setting.graph) (clean : RecordsClean answer setting.graph setting.recorded) (book : Book) (is : IsCleanBook answer setting book) (orderly : IsOrderly setting false book)
     (idle : book.runs ≡ [])
     (accepted : (k : ℕ) → k < length setting.graph → is_refused (mark_at setting book.ends k) ≡ false) where
   -- what ended was accepted
@@ -135,7 +135,7 @@ module _ (answer : Request → Exit) (setting : Setting) (graph : IsGraph settin
     mark_is k lt = mark_from k lt (setting.recorded k) refl
 
 -- where no file was refused, the marks of a build that ended by itself are those of a clean build
-pub marks_steady : (answer : Request → Exit) (setting : Setting) → IsGraph setting.graph → RecordsClean answer setting.graph setting.recorded → (events : List Event) →
+pub marks_steady : (answer : Request → Exit) (setting : Work) → IsGraph setting.graph → RecordsClean answer setting.graph setting.recorded → (events : List Event) →
     IsWhole setting events → Answered answer events →
     list_any is_refused (marks_of setting events) ≡ false → marks_of setting events ≡ steady_marks answer setting.graph setting.recorded
 marks_steady answer setting graph clean events whole answered none =
@@ -146,7 +146,7 @@ marks_steady answer setting graph clean events whole answered none =
     (mark_is answer setting graph clean book is orderly (no_runs book.runs whole.finished.idle) (none-below is_refused (mark_at setting book.ends) (length setting.graph) none) whole.finished.over)
 
 -- where no file was refused, a build that ended by itself made all files
-pub all_files_made : (answer : Request → Exit) (setting : Setting) → IsGraph setting.graph → RecordsClean answer setting.graph setting.recorded → (events : List Event) →
+pub all_files_made : (answer : Request → Exit) (setting : Work) → IsGraph setting.graph → RecordsClean answer setting.graph setting.recorded → (events : List Event) →
     IsWhole setting events → Answered answer events →
     list_any is_refused (marks_of setting events) ≡ false → (position : ℕ) → position < length setting.graph → is_some (artefact_after setting events position) ≡ true
 all_files_made answer setting graph clean events whole answered none =

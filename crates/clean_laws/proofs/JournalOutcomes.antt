@@ -14,7 +14,7 @@ use Rattle.vr_base.specs.Graphs.{IsGraph}
 use Rattle.run_spec.specs.CleanBuild.{Result, Blocked, built_of, result_of, is_free, clean_build, clean_request, request_unless, RecordsClean}
 use Rattle.run_spec.specs.Marks.{mark_at, marks_of, steady_mark, steady_marks, is_refused, NoRefusalHalts}
 use Rattle.run_spec.specs.Moves.{is_startable}
-use Rattle.run_spec.specs.ChildJournal.{Setting, Run, Book, exit_at, artefact_so_far, deps_of, job_of, core_of, next_position, built_file, book_of, artefact_after, Answered, IsWhole}
+use Rattle.run_spec.specs.ChildJournal.{Work, Run, Book, exit_at, artefact_so_far, deps_of, job_of, core_of, next_position, built_file, book_of, artefact_after, Answered, IsWhole}
 use Rattle.run_spec.proofs.Journal.{startable_is, no_runs}
 use Rattle.clean_laws.proofs.CleanPlaces.{length-clean, clean_at}
 use Rattle.clean_laws.proofs.JournalBooks.{refused_result, IsDue, IsCleanEnd, IsCleanBook, some_value, none_value, exit_found, not_recorded, deps_before, next_missing, clean_book, made_clean}
@@ -40,7 +40,7 @@ none_built : (built : Option BuiltFile) → is_some built ≡ false → built �
 none_built None h = refl
 none_built (Some file) h = let nothing : ⊥ = cc in absurd nothing
 
-module _ (answer : Request → Exit) (setting : Setting) (graph : IsGraph setting.graph) (clean : RecordsClean answer setting.graph setting.recorded)
+module _ (answer : Request → Exit) (setting : Work) (graph : IsGraph setting.graph) (clean : RecordsClean answer setting.graph setting.recorded)
     (book : Book) (is : IsCleanBook answer setting book) (orderly : IsOrderly setting false book) (due : All (IsDue answer setting) book.taken)
     (idle : book.runs ≡ []) (on : book.halted ≡ false) (over : (is_none (next_position setting book) || book.halted) ≡ true) where
   abbrev results : List Result
@@ -214,7 +214,7 @@ module _ (answer : Request → Exit) (setting : Setting) (graph : IsGraph settin
   mark_kept keep k lt = let entry = some_entry setting.graph k lt in mark_from keep k entry.0 entry.1 (setting.recorded k) refl
 
 -- The laws of a build that ended by itself, and that no refusal halted.
-module _ (answer : Request → Exit) (setting : Setting) (graph : IsGraph setting.graph) (clean : RecordsClean answer setting.graph setting.recorded)
+module _ (answer : Request → Exit) (setting : Work) (graph : IsGraph setting.graph) (clean : RecordsClean answer setting.graph setting.recorded)
     (events : List Event) (whole : IsWhole setting events) (answered : Answered answer events) (through : NoRefusalHalts setting events) where
   abbrev at_end : Book
   at_end = book_of setting events

@@ -16,7 +16,7 @@ use Rattle.vr_base.specs.Graphs.{IsGraph}
 use Rattle.vr_base.specs.Jobs.{compile_request}
 use Rattle.run_spec.specs.CleanBuild.{built_below, clean_build, clean_request, request_unless, RecordsClean}
 use Rattle.run_spec.specs.Moves.{LawfulMoves}
-use Rattle.run_spec.specs.ChildJournal.{Setting, Book, empty_book, next_position, request_at, after, after_all, book_of, Lawful, Answered, is_gone, moves_after}
+use Rattle.run_spec.specs.ChildJournal.{Work, Book, empty_book, next_position, request_at, after, after_all, book_of, Lawful, Answered, is_gone, moves_after}
 use Rattle.run_spec.proofs.Steps.{Steps, steps_of, now_parts}
 use Rattle.run_spec.proofs.Prefixes.{lawful_prefix, answered_prefix, requested_at}
 use Rattle.clean_laws.proofs.JournalBooks.{IsDue, IsCleanBook, startable_parts, next_parts, clean_due, least_clean, start_from, started_clean, ended_clean_book, gone_clean, clean_at_first, clean_book}
@@ -27,7 +27,7 @@ asked_of ask None request h = absurd (none-some request h)
 asked_of ask (Some position) request h = (position, refl, h)
 
 -- each start asks what the clean build asks for the file that is started
-pub asked : (answer : Request → Exit) (setting : Setting) → IsGraph setting.graph → RecordsClean answer setting.graph setting.recorded →
+pub asked : (answer : Request → Exit) (setting : Work) → IsGraph setting.graph → RecordsClean answer setting.graph setting.recorded →
     (before rest : List Event) (ticket : ℕ) (request : Request) → Lawful setting (before ++ Started ticket request ∷ rest) → Answered answer (before ++ Started ticket request ∷ rest) →
     (position : ℕ) × (next_position setting (book_of setting before) ≡ Some position) × (clean_request answer setting.graph position ≡ Some request)
 asked answer setting graph clean before rest ticket request lawful answered =
@@ -54,7 +54,7 @@ unlike (x ∷ xs) k h (suc j) d lt = unlike xs k (or_parts (eqb x k) (list_any (
 abbrev pub AreDistinct : List ℕ → Type 0
 AreDistinct positions = AllPairs (λ position other. position ≢ other) positions
 
-module _ (answer : Request → Exit) (setting : Setting) where
+module _ (answer : Request → Exit) (setting : Work) where
   distinct_start : (book : Book) → AreDistinct book.taken → (request : Request) (next : Option ℕ) → next_position setting book ≡ next → option_and_then (request_at setting book.ends) next ≡ Some request →
       AreDistinct (book.taken ++ unwrap_or next 0 ∷ [])
   distinct_start book distinct request None e asks = absurd (none-some request asks)
@@ -105,11 +105,11 @@ module _ (answer : Request → Exit) (setting : Setting) where
   never_halted keep events none = on_after keep empty_book refl events none
 
 -- what the clean build asks for a file that is due
-pub due_request : (answer : Request → Exit) (setting : Setting) (position : ℕ) → IsDue answer setting position →
+pub due_request : (answer : Request → Exit) (setting : Work) (position : ℕ) → IsDue answer setting position →
     (request : Request) × (request_unless answer setting.graph setting.recorded position ≡ Some request)
 due_request answer setting position due = (compile_request due.entry (built_below (clean_build answer setting.graph) due.entry), rw due.stale (clean_due answer setting position due))
 
-module _ (answer : Request → Exit) (setting : Setting) (graph : IsGraph setting.graph) (clean : RecordsClean answer setting.graph setting.recorded) where
+module _ (answer : Request → Exit) (setting : Work) (graph : IsGraph setting.graph) (clean : RecordsClean answer setting.graph setting.recorded) where
   due_after : (book : Book) → IsCleanBook answer setting book → All (IsDue answer setting) book.taken → (events : List Event) → Steps answer setting book events →
       All (IsDue answer setting) (after_all setting book events).taken
   unfolding after_all after Steps
@@ -133,7 +133,7 @@ module _ (answer : Request → Exit) (setting : Setting) (graph : IsGraph settin
       due_request answer setting position due
 
 -- where something is recorded of each file, nothing happens
-pub nothing_due : (setting : Setting) → ((position : ℕ) → position < length setting.graph → setting.recorded position ≡ None → ⊥) → (events : List Event) → Lawful setting events → events ≡ []
+pub nothing_due : (setting : Work) → ((position : ℕ) → position < length setting.graph → setting.recorded position ≡ None → ⊥) → (events : List Event) → Lawful setting events → events ≡ []
 unfolding LawfulMoves moves_after
 nothing_due setting all [] lawful = refl
 nothing_due setting all (Started ticket request ∷ events) lawful =

@@ -8,7 +8,7 @@ ghost use Rattle.vr_base.specs.declared.child.Exit.{Exit};
 ghost use Rattle.vr_base.specs.declared.child.Event.{Event};
 ghost use Rattle.vr_base.specs.declared.child.Event.TheVariants.{Started};
 ghost use Rattle.vr_base.specs.Graphs.{IsGraph};
-ghost use Rattle.run_spec.specs.ChildJournal.{Setting, Lawful, Answered, IsWhole, artefact_after, book_of, built_file, next_position};
+ghost use Rattle.run_spec.specs.ChildJournal.{Work, Lawful, Answered, IsWhole, artefact_after, book_of, built_file, next_position};
 ghost use Rattle.run_spec.specs.Commits.{commits};
 ghost use Rattle.run_spec.specs.Faithful.{IsTrueRecord};
 ghost use Rattle.run_spec.specs.JournalParts.{compile_part, test_part};
@@ -18,24 +18,24 @@ ghost use Rattle.run_spec.specs.Marks.{marks_of, steady_marks, is_refused, NoRef
 /// What lawful journals of builds ask for and make, where what is recorded is what a clean build makes.
 pub fn laws_of_journals()
     // All events of a lawful journal are compilers', none is a test's,
-    ensures compiles { (setting : Setting) (events : List Event) →
+    ensures compiles { (setting : Work) (events : List Event) →
         Lawful setting events → compile_part events ≡ events }
-    ensures no_tests { (setting : Setting) (events : List Event) →
+    ensures no_tests { (setting : Work) (events : List Event) →
         Lawful setting events → test_part events ≡ [] }
     // (where none is a test's, all are compilers')
     ensures parts { (events : List Event) → test_part events ≡ [] → compile_part events ≡ events }
     // and there is none where the graph has no file.
-    ensures no_file { (setting : Setting) (events : List Event) →
+    ensures no_file { (setting : Work) (events : List Event) →
         setting.graph ≡ [] → Lawful setting events → events ≡ [] }
     // Nor is there one where something is recorded of each file.
-    ensures fresh { (setting : Setting) →
+    ensures fresh { (setting : Work) →
         ((position : ℕ) → position < length setting.graph → setting.recorded position ≡ None → ⊥) →
         (events : List Event) → Lawful setting events → events ≡ [] }
     // Each prefix of a lawful journal is lawful.
-    ensures prefix { (setting : Setting) (before rest : List Event) →
+    ensures prefix { (setting : Work) (before rest : List Event) →
         Lawful setting (before ++ rest) → Lawful setting before }
     // Each start asks for its file what a clean build asks for it,
-    ensures asked { (answer : Request → Exit) (setting : Setting) → IsGraph setting.graph →
+    ensures asked { (answer : Request → Exit) (setting : Work) → IsGraph setting.graph →
         RecordsClean answer setting.graph setting.recorded →
         (before rest : List Event) (ticket : ℕ) (request : Request) →
         Lawful setting (before ++ Started ticket request ∷ rest) →
@@ -44,17 +44,17 @@ pub fn laws_of_journals()
         × (next_position setting (book_of setting before) ≡ Some position)
         × (clean_request answer setting.graph position ≡ Some request) }
     // of which nothing is recorded,
-    ensures stale { (answer : Request → Exit) (setting : Setting) → IsGraph setting.graph →
+    ensures stale { (answer : Request → Exit) (setting : Work) → IsGraph setting.graph →
         RecordsClean answer setting.graph setting.recorded →
         (events : List Event) → Lawful setting events → Answered answer events →
         (position : ℕ) → Contains (book_of setting events).taken position → (request : Request)
         × (request_unless answer setting.graph setting.recorded position ≡ Some request) }
     // and no file is started twice.
-    ensures once { (answer : Request → Exit) (setting : Setting)
+    ensures once { (answer : Request → Exit) (setting : Work)
         (events : List Event) → Lawful setting events → Answered answer events →
         AllPairs (λ position other. position ≢ other) (book_of setting events).taken }
     // Whatever a build has by now of a file is what a clean build makes of it.
-    ensures made { (answer : Request → Exit) (setting : Setting) → IsGraph setting.graph →
+    ensures made { (answer : Request → Exit) (setting : Work) → IsGraph setting.graph →
         RecordsClean answer setting.graph setting.recorded →
         (events : List Event) → Lawful setting events → Answered answer events →
         (position : ℕ) (entry : Entry) (artefact : List ℕ) →
@@ -63,7 +63,7 @@ pub fn laws_of_journals()
         slice_get (clean_build answer setting.graph) position
         ≡ Some (Made (record { name = entry.name; artefact = artefact })) }
     // What is committed of it are true records.
-    ensures commits { (answer : Request → Exit) (setting : Setting) → IsGraph setting.graph →
+    ensures commits { (answer : Request → Exit) (setting : Work) → IsGraph setting.graph →
         RecordsClean answer setting.graph setting.recorded →
         (events : List Event) → Lawful setting events → Answered answer events →
         All (IsTrueRecord answer) (commits setting events) }
@@ -73,27 +73,27 @@ pub fn laws_of_journals()
 /// what a clean build says.
 pub fn laws_of_whole_builds()
     // The started files are those of which nothing is recorded and that a clean build doesn't block,
-    ensures started { (answer : Request → Exit) (setting : Setting) → IsGraph setting.graph →
+    ensures started { (answer : Request → Exit) (setting : Work) → IsGraph setting.graph →
         RecordsClean answer setting.graph setting.recorded →
         (events : List Event) → IsWhole setting events → Answered answer events →
         NoRefusalHalts setting events → (position : ℕ) →
         Contains (book_of setting events).taken position ↔ ((request : Request)
         × (request_unless answer setting.graph setting.recorded position ≡ Some request)) }
     // the files that are made are those that a clean build makes, with their artefacts,
-    ensures built { (answer : Request → Exit) (setting : Setting) → IsGraph setting.graph →
+    ensures built { (answer : Request → Exit) (setting : Work) → IsGraph setting.graph →
         RecordsClean answer setting.graph setting.recorded →
         (events : List Event) → IsWhole setting events → Answered answer events →
         NoRefusalHalts setting events → (at : ℕ) →
         built_file (slice_get setting.graph at) (artefact_after setting events at)
         ≡ built_of (slice_get (clean_build answer setting.graph) at) }
     // and its marks are those that a clean build says.
-    ensures steady { (answer : Request → Exit) (setting : Setting) → IsGraph setting.graph →
+    ensures steady { (answer : Request → Exit) (setting : Work) → IsGraph setting.graph →
         RecordsClean answer setting.graph setting.recorded →
         (events : List Event) → IsWhole setting events → Answered answer events →
         NoRefusalHalts setting events →
         marks_of setting events ≡ steady_marks answer setting.graph setting.recorded }
     // Where no file was refused, all files are made.
-    ensures all_made { (answer : Request → Exit) (setting : Setting) → IsGraph setting.graph →
+    ensures all_made { (answer : Request → Exit) (setting : Work) → IsGraph setting.graph →
         RecordsClean answer setting.graph setting.recorded →
         (events : List Event) → IsWhole setting events → Answered answer events →
         list_any is_refused (marks_of setting events) ≡ false →

@@ -6,11 +6,12 @@ use Rattle.vr_base.specs.declared.file.FileName.{FileName}
 use Rattle.vr_base.specs.declared.graph.Entry.{Entry}
 use Rattle.vr_outside.specs.declared.records.Record.{Record}
 use Rattle.vr_outside.specs.Records.{is_of, latest, with_record}
+use Rattle.gate_journal.specs.Payloads.{is_live, counting, payloads}
 use Rattle.node_codec.specs.Shelves.{shelf_of}
 use Rattle.node_holdings.specs.declared.additions.NextPiece.{NextPiece}
 use Rattle.node_holdings.specs.Additions.{AddsOne}
 use Rattle.node_holdings.specs.Held.{HoldingState}
-use Rattle.node_store.specs.Stored.{IsNodeReady, added_record, latest_among, node_records_among}
+use Rattle.node_store.specs.Stored.{IsNodeReady, added_record, latest_among, node_records_among, node_records_in}
 
 either_or : (test : Bool) (kept : Record) (other third : Option Record) → option_or (cond test (Some kept) other) third ≡ cond test (Some kept) (option_or other third)
 either_or true kept other third = refl
@@ -33,6 +34,11 @@ latest_added payloads more piece kept name is one_more = ap (λ (ps : List (List
 pub none_among : node_records_among [] ≡ []
 unfolding shelf_of
 none_among = refl
+
+-- nor has an empty disk
+pub none_in_empty : node_records_in (record { a = []; b = [] }) ≡ []
+unfolding is_live counting payloads
+none_in_empty = none_among
 
 pub latest_none : (payloads : List (List ℕ)) (name : FileName) → payloads ≡ [] → latest_among payloads name ≡ None
 unfolding latest

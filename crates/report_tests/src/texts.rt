@@ -2,14 +2,16 @@
 
 ghost use Rattle.std.specs.Prelude.{◌≡◌, length};
 
+use outcomes::{Limit, Outcome, Refusal};
 use run_report::{build_outcome, build_text, limit_text, list_files, refusal_text, warning_text};
+use run_spec::MarkList;
 use std::alloc::Global;
 use std::process::Abort;
 use std::test::Fail;
+use vhdl_benches::TestFault;
 use vr_base::{
-    FileList, FileName, Graph, LexFault, Limit, MarkList, NoMemory, Outcome, PairList, Project,
-    ProjectFault, ProjectFile, ProjectFileList, Refusal, TestFault, Text, TextList, Warning,
-    WarningList,
+    FileList, FileName, Graph, LexFault, NoMemory, PairList, Project, ProjectFault, ProjectFile,
+    ProjectFileList, Text, TextList, Warning, WarningList,
 };
 
 fn name(alloc: Global, path: &[u8]) -> Result<FileName, NoMemory> {

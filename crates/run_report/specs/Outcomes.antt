@@ -2,10 +2,10 @@
 use Rattle.std.specs.Prelude.{if◌then◌else◌, List}
 use Rattle.std.specs.List.{list_any}
 use Rattle.vr_base.specs.declared.graph.Entry.{Entry}
-use Rattle.vr_base.specs.declared.outcome.Mark.{Mark}
-use Rattle.vr_base.specs.declared.outcome.Refusal.TheVariants as refusal
-use Rattle.vr_base.specs.declared.outcome.Outcome.{Outcome}
-use Rattle.vr_base.specs.declared.outcome.Outcome.TheVariants as outcome
+use Rattle.run_spec.specs.declared.marks.Mark.{Mark}
+use Rattle.outcomes.specs.declared.outcome.Refusal.TheVariants as refusal
+use Rattle.outcomes.specs.declared.outcome.Outcome.{Outcome}
+use Rattle.outcomes.specs.declared.outcome.Outcome.TheVariants as outcome
 use Rattle.run_spec.specs.Marks.{is_refused, refused_files}
 
 -- a build is done, or the compiler refused these files

@@ -1,7 +1,7 @@
 -- The status that the program ends with.
 use Rattle.std.specs.Prelude.{ℕ, min}
-use Rattle.vr_base.specs.declared.outcome.Outcome.{Outcome}
-use Rattle.vr_base.specs.declared.outcome.Outcome.TheVariants.{Done, TestsFailed, Refused, BadWords, OutsideFault, NoMemory, OverLimit, Child}
+use Rattle.outcomes.specs.declared.outcome.Outcome.{Outcome}
+use Rattle.outcomes.specs.declared.outcome.Outcome.TheVariants.{Done, TestsFailed, Refused, BadWords, OutsideFault, NoMemory, OverLimit, Child}
 
 abbrev pub status : Outcome → ℕ
 status Done = 0

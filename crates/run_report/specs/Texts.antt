@@ -5,8 +5,8 @@ use Rattle.std.specs.List.{list_any, flat_map}
 use Rattle.std.specs.Option.{option_map_or}
 use Rattle.vr_base.specs.declared.graph.Entry.{Entry}
 use Rattle.vr_base.specs.declared.file.FileName.{FileName}
-use Rattle.vr_base.specs.declared.bench.TestFault.{TestFault}
-use Rattle.vr_base.specs.declared.bench.TestFault.TheVariants as test
+use Rattle.vhdl_benches.specs.declared.bench.TestFault.{TestFault}
+use Rattle.vhdl_benches.specs.declared.bench.TestFault.TheVariants as test
 use Rattle.vr_base.specs.declared.lexical.LexFault.{LexFault}
 use Rattle.vr_base.specs.declared.lexical.LexFault.TheVariants as lex
 use Rattle.vr_base.specs.declared.design.UnitFault.{UnitFault}
@@ -15,12 +15,12 @@ use Rattle.vr_base.specs.declared.project.ProjectFile.{ProjectFile}
 use Rattle.vr_base.specs.declared.linking.Warning.{Warning}
 use Rattle.vr_base.specs.declared.project.ProjectFault.{ProjectFault}
 use Rattle.vr_base.specs.declared.project.ProjectFault.TheVariants as fault
-use Rattle.vr_base.specs.declared.outcome.Mark.{Mark}
-use Rattle.vr_base.specs.declared.outcome.Mark.TheVariants.{Fresh, Compiled, Refused, Skipped, Left}
-use Rattle.vr_base.specs.declared.outcome.Refusal.{Refusal}
-use Rattle.vr_base.specs.declared.outcome.Refusal.TheVariants as refusal
-use Rattle.vr_base.specs.declared.outcome.Limit.{Limit}
-use Rattle.vr_base.specs.declared.outcome.Limit.TheVariants as limit
+use Rattle.run_spec.specs.declared.marks.Mark.{Mark}
+use Rattle.run_spec.specs.declared.marks.Mark.TheVariants.{Fresh, Compiled, Refused, Skipped, Left}
+use Rattle.outcomes.specs.declared.outcome.Refusal.{Refusal}
+use Rattle.outcomes.specs.declared.outcome.Refusal.TheVariants as refusal
+use Rattle.outcomes.specs.declared.outcome.Limit.{Limit}
+use Rattle.outcomes.specs.declared.outcome.Limit.TheVariants as limit
 use Rattle.run_spec.specs.Marks.{is_refused, is_compiled}
 
 -- a line feed where the bytes aren't empty and don't end with one
@@ -123,7 +123,6 @@ not_in_project = codes " isn't in the project"
 
 -- what is wrong with a project file
 abbrev pub fault_words : ProjectFault → List ℕ
-fault_words fault.NoMemory = []
 fault_words fault.NotToml = not_toml
 fault_words (fault.MissingKey key) = no_key key
 fault_words (fault.WrongType key) = wrong_value key
@@ -144,7 +143,6 @@ unfoldable pub unclosed_comment : List ℕ
 unclosed_comment = codes ": unclosed comment at "
 
 abbrev pub lex_words : LexFault → List ℕ
-lex_words lex.NoMemory = []
 lex_words (lex.UnclosedString at) = unclosed_string ++ decimal at
 lex_words (lex.UnclosedExtended at) = unclosed_extended ++ decimal at
 lex_words (lex.UnclosedComment at) = unclosed_comment ++ decimal at
@@ -159,7 +157,6 @@ unfoldable pub not_ended : List ℕ
 not_ended = codes ": design unit not ended at "
 
 abbrev pub unit_words : UnitFault → List ℕ
-unit_words unit.NoMemory = []
 unit_words (unit.NotUnit at) = no_unit ++ decimal at
 unit_words (unit.NotEnded at) = not_ended ++ decimal at
 
@@ -205,7 +202,6 @@ test_twice name = codes "test " ++ (name ++ stands_twice)
 
 -- what is wrong with the benches of a project
 abbrev pub test_words : TestFault → List ℕ
-test_words test.NoMemory = []
 test_words (test.TwoArchitectures bench) = two_architectures bench
 test_words (test.NoArchitecture bench) = lacks_architecture bench
 test_words (test.DuplicateTest name) = test_twice name

@@ -6,7 +6,8 @@ ghost use Rattle.run_report.specs.Texts.{fault_words, no_key, wrong_value, stand
 
 use crate::report::{put, put_at, put_file_words};
 use std::alloc::Global;
-use vr_base::{NoMemory, ProjectFault, TestFault};
+use vhdl_benches::TestFault;
+use vr_base::{NoMemory, ProjectFault};
 
 #[tactic(auto, unfolding(crate::specs::Texts::bad_line))]
 fn put_bad_line(alloc: Global, out: &mut Vec<u8>, line: u32) -> Result<(), NoMemory>
@@ -67,7 +68,6 @@ pub fn put_fault(alloc: Global, out: &mut Vec<u8>, fault: &ProjectFault) -> Resu
     ensures { OnOk result (out.new.items ≡ out.old.items ++ fault_words fault.now) }
 {
     match fault {
-        ProjectFault::NoMemory => Ok(()),
         ProjectFault::NotToml => put(out, b"vunit.toml isn't TOML"),
         ProjectFault::MissingKey { key } => put_no_key(out, key.bytes()),
         ProjectFault::WrongType { key } => put_wrong_value(out, key.bytes()),
@@ -131,7 +131,6 @@ pub fn put_test_fault(out: &mut Vec<u8>, fault: &TestFault) -> Result<(), NoMemo
     ensures { OnOk result (out.new.items ≡ out.old.items ++ test_words fault.now) }
 {
     match fault {
-        TestFault::NoMemory => Ok(()),
         TestFault::TwoArchitectures { bench } => put_two_architectures(out, bench.bytes()),
         TestFault::NoArchitecture { bench } => put_lacks_architecture(out, bench.bytes()),
         TestFault::DuplicateTest { name } => put_test_twice(out, name.bytes()),

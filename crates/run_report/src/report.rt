@@ -8,10 +8,12 @@ ghost use Rattle.run_report.specs.Texts.{line_end, shown, shown_bytes, compiling
 ghost use Rattle.run_report.specs.Outcomes.{build_outcome};
 
 use crate::faults::{put_fault, put_test_fault};
+use outcomes::{Limit, Outcome, Refusal};
+use run_spec::{Mark, MarkList};
 use std::alloc::Global;
 use vr_base::{
-    Entry, FileList, FileName, Graph, LexFault, Limit, Mark, MarkList, NoMemory, Outcome, Project,
-    ProjectFileList, Refusal, Text, UnitFault, Warning, WarningList,
+    Entry, FileList, FileName, Graph, LexFault, NoMemory, Project, ProjectFileList, Text,
+    UnitFault, Warning, WarningList,
 };
 
 /// How much of what a child printed is shown.
@@ -218,7 +220,6 @@ fn put_lex_fault(alloc: Global, out: &mut Vec<u8>, fault: &LexFault) -> Result<(
     ensures { OnOk result (out.new.items ≡ out.old.items ++ lex_words fault.now) }
 {
     match fault {
-        LexFault::NoMemory => Ok(()),
         LexFault::UnclosedString { at } => put_at(alloc, out, b": unclosed string at ", *at),
         LexFault::UnclosedExtended { at } => {
             put_at(alloc, out, b": unclosed extended identifier at ", *at)
@@ -232,7 +233,6 @@ fn put_unit_fault(alloc: Global, out: &mut Vec<u8>, fault: &UnitFault) -> Result
     ensures { OnOk result (out.new.items ≡ out.old.items ++ unit_words fault.now) }
 {
     match fault {
-        UnitFault::NoMemory => Ok(()),
         UnitFault::NotUnit { at } => put_at(alloc, out, b": no design unit at ", *at),
         UnitFault::NotEnded { at } => put_at(alloc, out, b": design unit not ended at ", *at),
     }

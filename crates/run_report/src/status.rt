@@ -3,7 +3,7 @@
 ghost use Rattle.std.specs.Prelude.{◌≡◌};
 ghost use Rattle.run_report.specs.Status.{status};
 
-use vr_base::Outcome;
+use outcomes::Outcome;
 
 /// The status that the program ends with: 0 where all is done, 1 where the sources, a file or a test was refused, 2
 /// for faulty words, 3 for a fault of the outside, 4 for lack of memory, 5 for a passed limit; a child's is its code,

@@ -14,7 +14,7 @@ use file_graph::link_by_outlines;
 use present_graph::{fit_texts, graph_of};
 use project_file::read_csv_project;
 use std::alloc::Global;
-use vr_base::{Edges, FILE_LIMIT, Graph, LinkFault, OrderFault, Project, ProjectFault, TextList};
+use vr_base::{Edges, FILE_LIMIT, Graph, LinkFault, OrderFault, Project, TextList};
 
 /// What was told of a project: whether there is a graph, and then how many files it has and how many of them its last file
 /// depends on; or whether files depend on each other in a cycle. Where neither is so, nothing is told.
@@ -25,12 +25,6 @@ pub struct Graphed {
     pub cyclic: bool,
     pub files: u64,
     pub deps: u64,
-}
-
-impl From<ProjectFault> for NothingTold {
-    fn from(_fault: ProjectFault) -> NothingTold {
-        NothingTold
-    }
 }
 
 impl From<LinkFault> for NothingTold {

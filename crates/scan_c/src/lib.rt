@@ -6,7 +6,6 @@ mod graphs;
 mod scopes;
 
 ghost use Rattle.std.specs.Prelude.{◌≡◌, ◌≤◌, ◌%◌, ◌^◌, IfOk, false, length, true};
-ghost use Rattle.vr_base.specs.declared.lexical.LexFault.{LexFault};
 ghost use Rattle.scan_spec.specs.Scans.{IsScanOf};
 ghost use Rattle.scan_spec.specs.Units.{AreTokensOf, roles_of};
 ghost use Rattle.scan_c.specs.Graphs.{HasSources, IsTold};
@@ -19,7 +18,7 @@ use std::alloc::Global;
 use vhdl_lex::{no_tokens, scan_tokens, scan_with_roles};
 use vhdl_refs::find_refs;
 use vhdl_units::{outline, outline_by_roles};
-use vr_base::{LexFault, NoMemory, RoleList, Scan, TEXT_LIMIT, Tokens, UnitFault};
+use vr_base::{NoMemory, OrMemory, RoleList, Scan, TEXT_LIMIT, Tokens};
 
 /// What a scan found: whether the text has a cut, and then how many tokens and line comments it has; or whether it has
 /// a fault. Where neither is so, there was no memory.
@@ -63,8 +62,8 @@ pub extern "C" fn bench_scan(alloc: Global, text: &[u8], out: &mut Scanned)
 {
     let (whole, faulty, tokens, comments) = match scan_tokens(alloc, text) {
         Ok(tokens) => (true, false, tokens.list.len(), tokens.comments.len()),
-        Err(LexFault::NoMemory) => (false, false, 0, 0),
-        Err(_fault) => (false, true, 0, 0),
+        Err(OrMemory::NoMemory) => (false, false, 0, 0),
+        Err(OrMemory::Fault(_fault)) => (false, true, 0, 0),
     };
     *out = Scanned {
         whole,
@@ -85,11 +84,11 @@ pub extern "C" fn bench_outline(alloc: Global, text: &[u8], out: &mut Outlined)
     let (whole, faulty, units) = match scan_tokens(alloc, text) {
         Ok(tokens) => match outline(alloc, text, &tokens) {
             Ok(units) => (true, false, units.len()),
-            Err(UnitFault::NoMemory) => (false, false, 0),
-            Err(_fault) => (false, true, 0),
+            Err(OrMemory::NoMemory) => (false, false, 0),
+            Err(OrMemory::Fault(_fault)) => (false, true, 0),
         },
-        Err(LexFault::NoMemory) => (false, false, 0),
-        Err(_fault) => (false, true, 0),
+        Err(OrMemory::NoMemory) => (false, false, 0),
+        Err(OrMemory::Fault(_fault)) => (false, true, 0),
     };
     *out = Outlined {
         whole,
@@ -161,8 +160,8 @@ fn refer_tokens(alloc: Global, text: &[u8], tokens: Tokens, roles: &RoleList) ->
 {
     match outline_by_roles(alloc, text, &tokens, roles) {
         Ok(units) => refer(alloc, text, &Scan { tokens, units }, roles),
-        Err(UnitFault::NoMemory) => unknown(),
-        Err(_fault) => fault_found(),
+        Err(OrMemory::NoMemory) => unknown(),
+        Err(OrMemory::Fault(_fault)) => fault_found(),
     }
 }
 
@@ -174,8 +173,8 @@ fn refer_text(alloc: Global, text: &[u8]) -> Referred
     let mut roles = RoleList::new(alloc);
     match scan_with_roles(alloc, text, &mut roles, no_tokens(alloc)) {
         Ok(tokens) => refer_tokens(alloc, text, tokens, &roles),
-        Err(LexFault::NoMemory) => unknown(),
-        Err(_fault) => fault_found(),
+        Err(OrMemory::NoMemory) => unknown(),
+        Err(OrMemory::Fault(_fault)) => fault_found(),
     }
 }
 

@@ -12,8 +12,8 @@ use std::alloc::Global;
 use vhdl_lex::{no_tokens, scan_with_roles};
 use vhdl_units::outline_by_roles;
 use vr_base::{
-    FileName, Items, LexFault, NoMemory, Project, ProjectFile, RoleList, Scan, TEXT_LIMIT, Text,
-    TextList, Tokens, UnitFault, UnitId,
+    FileName, Items, NoMemory, OrMemory, Project, ProjectFile, RoleList, Scan, TEXT_LIMIT, Text,
+    TextList, Tokens, UnitId,
 };
 
 /// Nothing is told of a project: its ends don't rise within the text, a file is too long or has a fault, or there was no
@@ -27,14 +27,8 @@ impl From<NoMemory> for NothingTold {
     }
 }
 
-impl From<LexFault> for NothingTold {
-    fn from(_fault: LexFault) -> NothingTold {
-        NothingTold
-    }
-}
-
-impl From<UnitFault> for NothingTold {
-    fn from(_fault: UnitFault) -> NothingTold {
+impl<F: Drop> From<OrMemory<F>> for NothingTold {
+    fn from(_answer: OrMemory<F>) -> NothingTold {
         NothingTold
     }
 }

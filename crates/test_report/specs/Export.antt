@@ -8,8 +8,8 @@ use Rattle.serde_json.specs.Data.{Data, number, unsigned, string, array, object,
 use Rattle.serde_json.specs.Read.{read}
 use Rattle.serde_json.specs.View.{items_of}
 use Rattle.serde_json.specs.Written.{compact_text}
-use Rattle.vr_base.specs.declared.bench.Bench.{Bench}
-use Rattle.vr_base.specs.declared.bench.TestCase.{TestCase}
+use Rattle.vhdl_benches.specs.declared.bench.Bench.{Bench}
+use Rattle.vhdl_benches.specs.declared.bench.TestCase.{TestCase}
 use Rattle.vr_base.specs.declared.file.FileName.{FileName}
 use Rattle.vr_base.specs.declared.graph.Entry.{Entry}
 use Rattle.vr_base.specs.declared.project.ProjectFile.{ProjectFile}

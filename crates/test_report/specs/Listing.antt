@@ -2,8 +2,8 @@
 use Rattle.std.specs.Prelude.{ℕ, List, [], ◌∷◌, ◌++◌, codes}
 use Rattle.std.specs.Fmt.{decimal}
 use Rattle.std.specs.List.{flat_map}
-use Rattle.vr_base.specs.declared.bench.Bench.{Bench}
-use Rattle.vr_base.specs.declared.bench.TestCase.{TestCase}
+use Rattle.vhdl_benches.specs.declared.bench.Bench.{Bench}
+use Rattle.vhdl_benches.specs.declared.bench.TestCase.{TestCase}
 use Rattle.test_select.specs.Selection.{count_of_tests, full_name}
 
 -- a case, on a line of its own

@@ -10,9 +10,8 @@ ghost use Rattle.test_report.specs.Export.{text_data, version_data, file_data, f
 use serde_json::{Map, Value, json};
 use std::alloc::Global;
 use test_select::full_name;
-use vr_base::{
-    Bench, Entry, FileName, Graph, NoMemory, Project, ProjectFile, TestCase, Tests, Text,
-};
+use vhdl_benches::{Bench, TestCase, Tests};
+use vr_base::{Entry, FileName, Graph, NoMemory, Project, ProjectFile, Text};
 
 fn text_value(alloc: Global, bytes: &[u8]) -> Result<Value, NoMemory>
     ensures { IfOk result (λ value. view value ≡ text_data bytes.now) }

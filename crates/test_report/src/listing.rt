@@ -8,7 +8,8 @@ ghost use Rattle.test_report.specs.Listing.{test_line, bench_lines, tests_count,
 
 use std::alloc::Global;
 use test_select::full_name;
-use vr_base::{Bench, NoMemory, TestCase, Tests, Text};
+use vhdl_benches::{Bench, TestCase, Tests};
+use vr_base::{NoMemory, Text};
 
 fn put(out: &mut Vec<u8>, bytes: &[u8]) -> Result<(), NoMemory>
     ensures { OnOk result (out.new.items ≡ out.old.items ++ bytes.now) }

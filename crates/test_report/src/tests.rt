@@ -4,9 +4,9 @@ use crate::{export_json, list_tests};
 use record_codec::read_record;
 use std::alloc::Global;
 use std::test::Fail;
+use vhdl_benches::{Bench, CaseList, TestCase, Tests};
 use vr_base::{
-    Bench, CaseList, FileName, Graph, NoMemory, PairList, Project, ProjectFile, ProjectFileList,
-    TestCase, Tests, Text, TextList,
+    FileName, Graph, NoMemory, PairList, Project, ProjectFile, ProjectFileList, Text, TextList,
 };
 use vr_outside::Record;
 

@@ -4,6 +4,5 @@ pub mod Names
 pub mod Graphs
 pub mod Projects
 pub mod Jobs
-pub mod Rooms
 pub mod View
 pub mod PresentGraph

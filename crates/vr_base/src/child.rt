@@ -2,7 +2,7 @@
 
 ghost use Rattle.std.specs.Prelude.{◌≡◌, IfOk};
 
-use crate::{NoMemory, RoomItems, Text, TextList};
+use crate::{NoMemory, Text, TextList};
 use std::alloc::Global;
 
 /// A text, or none.
@@ -71,5 +71,3 @@ pub enum Event {
     /// The child was waited for, and its exit was lost.
     Gone { ticket: u64 },
 }
-
-pub type EventList = RoomItems<Event>;

@@ -1,10 +1,6 @@
 //! What design files are made of: units, the roles of tokens, scans, and faults of the unit grammar.
 
-ghost use Rattle.std.specs.Prelude.{◌≡◌};
-ghost use Rattle.vr_base.specs.declared.design.UnitFault.TheVariants.{NoMemory as OutOfMemory};
-
-use crate::{Items, MaybeText, NoMemory, Text, Tokens};
-use std::alloc::{AllocError, AllocFailed};
+use crate::{Items, MaybeText, Text, Tokens};
 use thiserror::Error;
 
 /// The kinds of design units (IEEE Std 1076-2008, clause 13.1).
@@ -100,36 +96,10 @@ pub type Scans = Items<Scan>;
 /// Why tokens are no design file. `at` is the byte at which the token begins.
 #[derive(Clone, Copy, Debug, PartialEq, Eq, Error)]
 pub enum UnitFault {
-    #[error("out of memory")]
-    NoMemory,
     /// The token begins neither a context item nor a unit.
     #[error("no design unit at byte {at}")]
     NotUnit { at: u32 },
     /// The context item or unit that the token begins has no end.
     #[error("unit not ended at byte {at}")]
     NotEnded { at: u32 },
-}
-
-impl From<NoMemory> for UnitFault {
-    ghost from_gives = { λ _ e. e ≡ OutOfMemory };
-
-    fn from(_: NoMemory) -> UnitFault {
-        UnitFault::NoMemory
-    }
-}
-
-impl From<AllocError> for UnitFault {
-    ghost from_gives = { λ _ e. e ≡ OutOfMemory };
-
-    fn from(_: AllocError) -> UnitFault {
-        UnitFault::NoMemory
-    }
-}
-
-impl<T: Drop> From<AllocFailed<T>> for UnitFault {
-    ghost from_gives = { λ _ e. e ≡ OutOfMemory };
-
-    fn from(_: AllocFailed<T>) -> UnitFault {
-        UnitFault::NoMemory
-    }
 }

@@ -1,10 +1,6 @@
 //! Tokens, their spans, and the faults of a scan.
 
-ghost use Rattle.std.specs.Prelude.{◌≡◌};
-ghost use Rattle.vr_base.specs.declared.lexical.LexFault.TheVariants.{NoMemory as OutOfMemory};
-
-use crate::{Items, NoMemory};
-use std::alloc::{AllocError, AllocFailed};
+use crate::Items;
 use thiserror::Error;
 
 /// The kinds of tokens (IEEE Std 1076-2008, clause 15.3).
@@ -57,36 +53,10 @@ pub struct Tokens {
 /// Why a text has no tokens: what opens at the byte `at` has no end.
 #[derive(Clone, Copy, Debug, PartialEq, Eq, Error)]
 pub enum LexFault {
-    #[error("out of memory")]
-    NoMemory,
     #[error("unclosed string at byte {at}")]
     UnclosedString { at: u32 },
     #[error("unclosed extended identifier at byte {at}")]
     UnclosedExtended { at: u32 },
     #[error("unclosed comment at byte {at}")]
     UnclosedComment { at: u32 },
-}
-
-impl From<NoMemory> for LexFault {
-    ghost from_gives = { λ _ e. e ≡ OutOfMemory };
-
-    fn from(_: NoMemory) -> LexFault {
-        LexFault::NoMemory
-    }
-}
-
-impl From<AllocError> for LexFault {
-    ghost from_gives = { λ _ e. e ≡ OutOfMemory };
-
-    fn from(_: AllocError) -> LexFault {
-        LexFault::NoMemory
-    }
-}
-
-impl<T: Drop> From<AllocFailed<T>> for LexFault {
-    ghost from_gives = { λ _ e. e ≡ OutOfMemory };
-
-    fn from(_: AllocFailed<T>) -> LexFault {
-        LexFault::NoMemory
-    }
 }

@@ -1,7 +1,6 @@
-//! The types that all other crates share: lists, texts, files, requests, exits and outcomes.
+//! The types that all other crates share: lists, texts, files, graphs, requests and exits.
 #![tactic(auto)]
 
-mod bench;
 mod child;
 mod design;
 mod file;
@@ -11,14 +10,11 @@ mod lexical;
 mod limits;
 mod linking;
 mod memory;
-mod outcome;
 mod project;
 mod refs;
-mod rooms;
 mod text;
 
-pub use bench::{Bench, CaseList, TestCase, TestFault, Tests};
-pub use child::{Event, EventList, Exit, MaybeText, Request};
+pub use child::{Event, Exit, MaybeText, Request};
 pub use design::{Beginning, Role, RoleList, Scan, Scans, Unit, UnitFault, UnitKind, UnitList};
 pub use file::{FileList, FileName, NamedText, NamedTextList};
 pub use graph::{Built, BuiltFile, Entry, Graph};
@@ -30,9 +26,7 @@ pub use limits::{
     TEXT_LIMIT, WORD_LIMIT,
 };
 pub use linking::{Edges, LinkFault, Linked, Order, OrderFault, Warning, WarningList};
-pub use memory::{DiskFailed, NoMemory};
-pub use outcome::{Limit, Mark, MarkList, Outcome, Refusal, Which};
+pub use memory::{DiskFailed, NoMemory, OrMemory};
 pub use project::{Pair, PairList, Project, ProjectFault, ProjectFile, ProjectFileList};
 pub use refs::{Ref, RefList, UnitId};
-pub use rooms::RoomItems;
 pub use text::{Text, TextList};

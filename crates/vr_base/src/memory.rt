@@ -2,6 +2,7 @@
 
 ghost use Rattle.std.specs.Prelude.{◌≡◌};
 ghost use Rattle.vr_base.specs.declared.memory.NoMemory.{NoMemory};
+ghost use Rattle.vr_base.specs.declared.memory.OrMemory.TheVariants.{NoMemory as OutOfMemory};
 
 use std::alloc::{AllocError, AllocFailed};
 
@@ -26,5 +27,36 @@ impl<T: Drop> From<AllocFailed<T>> for NoMemory {
 
     fn from(_: AllocFailed<T>) -> NoMemory {
         NoMemory
+    }
+}
+
+/// What a call answers that may want memory: memory was not given, or the fault. So no fault says that memory is out.
+#[derive(Clone, Copy, Debug, PartialEq, Eq, Drop)]
+pub enum OrMemory<F> {
+    NoMemory,
+    Fault(F),
+}
+
+impl<F> From<NoMemory> for OrMemory<F> {
+    ghost from_gives = { λ _ e. e ≡ OutOfMemory };
+
+    fn from(_: NoMemory) -> OrMemory<F> {
+        OrMemory::NoMemory
+    }
+}
+
+impl<F> From<AllocError> for OrMemory<F> {
+    ghost from_gives = { λ _ e. e ≡ OutOfMemory };
+
+    fn from(_: AllocError) -> OrMemory<F> {
+        OrMemory::NoMemory
+    }
+}
+
+impl<F, T: Drop> From<AllocFailed<T>> for OrMemory<F> {
+    ghost from_gives = { λ _ e. e ≡ OutOfMemory };
+
+    fn from(_: AllocFailed<T>) -> OrMemory<F> {
+        OrMemory::NoMemory
     }
 }

@@ -1,9 +1,6 @@
 //! Projects, and what is wrong with a project file.
 
-ghost use Rattle.std.specs.Prelude.{◌≡◌};
-ghost use Rattle.vr_base.specs.declared.project.ProjectFault.TheVariants.{NoMemory as out_of_memory};
-
-use crate::{FileName, Items, NoMemory, Text, TextList};
+use crate::{FileName, Items, Text, TextList};
 
 /// A file of a project, and the words of its compiler.
 #[derive(Drop)]
@@ -42,7 +39,6 @@ pub struct Project {
 /// The first fault of a project file. A key is named as in `library.files`.
 #[derive(Debug, Drop)]
 pub enum ProjectFault {
-    NoMemory,
     /// The bytes aren't a TOML text.
     NotToml,
     /// There is no such key.
@@ -61,12 +57,4 @@ pub enum ProjectFault {
     BadLine { line: u32 },
     /// A dependency names a file that isn't in the project.
     UnknownDependency { name: FileName },
-}
-
-impl From<NoMemory> for ProjectFault {
-    ghost from_gives = { λ _ e. e ≡ out_of_memory };
-
-    fn from(_: NoMemory) -> ProjectFault {
-        ProjectFault::NoMemory
-    }
 }

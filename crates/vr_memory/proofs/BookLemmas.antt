@@ -4,7 +4,7 @@ use Rattle.std.specs.Prelude.{Contains, Option, Some, None, slice_get, ◌==◌}
 use Rattle.std.specs.List.{AllByRecursion}
 use Rattle.std.proofs.lemmas.Bool.{eqb-true, eq-eqb}
 use Rattle.std.proofs.lemmas.Option.{slice_get_within, none-some, same_Some}
-use Rattle.vr_base.specs.Rooms.{Roomy}
+use Rattle.vr_memory.specs.Rooms.{Roomy}
 use Rattle.vr_base.specs.declared.child.Request.{Request}
 use Rattle.vr_base.specs.declared.child.Event.{Event}
 use Rattle.vr_base.specs.declared.child.Event.TheVariants as event

@@ -1,4 +1,5 @@
 -- The definitions.
+pub mod Rooms
 pub mod Failing
 pub mod Streams
 pub mod Trees

@@ -6,12 +6,16 @@ ghost use Rattle.vr_outside.specs.Children.{IsFresh, AddsTicket, AddsStart, star
 ghost use Rattle.vr_memory.specs.Failing.{fails_next, MakesCall, StartFails};
 ghost use Rattle.vr_memory.specs.Books.{no_children, picked as picked_of, IsEnd, EndsChild, LosesChild};
 
+use crate::RoomItems;
 use crate::failing::{Calls, call_after};
 use crate::tickets::{leave, pick};
 use std::alloc::Global;
 use std::marker::Model;
-use vr_base::{Event, EventList, Exit, Numbers, Positions, Request};
+use vr_base::{Event, Exit, Numbers, Positions, Request};
 use vr_outside::{StartFault, counted};
+
+/// What happened to children, in order.
+pub type EventList = RoomItems<Event>;
 
 /// Children that are started and ended, with their journal. It says which child a wait takes, and leaves to its
 /// owner how that child ends.

@@ -1,5 +1,6 @@
 //! A call of a disk.
-use vr_base::{RoomItems, Text};
+use crate::RoomItems;
+use vr_base::Text;
 use vr_outside::Side;
 
 /// What a call of a disk does to a side.

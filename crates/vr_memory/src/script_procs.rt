@@ -7,10 +7,10 @@ ghost use Rattle.vr_memory.specs.Books.{no_children, picked};
 ghost use Rattle.vr_memory.specs.Scripts.{answer_of, CanAnswer};
 
 use crate::table::{exit_of, unknown};
-use crate::{Answer, AnswerList, ChildBook};
+use crate::{Answer, AnswerList, ChildBook, EventList};
 use std::alloc::Global;
 use std::marker::Model;
-use vr_base::{EventList, Exit, NoMemory, Numbers, Positions, Request};
+use vr_base::{Exit, NoMemory, Numbers, Positions, Request};
 use vr_outside::{Ended, Procs, StartFault, WaitFault};
 
 /// Children that answer by a table. A request that the table doesn't have ends with code 127, no output and no results.

@@ -2,7 +2,7 @@
 use Rattle.std.proofs.Common.{◌≡◌, ◌+◌, ◌≤◌, length, take, get_or, ap, arith}
 use Rattle.std.specs.List.{flat_map}
 use Rattle.std.proofs.lemmas.List.Sums.{sum_by_more_le}
-use Rattle.vr_base.specs.declared.bench.Bench.{Bench}
+use Rattle.vhdl_benches.specs.declared.bench.Bench.{Bench}
 use Rattle.test_select.specs.Selection.{count_of_tests}
 use Rattle.test_report.specs.Listing.{bench_lines}
 use Rattle.test_report.proofs.Counts.{tests_fit}

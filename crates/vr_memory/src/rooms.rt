@@ -2,9 +2,9 @@
 
 ghost use Rattle.std.specs.Prelude.{◌≡◌, ◌+◌, ◌≤◌, ◌<◌, ◌++◌, [], ◌∷◌, length, slice_get, Some, OnOk, OnErr};
 
-use crate::NoMemory;
 use std::alloc::Global;
 use std::marker::Model;
+use vr_base::NoMemory;
 
 /// A list with room. Contracts see its items, in order, and how many it holds before it takes memory again.
 #[derive(Drop)]
@@ -14,7 +14,7 @@ pub struct RoomItems<T> {
 
 impl<T> Model for RoomItems<T> {
     ghost use Rattle.std.specs.Prelude.{vec_capacity};
-    ghost use Rattle.vr_base.specs.Rooms.{Roomy};
+    ghost use Rattle.vr_memory.specs.Rooms.{Roomy};
 
     ghost Value = { Roomy T };
 

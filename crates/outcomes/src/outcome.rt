@@ -1,22 +1,7 @@
-//! What a run can answer: marks, refusals, limits and outcomes.
+//! How a run can end: outcomes, refusals, passed limits, and outside objects that failed.
 
-use crate::{FileList, FileName, Items, LexFault, ProjectFault, TestFault, Text, UnitFault};
-
-/// What became of a file in a build.
-#[derive(Drop)]
-pub enum Mark {
-    /// Its record is current, so it wasn't compiled.
-    Fresh,
-    Compiled,
-    /// The compiler ended with this code, which isn't 0, and printed this.
-    Refused { code: u32, output: Text },
-    /// A file that it depends on was refused.
-    Skipped,
-    /// The build ended before it.
-    Left,
-}
-
-pub type MarkList = Items<Mark>;
+use vhdl_benches::TestFault;
+use vr_base::{FileList, FileName, LexFault, ProjectFault, Text, UnitFault};
 
 /// What is wrong with the sources, or with the files that the compiler refused.
 #[derive(Drop)]

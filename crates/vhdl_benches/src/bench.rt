@@ -1,10 +1,6 @@
 //! Test benches, their cases, and what is wrong with them.
 
-ghost use Rattle.std.specs.Prelude.{◌≡◌};
-ghost use Rattle.vr_base.specs.declared.bench.TestFault.TheVariants.{NoMemory as TestOutOfMemory};
-
-use crate::{Items, NoMemory, Text};
-use std::alloc::{AllocError, AllocFailed};
+use vr_base::{Items, Text};
 
 /// A test case of a bench: its name, and the file in which it is, with the first byte and the number of bytes of the
 /// token that names it.
@@ -37,7 +33,6 @@ pub type Tests = Items<Bench>;
 /// What is wrong with the benches of a project.
 #[derive(Debug, Drop)]
 pub enum TestFault {
-    NoMemory,
     /// The bench has more than one architecture.
     TwoArchitectures { bench: Text },
     /// The bench has no architecture.
@@ -46,28 +41,4 @@ pub enum TestFault {
     DuplicateTest { name: Text },
     /// The bench has a case whose name is none.
     BadName { bench: Text },
-}
-
-impl From<NoMemory> for TestFault {
-    ghost from_gives = { λ _ e. e ≡ TestOutOfMemory };
-
-    fn from(_: NoMemory) -> TestFault {
-        TestFault::NoMemory
-    }
-}
-
-impl From<AllocError> for TestFault {
-    ghost from_gives = { λ _ e. e ≡ TestOutOfMemory };
-
-    fn from(_: AllocError) -> TestFault {
-        TestFault::NoMemory
-    }
-}
-
-impl<T: Drop> From<AllocFailed<T>> for TestFault {
-    ghost from_gives = { λ _ e. e ≡ TestOutOfMemory };
-
-    fn from(_: AllocFailed<T>) -> TestFault {
-        TestFault::NoMemory
-    }
 }
