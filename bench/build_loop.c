@@ -1,12 +1,14 @@
 /* The floor of a first build: starts the compiler of each file as soon as all that it depends on is compiled, so many at
-   once, with the input that the runner gives it, reads its output, and commits a record of the same bytes with the same
-   syncs. It reads no project, scans nothing and looks for no old record.
+   once, with the input that the runner gives it, reads the outputs as they come, takes whichever child ends first, and
+   commits a record of the same bytes with the same syncs. It reads no project, scans nothing and looks for no old record.
 
-   A line of the list is a path and the numbers of all files that it depends on, rising. Each is a file of `lib`.
+   A line of the list is a path and the numbers of all files that it depends on, rising. Each is a file of `lib`. The program
+   is started with the words, and is looked for in PATH; without words it is the runner itself, as its own compiler.
 
-   usage: build_loop PROGRAM LIST SLOTS STORE */
+   usage: build_loop LIST SLOTS STORE PROGRAM [WORD ..] */
 #define _GNU_SOURCE
 #include <fcntl.h>
+#include <poll.h>
 #include <spawn.h>
 #include <stdint.h>
 #include <stdio.h>
@@ -22,7 +24,7 @@ struct bytes { uint8_t *at; size_t length, room; };
 struct file {
     char *path;
     uint32_t *needs, count;
-    int started, done, out;
+    int started, done;
     pid_t child;
     struct bytes source, artefact;
 };
@@ -83,8 +85,8 @@ static struct file *read_list(const char *path, uint32_t *count) {
     return files;
 }
 
-static void start(char *program, struct file *files, struct file *file) {
-    char *words[] = { program, "child-analyse", NULL };
+/* Starts the compiler of a file, and gives the pipe of its output. */
+static int start(char **words, struct file *files, struct file *file) {
     static struct bytes request;
     int in[2], out[2];
     posix_spawn_file_actions_t actions;
@@ -104,7 +106,7 @@ static void start(char *program, struct file *files, struct file *file) {
     posix_spawn_file_actions_init(&actions);
     posix_spawn_file_actions_adddup2(&actions, in[0], 0);
     posix_spawn_file_actions_adddup2(&actions, out[1], 1);
-    if (posix_spawn(&file->child, program, &actions, NULL, words, environ)) fail("spawn");
+    if (posix_spawnp(&file->child, words[0], &actions, NULL, words, environ)) fail("spawn");
     posix_spawn_file_actions_destroy(&actions);
     close(in[0]);
     close(out[1]);
@@ -114,22 +116,22 @@ static void start(char *program, struct file *files, struct file *file) {
         at += (size_t)count;
     }
     close(in[1]);
-    file->out = out[0];
     file->started = 1;
+    return out[0];
 }
 
 /* Writes length, payload and a closed gate, syncs, opens the gate, and syncs. */
-static void commit(int store, uint64_t *gate, const struct file *file, const uint64_t *numbers) {
+static void commit(int store, uint64_t *gate, char **command, const struct file *file, const uint64_t *numbers) {
     static struct bytes record;
-    uint32_t length;
+    uint32_t length, words = 0;
     record.length = 0;
     add_number(&record, 0, 4);
     add_number(&record, 1, 1);
     add_text(&record, "lib", 3);
     add_text(&record, file->path, strlen(file->path));
-    add_number(&record, 2, 4);
-    add_text(&record, "@self", 5);
-    add_text(&record, "child-analyse", 13);
+    while (command[words]) words++;
+    add_number(&record, words, 4);
+    for (uint32_t at = 0; at < words; at++) add_text(&record, command[at], strlen(command[at]));
     add_number(&record, 1, 1);
     add_text(&record, file->source.at, file->source.length);
     add_number(&record, file->count, 4);
@@ -150,21 +152,44 @@ static int can_start(const struct file *files, const struct file *file) {
     return 1;
 }
 
+/* Waits until an output comes to its end, reads each as it comes, and gives the place of one that is at its end. */
+static uint32_t wait_any(struct pollfd *asked, struct file **running, uint32_t count) {
+    for (;;) {
+        if (poll(asked, count, -1) < 0) fail("poll");
+        for (uint32_t at = 0; at < count; at++) {
+            uint8_t buffer[65536];
+            ssize_t length;
+            if (!asked[at].revents) continue;
+            length = read(asked[at].fd, buffer, sizeof buffer);
+            if (length < 0) fail("read");
+            if (length == 0) return at;
+            add(&running[at]->artefact, buffer, (size_t)length);
+        }
+    }
+}
+
 int main(int count, char **words) {
-    uint32_t total, slots, running = 0, ended = 0, first = 0, *order;
+    static char *own_words[] = { NULL, "child-analyse", NULL }, *own_command[] = { "@self", "child-analyse", NULL };
+    uint32_t total, slots, in_flight = 0, ended = 0, first = 0;
     uint64_t gate = 18, *numbers;
-    struct file *files;
+    struct file *files, **running;
+    struct pollfd *asked;
+    char **started, **recorded;
     int store;
-    if (count != 5) {
-        fprintf(stderr, "usage: build_loop PROGRAM LIST SLOTS STORE\n");
+    if (count < 5) {
+        fprintf(stderr, "usage: build_loop LIST SLOTS STORE PROGRAM [WORD ..]\n");
         return 2;
     }
-    files = read_list(words[2], &total);
-    slots = (uint32_t)strtoul(words[3], NULL, 10);
-    order = malloc(total * sizeof *order);
+    files = read_list(words[1], &total);
+    slots = (uint32_t)strtoul(words[2], NULL, 10);
+    own_words[0] = words[4];
+    started = count > 5 ? words + 4 : own_words;
+    recorded = count > 5 ? words + 4 : own_command;
     numbers = malloc(total * sizeof *numbers);
-    store = open(words[4], O_RDWR | O_CREAT | O_TRUNC | O_CLOEXEC, 0644);
-    if (store < 0 || !order || !numbers) fail(words[4]);
+    running = malloc(slots * sizeof *running);
+    asked = malloc(slots * sizeof *asked);
+    store = open(words[3], O_RDWR | O_CREAT | O_TRUNC | O_CLOEXEC, 0644);
+    if (store < 0 || !numbers || !running || !asked) fail(words[3]);
     if (pwrite(store, "\1VUNITREC\2\1\0\0\0\0\0\0\0\0", 19, 0) != 19 || fdatasync(store)) fail("store");
     for (uint32_t at = 0; at < total; at++) {
         int from = open(files[at].path, O_RDONLY | O_CLOEXEC);
@@ -172,30 +197,32 @@ int main(int count, char **words) {
         read_all(from, &files[at].source);
     }
     while (ended < total) {
-        uint32_t next = total;
+        uint32_t next = total, at;
         struct file *file;
         int status;
         while (first < total && files[first].started) first++;
-        for (uint32_t at = first; at < total && running < slots && next == total; at++) {
+        for (at = first; at < total && in_flight < slots && next == total; at++) {
             if (!files[at].started && can_start(files, &files[at])) next = at;
         }
         if (next < total) {
-            start(words[1], files, &files[next]);
-            order[ended + running++] = next;
+            asked[in_flight] = (struct pollfd){ .fd = start(started, files, &files[next]), .events = POLLIN };
+            running[in_flight++] = &files[next];
             continue;
         }
-        file = &files[order[ended]];
-        read_all(file->out, &file->artefact);
+        at = wait_any(asked, running, in_flight);
+        file = running[at];
+        close(asked[at].fd);
         if (waitpid(file->child, &status, 0) < 0) fail("wait");
         if (!WIFEXITED(status) || WEXITSTATUS(status)) {
             fprintf(stderr, "build_loop: a child refused its file\n");
             return 1;
         }
-        numbers[order[ended]] = ended;
-        commit(store, &gate, file, numbers);
+        numbers[file - files] = ended++;
+        commit(store, &gate, recorded, file, numbers);
         file->done = 1;
-        running--;
-        ended++;
+        in_flight--;
+        memmove(asked + at, asked + at + 1, (in_flight - at) * sizeof *asked);
+        memmove(running + at, running + at + 1, (in_flight - at) * sizeof *running);
     }
     printf("%u files\n", ended);
     return 0;

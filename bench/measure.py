@@ -4,15 +4,25 @@ import os, random, statistics, subprocess, sys, tempfile, time
 from generate import ENTITY
 
 BENCH = os.path.dirname(os.path.abspath(__file__))
+sys.path.append(os.path.join(os.path.dirname(BENCH), "tests", "support"))
+from store_reader import records_of
+
 # The program as a user starts it, unless another one is named.
 PROGRAM = os.environ.get("VUNIT_RUN", os.path.join(os.path.dirname(BENCH), "bin", "vunit_run"))
 SIZE = 16384
+# As small as most files of users are.
+SMALL_SIZE = 4000
 
 
 def new_room():
     """A folder that lasts as long as the bench: in TMPDIR, where that is given, else in memory, where that can be had."""
     memory = "/dev/shm"
     return tempfile.TemporaryDirectory(dir=memory if "TMPDIR" not in os.environ and os.access(memory, os.W_OK) else None)
+
+
+def file_system(folder):
+    """The kind of file system that a folder is on, as the system names it."""
+    return subprocess.run(["stat", "-f", "-c", "%T", folder], check=True, capture_output=True, text=True).stdout.strip()
 
 
 def needs_of(at, kind, chance):
@@ -22,19 +32,19 @@ def needs_of(at, kind, chance):
     return sorted(chance.sample(range(at), min(at, 4)))
 
 
-def make_project(folder, count, kind, compiler=None):
-    """Makes a project of so many packages of 16,384 bytes, and gives what each uses."""
+def make_project(folder, count, kind, compiler=None, size=SIZE):
+    """Makes a project of so many packages of so many bytes each, and gives what each uses."""
     chance = random.Random(15)
     all_needs = [needs_of(at, kind, chance) for at in range(count)]
     os.makedirs(os.path.join(folder, "src"))
     for at, needs in enumerate(all_needs):
         text = "".join(f"use work.p{need:04}.all;\n" for need in needs) + f"package p{at:04} is\nend package p{at:04};\n\n"
         number = 8 * at
-        while len(text) + len(piece := ENTITY.format(n=number, d=number % 9)) < SIZE:
+        while len(text) + len(piece := ENTITY.format(n=number, d=number % 9)) < size:
             text += piece
             number += 1
-        text = text.ljust(SIZE - 1, "-") + "\n"
-        if len(text) != SIZE:
+        text = text.ljust(size - 1, "-") + "\n"
+        if len(text) != size:
             sys.exit("a generated file has another size")
         with open(os.path.join(folder, "src", f"p{at:04}.vhd"), "w") as file:
             file.write(text)
@@ -57,6 +67,12 @@ def below(all_needs):
 
 def timed(words, folder):
     """Seconds, peak memory in bytes and standard output of a command that has to end with 0."""
+    took, usage, text = measured(words, folder)
+    return took, usage.ru_maxrss * 1024, text
+
+
+def measured(words, folder):
+    """Seconds, what the system counted, and standard output of a command that has to end with 0."""
     with open(os.devnull) as nothing, open(os.path.join(folder, "..", "said"), "w+b") as said:
         begun = time.perf_counter()
         child = subprocess.Popen(words, cwd=folder, stdin=nothing, stdout=said)
@@ -67,7 +83,7 @@ def timed(words, folder):
         text = said.read()
     if child.returncode != 0:
         sys.exit(f"this ended with {child.returncode}: {' '.join(words)}\n{text[-2000:].decode(errors='replace')}")
-    return took, usage.ru_maxrss * 1024, text
+    return took, usage, text
 
 
 def build(folder, *words):
@@ -106,7 +122,13 @@ def store_bytes(folder):
     return [os.path.getsize(os.path.join(folder, "vunit_out", side)) for side in ("store_a", "store_b")]
 
 
-def rounds_given():
+def compare_stores(folder, other):
+    """Says whether the stores of two folders have the same records, in whichever order they were committed."""
+    found, wanted = records_of(folder), records_of(other)
+    return "the same records" if len(found) == len(wanted) and set(found) == set(wanted) else "other records"
+
+
+def rounds_given(usual=9):
     if len(sys.argv) > 2 or len(sys.argv) == 2 and not sys.argv[1].isdigit():
         sys.exit(f"usage: {os.path.basename(sys.argv[0])} [ROUNDS]")
-    return int(sys.argv[1]) if len(sys.argv) == 2 else 9
+    return int(sys.argv[1]) if len(sys.argv) == 2 else usual

@@ -1,6 +1,7 @@
 /* Times the visible libraries of hostile projects, without the scans that they are made from: contexts in a ring, each
- * with a library of its own, in both directions of their files and in a shuffled order; and contexts that each refer to
- * all. Ends with 1 where the number of libraries isn't that of hand calculation.
+ * with a library of its own, in both directions of their files and in a shuffled order; contexts that each refer to
+ * all; and a file that names many libraries and has many packages. Ends with 1 where the number of libraries isn't that of
+ * hand calculation.
  *
  *   scope ROUNDS
  */
@@ -59,6 +60,17 @@ static void make_net(size_t count) {
     }
 }
 
+/* One file of so many bytes: half of it names libraries, the other half is packages that name none. The number of names. */
+static size_t make_names(size_t bytes) {
+    size_t names = 0;
+    length = sprintf(text, "library l0");
+    while (length < bytes / 2) length += sprintf(text + length, ",l%zu", ++names);
+    length += sprintf(text + length, ";package z is end;");
+    for (size_t i = 0; length < bytes; i++) length += sprintf(text + length, "package p%zu is end;", i);
+    ends[0] = length;
+    return names + 1;
+}
+
 /* The median seconds of the whole call less those of the scans. */
 static bool measure(const char *name, size_t count, uint64_t libraries, long rounds) {
     double *scans = malloc(rounds * sizeof *scans), *all = malloc(rounds * sizeof *all);
@@ -95,5 +107,10 @@ int main(int count, char **words) {
     if (!measure("ring of 4096, shuffled", 4096, 4098, rounds)) return 1;
     make_net(2700);
     if (!measure("2700 that each refer to all", 2700, 2703, rounds)) return 1;
+    /* z has its own, and `work` and `std` */
+    size_t names = make_names(1000000);
+    if (!measure("1 MB of names and packages", 1, names + 2, rounds)) return 1;
+    names = make_names(4000000);
+    if (!measure("4 MB of names and packages", 1, names + 2, rounds)) return 1;
     return 0;
 }

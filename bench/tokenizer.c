@@ -57,7 +57,8 @@ static int stands_tick(const uint8_t *text, const struct token *last) {
     switch (last->kind) {
     case WORD:
         return !is_reserved(text + last->start, last->end - last->start) ||
-               (last->end - last->start == 3 && compare(text + last->start, 3, "all") == 0);
+               compare(text + last->start, last->end - last->start, "all") == 0 ||
+               compare(text + last->start, last->end - last->start, "subtype") == 0;
     case EXTENDED: case STR: case CHAR: return 1;
     case SYMBOL: return text[last->start] == ')' || text[last->start] == ']';
     default: return 0;

@@ -4,10 +4,10 @@
 # Minutes of a build from nothing by the number of checks at once.
 minutes_of() {
     case $1 in
-        1) echo 36 ;;
-        2) echo 20 ;;
-        3) echo 14 ;;
-        *) echo 12 ;;
+        1) echo 90 ;;
+        2) echo 50 ;;
+        3) echo 36 ;;
+        *) echo 30 ;;
     esac
 }
 
@@ -124,6 +124,35 @@ lay_out() {
     done <"$1"
 }
 
+# Runs these commands of a shell for the folder out of each crate, in it, as many at once as there are checks.
+for_each_out() {
+    find "$folder/work/crates" -mindepth 2 -maxdepth 2 -name out -type d -print0 2>/dev/null |
+        xargs -0 -r -n 1 -P "$jobs" sh -c "cd -- \"\$1\" || exit 0; $1" sh >>"$log" 2>&1 9>&-
+}
+
+# Packs what rt keeps of its proofs for the next build, and removes what it makes of that anew in seconds. Where something
+# can't be packed, it is left as it is.
+pack_kept() {
+    command -v gzip >/dev/null && command -v tar >/dev/null || return 0
+    for_each_out '
+        rm -rf -- rlib
+        [ -d incremental ] || exit 0
+        if tar cf - incremental | gzip -1 >kept.new && gzip -t kept.new; then
+            mv -f -- kept.new kept.tgz && rm -rf -- incremental
+        else
+            rm -f -- kept.new
+        fi'
+}
+
+# Lays out what an earlier build packed. What can't be read is proved anew.
+unpack_kept() {
+    for_each_out '
+        [ -f kept.tgz ] || exit 0
+        rm -rf -- incremental
+        gzip -dc kept.tgz | tar xf - || rm -rf -- incremental
+        rm -f -- kept.tgz'
+}
+
 # Builds the program, puts it in its place, and sets name and sources to what it was built of.
 build() {
     [ -n "$rt" ] || fail 127 "the command rt of the Rattle toolchain is missing, so the program cannot be built"
@@ -139,6 +168,7 @@ build() {
     name=vunit_run-$sources-${name##*-}
     made=$folder/work/crates/vunit_run/out/vunit_run
     begin_telling
+    unpack_kept
     # first what can be proved side by side, then the others one after the other
     if [ -s "$folder/beside" ]; then
         lay_out "$folder/beside" 2>>"$log" || build_failed "the sources cannot be copied in $folder"
@@ -156,7 +186,7 @@ build() {
     trap - HUP INT TERM
     end_telling
     say "the program is proved and built, after $(minutes) minutes"
-    $is_kept || rm -rf -- "$folder"
+    if $is_kept; then pack_kept; else rm -rf -- "$folder"; fi
     remove_old
 }
 

@@ -1,6 +1,6 @@
 #!/bin/sh
-# As many compilers run at once as -p says, in order and each after what it depends on; whatever their ends, the text is
-# that of one at a time.
+# As many compilers run at once as -p says, in order and each after what it depends on; whichever ends first makes room for
+# the next; whatever their ends, the text is that of one at a time.
 command -v python3 >/dev/null || { echo "python3 is missing"; exit 77; }
 PYTHONPATH=$TOP/tests/support exec python3 -B - <<'END'
 import os, sys
@@ -79,14 +79,18 @@ if expect("p and v first", "project", 0, passed("lib:p.vhd", "lib:u1.vhd", "lib:
         if not time_of(before) < time_of(after):
             fail("p and v first", f"{after} came before {before}")
 
-# 64 at once: the first waits for all others, the 65th file can't begin before one has ended.
+# The first of two waits for one that can't begin before the second has ended, and so ends only where any end makes room.
+make({"a.vhd": package("a") + "-- waits begun.c\n", "b.vhd": package("b"), "c.vhd": package("c")}, {"lib": ["*.vhd"]})
+expect("the second of two ends first", "project", 0, passed("lib:a.vhd", "lib:b.vhd", "lib:c.vhd"), "--compile", "-p", "2")
+
+# 64 at once: the first waits for all others, and for the 65th, which can't begin before one of the others has ended.
 names = [f"f{at:02}" for at in range(65)]
 files = {f"{name}.vhd": package(name) for name in names}
-files["f00.vhd"] += "-- waits " + " ".join(f"begun.{name}" for name in names[:64]) + "\n"
+files["f00.vhd"] += "-- waits " + " ".join(f"begun.{name}" for name in names) + "\n"
 make(files, {"lib": ["*.vhd"]})
-expect("64 at once", "project", 0, passed(*(f"lib:{name}.vhd" for name in names)), "--compile", "-p", "64")
-if os.path.exists("project/ended.f00") and time_of("begun.f64") < time_of("ended.f00"):
-    fail("64 at once", "the 65th began while the first, the oldest, was running")
+if expect("64 at once", "project", 0, passed(*(f"lib:{name}.vhd" for name in names)), "--compile", "-p", "64"):
+    if min(time_of(f"ended.{name}") for name in names) > time_of("begun.f64"):
+        fail("64 at once", "65 were running")
 leftover = [name for name in os.listdir("project") if name.startswith("request")]
 if leftover:
     fail("64 at once", f"left are {leftover}")

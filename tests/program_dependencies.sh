@@ -112,6 +112,25 @@ expect "its entity is edited" 0 "Compiling into lib: e.vhd passed
 Compiling into lib: a.vhd passed
 Compile passed" --compile
 
+# A configuration depends on the architecture that a block configuration names, and on no other of that entity.
+project top.vhd 'entity top is end;\narchitecture a of top is begin end;\n' s.vhd 'entity s is end;\n' \
+    r.vhd 'architecture r of s is begin end;\n' q.vhd 'architecture q of s is begin end;\n' \
+    c.vhd 'configuration c of top is\n  for a\n    for u : s use entity work.s; for r end for; end for;\n  end for;\nend;\n'
+libraries lib:c.vhd,q.vhd,r.vhd,s.vhd,top.vhd >vunit.toml
+expect "a configuration" 0 "Compiling into lib: s.vhd passed
+Compiling into lib: q.vhd passed
+Compiling into lib: r.vhd passed
+Compiling into lib: top.vhd passed
+Compiling into lib: c.vhd passed
+Compile passed" --compile
+echo '-- child: note 1' >>q.vhd
+expect "another architecture is edited" 0 "Compiling into lib: q.vhd passed
+Compile passed" --compile
+echo '-- child: note 1' >>r.vhd
+expect "the architecture of a block configuration is edited" 0 "Compiling into lib: r.vhd passed
+Compiling into lib: c.vhd passed
+Compile passed" --compile
+
 # Files that depend on each other in a circle; two others lead there.
 project
 libraries lib:a.vhd,b.vhd,c.vhd,d.vhd,e.vhd >vunit.toml
@@ -183,6 +202,14 @@ expect "it is warned of again" 0 "$warning
 Re-compile not needed" --compile
 expect "it isn't warned of in a list" 0 "lib, a.vhd
 Listed 1 files" -f
+
+project a.vhd 'library other, more;\nuse work.all, more.all, other.b, other.all;\npackage a is\nend package a;\n' b.vhd 'package b is end;\n'
+libraries lib:a.vhd other:b.vhd >vunit.toml
+expect "uses in a list" 0 "$warning
+vunit_run: warning: lib, a.vhd: use of other.all gives no dependency
+Compiling into other: b.vhd passed
+Compiling into lib: a.vhd passed
+Compile passed" --compile
 
 # The example with two libraries and an external one.
 cp -R "$TOP/examples/counter" "$room/counter" && cd "$room/counter" || exit 1

@@ -45,8 +45,9 @@ holds("e.json", WANTED.replace(WANTED[WANTED.index('"tests":['):], '"tests":[]}\
 
 # What can't be written is a fault, leaves what was there, and leaves nothing beside it.
 os.mkdir("folder")
-for path in "folder", "tb.vhd/e.json", "/dev/full":
-    export(path, status=3, err="vunit_run: fault of report\n")
+for path, cause in [("folder", "write: Is a directory (os error 21)"), ("tb.vhd/e.json", "stat: Not a directory (os error 20)"),
+                    ("/dev/full", "write: No space left on device (os error 28)")]:
+    export(path, status=3, err=f"vunit_run: fault of report\nvunit_run: {path}: {cause}\n")
 holds("tb.vhd", TEXT)
 found = sorted(os.listdir("."))
 if found != ["e.json", "folder", "new", "tb.vhd", "vunit.csv"] or os.listdir("folder"):

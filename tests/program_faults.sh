@@ -6,9 +6,9 @@ command -v python3 >/dev/null || { echo "python3 is missing"; exit 77; }
 python3 -c 'import tomllib' 2>/dev/null || { echo "python3 has no tomllib"; exit 77; }
 strace --quiet=all -o /dev/null -e trace=none true 2>/dev/null || { echo "strace is missing, or may not trace"; exit 77; }
 PYTHONPATH=$TOP/tests/support exec python3 -B - <<'END'
-import os, shutil
+import os, re, shutil
 
-from store_reader import records_of, stale_of
+from store_reader import read_request, records_of, stale_of
 from trial import COMPILER, build_text, end, environment, expect, fail, package, project, run, started_in, toml, write
 
 FILES = {"p.vhd": package("p"), "u.vhd": package("u", "work.p"), "v.vhd": package("v"), "w.vhd": package("w")}
@@ -16,11 +16,17 @@ FILES["vunit.toml"] = toml({"lib": ["*.vhd"]}, COMPILER)
 P, U, V, W = ALL = [(b"lib", b"%c.vhd" % letter) for letter in b"puvw"]
 STORE = ["vunit_out", "vunit_out/store_a", "vunit_out/store_b"]
 HERE = os.path.abspath("project")
+SAID = {"EIO": "Input/output error (os error 5)", "ECHILD": "No child processes (os error 10)", "ENOMEM": "Cannot allocate memory (os error 12)",
+        "EAGAIN": "Resource temporarily unavailable (os error 11)", "EMFILE": "Too many open files (os error 24)",
+        "ENOTTY": "Inappropriate ioctl for device (os error 25)"}
+# What a cause is of.
+SUBJECTS = {"tree": r"vunit\.toml|p\.vhd|\.", "disk": r"vunit_out(?:/store_[ab])?|\.", "child": r"lib, [puvw]\.vhd", "start": re.escape(" ".join(COMPILER))}
 
 
 def failing(calls, error, number, paths):
     """A command that starts a program of which one of these calls fails, of those of these paths where some are given."""
-    command = ["strace", "--quiet=all", "-o", "../calls", "-e", f"trace={calls}", "-e", f"inject={calls}:error={error}:when={number}"]
+    traced = calls if "wait4" in calls else calls + ",wait4"
+    command = ["strace", "--quiet=all", "-o", "../calls", "-e", f"trace={traced}", "-e", f"inject={calls}:error={error}:when={number}"]
     for path in paths:
         command += ["-P", path, "-P", os.path.join(HERE, path)]
     return command
@@ -43,9 +49,21 @@ def check(name, what, before, after, wanted, words):
     expect(f"{name}, and once more", "project", 0, build_text([]), "--compile")
 
 
-def all_fail(state, what, calls, error="EIO", paths=(), slots=1, wanted=()):
-    """Each of these calls of a build fails, each time from the same state. Where it is given, that is what has no record
-    after each."""
+def lost_in(calls):
+    """The file whose child was lost: the first that was waited for from the call on that failed. Its process has left its
+    request under its number."""
+    _, _, after = calls.partition("(INJECTED)")
+    line = next(line for line in calls.splitlines() if "(INJECTED)" in line)
+    found = re.search(r"wait4\((\d+)", line) or re.search(r"wait4\((\d+)", after)
+    for name in os.listdir("requests"):
+        if name.endswith("." + found[1]):
+            with open(os.path.join("requests", name), "rb") as file:
+                return read_request(file.read())[:2]
+
+
+def all_fail(state, what, calls, error="EIO", paths=(), slots=1, wanted=(), call=None, first=1):
+    """Each of these calls of a build fails, from the first on, each time from the same state. Where it is given, that is what
+    has no record after each. Of several children at once it depends on the one that was lost."""
     number = 0
     while True:
         shutil.rmtree("project", ignore_errors=True)
@@ -53,15 +71,21 @@ def all_fail(state, what, calls, error="EIO", paths=(), slots=1, wanted=()):
         before = records_of("project"), stale_of("project")
         words = ["--compile", "-p", str(slots)]
         name = f"{state}: {calls} number {number + 1} of {' and '.join(paths) or 'all'} fails, {' '.join(words)}"
-        ran = run("project", *words, env=environment("requests"), before=failing(calls, error, number + 1, paths))
+        ran = run("project", *words, env=environment("requests"), before=failing(calls, error, number + first, paths))
         with open("calls") as file:
-            if "(INJECTED)" not in file.read():
-                break
+            traced = file.read()
+        if "(INJECTED)" not in traced:
+            break
         number += 1
-        if ran != (3, b"", f"vunit_run: fault of {what}\n".encode()):
+        cause = rf"vunit_run: (?:{SUBJECTS[what]}): (?:{call or calls}): {re.escape(SAID[error])}\n"
+        if ran[:2] != (3, b"") or not re.fullmatch(rf"vunit_run: fault of {what}\n{cause}", ran[2].decode()):
             fail(name, f"it is {ran}")
         after = records_of("project"), stale_of("project")
-        check(name, what, before, after, wanted[number - 1] if number <= len(wanted) else None, words)
+        left = wanted[number - 1] if number <= len(wanted) else None
+        if what == "child" and slots > 1:
+            started, lost = started_in("requests"), lost_in(traced)
+            left = [file for file in before[1] if file == lost or file not in started]
+        check(name, what, before, after, left, words)
     if number < max(1, len(wanted)):
         fail(name, "there is no such call")
 
@@ -73,24 +97,41 @@ write("project", {"p.vhd": FILES["p.vhd"] + "-- more\n"})
 shutil.copytree("project", "edited")
 
 OPEN, MAKE, START = "?open,openat", "?mkdir,mkdirat", "clone,?clone3,?vfork"
+# (what is asked of the disk by each call of the system)
+OF_DISK = {MAKE: "make", OPEN: "open|sync", "flock": "lock", "ftruncate": "cut", "fsync": "sync", "pread64": "read", "pwrite64": "write",
+           "fdatasync": "sync", "statx": "open|stat|write|cut"}
 for path in "vunit.toml", "p.vhd":
-    all_fail("edited", "tree", OPEN, paths=[path])
+    all_fail("edited", "tree", OPEN, paths=[path], call="open")
     all_fail("edited", "tree", "read", paths=[path])
-all_fail("edited", "tree", "getdents64", paths=["."])
+all_fail("edited", "tree", "getdents64", paths=["."], call="list")
 for calls in MAKE, OPEN, "flock", "ftruncate", "fsync":
-    all_fail("new", "disk", calls, paths=STORE)
+    all_fail("new", "disk", calls, paths=STORE, call=OF_DISK[calls])
 for calls in "pwrite64", "fdatasync":
-    all_fail("new", "disk", calls, paths=STORE)
+    all_fail("new", "disk", calls, paths=STORE, call=OF_DISK[calls])
 for calls in MAKE, OPEN, "statx", "flock", "fsync", "pread64", "pwrite64", "fdatasync":
-    all_fail("edited", "disk", calls, paths=STORE)
+    all_fail("edited", "disk", calls, paths=STORE, call=OF_DISK[calls])
 
 # A child that is lost, and one that can't be started: what is in flight is waited for and recorded, and nothing more is
 # started. Of three at once the first are p, v and w, and u follows the end of p.
-all_fail("new", "child", "wait4", "ECHILD", slots=1, wanted=[ALL, [U, V, W], [V, W], [W]])
-all_fail("new", "start", START, "EAGAIN", slots=1, wanted=[ALL, [U, V, W], [V, W], [W]])
-all_fail("new", "child", "wait4", "ECHILD", slots=3, wanted=[[P, U], [V], [W], [U]])
-all_fail("new", "start", START, "EAGAIN", slots=3, wanted=[ALL, [U, V, W], [U, W], [U]])
-all_fail("new", "start", "pipe2", "EMFILE", slots=3)
-all_fail("edited", "child", "wait4", "ECHILD", slots=3, wanted=[[P, U], [U]])
+all_fail("new", "child", "wait4", "ECHILD", slots=1, wanted=[ALL, [U, V, W], [V, W], [W]], call="wait")
+all_fail("new", "start", START, "EAGAIN", slots=1, wanted=[ALL, [U, V, W], [V, W], [W]], call="start")
+all_fail("new", "child", "wait4", "ECHILD", slots=3, call="wait")
+all_fail("new", "start", START, "EAGAIN", slots=3, wanted=[ALL, [U, V, W], [U, W], [U]], call="start")
+all_fail("new", "start", "pipe2", "EMFILE", slots=3, call="start")
+all_fail("edited", "child", "wait4", "ECHILD", slots=3, call="wait")
+
+# What the system is asked of the outputs, and what makes an input not wait. (The first ioctl asks for a terminal.)
+all_fail("new", "child", "poll", "ENOMEM", slots=1)
+all_fail("new", "child", "poll", "ENOMEM", slots=3)
+all_fail("new", "start", "ioctl", "ENOTTY", slots=1, wanted=[ALL, [U, V, W], [V, W], [W]], first=2)
+
+# A build whose one compiler takes a second asks the system for its output a few times, and not all the time.
+project("project", {"p.vhd": FILES["p.vhd"], "vunit.toml": FILES["vunit.toml"]})
+counting = ["strace", "--quiet=all", "-o", "../calls", "-e", "trace=poll"]
+expect("a compiler that takes a second", "project", 0, build_text([P]), "--compile", env=environment("requests", 1), before=counting)
+with open("calls") as file:
+    polls = sum(line.startswith("poll(") for line in file)
+if not 1 <= polls <= 10:
+    fail("a compiler that takes a second", f"the system was asked {polls} times")
 end()
 END

@@ -2,14 +2,15 @@
 # Project files and folders that are as large, as deep or as tangled as may be are read or refused in bounded time.
 command -v python3 >/dev/null || { echo "python3 is missing"; exit 77; }
 PYTHONPATH=$TOP/tests/support exec python3 -B - <<'END'
-import os
+import itertools, os, string, subprocess, time
 
-from trial import end, expect, fail, project, run, toml, write
+from trial import PROGRAM, end, expect, fail, project, run, toml, write
 
 SECONDS = 30
 LONG = 4194304
 NOT_TOML = "vunit_run: vunit.toml isn't TOML\n"
 LISTED = "lib, a.vhd\nListed 1 files\n"
+NO_TESTS = "Listed 0 tests\n"
 LIBRARY = toml({"lib": ["a.vhd"]})
 ONE_LINE = 'library = [{ name = "lib", files = ["a.vhd"] }]'
 
@@ -60,6 +61,14 @@ tangled = "**/d/" * 201 + "x.vhd"
 check("a path that isn't deep enough", 1, f"vunit_run: nothing matches {tangled}\n", toml({"lib": [tangled]}))
 check("a thousand patterns", 0, listing, toml({"lib": ["*.vhd"] * 1000}))
 
+# Libraries that have more files together than may be: what is wrong with the last of them comes first.
+project("project", {f"{at}.vhd": "" for at in range(2000)})
+MANY = "vunit_run: over limit: files 4096\n"
+for count in 3000, 6000:
+    libraries = "".join(f'[[library]]\nname="l{at}"\nfiles=["*"]\n' for at in range(count))
+    check(f"{count} libraries of 2,000 names", 5, MANY, libraries)
+    check(f"{count} libraries, and one twice", 1, "vunit_run: library l0 stands twice\n", libraries + '[[library]]\nname="l0"\nfiles=["*"]\n')
+
 # As many names as are listed, and one more; names that begin with a dot don't count, nor does what the program made.
 project("project", {"a.vhd": "", "vunit.toml": LIBRARY, ".hidden": "", "vunit_out/x": ""})
 os.mkdir("project/src")
@@ -87,5 +96,89 @@ os.mkdir("project/e.vhd")
 expect("a link to nothing, one onto itself, a pipe and a folder aren't listed", "project", 0, LISTED, "-f", seconds=SECONDS)
 os.symlink("a.vhd", "project/f.vhd")
 expect("a link to a file is listed", "project", 0, "lib, a.vhd\nlib, f.vhd\nListed 2 files\n", "-f", seconds=SECONDS)
+# Names that were chosen to meet in the kit's hasher: time and memory grow as the text does.
+
+
+def four_letters():
+    return ("".join(letters) for letters in itertools.product(string.ascii_lowercase, repeat=4))
+
+
+def names_that_meet(size):
+    """Packages with names of 19 bytes. The 8 at the end of 12 are the hasher's multiplier, whatever comes before them."""
+    meeting = (0x9E3779B97F4A7C15).to_bytes(8, "little") + b"z" * 7
+    units = (b"package \\" + letters.encode() + meeting + b"\\ is end;" for letters in four_letters())
+    return b"".join(itertools.islice(units, size // 37))
+
+
+def measured(name, text, said, *words):
+    """The seconds of processor time and the bytes of memory of a run over one text."""
+    write("project", {"a.vhd": text})
+    with subprocess.Popen([PROGRAM, *words], cwd="project", stdout=subprocess.PIPE) as ran:
+        answer = ran.stdout.read()
+        status, used = os.wait4(ran.pid, 0)[1:]
+        ran.returncode = os.waitstatus_to_exitcode(status)
+    if (ran.returncode, answer) != (0, said.encode()):
+        fail(name, f"it ends with {ran.returncode} and {answer}")
+    return used.ru_utime + used.ru_stime, used.ru_maxrss * 1024
+
+
+def grows_as_the_text(name, made, said, *words):
+    """By the least time of fifteen runs each, small and large by turns, so that what else the machine does falls on both."""
+    texts = made(LONG // 4), made(LONG)
+    small, large = zip(*([measured(name, text, said, *words) for text in texts] for _ in range(15)))
+    quarter, seconds = min(small)[0], min(large)[0]
+    if seconds > 5 * quarter:
+        fail(name, f"4 MB take {seconds:.2f} seconds, and 1 MB {quarter:.2f}")
+    memory = max(memory for _, memory in large)
+    if memory > 100 * LONG:
+        fail(name, f"it takes {memory} bytes")
+
+
+project("project", {"vunit.toml": LIBRARY})
+grows_as_the_text("names of units that meet", names_that_meet, LISTED, "-f")
+
+
+def short_names(letter, count):
+    return [letter + letters for letters in itertools.islice(four_letters(), count)]
+
+
+def one_context(size):
+    """A context with many libraries in one half, and packages that refer to it in the other."""
+    names = short_names("l", size // 2 // 6)
+    packages = "".join(f"context work.c;package {name} is end;" for name in short_names("p", size // 2 // 40))
+    return "context c is library " + ",".join(names) + ";end;" + packages
+
+
+grows_as_the_text("many libraries of one context", one_context, LISTED, "-f")
+
+
+def with_long_name(name, count):
+    """A bench of this name with so many cases."""
+    calls = "".join(f'run("{at:05}");' for at in range(count))
+    return f"entity {name} is generic (runner_cfg : string); end;architecture a of {name} is begin {calls}end;"
+
+
+def listed_in(name, text, said, *words):
+    """How many seconds a list of tests takes, in at most 100 bytes of memory for each byte of the text and of what is said."""
+    project("project", {"a.vhd": text, "vunit.toml": LIBRARY})
+    kilobytes = (len(text) + len(said)) * 100 // 1024 + 8192
+    limited = ["sh", "-c", f'ulimit -v {kilobytes}; exec "$0" "$@"']
+    began = time.monotonic()
+    ran = run("project", "-l", *words, seconds=SECONDS, before=limited)
+    took = time.monotonic() - began
+    if ran != (0, said.encode(), b""):
+        fail(name, f"it is {ran[0]} after {took:.2f} seconds, with {ran[1][-200:]} and {ran[2]}")
+    return took
+
+
+# A bench whose name is as long as all of its calls: no full name is made to be compared.
+for shape, name_of in ("a long name", lambda size: "a" * size), ("a long extended name", lambda size: "\\" + "a." * (size // 2) + "\\"):
+    small, large = (with_long_name(name_of(size // 2), size // 24) for size in (150_000, 600_000))
+    times = [min(listed_in(f"{shape} of {len(text)} bytes", text, NO_TESTS, "q") for _ in range(3)) for text in (small, large)]
+    if times[1] > 5 * times[0] + 0.1:
+        fail(shape, f"four times the text takes {times}")
+long_name = "a" * 20_000
+lines = "".join(f"lib.{long_name}.{at:05}\n" for at in range(1000))
+listed_in("all names of a bench with a long one", with_long_name(long_name, 1000), lines + "Listed 1000 tests\n")
 end()
 END

@@ -95,7 +95,8 @@ expect "262,144 bytes, and once more" 0 "Re-compile not needed" --compile
 { echo 'compiler = ["./no-such-compiler"]'; libraries lib:a.vhd; } >vunit.toml
 status=0
 "$VUNIT_RUN" --compile >said 2>err </dev/null || status=$?
-if [ "$status" != 3 ] || [ -s said ] || [ "$(cat err)" != "vunit_run: fault of start" ]; then
+if [ "$status" != 3 ] || [ -s said ] || [ "$(cat err)" != "vunit_run: fault of start
+vunit_run: ./no-such-compiler: start: No such file or directory (os error 2)" ]; then
     echo "no compiler: status $status, and it said:"
     cat said err
     failures=$((failures + 1))

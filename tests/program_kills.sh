@@ -141,8 +141,9 @@ first = start(["-p", "4"], "first", 0.2)
 until = time.monotonic() + 20
 while not started_in("first") and time.monotonic() < until:
     time.sleep(0.01)
+LOCKED = "vunit_run: fault of disk\nvunit_run: vunit_out/store_a: lock: another run has locked it\n"
 for _ in range(3):
-    expect("a second program on the folder", "project", 3, "", "--compile", error="vunit_run: fault of disk\n", env=environment("second"))
+    expect("a second program on the folder", "project", 3, "", "--compile", error=LOCKED, env=environment("second"))
     if os.listdir("second"):
         fail("a second program on the folder", f"it started {os.listdir('second')}")
 if first.poll() is not None:

@@ -58,6 +58,7 @@ project
 blank vunit.csv 4194305
 expect "a project file of one byte too many" 5 "vunit_run: over limit: text bytes 4194304" --compile
 blank vunit.csv 4194304
+told='vunit.csv:1:1: vunit.csv: bad line 1'
 expect "a project file of blanks as long as may be" 1 "vunit_run: vunit.csv: bad line 1" --compile
 cp vunit.csv vunit.toml
 expect "a vunit.toml of blanks as long as may be" 1 "vunit_run: vunit.toml: no key library" --compile

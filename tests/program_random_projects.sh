@@ -3,6 +3,8 @@
 # the files that each compiler is handed, and what is compiled again after an edit.
 command -v python3 >/dev/null || { echo "python3 is missing"; exit 77; }
 PYTHONPATH=$TOP/tests/support exec python3 -B - <<'END'
+import re
+
 import plain_rules, random_projects, store_reader
 from trial import COMPILER, build_text, end, environment, expect, fail, project, requests_in, write
 
@@ -19,6 +21,15 @@ def handed():
     return {(library, path): [other[:2] for other in others] for library, path, _, others in read}
 
 
+def place_of(fault, texts):
+    """The line for editors, where a fault is of an offset in a file."""
+    found = re.fullmatch(r"\w+, (.*): .* at (\d+)", fault)
+    if not found:
+        return ""
+    before = texts[found[1]].encode()[:int(found[2])]
+    return f"{found[1]}:{before.count(10) + 1}:{len(before) - before.rfind(10)}: {fault}\n"
+
+
 def check(seed, given):
     files = {"vunit.toml": f"compiler={COMPILER}\n".replace("'", '"') + random_projects.toml_of(given), **given.texts}
     project("project", files)
@@ -27,7 +38,8 @@ def check(seed, given):
         reading = plain_rules.read(given)
     except plain_rules.Refused as fault:
         words = ["--compile", "-f"][seed % 2]
-        expect(name, "project", 1, f"vunit_run: {fault}\n", words, env=environment("requests"))
+        error = place_of(str(fault), given.texts)
+        expect(name, "project", 1, f"vunit_run: {fault}\n", words, error=error, env=environment("requests"))
         if requests_in("requests"):
             fail(name, "something was started")
         return

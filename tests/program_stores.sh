@@ -15,7 +15,8 @@ from trial import COMPILER, PROGRAM, build_text, end, environment, expect, fail,
 A, B, OUT = "project/vunit_out/store_a", "project/vunit_out/store_b", "project/vunit_out"
 FILES = {"p.vhd": package("p"), "u1.vhd": package("u1", "work.p"), "u2.vhd": package("u2", "work.p"), "v.vhd": package("v")}
 FILES["vunit.toml"] = toml({"lib": ["*.vhd"]}, COMPILER)
-FAULT = "vunit_run: fault of disk\n"
+A_FILE = "it isn't a regular file with one name"
+DENIED, FULL = "Permission denied (os error 13)", "No space left on device (os error 28)"
 NOBODY = ["setpriv", "--reuid=65534", "--regid=65534", "--clear-groups"]
 root = os.geteuid() == 0
 
@@ -42,9 +43,14 @@ def restore():
     shutil.copytree("built", "project")
 
 
-def check_fault(name, before=()):
-    """A run over this store is a fault, starts nothing and says nothing."""
-    expect(name, "project", 3, "", "--compile", error=FAULT, env=environment("requests"), before=before, seconds=20)
+def fault(of, call, said):
+    """What standard error has after a fault of the disk."""
+    return f"vunit_run: fault of disk\nvunit_run: {of}: {call}: {said}\n"
+
+
+def check_fault(name, of, call, said, before=()):
+    """A run over this store is a fault of this call, starts nothing and says nothing."""
+    expect(name, "project", 3, "", "--compile", error=fault(of, call, said), env=environment("requests"), before=before, seconds=20)
     if os.listdir("requests"):
         fail(name, f"it started {os.listdir('requests')}")
 
@@ -83,7 +89,8 @@ for kind in kinds + ([device] if root else []):
         os.remove(path)
         kind(path)
         was = os.lstat(path)
-        check_fault(name)
+        # (of two names of one file the first is looked at first)
+        check_fault(name, "vunit_out/store_a" if kind is same_file or path == A else "vunit_out/store_b", "open", A_FILE)
         now = os.lstat(path)
         if (was.st_mode, was.st_ino, was.st_nlink, was.st_size) != (now.st_mode, now.st_ino, now.st_nlink, now.st_size):
             fail(name, "it was changed")
@@ -108,10 +115,10 @@ for kind in kinds + ([device] if root else []):
 restore()
 shutil.rmtree(OUT)
 put(OUT, b"")
-check_fault("a file as the folder")
+check_fault("a file as the folder", "vunit_out/store_a", "open", "Not a directory (os error 20)")
 os.remove(OUT)
 os.symlink("nothing", OUT)
-check_fault("a link to nothing as the folder")
+check_fault("a link to nothing as the folder", "vunit_out/store_a", "open", "No such file or directory (os error 2)")
 os.remove(OUT)
 os.mkdir("project/on_another_disk")
 os.symlink("on_another_disk", OUT)
@@ -122,6 +129,8 @@ before, may = [], root
 if root:
     before = NOBODY
     may = shutil.which("setpriv") and subprocess.run([*NOBODY, "test", "-x", PROGRAM, "-a", "-r", "."]).returncode == 0
+WHERE = {"a folder without a store": ("vunit_out", "make"), "a folder that may not be written": ("vunit_out/store_b", "open"),
+         "a side that may not be written": ("vunit_out/store_b", "open")}
 if may or not root:
     for name, mode, paths in [("a folder without a store", 0o555, ["project"]), ("a folder that may not be written", 0o555, [OUT]),
                               ("a folder that may not be looked at", 0o000, [OUT]), ("a store that may not be written", 0o444, [A, B]),
@@ -138,7 +147,7 @@ if may or not root:
         modes = [os.stat(path).st_mode for path in paths]
         for path in paths:
             os.chmod(path, mode)
-        check_fault(name, before)
+        check_fault(name, *WHERE.get(name, ("vunit_out/store_a", "open")), DENIED, before)
         for path, old in zip(paths, modes):
             os.chmod(path, old)
         check_build(name + ", and mended")
@@ -149,7 +158,7 @@ else:
 restore()
 with open(A, "rb") as file:
     fcntl.flock(file, fcntl.LOCK_EX)
-    check_fault("a locked store")
+    check_fault("a locked store", "vunit_out/store_a", "lock", "another run has locked it")
     if read_sides("project") != good:
         fail("a locked store", "it was changed")
 check_build("a store that is free again")
@@ -224,14 +233,15 @@ if root and subprocess.run(["mount", "-t", "tmpfs", "-o", "size=256k", "none", "
                     filler.write(b"x" * 4096)
             except OSError:
                 pass
-        check_fault("a disk that is full before")
+        check_fault("a disk that is full before", "vunit_out/store_a", "write", FULL)
         os.truncate("small/filler", os.stat("small/filler").st_size - 60000)
-        expect("a disk that fills", "project", 3, "", "--compile", error=FAULT, env=environment("requests"))
+        full = fault("vunit_out/store_a", "write", FULL)
+        expect("a disk that fills", "project", 3, "", "--compile", error=full, env=environment("requests"))
         kept = [record.view[-1].path for record in records_of("project")]
         started = [path for _, path in started_in("requests")]
         if not 1 <= len(kept) < 6 or started != [*kept, b"f%d.vhd" % len(kept)]:
             fail("a disk that fills", f"it kept {kept} and started {started}")
-        expect("a disk that is still full", "project", 3, "", "--compile", error=FAULT, env=environment("requests"))
+        expect("a disk that is still full", "project", 3, "", "--compile", error=full, env=environment("requests"))
         if [record.view[-1].path for record in records_of("project")][:len(kept)] != kept:
             fail("a disk that is still full", "a record is lost")
         os.remove("small/filler")

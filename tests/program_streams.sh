@@ -3,9 +3,12 @@
 . "$TOP/tests/support/program.sh"
 project vunit.csv 'lib,a.vhd\n' a.vhd 'package a is end;\n'
 
-# Compares status and standard error of the last run with those of a fault of the output, or of what is named.
+# Compares status and standard error of the last run with those of a fault of the output, or of what is named, with its cause.
 faulty() {
-    if [ "$(cat status)" != 3 ] || [ "$(cat err)" != "vunit_run: fault of ${2-out}" ]; then
+    stream=output
+    [ "${3-out}" = out ] || stream=input
+    if [ "$(cat status)" != 3 ] || [ "$(cat err)" != "vunit_run: fault of ${3-out}
+vunit_run: standard $stream: $2" ]; then
         echo "$1: status $(cat status), and on standard error:"
         cat err
         failures=$((failures + 1))
@@ -14,28 +17,31 @@ faulty() {
 
 "$VUNIT_RUN" --compile >&- 2>err
 echo $? >status
-faulty "a closed output"
+faulty "a closed output" "write: Bad file descriptor (os error 9)"
 {
     # (the reader is gone by then)
     sleep 0.5
     "$VUNIT_RUN" --compile 2>err
     echo $? >status
 } | :
-faulty "a pipe that nobody reads"
+faulty "a pipe that nobody reads" "write: Broken pipe (os error 32)"
 if [ -c /dev/full ]; then
     "$VUNIT_RUN" --compile >/dev/full 2>err
     echo $? >status
-    faulty "a full disk"
+    faulty "a full disk" "write: No space left on device (os error 28)"
 fi
 "$VUNIT_RUN" --frob >&- 2>err
 echo $? >status
-faulty "a closed output for the usage text"
+faulty "a closed output for the usage text" "write: Bad file descriptor (os error 9)"
 
-for input in '<.' '<&-'; do
+while IFS='|' read -r input cause; do
     eval "\"\$VUNIT_RUN\" child-analyse $input" >said 2>err
     echo $? >status
-    faulty "an input that is $input" input
-done
+    faulty "an input that is $input" "read: $cause" input
+done <<'ROWS'
+<.|Is a directory (os error 21)
+<&-|Bad file descriptor (os error 9)
+ROWS
 if [ -s said ]; then
     echo "after a fault of the input something is said"
     failures=$((failures + 1))

@@ -59,6 +59,7 @@ ROWS
 
 while IFS= read -r words; do
     # shellcheck disable=SC2086
+    told='vunit.csv:1:1: vunit.csv: bad line 1'
     expect "a project that is refused: $words" 1 "$refused" $words
 done <<'ROWS'
 --compile

@@ -2,7 +2,9 @@
 
 import os, struct, subprocess
 
-WRAPPER = os.path.join(os.environ["TOP"], "wrappers", "ghdl_analyse")
+# (or the folder of links by which they run elsewhere)
+WRAPPERS = os.environ.get("WRAPPERS", os.path.join(os.environ["TOP"], "wrappers"))
+WRAPPER = os.path.join(WRAPPERS, "ghdl_analyse")
 
 
 def text(part):

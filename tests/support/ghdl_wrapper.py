@@ -1,7 +1,7 @@
 """Tries wrappers/ghdl_analyse alone: what it answers, what it leaves behind, and that nothing but request and words count.
 Works in the present folder, which is empty."""
 
-import os, random, resource, signal, subprocess, sys, time
+import os, random, resource, signal, subprocess, sys, time, zlib
 from compile_requests import WRAPPER, compile_one, fields
 
 tmp = os.path.abspath("tmp")
@@ -23,8 +23,8 @@ def request(*parts):
     return b"".join(fields(*parts))
 
 
-def made(*parts, words=()):
-    code, artefact, said = compile_one(request(*parts), words)
+def made(*parts, words=(), **settings):
+    code, artefact, said = compile_one(request(*parts), words, **settings)
     assert code == 0 and not said, (parts[:2], artefact, said)
     return artefact
 
@@ -94,6 +94,9 @@ for other in [b"", b"unit package p\n", b"x" + p[2], p[2] + b"x", p[2][:-1], p[2
     check(other, compile_one(request(b"lib2", b"e.vhd", ENTITY, used)),
           (1, b'ghdl_analyse: lib, "p": made by another compiler, or with another --std\n', b""))
 made(b"lib2", b"e.vhd", ENTITY, [(*p[:2], old)], words=["--std=87", "--std=93"])
+earlier = p[2].replace(b"ghdl_analyse 2 ", b"ghdl_analyse 1 ")
+check("an earlier artefact", compile_one(request(b"lib2", b"e.vhd", ENTITY, [(*p[:2], earlier)])),
+      (1, b"ghdl_analyse: lib, src/p.vhd: made by an earlier ghdl_analyse: run once with --clean\n", b""))
 
 # Words: --std, libraries that the project doesn't have, and what isn't GHDL's business.
 os.makedirs("vendor/prims")
@@ -106,6 +109,90 @@ for word in ["--work=x", f"--workdir={tmp}", "--PREFIX=/", "x.vhd", ""]:
     check(word, compile_one(whole, [word]), (1, said.encode(), b""))
 code, said, _ = compile_one(whole, ["--frob"])
 assert code == 1 and b"unknown command option '--frob'" in said, said
+
+# Words that a file needs wherever it is used are handed on with it: its library's, and not those of its users.
+loose = b"library ieee;\nuse ieee.std_logic_arith.all;\npackage a is\n  subtype u is unsigned(1 downto 0);\nend package a;\n"
+uses = b"library liba;\nuse liba.a.all;\npackage b is\n  constant c : natural := u'length;\nend package b;\n"
+assert compile_one(request(b"liba", b"a.vhd", loose))[0] == 1
+a = (b"liba", b"a.vhd", made(b"liba", b"a.vhd", loose, words=["-fsynopsys", "-Wno-hide"]))
+assert a[2].split(b"\n")[0].endswith(b" -fsynopsys"), a[2].split(b"\n")[0]
+b = (b"libb", b"b.vhd", made(b"libb", b"b.vhd", uses, [a]))
+assert b[2].split(b"\n")[0].count(b" ") == 3, b[2].split(b"\n")[0]
+made(b"libc", b"c.vhd", b"library libb;\nuse libb.b.all;\npackage c is\nend package c;\n", [a, b])
+odd = made(b"lib2", b"e.vhd", ENTITY, words=["-Pvendor/prims", "-Pno such=folder"]).split(b"\n")[0]
+assert odd.endswith(b" -Pvendor/prims -Pno=20such=3dfolder"), odd
+os.mkdir("elsewhere")
+os.rename("vendor", "elsewhere/vendor")
+e2 = (b"lib2", b"e.vhd", made(b"lib2", b"e.vhd", ENTITY, words=["-Pvendor/prims"], cwd="elsewhere"))
+over = b"library lib2;\nentity f is\nend;\narchitecture a of f is\nbegin\n  u : entity lib2.e;\nend;\n"
+made(b"lib3", b"f.vhd", over, [e2], cwd="elsewhere")
+assert compile_one(request(b"lib3", b"f.vhd", over, [e2]))[0] == 1
+
+# A library clause that nothing in the file uses; what is missed all the same is refused as by GHDL.
+bare = (b"tb", b"e.vhd", made(b"tb", b"e.vhd", b"library lib, other, ieee;\nentity e is\nend entity e;\n"))
+uses_it = b"architecture a of e is\n  constant k : integer := lib.p.c;\nbegin\nend architecture a;\n"
+made(b"tb", b"a.vhd", uses_it, [p, bare])
+code, said, _ = compile_one(request(b"tb", b"a.vhd", uses_it, [bare]))
+assert code == 1 and said.startswith(b'a.vhd:2:31: unit "p" not found in library "lib"'), said
+
+# Comments are no part of an artefact, and what only looks like one stays; lines stay where they are. A line as it is
+# written, and where it differs as it is kept.
+COMMENTS = r"""
+package p is -- one
+package p is
+  constant a : string := "--" & "a""--"; -- "
+  constant a : string := "--" & "a""--";
+  constant \--\ : character := '-'; --'
+  constant \--\ : character := '-';
+  constant \a\\--b\ : character := '"'; -- "
+  constant \a\\--b\ : character := '"';
+  constant c : string := string'("--");--
+  constant c : string := string'("--");
+  constant d : bit := bit'('0');/**/constant e : bit_vector (1 to 2) := ('1','0'); --
+  constant d : bit := bit'('0');    constant e : bit_vector (1 to 2) := ('1','0');
+  constant f : integer :=/* two
+  constant f : integer :=
+     -- lines */16#FF#;
+                16#FF#;
+  constant g : integer := c'length/2 --/*
+  constant g : integer := c'length/2
+    ; -- */
+    ;
+  subtype s is character range '''to'\'; -- '
+  subtype s is character range '''to'\';
+  constant h : string := string /* - */ -- '
+  constant h : string := string
+'("--"); -- "
+'("--");
+  constant i : boolean := c(1)='-'; --  
+  constant i : boolean := c(1)='-';
+    
+""" "\n" r"""end package p; -- é ÿ
+end package p;
+"""
+lines = COMMENTS.strip("\n").encode("latin-1").split(b"\n")
+written, kept = (b"".join(line + b"\n" for line in lines[of::2]) for of in (0, 1))
+for ends in [b"\n", b"\r\n"]:
+    artefact = made(b"lib", b"p.vhd", written.replace(b"\n", ends))
+    got = zlib.decompress(artefact[artefact.index(b"\n\n") + 2 :])
+    assert got == kept.replace(b"\n", ends), got.decode("latin-1")
+    assert made(b"lib", b"p.vhd", kept.replace(b"\n", ends)) == artefact
+check("a comment that GHDL refuses", compile_one(request(b"lib", b"src/p.vhd", PACKAGE + "-- —\n".encode()))[0], 0)
+made(b"lib", b"p.vhd", PACKAGE + b"--", words=["--std=93"])
+check("a block comment of 1993", compile_one(request(b"lib", b"p.vhd", PACKAGE + b"/**/"), ["--std=93"])[0], 1)
+psl = b"""entity e is
+end;
+architecture a of e is
+  signal clk, x : bit;
+begin
+  -- psl default clock is (clk'event and clk = '1');
+  -- psl assert always x = '0';
+end;
+"""
+with_psl = made(b"lib", b"e.vhd", psl, words=["-fpsl"])
+assert b"psl" in zlib.decompress(with_psl.split(b"\n\n", 1)[1])
+check("a fault of PSL", compile_one(request(b"lib", b"e.vhd", psl.replace(b"x = '0'", b"y")), ["-fpsl"])[0], 1)
+made(b"lib", b"e.vhd", psl.replace(b"x = '0'", b"y"))
 
 # Warnings are standard error's, with the user's path; no unit at all is GHDL's to refuse.
 busy = b"entity b is\nend entity b;\narchitecture a of b is\nbegin\n  process\n  begin\n  end process;\nend;\n"
@@ -124,6 +211,41 @@ assert code == 1 and b'i.vhd:1:9: cannot find package body of package "g"' in sa
 assert said.endswith(b"(in vunit.toml, users_depend_on_bodies = true hands over the bodies of packages)\n"), said
 made(b"lib", b"i.vhd", instance, [g, (b"lib", b"b.vhd", made(b"lib", b"b.vhd", body, [g]))])
 
+# An architecture that a nested block configuration names, and an entity that it binds: what mends the project is said.
+inner = (b"lib", b"inner.vhd", made(b"lib", b"inner.vhd", b"entity inner is\nend;\n"))
+r = (b"lib", b"r.vhd", made(b"lib", b"r.vhd", b"architecture r of inner is\nbegin\nend;\n", [inner]))
+outer = (b"lib", b"outer.vhd", made(b"lib", b"outer.vhd", b"""entity outer is
+end;
+architecture a of outer is
+  component inner is
+  end component;
+begin
+  u : inner;
+end;
+"""))
+nested = b"""configuration c of outer is
+  for a
+    for u : inner use entity work.inner;
+      for r
+      end for;
+    end for;
+  end for;
+end;
+"""
+MENDED = """(where a file of the project has it, these lines in vunit.toml hand it over:
+[[depends]]
+library = "lib"
+path = "c.vhd"
+on_library = "%s"
+on_path = "PATH OF THE FILE THAT HAS IT")
+"""
+code, said, _ = compile_one(request(b"lib", b"c.vhd", nested, [inner, outer]))
+wanted = (MENDED % "LIBRARY OF THE FILE THAT HAS IT").encode()
+assert code == 1 and b'no architecture "r"' in said and said.endswith(wanted), said
+code, said, _ = compile_one(request(b"lib", b"c.vhd", nested, [outer]))
+assert code == 1 and b'"inner" not found in library "lib"' in said and said.endswith((MENDED % "lib").encode()), said
+made(b"lib", b"c.vhd", nested, [inner, r, outer])
+
 # No GHDL, one that keeps objects, one that says nothing, and one that writes something else.
 alone = [sys.executable, "-IS", WRAPPER]
 check("no ghdl", compile_one(whole, wrapper=alone, env={"PATH": tmp, "TMPDIR": tmp}),
@@ -136,9 +258,11 @@ check("other", compile_one(whole, env=other)[:2], (1, b"ghdl_analyse: this ghdl 
 
 # What is too long: an artefact, a source, a request for the memory that there is, which is read to its end all the same.
 digits = random.Random(1).randbytes(300_000).hex().encode()
-for long in [digits, b" " * 4_194_305]:
-    source = PACKAGE + b"".join(b"-- %s\n" % long[at : at + 80] for at in range(0, len(long), 80))
-    check("long", compile_one(request(b"lib", b"p.vhd", source)), (1, b"ghdl_analyse: the file is too long\n", b""))
+constant = b"  constant c%d : string := \"%s\";\n"
+constants = b"".join(constant % (at, digits[at : at + 80]) for at in range(0, len(digits), 80))
+for long in [PACKAGE.replace(b"end", constants + b"end", 1), PACKAGE + b"--" + b" " * 4_194_304]:
+    check("long", compile_one(request(b"lib", b"p.vhd", long)), (1, b"ghdl_analyse: the file is too long\n", b""))
+check("a long comment", compile_one(request(b"lib", b"src/p.vhd", PACKAGE + b"--" + digits)), (0, p[2], b""))
 little = lambda: resource.setrlimit(resource.RLIMIT_AS, (200_000_000, 200_000_000))
 child = subprocess.Popen(alone, stdin=subprocess.PIPE, stdout=subprocess.PIPE, preexec_fn=little)
 child.stdin.write(request(b"lib", b"p.vhd", bytes(300_000_000)))
@@ -167,3 +291,37 @@ for number in [signal.SIGINT, signal.SIGTERM, signal.SIGHUP]:
         assert child.wait() in codes, (number, moment, child.returncode)
     with open("slow/ghdl.pid") as file:
         assert not os.path.exists(f"/proc/{file.read().strip()}")
+
+# SIGKILL leaves neither GHDL nor the folder, soon after.
+for moment in [*(step / 100 for step in range(2, 14, 2)), "in GHDL"]:
+    if os.path.exists("slow/ghdl.pid"):
+        os.remove("slow/ghdl.pid")
+    child = subprocess.Popen(alone, stdin=subprocess.PIPE, stdout=subprocess.PIPE, stderr=subprocess.DEVNULL, env=slow)
+    child.stdin.write(whole)
+    child.stdin.close()
+    if moment != "in GHDL":
+        time.sleep(moment)
+    while moment == "in GHDL" and not os.path.exists("slow/ghdl.pid"):
+        time.sleep(0.01)
+    child.kill()
+    assert child.wait() == -signal.SIGKILL and child.stdout.read() == b""
+    until = time.monotonic() + 20
+    while os.listdir(tmp) and time.monotonic() < until:
+        time.sleep(0.01)
+    check(("SIGKILL", moment), 0, 0)
+    if os.path.exists("slow/ghdl.pid"):
+        with open("slow/ghdl.pid") as file:
+            assert not os.path.exists(f"/proc/{file.read().strip()}")
+
+# The runner has gone: nobody reads the output any more.
+if os.path.exists("slow/ghdl.pid"):
+    os.remove("slow/ghdl.pid")
+child = subprocess.Popen(alone, stdin=subprocess.PIPE, stdout=subprocess.PIPE, stderr=subprocess.DEVNULL, env=slow)
+child.stdin.write(whole)
+child.stdin.close()
+while not os.path.exists("slow/ghdl.pid"):
+    time.sleep(0.01)
+child.stdout.close()
+assert child.wait(20) == 128 + signal.SIGPIPE, child.returncode
+with open("slow/ghdl.pid") as file:
+    assert not os.path.exists(f"/proc/{file.read().strip()}")

@@ -44,7 +44,7 @@ CHARACTER = re.compile(r"'.'", re.S)
 
 def is_tick_after(before):
     """Whether an apostrophe after this token opens no character."""
-    return is_name(before) or before in ("all", ")", "]") or before[:1] in ("'", '"') and len(before) > 1
+    return is_name(before) or before in ("all", "subtype", ")", "]") or before[:1] in ("'", '"') and len(before) > 1
 
 
 def tokens_of(text):
@@ -177,6 +177,17 @@ class Text:
                 return self[place]
         return ""
 
+    def given_architecture(self, unit, at):
+        """The architecture that is given with the entity that is named at a place, or None."""
+        if self[at - 1] != "entity":
+            return None
+        if self[at + 3] == "(" and is_name(self[at + 4]) and self[at + 5] == ")":
+            return self[at + 4]
+        is_bound = unit.kind == "configuration" and self[at - 2] == "use"
+        if is_bound and (self[at + 3], self[at + 4]) == (";", "for") and is_name(self[at + 5]) and self[at + 6] not in (":", ","):
+            return self[at + 5]
+        return None
+
     def references(self, unit):
         found = []
         if unit.kind == "architecture":
@@ -189,17 +200,21 @@ class Text:
             found.append(Ref("work", unit.owner, self[place + 1] if named else None, True))
         for at in range(unit.lead, unit.last):
             if is_name(self[at]) and self[at - 1] != "." and self[at + 1] == "." and is_name(self[at + 2]):
-                given = self[at - 1] == "entity" and self[at + 3] == "(" and is_name(self[at + 4]) and self[at + 5] == ")"
-                found.append(Ref(self[at], self[at + 2], self[at + 4] if given else None, self.keyword_of(at) in STRICT))
+                given = self.given_architecture(unit, at)
+                found.append(Ref(self[at], self[at + 2], given, self.keyword_of(at) in STRICT))
         return found
+
+    def is_used(self, at):
+        """Whether a place comes after `use`, or after a comma with a `use` before it and no semicolon in between."""
+        if self[at - 1] != ",":
+            return self[at - 1] == "use"
+        before = self.words[:at]
+        return "use" in before[len(before) - before[::-1].index(";") if ";" in before else 0:]
 
     def whole_uses(self, unit):
         """The libraries that a unit uses whole."""
         places = range(unit.lead, unit.last)
-        return [
-            self[at] for at in places
-            if is_name(self[at]) and self.keyword_of(at) == "use" and (self[at + 1], self[at + 2]) == (".", "all")
-        ]
+        return [self[at] for at in places if is_name(self[at]) and (self[at + 1], self[at + 2]) == (".", "all") and self.is_used(at)]
 
     def own_part(self, unit):
         """The places of a unit's own context items."""
@@ -259,14 +274,20 @@ class Plain:
         is_package = any(one.unit.kind == "package" for one in self.primaries(library, name))
         return [one for one in self.units if is_package and one.unit.kind == "body" and (one.library, one.unit.name) == (library, name)]
 
+    def around(self, one):
+        """The units whose libraries a unit sees too: the primary units that it belongs to or is a configuration of, and the
+        architectures that it configures."""
+        owner = one.unit.name if one.unit.kind == "body" else one.unit.owner
+        configured = one.refs[0].architecture if one.unit.kind == "configuration" else None
+        return self.primaries(one.library, owner) + self.architectures(one.library, owner, configured)
+
     def least_sets(self):
         """The visible libraries of each unit: the least sets that have what they are to have."""
         sets = [{"work", "std"} | one.tokens.clause_names(one.unit) for one in self.units]
         while True:
             before = [set(names) for names in sets]
             for one, names in zip(self.units, sets):
-                owner = {"architecture": one.unit.owner, "body": one.unit.name}.get(one.unit.kind)
-                for other in self.primaries(one.library, owner):
+                for other in self.around(one):
                     names |= before[self.units.index(other)]
                 for library, name in one.tokens.context_refs(one.unit):
                     if library in names:

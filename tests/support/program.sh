@@ -25,18 +25,23 @@ libraries() {
     done
 }
 
-# Runs the program with the words from the fourth on, and compares status and standard output; standard error is to be empty.
+# Runs the program with the words from the fourth on, and compares status, standard output and standard error. This is to be
+# the line `told`, which is taken back, or empty.
+told=
 expect() {
     name=$1
     printf '%s\n' "$3" >"$room/wanted"
     [ -n "$3" ] || : >"$room/wanted"
+    printf '%s\n' "$told" >"$room/told"
+    [ -n "$told" ] || : >"$room/told"
+    told=
     wanted=$2
     shift 3
     status=0
     "$VUNIT_RUN" "$@" >"$room/out" 2>"$room/err" </dev/null || status=$?
-    if [ "$status" -ne "$wanted" ] || ! cmp -s "$room/wanted" "$room/out" || [ -s "$room/err" ]; then
-        echo "$name: status $status, and not $wanted; wanted and printed (at most 20 lines of 300 bytes), and standard error:"
-        for text in wanted out err; do head -n 20 "$room/$text" | cut -c 1-300; echo "--"; done
+    if [ "$status" -ne "$wanted" ] || ! cmp -s "$room/wanted" "$room/out" || ! cmp -s "$room/told" "$room/err"; then
+        echo "$name: status $status, and not $wanted; wanted and printed (at most 20 lines of 300 bytes), and the same of standard error:"
+        for text in wanted out told err; do head -n 20 "$room/$text" | cut -c 1-300; echo "--"; done
         failures=$((failures + 1))
     fi
 }

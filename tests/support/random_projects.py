@@ -4,7 +4,7 @@ to each other in all forms. Some have units twice, units that are missing, circl
     make(SEED)            the project, for the plain rules and for the program
     make(SEED, Short)     a project in few bytes: without what only looks like a reference, and in lower case
     toml_of(PROJECT)      its vunit.toml in one line a key
-    row_of(SEED)          a short project and what is to be read of it, as a line of the table of crates/project_reading
+    row_of(SEED)          a short project and what is to be read of it, as a line of the table of crates/project_tests
 
 usage: random_projects.py COUNT        prints how many of the first projects are read, and how many refused for what
        random_projects.py rows COUNT   prints the table of the first short projects
@@ -17,6 +17,8 @@ from plain_rules import Project, Refused
 LIBRARIES = ["lib", "other", "third"]
 PRIMARY = ["package", "entity", "context", "configuration", "instance"]
 KINDS = ["package"] * 4 + ["entity"] * 3 + ["context"] * 3 + ["architecture"] * 5 + ["body"] * 3 + ["configuration"] * 2 + ["instance"]
+# those of projects that are about configurations
+CONFIGURED = ["package"] + ["entity"] * 3 + ["architecture"] * 5 + ["configuration"] * 4
 # what a unit of these kinds is of
 OWNERS = {"architecture": "entity", "body": "package", "configuration": "entity", "instance": "package"}
 
@@ -24,9 +26,12 @@ OWNERS = {"architecture": "entity", "body": "package", "configuration": "entity"
 NOISE = [
     "-- use work.m9.all;\n", "/* library other; use other.m9.all; */ ", 'constant s : string := "work.m9";\n',
     "constant q : character := '\"';\n", "constant r : integer := rec.work.m9;\n", "constant t : bit := bit'('1');\n",
+    "constant v : string := q'subtype'('\"', '(');\n",
     "function f return integer is begin return 1; end;\n", "procedure o is new f;\n", "type y is record x : bit; end record;\n",
     "package n is constant c : bit := '1'; end;\n", "constant l : integer := unseen.m9;\n", "component w is end component;\n",
-    "constant z : integer := work.m9.c;\n", "`protect use work.m9;\n",
+    "constant z : integer := work.m9.c;\n", "`protect use work.m9;\n", "constant h : integer := f(work.all, other.all);\n",
+    "constant d : bit := s'subtype'('1');\nfunction f return bit is begin return '1'; end;\n",
+    "constant e : v := s'Subtype -- of s\n'('0', '\"');\nprocedure p is begin null; end;\n", "subtype j is bit;\n",
 ]
 STATEMENTS = [
     "g : if true generate begin end generate;\n", "process begin if a then b; end if; end process;\n",
@@ -80,6 +85,7 @@ class Maker:
         self.rank = chance.shuffled(range(len(self.files)))
         self.is_free = chance.one_in(5)
         self.faults = chance.one_in(3)
+        self.kinds = CONFIGURED if chance.one_in(3) else KINDS
         self.plan = []
         for file in self.rank:
             for _ in range(1 + chance.below(self.most_units)):
@@ -90,11 +96,13 @@ class Maker:
 
     def plan_unit(self, file):
         chance, number = self.chance, len(self.plan)
-        kind = chance.one_of(KINDS)
+        kind = chance.one_of(self.kinds)
         mine = [unit for unit in self.plan if self.library(unit.file) == self.library(file)]
         owners = [unit for unit in (self.plan if kind == "instance" else mine) if unit.kind == OWNERS.get(kind)]
         if kind in OWNERS and not owners:
             kind = OWNERS[kind]
+        if kind == "configuration":  # mostly of an entity that has an architecture
+            owners = [unit.owner for unit in mine if unit.kind == "architecture" and not chance.one_in(6)] or owners
         owner = chance.one_of(owners) if kind in OWNERS else None
         name = f"r{number}" if kind == "architecture" else f"{kind[0]}{number}"
         if chance.one_in(12):
@@ -138,8 +146,8 @@ class Maker:
         if library == self.library(unit.file):
             if not self.chance.one_in(3):
                 return self.said("work")
-        # (the unit may see the library by a context, or by its entity or package)
-        if always or self.chance.one_in(2):
+        # (the unit may see the library by a context, or by its entity, architecture or package)
+        if always or self.chance.one_in(4 if unit.kind == "configuration" else 2):
             clauses.append(library)
         return self.said(library)
 
@@ -154,6 +162,13 @@ class Maker:
         found = self.targets(unit, kinds)
         return self.chance.one_of(found) if found and not self.chance.one_in(odds) else None
 
+    def whole(self, unit, clauses):
+        """A whole library in a use clause, or what it has."""
+        other = self.one(unit, ["package"], 2) if self.chance.one_in(3) else None
+        if other:
+            return f"{self.named(unit, other, clauses)}{self.chance.one_of(['.all', '.c'])}"
+        return f"{self.prefix(unit, self.chance.one_of([*self.libraries, 'ieee', 'unisim']), clauses)}.all"
+
     def items(self, unit, clauses):
         """Context items without library clauses."""
         chance, items = self.chance, []
@@ -167,9 +182,9 @@ class Maker:
             more = self.one(unit, ["context"], 2)
             second = f", {self.named(unit, more, clauses)}" if more else ""
             items.append(f"context {self.named(unit, other, clauses)}{second};\n")
-        if chance.one_in(10):
-            library = chance.one_of([*self.libraries, "ieee", "unisim"])
-            items.append(f"use {self.prefix(unit, library, clauses)}.all;\n")
+        if chance.one_in(6):
+            used = [self.whole(unit, clauses) for _ in range(1 + chance.below(3))]
+            items.append(f"use {', '.join(used)};\n")
         if chance.one_in(12):
             library, name = chance.one_of([("ieee", "math"), ("unisim", "vcomponents"), ("std", "textio")])
             if library == "unisim" and not self.has_unisim and not self.is_wrong(2):
@@ -177,6 +192,8 @@ class Maker:
             items.append(f"use {self.prefix(unit, library, clauses, True)}.{name}.all;\n")
         if chance.one_in(15):
             clauses.append(chance.one_of(LIBRARIES))
+        if unit.kind in ("entity", "architecture") and chance.one_in(4):  # for its architectures and configurations
+            clauses.append(chance.one_of(self.libraries))
         return chance.shuffled(items)
 
     def inside(self, unit, clauses):
@@ -191,6 +208,8 @@ class Maker:
             lines.append(f"package i is new {self.named(unit, other, clauses)};\n")
         lines += self.noise(NOISE, 3)
         if unit.kind == "architecture":
+            if chance.one_in(4):
+                lines.append(self.specification(unit, clauses))
             if other := self.one(unit, ["entity"], 9):
                 known = [one for one in self.targets(unit, ["architecture"]) if one.owner is other]
                 given = f"({self.said(chance.one_of(known).name)})" if known else ""
@@ -201,6 +220,55 @@ class Maker:
                 statements.append(f"v : configuration {self.named(unit, other, clauses)};\n")
             statements += self.noise(STATEMENTS, 4)
         return "".join(chance.shuffled(lines)), "".join(chance.shuffled(statements))
+
+    def bound(self, unit, clauses):
+        """A binding to an entity, and the names of its architectures."""
+        known = self.targets(unit, ["architecture"])
+        apart = [one for one in known if one.owner is not unit.owner and one.file not in (unit.file, one.owner.file)]
+        if apart and not self.chance.one_in(3):
+            known = [self.chance.one_of(apart)]
+        other = self.chance.one_of(known).owner if known and not self.chance.one_in(4) else self.one(unit, ["entity"], 3)
+        if not other:
+            return "use open", []
+        names = [one.name for one in known if one.owner is other]
+        return f"use entity {self.named(unit, other, clauses)}", ["m9"] if self.is_wrong(3) else names
+
+    def specification(self, unit, clauses):
+        """A configuration specification of an architecture, where what comes next is no block configuration."""
+        bound, known = self.bound(unit, clauses)
+        given = f"({self.said(self.chance.one_of(known))})" if known and self.chance.one_in(3) else ""
+        more = f"for {self.chance.one_of([*known, 'm9'])}\nend for;\n" if self.chance.one_in(3) else ""
+        return f"for {self.chance.one_of(['t', 't, x'])} : w {bound}{given};\n{more}"
+
+    def component(self, unit, clauses, depth):
+        """A component configuration, with a block configuration, or with what is none after its binding."""
+        chance = self.chance
+        labels = chance.one_of(["u", "u, v", "all", "others"])
+        if (other := self.one(unit, ["configuration"], 2)) and chance.one_in(4):
+            return f"for {labels} : w use configuration {self.named(unit, other, clauses)};\nend for;\n"
+        bound, known = self.bound(unit, clauses)
+        start, end = f"for {labels} : w {bound}", "end for;\n"
+        form = chance.below(9)
+        if not known or form == 0:
+            return f"{start};\n{end}"
+        name = self.said(chance.one_of(known))
+        if form == 1:
+            return f"{start}({name});\n{end}"
+        if form == 2:
+            return f"{start} port map (a);\nfor {name}\n{end}{end}"
+        if form == 3:
+            label = chance.one_of([name, "m9", "m9, v"])
+            return f"{start};\nfor {label} : w use open;\n{end}{end}"
+        return f"{start};\n{self.block(unit, clauses, name, depth + 1)}{end}"
+
+    def block(self, unit, clauses, name, depth):
+        """A block configuration."""
+        used = ""
+        if self.chance.one_in(6) and (other := self.one(unit, ["package"], 4)):
+            used = f"use {self.named(unit, other, clauses)}.c;\n"
+        count = 1 + self.chance.below(2) if depth == 0 else self.chance.below(2) if depth == 1 else 0
+        inner = "".join(self.component(unit, clauses, depth) for _ in range(count))
+        return f"for {name}\n{used}{inner}end for;\n"
 
     def clauses(self, names):
         if not names:
@@ -222,9 +290,8 @@ class Maker:
             start = f"package {name} is new {self.named(unit, unit.owner, clauses)};\n"
         elif unit.kind == "configuration":
             known = [one for one in self.plan if one.kind == "architecture" and one.owner is unit.owner and self.rank.index(one.file) <= self.rank.index(unit.file)]
-            inner = f"for {chance.one_of(known).name}\nend for;\n" if known and not chance.one_in(4) else ""
-            if self.is_wrong(2):
-                inner = "for m9\nend for;\n"
+            name_of_first = "m9" if self.is_wrong(4) else chance.one_of(known).name if known and not chance.one_in(4) else None
+            inner = self.block(unit, clauses, name_of_first, 0) if name_of_first else ""
             start = f"configuration {name} of {unit.owner.name} is\n{inner}{end}"
         else:
             lines, statements = self.inside(unit, clauses)
