@@ -138,20 +138,6 @@ project("project", {"vunit.toml": LIBRARY})
 grows_as_the_text("names of units that meet", names_that_meet, LISTED, "-f")
 
 
-def short_names(letter, count):
-    return [letter + letters for letters in itertools.islice(four_letters(), count)]
-
-
-def one_context(size):
-    """A context with many libraries in one half, and packages that refer to it in the other."""
-    names = short_names("l", size // 2 // 6)
-    packages = "".join(f"context work.c;package {name} is end;" for name in short_names("p", size // 2 // 40))
-    return "context c is library " + ",".join(names) + ";end;" + packages
-
-
-grows_as_the_text("many libraries of one context", one_context, LISTED, "-f")
-
-
 def with_long_name(name, count):
     """A bench of this name with so many cases."""
     calls = "".join(f'run("{at:05}");' for at in range(count))
