@@ -1,0 +1,114 @@
+-- Runs of tests from before their first event to their end.
+use Rattle.std.proofs.Common.{◌≡◌, ℕ, Bool, true, false, eqb, List, [], length, map, Option, Some, None, refl, sym, ◌∙◌}
+use Rattle.std.specs.Prelude.{is_some}
+use Rattle.std.proofs.lemmas.List.{append-nil}
+use Rattle.vr_base.specs.declared.child.Request.{Request}
+use Rattle.vr_base.specs.declared.child.Exit.{Exit}
+use Rattle.vr_base.specs.declared.child.Event.{Event}
+use Rattle.run_spec.specs.Moves.{Job, Core, LawfulMoves, GreedyMoves, IsFinished, empty_core, start_now}
+use Rattle.run_spec.specs.ChildJournal.{EachAfter, Answered}
+use Rattle.child_steps.specs.Steps.{halted_if, step_of, step_at}
+use Rattle.child_steps.specs.declared.step.Step.TheVariants.{Start}
+use Rattle.child_steps.proofs.PlainSteps.{step_starts}
+use Rattle.test_spec.specs.declared.ends.RunEnd.{RunEnd}
+use Rattle.test_spec.specs.Verdicts.{unstarted_run}
+use Rattle.test_journal.specs.TestJournal.{TestSetting, LawfulTests, test_job, test_moves, after_tests, book_of_tests, AreTestsRequested}
+use Rattle.test_row.specs.declared.row.Row.{Row}
+use Rattle.test_row.specs.Rows.{IsRowOf}
+use Rattle.test_loop.specs.UnderWay.{Goes}
+use Rattle.test_loop.specs.Ran.{TestsRan}
+use Rattle.test_loop.proofs.Found.{found_at_first}
+use Rattle.test_loop.proofs.FreshTickets.{fresh_alone}
+use Rattle.test_loop.proofs.Answering.{answered_tests}
+use Rattle.test_loop.proofs.TestsThen.{finished_then}
+
+-- nothing has happened yet
+pub first_going : (tells : Type 0) (answer : Request → Exit) (setting : TestSetting) (journal : List Event) (row : Row) (found : List RunEnd) → IsRowOf row (test_job setting) empty_core → found ≡ map unstarted_run setting.plan.runs
+    → Goes tells answer setting journal row found false journal
+unfolding LawfulMoves GreedyMoves test_moves after_tests AreTestsRequested EachAfter
+first_going tells answer setting journal row found step unstarted = record {
+  events = [];
+  under_way = record {
+    moves = tt;
+    requests = tt;
+    greedy = λ none. tt;
+    none_lost = λ none. refl;
+    in_step = step;
+    found_all = λ none. unstarted ∙ found_at_first setting;
+  };
+  journal = λ t. sym (append-nil journal);
+  fresh = λ t. tt;
+  answers = λ t. tt;
+}
+
+-- nothing was done
+pub ran_nothing : (tells : Type 0) (answer : Request → Exit) (setting : TestSetting) (journal : List Event) (Says : List Event → Type 0) → TestsRan tells answer setting journal journal false Says
+unfolding LawfulMoves test_moves AreTestsRequested EachAfter
+ran_nothing tells answer setting journal Says = record {
+  events = [];
+  journal = λ t. sym (append-nil journal);
+  moves = tt;
+  requests = tt;
+  greedy = tt;
+  finished = tt;
+  none_lost = tt;
+  says = tt;
+  fresh = λ t. tt;
+  lawful = λ t. record { moves = tt; requests = tt; tickets = tt };
+  answered = λ t. tt;
+  whole = λ t. tt;
+}
+
+module _ (tells : Type 0) (answer : Request → Exit) (setting : TestSetting) (old new : List Event) (row : Row) (found : List RunEnd) (noted : Bool) (going : Goes tells answer setting old row found noted new) (Says : List Event → Type 0) where
+  lawful_now : tells → LawfulTests setting going.events
+  lawful_now t = record { moves = going.under_way.moves; requests = going.under_way.requests; tickets = fresh_alone old going.events (going.fresh t) }
+
+  answered_now : tells → Answered answer going.events
+  answered_now t = answered_tests answer setting old going.events going.under_way.moves (going.fresh t) (going.answers t)
+
+  pub ran_fault : TestsRan tells answer setting old new false Says
+  ran_fault = record {
+    events = going.events;
+    journal = going.journal;
+    moves = going.under_way.moves;
+    requests = going.under_way.requests;
+    greedy = tt;
+    finished = tt;
+    none_lost = tt;
+    says = tt;
+    fresh = going.fresh;
+    lawful = lawful_now;
+    answered = answered_now;
+    whole = λ t. tt;
+  }
+
+  pub ran_done : noted ≡ false → IsFinished (test_job setting) (halted_if noted (book_of_tests setting going.events).core) → Says going.events → TestsRan tells answer setting old new true Says
+  ran_done none finished says =
+      let over : IsFinished (test_job setting) (book_of_tests setting going.events).core = finished_then setting going.events row found noted going.under_way none finished in
+      record {
+        events = going.events;
+        journal = going.journal;
+        moves = going.under_way.moves;
+        requests = going.under_way.requests;
+        greedy = going.under_way.greedy none;
+        finished = over;
+        none_lost = going.under_way.none_lost none;
+        says = says;
+        fresh = going.fresh;
+        lawful = lawful_now;
+        answered = answered_now;
+        whole = λ t. record { lawful = lawful_now t; greedy = going.under_way.greedy none; finished = over; none_lost = going.under_way.none_lost none };
+      }
+
+from_step : (at : ℕ) (o : Option ℕ) (idle : Bool) → Start at ≡ step_of o idle → o ≡ Some at
+from_step at o idle is = step_starts o idle at (sym is)
+
+-- the run that is to be started now
+pub started_at : (job : Job) (core : Core) (at : ℕ) → Start at ≡ step_at job core → start_now job core ≡ Some at
+unfolding step_at
+started_at job core at is = from_step at (start_now job core) (eqb (length core.running) 0) is
+
+-- no fault is noted where whether there is one is false
+pub none_if : {X : Type 0} (o : Option X) → is_some o ≡ false → o ≡ None
+none_if None h = refl
+none_if (Some x) h = let nothing : ⊥ = cc in absurd nothing

@@ -1,0 +1,15 @@
+-- What holds at each turn of the loop of `request_of`: the files so far are written.
+use Rattle.std.proofs.Common.{◌≡◌, ◌++◌, length}
+use Rattle.std.specs.List.{filter_map, flat_map}
+use Rattle.vr_base.specs.Jobs.{built_bytes}
+use Rattle.vr_base.specs.PresentGraph.{below}
+use Rattle.test_loop.specs.Requests.{lent_at}
+use Rattle.test_loop.proofs.requests.request_of.Given as goal
+
+abbrev pub invariant-loop-at : goal.invariant-loop-at
+invariant-loop-at g l = record {
+  words : l.writer.command ≡ l.initial.writer.command;
+  results : l.writer.results ≡ l.initial.writer.results;
+  input : l.writer.input ≡ l.initial.writer.input ++ flat_map built_bytes (filter_map (lent_at (g.K.Records.latest_of l.store) l.graph) (below l.at));
+  each : length (filter_map (lent_at (g.K.Records.latest_of l.store) l.graph) (below l.at)) ≡ l.at;
+}

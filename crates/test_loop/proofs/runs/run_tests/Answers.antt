@@ -1,0 +1,59 @@
+-- Answers to the goals of `run_tests`.
+use Rattle.std.proofs.Common.{length, refl, sym, ap, ◌∙◌}
+use Rattle.std.specs.Prelude.{is_some}
+use Rattle.std.proofs.lemmas.List.{length-map}
+use Rattle.test_spec.specs.Verdicts.{unstarted_run}
+use Rattle.test_journal.specs.TestJournal.{TestSetting, test_job}
+use Rattle.test_loop.specs.Requests.{lent_files}
+use Rattle.test_loop.specs.UnderWay.{tests_with}
+use Rattle.test_loop.proofs.Counting.{counts_at_first}
+use Rattle.test_loop.proofs.TestsThen.{nothing_noted}
+use Rattle.test_loop.proofs.WholeTests.{first_going, none_if, started_at, ran_nothing, ran_fault, ran_done}
+use Rattle.test_loop.proofs.runs.run_tests.Goals as goal
+
+pub returns-in_default-clause-ran : goal.returns-in_default-clause-ran
+returns-in_default-clause-ran g c = ran_nothing _ _ _ _ _
+
+pub loop-at-init : goal.loop-at-init
+loop-at-init g c =
+    let setting : TestSetting = tests_with c.args.runs.now c.args.simulator.now (lent_files (g.K.Records.latest_of c.args.store.now) c.args.graph.now) c.args.limit c.args.fail_fast in
+    record {
+      going = first_going g.P.Procs.tells (g.P.Procs.answer c.args.procs.now) setting (g.P.Procs.journal c.args.procs.now) _ _
+          (c.in-Ok.ensures.in_step (test_job setting) (record {
+            count = refl;
+            deps = λ at. refl;
+            is_due = λ at. refl;
+            slots = refl;
+            keep_going = refl;
+          })) c.in-Ok.ensures.found;
+      running = c.requires.idle ∙ sym c.in-Ok.ensures.tickets;
+      same = refl;
+      runs = c.in-Ok.ensures.runs;
+      found = ap length c.in-Ok.ensures.found ∙ length-map c.args.runs.now unstarted_run;
+      counts = counts_at_first _;
+    }
+
+pub start_one-requires-clause-unnoted : goal.start_one-requires-clause-unnoted
+start_one-requires-clause-unnoted g c =
+    let under = c.loop-at.invariant.going.under_way in
+    none_if _ (nothing_noted _ _ _ _ _ under c.in-Start.at (started_at _ _ c.in-Start.at (c.in-Start.ensures.in_step _ _ under.in_step)))
+
+pub loop-at-preserved-in-Start : goal.loop-at-preserved-in-Start
+loop-at-preserved-in-Start g c =
+    let before = c.loop-at.invariant in
+    record {
+      going = c.start_one.ensures.goes _ before.same _ _ _ _ before.going;
+      running = c.start_one.ensures.running;
+      same = c.start_one.ensures.same ∙ before.same;
+      runs = c.start_one.ensures.runs ∙ before.runs;
+      found = before.found;
+      counts = c.start_one.ensures.counts _ before.counts;
+    }
+
+pub returns-in-None-clause-ran : goal.returns-in-None-clause-ran
+returns-in-None-clause-ran g c =
+    let going = c.loop-at.invariant.going in
+    ran_done _ _ _ _ _ _ _ _ going _ (ap is_some c.in-None.is) (c.in-Finished.ensures.finished refl _ _ going.under_way.in_step) (c.from_vec.ensures ∙ going.under_way.found_all (ap is_some c.in-None.is))
+
+pub returns-clause-ran : goal.returns-clause-ran
+returns-clause-ran g c = ran_fault _ _ _ _ _ _ _ _ c.loop-at.invariant.going _

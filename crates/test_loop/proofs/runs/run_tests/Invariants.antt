@@ -1,0 +1,24 @@
+-- What holds at each turn of the loop of `run_tests`: the runs are under way.
+use Rattle.std.proofs.Common.{◌≡◌, length}
+use Rattle.std.specs.Prelude.{is_some}
+use Rattle.test_row.specs.Rows.{tickets_of, run_count, to_come}
+use Rattle.test_loop.specs.Requests.{lent_files}
+use Rattle.test_loop.specs.Faults.{TestsCountBy}
+use Rattle.test_loop.specs.UnderWay.{Goes, tests_with}
+use Rattle.test_loop.proofs.runs.run_tests.Given as goal
+
+abbrev pub invariant-loop-at : goal.invariant-loop-at
+invariant-loop-at g l = record {
+  going : Goes g.P.Procs.tells (g.P.Procs.answer l.fn.procs) (tests_with l.runs l.simulator (lent_files (g.K.Records.latest_of l.store) l.graph) l.fn.limit l.fn.fail_fast) (g.P.Procs.journal l.fn.procs)
+      l.row l.found.items (is_some l.noted) (g.P.Procs.journal l.procs);
+  running : g.P.Procs.running l.procs ≡ tickets_of l.row;
+  same : g.P.Procs.answer l.procs ≡ g.P.Procs.answer l.fn.procs;
+  runs : run_count l.row ≡ length l.runs;
+  found : length l.found.items ≡ length l.runs;
+  counts : TestsCountBy l.noted
+      (record { starts = g.P.Procs.failed_starts l.fn.procs; losses = g.P.Procs.lost_children l.fn.procs })
+      (record { starts = g.P.Procs.failed_starts l.procs; losses = g.P.Procs.lost_children l.procs });
+}
+
+abbrev pub decreases-loop-at : goal.decreases-loop-at
+decreases-loop-at g l = to_come l.row

@@ -1,0 +1,12 @@
+-- Answers to the goals of `halt`.
+use Rattle.std.proofs.Common.{Option, sym, ap, subst, ◌∙◌}
+use Rattle.std.specs.Prelude.{is_some}
+use Rattle.child_steps.specs.Steps.{halted_if}
+use Rattle.child_steps.proofs.Halting.{halts_now}
+use Rattle.test_row.specs.Rows.{IsRowOf}
+use Rattle.test_loop.specs.declared.faults.TestRunFault.{TestRunFault}
+use Rattle.test_loop.proofs.starts.halt.Goals as goal
+
+pub returns-clause-in_step : goal.returns-clause-in_step
+returns-clause-in_step c = λ job core halts is.
+    subst (IsRowOf c.stop.new.self job) (halts_now job halts core ∙ ap (λ (o : Option TestRunFault). halted_if (is_some o) core) (sym c.note.ensures)) (c.stop.ensures.in_step job (halted_if halts core) is)

@@ -1,0 +1,66 @@
+-- Answers to the goals of `start_one`.
+use Rattle.std.proofs.Common.{[], ◌∷◌, ◌++◌, List, ℕ, Option, Some, sym, ap, subst, ◌∙◌}
+use Rattle.std.specs.Prelude.{is_some}
+use Rattle.std.specs.Option.{option_map}
+use Rattle.std.proofs.lemmas.List.{append_assoc}
+use Rattle.std.proofs.lemmas.Option.{get_or_from_slice_get}
+use Rattle.vr_base.specs.declared.child.Event.{Event}
+use Rattle.vr_base.specs.declared.child.Event.TheVariants.{Started}
+use Rattle.vr_base.specs.declared.child.Request.{Request}
+use Rattle.vr_base.specs.declared.graph.BuiltFile.{BuiltFile}
+use Rattle.test_spec.specs.declared.runs.TestRun.{TestRun}
+use Rattle.test_spec.specs.Runs.{FitsRun}
+use Rattle.test_spec.specs.BenchJobs.{bench_request}
+use Rattle.test_journal.specs.TestJournal.{TestSetting}
+use Rattle.test_loop.specs.Requests.{lent_files}
+use Rattle.test_loop.specs.declared.faults.TestRunFault.{TestRunFault}
+use Rattle.test_loop.specs.Faults.{TestsCountBy, noted_with}
+use Rattle.test_loop.specs.UnderWay.{tests_with}
+use Rattle.test_loop.proofs.Counting.{counts_halted}
+use Rattle.test_loop.proofs.TestsThen.{started_then, halted_then}
+use Rattle.test_loop.proofs.FreshTickets.{fresh_started}
+use Rattle.test_loop.proofs.Answering.{answers_started}
+use Rattle.test_loop.proofs.starts.start_one.Goals as goal
+
+pub try_start-requires-clause-fits : goal.try_start-requires-clause-fits
+try_start-requires-clause-fits g c =
+    subst FitsRun (get_or_from_slice_get c.args.runs.now c.args.at c.get-run.result.now c.get-run.result.now c.get-run.ensures) (c.requires.fits c.args.at c.get-run.result.now c.requires.position)
+
+pub returns-in-Ok-clause-goes : goal.returns-in-Ok-clause-goes
+returns-in-Ok-clause-goes g c = λ answer same slots fail_fast old found goes.
+    let files : List BuiltFile = lent_files (g.K.Records.latest_of c.args.store.now) c.args.graph.now in
+    let setting : TestSetting = tests_with c.args.runs.now c.args.simulator.now files slots fail_fast in
+    let request : Request = bench_request c.get-run.result.now c.args.simulator.now files in
+    let is = goes.under_way in
+    record {
+      events = goes.events ++ Started c.in-Ok.ticket request ∷ [];
+      under_way = started_then setting goes.events c.args.row.now found _ is c.started.new.self c.args.at c.in-Ok.ticket request (c.started.ensures.lawful _ _ is.in_step)
+          (ap (option_map (λ (run : TestRun). bench_request run c.args.simulator.now files)) c.get-run.ensures) (c.started.ensures.in_step _ _ is.in_step);
+      journal = λ tells. c.in-Ok.ensures.journal tells ∙ ap (λ (l : List Event). l ++ Started c.in-Ok.ticket request ∷ []) (goes.journal tells) ∙ append_assoc old goes.events (Started c.in-Ok.ticket request ∷ []);
+      fresh = λ tells. fresh_started old goes.events (goes.fresh tells) (g.P.Procs.journal c.args.procs.now) c.in-Ok.ticket request (goes.journal tells) (c.in-Ok.ensures.fresh tells);
+      answers = λ tells. answers_started answer old goes.events (goes.answers tells) c.in-Ok.ticket request;
+    }
+
+pub returns-in-Err-clause-goes : goal.returns-in-Err-clause-goes
+returns-in-Err-clause-goes g c = λ answer same slots fail_fast old found goes.
+    let setting : TestSetting = tests_with c.args.runs.now c.args.simulator.now (lent_files (g.K.Records.latest_of c.args.store.now) c.args.graph.now) slots fail_fast in
+    record {
+      events = goes.events;
+      under_way = halted_then setting goes.events c.args.row.now found _ goes.under_way (is_some c.halt.new.noted) (ap is_some c.halt.ensures.noted) c.halt.new.row (c.halt.ensures.in_step _ _ _ goes.under_way.in_step);
+      journal = λ tells. c.in-Err.ensures.quiet tells ∙ goes.journal tells;
+      fresh = goes.fresh;
+      answers = goes.answers;
+    }
+
+pub returns-in-Ok-clause-counts : goal.returns-in-Ok-clause-counts
+returns-in-Ok-clause-counts g c = λ first is.
+    subst (λ (n : ℕ). TestsCountBy c.args.noted.now first (record { starts = n; losses = g.P.Procs.lost_children c.try_start.new.procs })) (sym c.in-Ok.ensures.starts)
+    (subst (λ (n : ℕ). TestsCountBy c.args.noted.now first (record { starts = g.P.Procs.failed_starts c.args.procs.now; losses = n })) (sym c.try_start.ensures.losses) is)
+
+pub returns-in-Err-clause-counts : goal.returns-in-Err-clause-counts
+returns-in-Err-clause-counts g c = λ first is.
+    subst (λ (o : Option TestRunFault). TestsCountBy o first (record { starts = g.P.Procs.failed_starts c.try_start.new.procs; losses = g.P.Procs.lost_children c.try_start.new.procs }))
+    (sym (c.halt.ensures.noted ∙ ap (λ (o : Option TestRunFault). Some (noted_with o c.in-Err.fault)) c.requires.unnoted))
+    (counts_halted c.in-Err.fault first (g.P.Procs.failed_starts c.args.procs.now) (g.P.Procs.failed_starts c.try_start.new.procs) (g.P.Procs.lost_children c.args.procs.now) (g.P.Procs.lost_children c.try_start.new.procs)
+    c.in-Err.ensures.starts c.try_start.ensures.losses
+    (subst (λ (o : Option TestRunFault). TestsCountBy o first (record { starts = g.P.Procs.failed_starts c.args.procs.now; losses = g.P.Procs.lost_children c.args.procs.now })) c.requires.unnoted is))

@@ -1,0 +1,21 @@
+-- The files of a graph with the artefacts of their latest records.
+use Rattle.std.specs.Prelude.{ℕ, List, length, slice_get, Option}
+use Rattle.std.specs.Option.{option_map, option_and_then}
+use Rattle.std.specs.List.{filter_map}
+use Rattle.vr_base.specs.declared.file.FileName.{FileName}
+use Rattle.vr_base.specs.declared.graph.Entry.{Entry}
+use Rattle.vr_base.specs.declared.graph.BuiltFile.{BuiltFile}
+use Rattle.vr_base.specs.PresentGraph.{below}
+use Rattle.vr_outside.specs.declared.records.Record.{Record}
+
+-- a file with the artefact of its latest record
+abbrev pub lent_file : (FileName → Option Record) → Entry → Option BuiltFile
+lent_file latest_of entry = option_map (λ kept. record { name = entry.name; artefact = kept.artefact }) (latest_of entry.name)
+
+-- the same of the file at a position
+unfoldable pub lent_at : (FileName → Option Record) → List Entry → ℕ → Option BuiltFile
+lent_at latest_of graph position = option_and_then (lent_file latest_of) (slice_get graph position)
+
+-- all files of a graph that have a record, in order
+abbrev pub lent_files : (FileName → Option Record) → List Entry → List BuiltFile
+lent_files latest_of graph = filter_map (lent_at latest_of graph) (below (length graph))

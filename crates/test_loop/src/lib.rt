@@ -1,0 +1,14 @@
+//! The loop that runs tests with up to 64 children at once: runs are started in order, and what became of each is kept.
+#![tactic(auto)]
+
+mod ends;
+mod faults;
+mod names;
+mod notes;
+mod requests;
+mod results;
+mod runs;
+mod starts;
+
+pub use faults::TestRunFault;
+pub use runs::run_tests;

@@ -1,0 +1,106 @@
+//! Runs of tests: one event a turn, until nothing is left to do and no child runs.
+
+ghost use Rattle.std.specs.Prelude.{◌≡◌, ◌<◌, ◌≤◌, [], ℕ, All, length, map, IfOk};
+ghost use Rattle.std.specs.Result.{is_ok};
+ghost use Rattle.vr_outside.specs.Records.{IsRecorded};
+ghost use Rattle.run_spec.specs.Moves.{Job, empty_core};
+ghost use Rattle.test_spec.specs.Runs.{FitsRun};
+ghost use Rattle.test_spec.specs.Verdicts.{unstarted_run};
+ghost use Rattle.test_row.specs.Rows.{IsRowJob, IsRowOf, tickets_of, run_count};
+ghost use Rattle.test_loop.specs.Requests.{lent_files};
+ghost use Rattle.test_loop.specs.Results.{test_ends};
+ghost use Rattle.test_loop.specs.Faults.{TestsCountBy, test_fault_of};
+ghost use Rattle.test_loop.specs.UnderWay.{tests_with};
+ghost use Rattle.test_loop.specs.Ran.{TestsRan};
+
+use crate::ends::end_one;
+use crate::faults::TestRunFault;
+use crate::results::unstarted_runs;
+use crate::starts::start_one;
+use child_steps::Step;
+use std::alloc::Global;
+use test_row::Row;
+use test_spec::{RunEnd, TestEnd, TestRunList};
+use vr_base::{CASE_LIMIT, Graph, Items, NoMemory, SLOT_LIMIT, TextList};
+use vr_outside::{Procs, Records};
+
+/// Runs of tests before their first start.
+#[derive(Drop)]
+struct Begun {
+    row: Row,
+    found: Vec<RunEnd>,
+}
+
+/// The row of runs, and what became of each, where nothing has happened yet.
+fn begin(alloc: Global, runs: &TestRunList, limit: u32, fail_fast: bool) -> Result<Begun, NoMemory>
+    requires limit { (1 ≤ limit) × (limit ≤ SLOT_LIMIT) }
+    requires few { length runs.now ≤ CASE_LIMIT }
+    ensures runs { IfOk result (λ begun. run_count begun.row ≡ length runs.now) }
+    ensures tickets { IfOk result (λ begun. tickets_of begun.row ≡ []) }
+    ensures in_step { IfOk result (λ begun. (job : Job) →
+        IsRowJob job (length runs.now) limit fail_fast → IsRowOf begun.row job empty_core) }
+    ensures found { IfOk result (λ begun. begun.found.items ≡ map unstarted_run runs.now) }
+{
+    let count = runs.len() as u32;
+    let row = Row::new(alloc, count, limit, fail_fast)?;
+    let found = unstarted_runs(alloc, runs)?;
+    Ok(Begun { row, found })
+}
+
+/// Runs tests in order, each by one child of the simulator, which is asked over the artefacts that the store has of all
+/// files of the graph, and gives what became of each run. At most `limit` children run at once, from 1 to 64; there are
+/// at most 65,536 runs. With `fail_fast` nothing more is started after the first run of which not all cases passed.
+/// After a fault nothing more is started, and the children that still run are waited for; the first fault is answered,
+/// but out of memory in the place of any other. No child runs in the end.
+pub fn run_tests<K: Records, P: Procs>(
+    alloc: Global,
+    graph: &Graph,
+    store: &K,
+    runs: &TestRunList,
+    simulator: &TextList,
+    procs: &mut P,
+    limit: u32,
+    fail_fast: bool,
+) -> Result<TestEnd, TestRunFault>
+    requires limit { (1 ≤ limit) × (limit ≤ SLOT_LIMIT) }
+    requires idle { P.running procs.old ≡ [] }
+    requires few { length runs.now ≤ CASE_LIMIT }
+    requires fits { All FitsRun runs.now }
+    requires recorded { (position : ℕ) → position < length graph.now →
+        IsRecorded (K.latest_of store.now) graph.now position }
+    ensures running { P.running procs.new ≡ [] }
+    ensures same { P.answer procs.new ≡ P.answer procs.old }
+    ensures ran { let setting = tests_with runs.now simulator.now
+        (lent_files (K.latest_of store.now) graph.now) limit fail_fast in
+        TestsRan P.tells (P.answer procs.old) setting (P.journal procs.old) (P.journal procs.new) (is_ok result)
+        (λ events. IfOk result (λ end. end.runs ≡ test_ends setting events)) }
+    ensures counts { TestsCountBy (test_fault_of result)
+        (record {
+          starts = P.failed_starts procs.old;
+          losses = P.lost_children procs.old;
+        })
+        (record {
+          starts = P.failed_starts procs.new;
+          losses = P.lost_children procs.new;
+        }) }
+{
+    let Ok(Begun { mut row, mut found }) = begin(alloc, runs, limit, fail_fast) else {
+        return Err(TestRunFault::NoMemory);
+    };
+    let mut noted = None;
+    loop {
+        match row.next() {
+            Step::Start(at) => start_one(
+                alloc, graph, store, runs, simulator, at, &mut row, &mut noted, procs,
+            ),
+            Step::Wait => end_one(alloc, runs, &mut row, &mut found, &mut noted, procs),
+            Step::Finished => break,
+        }
+    }
+    match noted {
+        None => Ok(TestEnd {
+            runs: Items::from_vec(found),
+        }),
+        Some(fault) => Err(fault),
+    }
+}
