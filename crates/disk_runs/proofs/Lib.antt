@@ -1,2 +1,3 @@
 -- The lemmas.
+pub mod LentFiles
 pub mod OverStore

@@ -3,7 +3,7 @@ use Rattle.std.proofs.Common.{◌≡◌, ℕ, ◌+◌, ◌-◌, ◌^◌, ◌<◌
 use Rattle.std.specs.Prelude.{slice_get, take, is_some, IfOk}
 use Rattle.std.specs.Bool.{OnTrue, OnFalse}
 use Rattle.std.specs.Result.{is_ok}
-use Rattle.std.specs.List.{AllByRecursion}
+use Rattle.std.specs.List.{AllByRecursion, filter_map, list_all}
 use Rattle.std.specs.Option.{option_map}
 use Rattle.std.proofs.Math.Path.{fun_ext}
 use Rattle.std.proofs.lemmas.Bool.{false≢true, OnTrue_at}
@@ -41,8 +41,10 @@ use Rattle.history_laws.proofs.SparedRuns.{same_latest}
 use Rattle.compile_loop.specs.declared.faults.BuildFault.{BuildFault}
 use Rattle.compile_loop.specs.declared.faults.BuildFault.TheVariants as fault
 use Rattle.compile_loop.specs.Faults.{fault_of, is_no_memory, is_all_committed}
-use Rattle.compile_loop.specs.Ran.{BuildRan, is_made}
+use Rattle.compile_loop.specs.Ran.{BuildRan, is_made, built_by}
+use Rattle.compile_loop.specs.Requests.{lent_at}
 use Rattle.disk_runs.specs.Orders.{IsDurablyRecorded}
+use Rattle.disk_runs.proofs.LentFiles.{lent_are}
 use Rattle.disk_runs.specs.Building.{OpensStore, BuildsOver, has_risen}
 
 module _ (K : Type 0) (records_of : Image → List Record) (old middle new : Moments) where
@@ -212,6 +214,19 @@ module _ (records_of : Image → List Record) (answer : Request → Exit) (order
       }) where
         both : {a b : Bool} → a ≡ false → b ≡ false → (not a && not b) ≡ true
         both x y = rw (x, y) refl
+
+  -- where all files are made, the store lends what was built
+  lent_over : (ran : Ran (latest_over records_of order.clean old.now)) → is_all_committed (fault_of result) broken ≡ true → (marks : List Mark) → marks ≡ marks_of (work_over records_of order old.now) ran.events → list_all is_made marks ≡ true
+      → filter_map (lent_at now order.graph) (below (length order.graph)) ≡ built_by (work_over records_of order old.now) (since old_journal journal)
+  lent_over ran all marks marked made =
+      let s : Work = work_over records_of order old.now in
+      lent_are s ran.events now (OnTrue_at all ran.recorded) (mark_there s ran.events) (ap (list_all is_made) (sym marked) ∙ made) ∙ ap (built_by s) (sym (ap (since old_journal) (ran.journal t) ∙ since-added old_journal ran.events))
+
+  pub opened_lent : (ran : Ran before) → is_all_committed (fault_of result) broken ≡ true → (marks : List Mark) → marks ≡ marks_of (by before) ran.events → list_all is_made marks ≡ true
+      → filter_map (lent_at now order.graph) (below (length order.graph)) ≡ built_by (work_over records_of order old.now) (since old_journal journal)
+  opened_lent ran all marks marked made =
+      let moved = subst {A = FileName → Option Record} (λ latest_of. (ran : Ran latest_of) × (marks ≡ marks_of (by latest_of) ran.events)) latest_is (ran, marked) in
+      lent_over moved.0 all marks moved.1 made
 
   pub opened_over : Ran before → IfOk result (λ marks. (position : ℕ) (mark : Mark) → slice_get marks position ≡ Some mark → is_made mark ≡ true → IsRecorded now order.graph position) → OnOk result (KnowsDisk records_of now new.now) →
       OnOk result (broken ≡ false) → (failed ≡ false → broken ≡ false) → BuildsOver records_of answer order result failed old new (since old_journal journal)

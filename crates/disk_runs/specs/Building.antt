@@ -1,5 +1,5 @@
 -- What opening a store and a build over its records do.
-use Rattle.std.specs.Prelude.{◌≡◌, ℕ, ◌+◌, ◌-◌, ◌^◌, ◌<◌, nat_le, min, Bool, true, false, List, length, Result, Err, is_some, IfOk, OnOk}
+use Rattle.std.specs.Prelude.{◌≡◌, ℕ, ◌+◌, ◌-◌, ◌^◌, ◌<◌, nat_le, min, Bool, true, false, List, length, Result, Ok, Err, is_some, IfOk, OnOk}
 use Rattle.std.specs.List.{AllByRecursion}
 use Rattle.vr_base.specs.declared.child.Request.{Request}
 use Rattle.vr_base.specs.declared.child.Exit.{Exit}
@@ -16,11 +16,17 @@ use Rattle.history_spec.specs.Histories.{Order, IsReadable, work_over}
 use Rattle.run_spec.specs.Marks.{marks_of}
 use Rattle.compile_loop.specs.declared.faults.BuildFault.{BuildFault}
 use Rattle.compile_loop.specs.declared.faults.BuildFault.TheVariants as fault
+use Rattle.disk_runs.specs.declared.building.Kept.{Kept}
 use Rattle.disk_runs.specs.Orders.{IsDurablyRecorded}
 
 -- a count of faults rose
 abbrev pub has_risen : ℕ → ℕ → Bool
 has_risen before now = nat_le (min (before + 1) (2 ^ 64 - 1)) now
+
+-- what a build gave, apart from the store that it kept
+abbrev pub marks_in : {K : Type 0} → Result (Kept K) BuildFault → Result (List Mark) BuildFault
+marks_in (Ok kept) = Ok kept.marks
+marks_in (Err why) = Err why
 
 -- What opening a store leaves of a disk, on every answer. Once it is open, its records are the base of what is committed:
 -- none where it was emptied.

@@ -1,12 +1,19 @@
 //! A build over the records of a disk.
 
-ghost use Rattle.std.specs.Prelude.{◌≡◌, ◌≤◌, ◌++◌, [], false, length, IfOk, OnOk};
+ghost use Rattle.std.specs.Prelude.{◌≡◌, ◌<◌, ◌≤◌, ◌++◌, [], ℕ, Some, true, false, length, slice_get, IfOk, OnOk};
+ghost use Rattle.std.specs.List.{filter_map, list_all};
+ghost use Rattle.vr_base.specs.PresentGraph.{below};
 ghost use Rattle.vr_outside.specs.Counts.{StoreCounts};
+ghost use Rattle.vr_outside.specs.Records.{IsRecorded};
 ghost use Rattle.vr_outside.specs.Disks.{reads_of, AtAnyMoment, IsEither};
+ghost use Rattle.run_spec.specs.declared.marks.Mark.{Mark};
 ghost use Rattle.run_spec.specs.ChildJournal.{since};
+ghost use Rattle.history_spec.specs.Histories.{work_over};
 ghost use Rattle.run_spec.specs.JournalParts.{test_part};
+ghost use Rattle.compile_loop.specs.Ran.{built_by, is_made};
+ghost use Rattle.compile_loop.specs.Requests.{lent_at};
 ghost use Rattle.compile_loop.specs.Faults.{Explains, NoneFell, fault_of};
-ghost use Rattle.disk_runs.specs.Building.{OpensStore, BuildsOver, has_risen};
+ghost use Rattle.disk_runs.specs.Building.{OpensStore, BuildsOver, has_risen, marks_in};
 ghost use Rattle.disk_runs.specs.Orders.{order_by};
 
 use compile_loop::{BuildFault, build_marks};
@@ -22,6 +29,13 @@ pub struct BuildOptions {
     pub slots: u32,
     pub keep_going: bool,
     pub clean: bool,
+}
+
+/// What became of the files of a graph that was built, one mark for each file, in order; and the store that has their records.
+#[derive(Drop)]
+pub struct Kept<K> {
+    pub marks: MarkList,
+    pub store: K,
 }
 
 /// Empties a store.
@@ -65,6 +79,81 @@ fn open_store<K: Records + Drop, D: Disk>(
             Ok(store)
         }
         Err(fault) => Err(fault),
+    }
+}
+
+/// Opens the store of a disk, builds over its records, and keeps the store, which lends the artefacts of all files that are made.
+pub fn build_kept<K: Records + Drop, D: Disk, P: Procs>(
+    alloc: Global,
+    graph: &Graph,
+    options: BuildOptions,
+    disk: &mut D,
+    procs: &mut P,
+) -> Result<Kept<K>, BuildFault>
+    requires slots { (1 ≤ options.slots) × (options.slots ≤ SLOT_LIMIT) }
+    requires idle { P.running procs.old ≡ [] }
+    ensures running { P.running procs.new ≡ [] }
+    ensures same { P.answer procs.new ≡ P.answer procs.old }
+    ensures count { IfOk result (λ kept. length kept.marks ≡ length graph.now) }
+    // Of each file that is made the store has a record of its present view,
+    ensures recorded { IfOk result (λ kept. (position : ℕ) (mark : Mark) →
+        slice_get kept.marks position ≡ Some mark → is_made mark ≡ true →
+        IsRecorded (K.latest_of kept.store) graph.now position) }
+    // and where all are, what it lends of them are the files that were built.
+    ensures lent { D.tells → P.tells → IfOk result (λ kept.
+        list_all is_made kept.marks ≡ true →
+        filter_map (lent_at (K.latest_of kept.store) graph.now) (below (length graph.now))
+        ≡ built_by (work_over K.records_of (order_by options graph.now) (D.moments disk.old).now)
+        (since (P.journal procs.old) (P.journal procs.new))) }
+    ensures follows { P.tells →
+        (P.journal procs.new
+        ≡ P.journal procs.old ++ since (P.journal procs.old) (P.journal procs.new)) }
+    ensures no_tests { P.tells →
+        test_part (since (P.journal procs.old) (P.journal procs.new)) ≡ [] }
+    ensures told { D.tells → P.tells →
+        BuildsOver K.records_of (P.answer procs.old) (order_by options graph.now) (marks_in result)
+        (has_risen (D.failed_disk_calls disk.old) (D.failed_disk_calls disk.new))
+        (D.moments disk.old) (D.moments disk.new)
+        (since (P.journal procs.old) (P.journal procs.new)) }
+    ensures fell { NoneFell
+        (record {
+          starts = P.failed_starts procs.old;
+          losses = P.lost_children procs.old;
+          disks = D.failed_disk_calls disk.old;
+        })
+        (record {
+          starts = P.failed_starts procs.new;
+          losses = P.lost_children procs.new;
+          disks = D.failed_disk_calls disk.new;
+        }) }
+    ensures explains { Explains (fault_of result)
+        (record {
+          starts = P.failed_starts procs.old;
+          losses = P.lost_children procs.old;
+          disks = D.failed_disk_calls disk.old;
+        })
+        (record {
+          starts = P.failed_starts procs.new;
+          losses = P.lost_children procs.new;
+          disks = D.failed_disk_calls disk.new;
+        }) }
+{
+    prove!(graph.len() <= FILE_LIMIT as u64);
+    match open_store::<K, D>(alloc, disk, options.clean) {
+        Ok(mut store) => match build_marks(
+            alloc,
+            graph,
+            &mut store,
+            disk,
+            procs,
+            options.slots,
+            options.keep_going,
+        ) {
+            Ok(marks) => Ok(Kept { marks, store }),
+            Err(fault) => Err(fault),
+        },
+        Err(StoreFault::NoMemory) => Err(BuildFault::NoMemory),
+        Err(StoreFault::DiskFailed) => Err(BuildFault::DiskFailed),
     }
 }
 
@@ -114,18 +203,13 @@ pub fn build_over<K: Records + Drop, D: Disk, P: Procs>(
           disks = D.failed_disk_calls disk.new;
         }) }
 {
-    prove!(graph.len() <= FILE_LIMIT as u64);
-    match open_store::<K, D>(alloc, disk, options.clean) {
-        Ok(mut store) => build_marks(
-            alloc,
-            graph,
-            &mut store,
-            disk,
-            procs,
-            options.slots,
-            options.keep_going,
-        ),
-        Err(StoreFault::NoMemory) => Err(BuildFault::NoMemory),
-        Err(StoreFault::DiskFailed) => Err(BuildFault::DiskFailed),
+    match build_kept::<K, D, P>(alloc, graph, options, disk, procs) {
+        Ok(
+            Kept {
+                marks,
+                store: _store,
+            },
+        ) => Ok(marks),
+        Err(fault) => Err(fault),
     }
 }

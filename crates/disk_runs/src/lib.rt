@@ -3,4 +3,4 @@
 
 mod building;
 
-pub use building::{BuildOptions, build_over};
+pub use building::{BuildOptions, Kept, build_kept, build_over};
