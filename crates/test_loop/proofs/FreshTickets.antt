@@ -35,7 +35,8 @@ one_alone old before (Started ticket request) is = fresh_after old before ticket
 one_alone old before (Ended ticket exit) is = tt
 one_alone old before (Gone ticket) is = tt
 
-all_alone : (old before events : List Event) → EachAfter HasFreshTicket (old ++ before) events → EachAfter HasFreshTicket before events
+-- (the same behind some of the events)
+pub all_alone : (old before events : List Event) → EachAfter HasFreshTicket (old ++ before) events → EachAfter HasFreshTicket before events
 unfolding EachAfter
 all_alone old before [] is = tt
 all_alone old before (event ∷ events) is =

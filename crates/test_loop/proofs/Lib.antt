@@ -3,6 +3,6 @@ mod Lent
 mod Counting
 mod Found
 mod TestsThen
-mod FreshTickets
+pub mod FreshTickets
 mod Answering
 mod WholeTests
