@@ -2,4 +2,6 @@
 #![tactic(auto)]
 
 #[cfg(test)]
+mod benches;
+#[cfg(test)]
 mod files;

@@ -1,5 +1,5 @@
 -- Units that are wanted, the libraries that are there, and the first unit that is missing.
-use Rattle.std.proofs.Common.{◌≡◌, ℕ, zero, suc, ◌+◌, ◌<◌, ◌≤◌, Bool, true, false, cond, not, ◌&&◌, ◌||◌, Option, Some, None, List, [], ◌∷◌, ◌++◌, length, get_or, drop, take, refl, sym, ap, ◌∙◌, arith}
+use Rattle.std.proofs.Common.{◌≡◌, ℕ, zero, suc, ◌+◌, ◌<◌, ◌≤◌, Bool, true, false, cond, ◌&&◌, ◌||◌, Option, Some, None, List, [], ◌∷◌, ◌++◌, length, get_or, drop, take, refl, sym, ap, ◌∙◌, arith}
 use Rattle.std.specs.Prelude.{is_some}
 use Rattle.std.specs.List.{list_any}
 use Rattle.std.specs.Str.{bytes_eq}
@@ -7,8 +7,9 @@ use Rattle.std.proofs.lemmas.List.{drop_all, drop_more, take_more}
 use Rattle.std.proofs.lemmas.List.Folds.{list_any-append}
 use Rattle.vr_base.specs.declared.graph.BuiltFile.{BuiltFile}
 use Rattle.key_index.specs.Maps.{get}
-use Rattle.child_tools.specs.Exports.{exports, first_missing, has_library, in_library, is_missing}
-use Rattle.child_tools.specs.Marks.{KnowsLibraries, KnowsUnits}
+use Rattle.child_lines.specs.Lines.{in_library}
+use Rattle.child_tools.specs.Exports.{first_missing, has_library, is_missing}
+use Rattle.child_tools.specs.Marks.{KnowsLibraries}
 use Rattle.child_tools.specs.NameOrder.{is_same_unit, units_decide}
 use Rattle.child_tools.specs.declared.names.UnitName.{UnitName}
 use Rattle.child_tools.proofs.MarkLemmas.{Marking}

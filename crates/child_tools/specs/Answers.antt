@@ -2,11 +2,11 @@
 use Rattle.std.specs.Prelude.{ℕ, nat_le, if◌then◌else◌, List, [], ◌∷◌, ◌++◌, length, codes}
 use Rattle.std.specs.Option.{option_map_or}
 use Rattle.vr_base.specs.declared.child.Exit.{Exit}
-use Rattle.vr_base.specs.declared.child.MaybeText.TheVariants.{Nothing}
 use Rattle.vr_base.specs.declared.design.Scan.{Scan}
 use Rattle.vr_base.specs.declared.file.FileName.{FileName}
 use Rattle.vr_base.specs.declared.graph.BuiltFile.{BuiltFile}
 use Rattle.vr_base.specs.declared.limits.TheConstants.{ARTEFACT_LIMIT}
+use Rattle.child_lines.specs.Ends.{bad_request, ends_with}
 use Rattle.job_codec.specs.Reading.{job_at}
 use Rattle.job_codec.specs.declared.reading.CompileJob.{CompileJob}
 use Rattle.scan_spec.specs.Scans.{Finding, Clean, Lexical, Grammatical}
@@ -14,13 +14,6 @@ use Rattle.child_tools.specs.Artefacts.{artefact_of}
 use Rattle.child_tools.specs.Exports.{first_missing, wanted_units}
 use Rattle.child_tools.specs.Scripts.{first_refusal}
 use Rattle.child_tools.specs.declared.names.UnitName.{UnitName}
-
--- an end with this code and output, and no results
-abbrev pub ends_with : ℕ → List ℕ → Exit
-ends_with code output = record { code = code; output = output; results = Nothing }
-
-unfoldable pub bad_request : Exit
-bad_request = ends_with 2 (codes "bad request" ++ 10 ∷ [])
 
 -- the file is refused with this line
 unfoldable pub refused : List ℕ → Exit

@@ -1,18 +1,14 @@
 -- What the lines of artefacts export, and the references of a file to units that aren't there.
-use Rattle.std.specs.Prelude.{ℕ, Bool, false, ◌&&◌, not, ◌==◌, if◌then◌else◌, List, [], ◌∷◌, codes, Option, find}
-use Rattle.std.specs.List.{flat_map, list_any, slice_split}
+use Rattle.std.specs.Prelude.{ℕ, Bool, false, ◌&&◌, not, if◌then◌else◌, List, [], ◌∷◌, codes, Option, find}
+use Rattle.std.specs.List.{flat_map, list_any}
 use Rattle.std.specs.Option.{option_map_or, option_or}
 use Rattle.std.specs.Str.{bytes_eq}
 use Rattle.vr_base.specs.declared.design.Scan.{Scan}
 use Rattle.vr_base.specs.declared.graph.BuiltFile.{BuiltFile}
 use Rattle.vr_base.specs.declared.refs.Ref.{Ref}
 use Rattle.scan_spec.specs.References.{refs_of, work}
-use Rattle.child_tools.specs.Scripts.{after_word}
+use Rattle.child_lines.specs.Lines.{after_word, in_library, lines}
 use Rattle.child_tools.specs.declared.names.UnitName.{UnitName}
-
--- the lines of bytes, between line feeds; what comes after the last one is a line too
-abbrev pub lines : List ℕ → List (List ℕ)
-lines bytes = slice_split (λ byte. byte == 10) bytes
 
 -- the primary unit that a line of an artefact is of
 unfoldable pub exported_by : List ℕ → Option (List ℕ)
@@ -32,9 +28,6 @@ abbrev pub exports_unit : List ℕ → List ℕ → Bool
 exports_unit artefact name = list_any (is_export name) (lines artefact)
 
 -- ## Files that were built
-
-abbrev pub in_library : List ℕ → BuiltFile → Bool
-in_library library file = bytes_eq file.name.library library
 
 abbrev pub has_library : List BuiltFile → List ℕ → Bool
 has_library files library = list_any (in_library library) files

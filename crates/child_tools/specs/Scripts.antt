@@ -1,13 +1,10 @@
 -- What the comments of a file say to the children of the program: a line comment that begins with `-- child: ` is a script
 -- line.
-use Rattle.std.specs.Prelude.{ℕ, ◌==◌, if◌then◌else◌, List, length, drop, slice_get, slice_range, codes, Option, Some, None}
-use Rattle.std.specs.List.{filter_map, starts_with}
+use Rattle.std.specs.Prelude.{ℕ, List, slice_get, slice_range, codes, Option}
+use Rattle.std.specs.List.{filter_map}
 use Rattle.std.specs.Option.{option_and_then}
 use Rattle.vr_base.specs.declared.lexical.Span.{Span}
-
--- what comes after a word, where bytes begin with it
-unfoldable pub after_word : List ℕ → List ℕ → Option (List ℕ)
-after_word word bytes = if starts_with (λ a b. a == b) bytes word then Some (drop (length word) bytes) else None
+use Rattle.child_lines.specs.Lines.{after_word}
 
 -- the script line of the comment at some bytes of a text, if it is one
 abbrev pub script_at : List ℕ → Span → Option (List ℕ)

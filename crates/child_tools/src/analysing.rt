@@ -10,12 +10,13 @@ ghost use Rattle.child_tools.specs.Artefacts.{artefact_of};
 ghost use Rattle.child_tools.specs.Exports.{wanted_units};
 ghost use Rattle.child_tools.specs.Found.{IsFoundClean};
 
-use crate::answers::{bad_request, made, no_unit, not_vhdl, refused};
+use crate::answers::{made, no_unit, not_vhdl, refused};
 use crate::artefacts::artefact_of;
 use crate::exports::first_missing;
 use crate::names::UnitName;
 use crate::scripts::first_refusal;
 use crate::wanted::wanted_units;
+use child_lines::bad_request;
 use job_codec::{CompileJob, laws_of_jobs, read_compile_request};
 use std::alloc::Global;
 use vhdl_lex::{no_tokens, scan_with_roles};

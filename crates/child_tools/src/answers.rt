@@ -1,31 +1,12 @@
 //! The answers of the compiler.
 
 ghost use Rattle.std.specs.Prelude.{◌≡◌, IfOk};
-ghost use Rattle.child_tools.specs.Answers.{bad_request, ends_with, made, no_unit, not_vhdl, refused};
+ghost use Rattle.child_tools.specs.Answers.{made, no_unit, not_vhdl, refused};
 
-use crate::artefacts::put;
 use crate::names::UnitName;
+use child_lines::{ends_with, put};
 use std::alloc::Global;
-use vr_base::{ARTEFACT_LIMIT, Exit, FileName, MaybeText, NoMemory, Text};
-
-/// An end with a code and an output, and no results.
-fn ends_with(code: u32, output: Text) -> Exit
-    ensures { result ≡ ends_with code output }
-{
-    Exit {
-        code,
-        output,
-        results: MaybeText::Nothing,
-    }
-}
-
-/// The answer to an input that isn't a request.
-#[tactic(auto, unfolding(crate::specs::Answers::bad_request))]
-pub fn bad_request(alloc: Global) -> Result<Exit, NoMemory>
-    ensures { IfOk result (λ exit. exit ≡ bad_request) }
-{
-    Ok(ends_with(2, Text::from_slice(alloc, b"bad request\n")?))
-}
+use vr_base::{ARTEFACT_LIMIT, Exit, FileName, NoMemory, Text};
 
 /// A refusal with a line, to which its line feed is added.
 #[tactic(auto, unfolding(crate::specs::Answers::refused))]

@@ -8,15 +8,9 @@ ghost use Rattle.scan_spec.specs.Units.{AreTokensOf};
 ghost use Rattle.child_tools.specs.Artefacts.{artefact_of, comment_line, kind_word, of_entity, script_line, unit_line};
 
 use crate::scripts::script_at;
+use child_lines::put;
 use std::alloc::Global;
 use vr_base::{MaybeText, NoMemory, Scan, Span, Text, Tokens, Unit, UnitKind};
-
-pub fn put(out: &mut Vec<u8>, bytes: &[u8]) -> Result<(), NoMemory>
-    ensures { OnOk result (out.new.items ≡ out.old.items ++ bytes.now) }
-{
-    out.extend_from_slice(bytes)?;
-    Ok(())
-}
 
 #[tactic(auto, unfolding(crate::specs::Artefacts::kind_word))]
 fn put_kind(out: &mut Vec<u8>, kind: UnitKind) -> Result<(), NoMemory>

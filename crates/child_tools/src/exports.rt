@@ -10,8 +10,8 @@ ghost use Rattle.child_tools.specs.NameOrder.{is_same_unit};
 ghost use Rattle.child_tools.specs.Exports.{exported_by, exports, exports_unit, first_missing, is_export, is_missing};
 ghost use Rattle.child_tools.specs.Marks.{Marks, KnowsLibraries, KnowsUnits};
 
-use crate::lines::{after_word, next_line};
 use crate::names::{UnitName, library_key, put_name};
+use child_lines::{after_word, next_line};
 use key_index::{Key, KeyMap};
 use std::alloc::Global;
 use vr_base::{BuiltFile, NoMemory, Text};

@@ -1,11 +1,10 @@
-//! The children that are part of the program: a compiler, as a call over bytes.
+//! The compiler that is part of the program, as a call over bytes.
 #![tactic(auto)]
 
 mod analysing;
 mod answers;
 mod artefacts;
 mod exports;
-mod lines;
 mod names;
 mod scripts;
 mod wanted;

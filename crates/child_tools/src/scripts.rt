@@ -4,7 +4,7 @@ ghost use Rattle.std.specs.Prelude.{◌≡◌, ◌≤◌, length, MatchOption, N
 ghost use Rattle.scan_spec.specs.Units.{AreTokensOf};
 ghost use Rattle.child_tools.specs.Scripts.{first_refusal, refusal_at, script_at};
 
-use crate::lines::after_word;
+use child_lines::after_word;
 use vr_base::{Span, Tokens};
 
 /// The script line of the comment at some bytes of a text, if it is one.

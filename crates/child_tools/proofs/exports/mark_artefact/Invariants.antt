@@ -1,6 +1,6 @@
 -- What the lines that are left export is found in time.
 use Rattle.std.proofs.Common.{◌≡◌, length}
-use Rattle.child_tools.specs.Exports.{lines}
+use Rattle.child_lines.specs.Lines.{lines}
 use Rattle.child_tools.specs.declared.names.UnitName.{UnitName}
 use Rattle.child_tools.proofs.MarkLemmas.{in_time}
 use Rattle.child_tools.proofs.exports.mark_artefact.Given as goal

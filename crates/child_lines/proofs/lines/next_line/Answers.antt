@@ -1,8 +1,8 @@
 -- The line ends at the first line feed.
 use Rattle.std.proofs.Common.{ℕ, eqb, sym}
 use Rattle.std.proofs.lemmas.List.{take_rest}
-use Rattle.child_tools.proofs.Splits.{split_at_mark, split_no_mark}
-use Rattle.child_tools.proofs.lines.next_line.Goals as goal
+use Rattle.child_lines.proofs.Splits.{split_at_mark, split_no_mark}
+use Rattle.child_lines.proofs.lines.next_line.Goals as goal
 
 pub returns-in-None-clause-parts : goal.returns-in-None-clause-parts
 returns-in-None-clause-parts c = split_no_mark (λ (byte : ℕ). eqb byte 10) c.args.bytes.now (sym c.in-None.ensures)

@@ -2,8 +2,7 @@
 
 ghost use Rattle.std.specs.Prelude.{◌≡◌, ◌==◌, ◌+◌, [], ◌∷◌, length, IfSome, MatchOption, None, Some, position};
 ghost use Rattle.std.specs.Option.{option_map};
-ghost use Rattle.child_tools.specs.Exports.{lines};
-ghost use Rattle.child_tools.specs.Scripts.{after_word};
+ghost use Rattle.child_lines.specs.Lines.{after_word, lines};
 
 /// The index of the first line feed.
 fn line_feed(bytes: &[u8]) -> Option<usize>
@@ -27,7 +26,7 @@ pub fn next_line(bytes: &[u8]) -> Option<(&[u8], &[u8])>
 }
 
 /// What comes after a word, where bytes begin with it.
-#[tactic(auto, unfolding(crate::specs::Scripts::after_word))]
+#[tactic(auto, unfolding(crate::specs::Lines::after_word))]
 pub fn after_word<'a>(word: &[u8], bytes: &'a [u8]) -> Option<&'a [u8]>
     ensures is { MatchOption result
         (after_word word.now bytes.now ≡ None)

@@ -1,0 +1,9 @@
+//! The simulator that is part of the program, as a call over bytes.
+#![tactic(auto)]
+
+mod benches;
+mod ends;
+mod failures;
+mod names;
+
+pub use benches::bench;

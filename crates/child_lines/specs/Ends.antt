@@ -1,0 +1,12 @@
+-- How a child of the program ends.
+use Rattle.std.specs.Prelude.{ℕ, List, [], ◌∷◌, ◌++◌, codes}
+use Rattle.vr_base.specs.declared.child.Exit.{Exit}
+use Rattle.vr_base.specs.declared.child.MaybeText.TheVariants.{Nothing}
+
+-- an end with this code and output, and no results
+abbrev pub ends_with : ℕ → List ℕ → Exit
+ends_with code output = record { code = code; output = output; results = Nothing }
+
+-- the answer to an input that is no request
+unfoldable pub bad_request : Exit
+bad_request = ends_with 2 (codes "bad request" ++ 10 ∷ [])
