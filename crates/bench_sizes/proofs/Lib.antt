@@ -1,0 +1,4 @@
+-- The lemmas.
+mod Strings
+mod UnitNames
+mod ReadBenches
