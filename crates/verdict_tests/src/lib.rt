@@ -8,6 +8,8 @@ mod lines;
 #[cfg(test)]
 mod objects;
 #[cfg(test)]
+mod over;
+#[cfg(test)]
 mod plain;
 #[cfg(test)]
 mod rows;

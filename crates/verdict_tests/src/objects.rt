@@ -60,16 +60,18 @@ fn bytes_of(alloc: Global, both: bool) -> Result<Vec<u8>, NoMemory> {
     Ok(bytes)
 }
 
-fn open(alloc: Global, disk: &mut MemDisk, bytes: &[u8]) -> Result<RecordStore, StoreFault> {
-    write_durably(disk, Side::A, 0, bytes)?;
-    RecordStore::from_disk(alloc, disk)
+/// A disk that has a record of both files, or of the first alone.
+pub(super) fn disk_of(alloc: Global, both: bool) -> Result<MemDisk, StoreFault> {
+    let bytes = bytes_of(alloc, both)?;
+    let mut disk = MemDisk::new(alloc, Numbers::new(alloc));
+    write_durably(&mut disk, Side::A, 0, bytes.as_slice())?;
+    Ok(disk)
 }
 
 /// A store that has a record of both files, or of the first alone.
 fn store_of(alloc: Global, both: bool) -> Result<RecordStore, StoreFault> {
-    let bytes = bytes_of(alloc, both)?;
-    let mut disk = MemDisk::new(alloc, Numbers::new(alloc));
-    open(alloc, &mut disk, bytes.as_slice())
+    let mut disk = disk_of(alloc, both)?;
+    RecordStore::from_disk(alloc, &mut disk)
 }
 
 /// Whether each file of a graph has a record of its present view in a store of both files, or of the first alone.
@@ -98,7 +100,12 @@ fn picks_of(alloc: Global, picks: u32) -> Result<Positions, NoMemory> {
 }
 
 /// Children of lines that go a way.
-fn script(rt: &impl Abort, alloc: Global, lines: &str, way: &Way) -> Result<ScriptProcs, NoMemory> {
+pub(super) fn script(
+    rt: &impl Abort,
+    alloc: Global,
+    lines: &str,
+    way: &Way,
+) -> Result<ScriptProcs, NoMemory> {
     let answers = answers_of(alloc, lines)?;
     assert!(rt; can_answer(&answers));
     let picks = picks_of(alloc, way.picks)?;
@@ -182,7 +189,11 @@ fn letters(event: &Event, events: &[Event], inputs: &TextList) -> (u8, u8) {
     }
 }
 
-fn tell_events(alloc: Global, events: &[Event], inputs: &TextList) -> Result<Vec<u8>, NoMemory> {
+pub(super) fn tell_events(
+    alloc: Global,
+    events: &[Event],
+    inputs: &TextList,
+) -> Result<Vec<u8>, NoMemory> {
     let mut told = Vec::new(alloc);
     for event in events {
         let (kind, place) = letters(event, events, inputs);
@@ -213,7 +224,7 @@ fn put_end(out: &mut Vec<u8>, end: &RunEnd) -> Result<(), NoMemory> {
     Ok(())
 }
 
-fn tell_ends(alloc: Global, ends: &[RunEnd]) -> Result<Vec<u8>, NoMemory> {
+pub(super) fn tell_ends(alloc: Global, ends: &[RunEnd]) -> Result<Vec<u8>, NoMemory> {
     let mut told = Vec::new(alloc);
     for end in ends {
         put_end(&mut told, end)?;
