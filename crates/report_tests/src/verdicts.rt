@@ -187,7 +187,7 @@ fn end_of(alloc: Global, run: &str) -> Result<RunEnd, NoMemory> {
     })
 }
 
-fn ends_of(alloc: Global, runs: &str) -> Result<TestEnd, NoMemory> {
+pub(super) fn ends_of(alloc: Global, runs: &str) -> Result<TestEnd, NoMemory> {
     let mut list = RunList::new(alloc);
     for run in runs.split('/') {
         list.push(end_of(alloc, run)?)?;
@@ -205,7 +205,7 @@ fn letter(outcome: &Outcome) -> &'static str {
 }
 
 /// Whether a text is what a row wants.
-fn is_wanted(alloc: Global, text: &Text, wanted: &str) -> Result<bool, NoMemory> {
+pub(super) fn is_wanted(alloc: Global, text: &Text, wanted: &str) -> Result<bool, NoMemory> {
     let wanted = unfolded(alloc, wanted.as_bytes())?;
     Ok(text.bytes() == wanted.as_slice())
 }
