@@ -4,6 +4,7 @@ use Rattle.std.specs.Prelude.{All, IfOk, slice_index_or, slice_get, nat_le, sum_
 use Rattle.std.specs.Option.{option_map_or}
 use Rattle.std.proofs.lemmas.Bool.{cases_Bool, cond-true, cond-false, leb-true}
 use Rattle.std.proofs.lemmas.List.Elements.{All-nil, All-head, All-tail, All-cons}
+use Rattle.std.proofs.lemmas.List.Filters.{length-filter_both}
 use Rattle.std.proofs.lemmas.List.Sums.{sum_by-cons}
 use Rattle.vhdl_benches.specs.declared.bench.Bench.{Bench}
 use Rattle.vhdl_benches.specs.declared.bench.TestCase.{TestCase}
@@ -30,7 +31,7 @@ use Rattle.test_spec.specs.Runs.{FitsBench, path_at}
 use Rattle.project_reading.specs.declared.linking.ReadProject.{ReadProject}
 use Rattle.project_reading.specs.Sources.{IsReadProject}
 use Rattle.project_reading.specs.Reading.{SourceReading, Stops, Over, Found, then_read, order_or, linked_or, links_of, tests_or, wanted_tests, ordered_reading, order_reading, linked_reading, found_reading, listed_reading, scanned_reading}
-use Rattle.bench_sizes.proofs.Strings.{called_length}
+use Rattle.bench_sizes.proofs.Strings.{called_length, sum_passing}
 use Rattle.bench_sizes.proofs.UnitNames.{units_short}
 
 -- ## What a bench is made of
@@ -230,32 +231,11 @@ read_fits read is =
 
 -- ## Of selected cases
 
-sum_kept : (test : TestCase → Bool) (cases : List TestCase) → sum_by (λ one. length one.name) (filter test cases) ≤ sum_by (λ one. length one.name) cases
-sum_kept test [] = omega arith
-sum_kept test (one ∷ cases) =
-    let rest = sum_kept test cases in
-    let whole = sum_by-cons (λ (t : TestCase). length t.name) one cases in
-    elim (cases_Bool (test one)) [
-      | inl t ↦
-          let kept = sum_by-cons (λ (t : TestCase). length t.name) one (filter test cases) in
-          subst (λ (l : List TestCase). sum_by (λ t. length t.name) l ≤ sum_by (λ t. length t.name) (one ∷ cases)) (sym (cond-true (test one) (one ∷ filter test cases) (filter test cases) t)) (omega (arith, rest, whole, kept))
-      | inr f ↦ subst (λ (l : List TestCase). sum_by (λ t. length t.name) l ≤ sum_by (λ t. length t.name) (one ∷ cases)) (sym (cond-false (test one) (one ∷ filter test cases) (filter test cases) f)) (omega (arith, rest, whole))
-    ]
-
-few_kept : (test : TestCase → Bool) (cases : List TestCase) → length (filter test cases) ≤ length cases
-few_kept test [] = omega arith
-few_kept test (one ∷ cases) =
-    let rest = few_kept test cases in
-    elim (cases_Bool (test one)) [
-      | inl t ↦ subst (λ (l : List TestCase). length l ≤ suc (length cases)) (sym (cond-true (test one) (one ∷ filter test cases) (filter test cases) t)) (omega (arith, rest))
-      | inr f ↦ subst (λ (l : List TestCase). length l ≤ suc (length cases)) (sym (cond-false (test one) (one ∷ filter test cases) (filter test cases) f)) (omega (arith, rest))
-    ]
-
 one_selected : (files : List ProjectFile) (patterns : List (List Piece)) (bench : Bench) → FitsBench files bench → FitsBench files (selected_bench patterns bench)
 one_selected files patterns bench is =
     let test : TestCase → Bool = λ one. is_selected patterns (full_name bench one) in
-    let few = few_kept test bench.cases in
-    let sum = sum_kept test bench.cases in
+    let few = length-filter_both test (λ one. not (test one)) (λ one. refl) bench.cases in
+    let sum = sum_passing test (λ (one : TestCase). length one.name) bench.cases in
     record { library = is.library; name = is.name; architecture = is.architecture; few = omega (arith, few, is.few); cases = omega (arith, sum, is.cases); path = is.path }
 
 all_selected : (files : List ProjectFile) (patterns : List (List Piece)) (benches : List Bench) → All (FitsBench files) benches → All (FitsBench files) (map (selected_bench patterns) benches)
@@ -285,27 +265,16 @@ read_few read is = (few_or (tests_of (sources_of read.project is.texts is.scans)
 selected_count : (patterns : List (List Piece)) (benches : List Bench) → count_of_tests (map (selected_bench patterns) benches) ≤ count_of_tests benches
 selected_count patterns [] = omega arith
 selected_count patterns (bench ∷ benches) =
-    let one = few_kept (λ test. is_selected patterns (full_name bench test)) bench.cases in
+    let test : TestCase → Bool = λ one_of. is_selected patterns (full_name bench one_of) in
+    let one = length-filter_both test (λ one_of. not (test one_of)) (λ one_of. refl) bench.cases in
     let rest = selected_count patterns benches in
     let all = sum_by-cons (λ (b : Bench). length b.cases) bench benches in
     let kept = sum_by-cons (λ (b : Bench). length b.cases) (selected_bench patterns bench) (map (selected_bench patterns) benches) in
     omega (arith, one, rest, all, kept)
 
-kept_count : (benches : List Bench) → count_of_tests (filter has_cases benches) ≤ count_of_tests benches
-kept_count [] = omega arith
-kept_count (bench ∷ benches) =
-    let rest = kept_count benches in
-    let all = sum_by-cons (λ (b : Bench). length b.cases) bench benches in
-    elim (cases_Bool (has_cases bench)) [
-      | inl t ↦
-          let kept = sum_by-cons (λ (b : Bench). length b.cases) bench (filter has_cases benches) in
-          subst (λ (l : List Bench). count_of_tests l ≤ count_of_tests (bench ∷ benches)) (sym (cond-true (has_cases bench) (bench ∷ filter has_cases benches) (filter has_cases benches) t)) (omega (arith, rest, all, kept))
-      | inr f ↦ subst (λ (l : List Bench). count_of_tests l ≤ count_of_tests (bench ∷ benches)) (sym (cond-false (has_cases bench) (bench ∷ filter has_cases benches) (filter has_cases benches) f)) (omega (arith, rest, all))
-    ]
-
 -- benches of which patterns select cases have no more of them than all, and each has one
 pub selected_fewer : (patterns : List (List Piece)) (benches : List Bench) → count_of_tests (selection patterns benches) ≤ count_of_tests benches
-selected_fewer patterns benches = let one = selected_count patterns benches in let two = kept_count (map (selected_bench patterns) benches) in omega (arith, one, two)
+selected_fewer patterns benches = let one = selected_count patterns benches in let two = sum_passing has_cases (λ (b : Bench). length b.cases) (map (selected_bench patterns) benches) in omega (arith, one, two)
 
 some_kept : (benches : List Bench) → All (λ bench. has_cases bench ≡ true) (filter has_cases benches)
 some_kept [] = All-nil (λ bench. has_cases bench ≡ true)

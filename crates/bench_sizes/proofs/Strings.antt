@@ -1,8 +1,9 @@
 -- The strings that an architecture calls lie one after the other in its text, so together they are no longer than it.
-use Rattle.std.proofs.Common.{◌≡◌, ℕ, zero, suc, ◌+◌, ◌-◌, ◌<◌, ◌≤◌, Bool, ◌&&◌, ◌==◌, cond, List, [], ◌∷◌, ◌++◌, length, map, take, drop, inl, inr, refl, sym, ap, subst, ◌∙◌, arith}
+use Rattle.std.proofs.Common.{◌≡◌, ℕ, zero, suc, ◌+◌, ◌-◌, ◌<◌, ◌≤◌, Bool, not, ◌&&◌, ◌==◌, cond, List, [], ◌∷◌, ◌++◌, length, map, take, drop, inl, inr, refl, sym, ap, subst, ◌∙◌, arith}
 use Rattle.std.specs.Prelude.{slice_index_or, slice_range, sum_by, filter}
 use Rattle.std.specs.List.{range_with_len}
 use Rattle.std.proofs.lemmas.Bool.{cases_Bool, cond-true, cond-false}
+use Rattle.std.proofs.lemmas.List.Filters.{sum_by-filter_both}
 use Rattle.std.proofs.lemmas.List.Sums.{sum_by-cons}
 use Rattle.vhdl_benches.specs.declared.bench.TestCase.{TestCase}
 use Rattle.vr_base.specs.declared.design.Unit.{Unit as DesignUnit}
@@ -102,17 +103,8 @@ all_tokens at size tokens start (suc count) is =
     omega (arith, whole, one, next, here, there)
 
 -- those that pass a test are no more together
-sum_passing : (test : ℕ → Bool) (f : ℕ → ℕ) (xs : List ℕ) → sum_by f (filter test xs) ≤ sum_by f xs
-sum_passing test f [] = omega arith
-sum_passing test f (x ∷ xs) =
-    let rest = sum_passing test f xs in
-    let whole = sum_by-cons f x xs in
-    elim (cases_Bool (test x)) [
-      | inl t ↦
-          let kept = sum_by-cons f x (filter test xs) in
-          subst (λ (l : List ℕ). sum_by f l ≤ sum_by f (x ∷ xs)) (sym (cond-true (test x) (x ∷ filter test xs) (filter test xs) t)) (omega (arith, rest, whole, kept))
-      | inr f' ↦ subst (λ (l : List ℕ). sum_by f l ≤ sum_by f (x ∷ xs)) (sym (cond-false (test x) (x ∷ filter test xs) (filter test xs) f')) (omega (arith, rest, whole))
-    ]
+pub sum_passing : {X : Type 0} (test : X → Bool) (f : X → ℕ) (xs : List X) → sum_by f (filter test xs) ≤ sum_by f xs
+sum_passing test f xs = let both = sum_by-filter_both test (λ x. not (test x)) (λ x. refl) f xs in omega (arith, both)
 
 -- a case is no longer than its string
 case_length : (file : ℕ) (text : List ℕ) (here : Token) → length (string_case file text here).name ≤ here.end - here.start

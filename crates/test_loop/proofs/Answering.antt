@@ -5,6 +5,7 @@ use Rattle.std.specs.Option.{option_map}
 use Rattle.std.specs.List.{list_any}
 use Rattle.std.proofs.lemmas.Bool.{eqb-true, cond-true, cond-false, cases_Bool, false≢true}
 use Rattle.std.proofs.lemmas.List.{append_assoc, append-nil}
+use Rattle.std.proofs.lemmas.Option.{none-some}
 use Rattle.std.proofs.lemmas.List.Elements.{All-nil, All-head, All-tail, All-cons, All-push, All-weaker}
 use Rattle.vr_base.specs.declared.child.Request.{Request}
 use Rattle.vr_base.specs.declared.child.Exit.{Exit}
@@ -14,18 +15,23 @@ use Rattle.vr_outside.specs.declared.procs.WaitFault.{WaitFault}
 use Rattle.vr_outside.specs.declared.procs.WaitFault.TheVariants as wait
 use Rattle.vr_outside.specs.Children.{started_with, end_event}
 use Rattle.run_spec.specs.Moves.{RunningChild, empty_core, without_child, after_move, LawfulMoves}
-use Rattle.run_spec.specs.ChildJournal.{Run, EachAfter, HasFreshTicket, HoldsAnswer, Answered}
+use Rattle.run_spec.specs.ChildJournal.{EachAfter, HasFreshTicket, HoldsAnswer, Answered}
 use Rattle.run_spec.proofs.Journal.{EachAfter-append}
-use Rattle.run_spec.proofs.Steps.{still_all, started_is, fresh_after}
+use Rattle.run_spec.proofs.Steps.{started_is, fresh_after}
 use Rattle.test_journal.specs.TestJournal.{TestSetting, TestBook, test_job, test_moves, after_test, empty_tests, next_run}
 use Rattle.test_loop.specs.UnderWay.{AnswersStart}
 
--- an event more changes nothing of what a ticket was started with
-still : (before : List Event) (event : Event) (ticket : ℕ) (request : Request) → started_with ticket before ≡ Some request → started_with ticket (before ++ event ∷ []) ≡ Some request
-still before event ticket request h =
-    let run : Run = record { ticket = ticket; position = 0; request = request } in
-    All-head (λ (r : Run). started_with r.ticket (before ++ event ∷ []) ≡ Some r.request) run []
-    (still_all before event (run ∷ []) (All-cons (λ (r : Run). started_with r.ticket before ≡ Some r.request) run [] h (All-nil (λ (r : Run). started_with r.ticket before ≡ Some r.request))))
+-- more events change nothing of what a ticket was started with
+pub still_more : (before more : List Event) (ticket : ℕ) (request : Request) → started_with ticket before ≡ Some request → started_with ticket (before ++ more) ≡ Some request
+still_more [] more ticket request h = absurd (none-some request h)
+still_more (Started other r ∷ before) more ticket request h =
+    elim (cases_Bool (eqb other ticket)) [
+      | inl t ↦ cond-true (eqb other ticket) (Some r) (started_with ticket (before ++ more)) t ∙ sym (cond-true (eqb other ticket) (Some r) (started_with ticket before) t) ∙ h
+      | inr f ↦ cond-false (eqb other ticket) (Some r) (started_with ticket (before ++ more)) f
+          ∙ still_more before more ticket request (sym (cond-false (eqb other ticket) (Some r) (started_with ticket before) f) ∙ h)
+    ]
+still_more (Ended other e ∷ before) more ticket request h = still_more before more ticket request h
+still_more (Gone other ∷ before) more ticket request h = still_more before more ticket request h
 
 -- the request that a running child was started with, in these events and in all of the journal
 abbrev WasStarted : (old before : List Event) → RunningChild → Type 0
@@ -34,15 +40,15 @@ WasStarted old before child = (request : Request) × (started_with child.ticket 
 one_more : (old before : List Event) (event : Event) (child : RunningChild) → WasStarted old before child → WasStarted old (before ++ event ∷ []) child
 one_more old before event child was = (
   was.0,
-  still before event child.ticket was.0 was.1,
-  ap (started_with child.ticket) (sym (append_assoc old before (event ∷ []))) ∙ still (old ++ before) event child.ticket was.0 was.2,
+  still_more before (event ∷ []) child.ticket was.0 was.1,
+  ap (started_with child.ticket) (sym (append_assoc old before (event ∷ []))) ∙ still_more (old ++ before) (event ∷ []) child.ticket was.0 was.2,
 )
 
 all_more : (old before : List Event) (event : Event) (running : List RunningChild) → All (WasStarted old before) running → All (WasStarted old (before ++ event ∷ [])) running
 all_more old before event running all = All-weaker (WasStarted old before) (WasStarted old (before ++ event ∷ [])) (λ child was. one_more old before event child was) running all
 
 -- children that are left run as they did
-all_left : (P : RunningChild → Type 0) (ticket : ℕ) (running : List RunningChild) → All P running → All P (without_child ticket running)
+pub all_left : (P : RunningChild → Type 0) (ticket : ℕ) (running : List RunningChild) → All P running → All P (without_child ticket running)
 all_left P ticket [] all = all
 all_left P ticket (child ∷ running) all =
     elim (cases_Bool (eqb child.ticket ticket)) [

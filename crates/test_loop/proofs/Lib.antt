@@ -4,5 +4,5 @@ mod Counting
 mod Found
 mod TestsThen
 pub mod FreshTickets
-mod Answering
+pub mod Answering
 mod WholeTests

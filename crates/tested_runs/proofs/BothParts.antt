@@ -5,7 +5,7 @@ use Rattle.std.specs.Option.{option_map, option_and_then}
 use Rattle.std.specs.List.{list_any}
 use Rattle.std.proofs.lemmas.Bool.{cond-true, cond-false, cases_Bool, eqb-true, false≢true}
 use Rattle.std.proofs.lemmas.List.{append_assoc, append-nil}
-use Rattle.std.proofs.lemmas.List.Elements.{All-nil, All-head, All-tail, All-cons, All-push, All-weaker}
+use Rattle.std.proofs.lemmas.List.Elements.{All-nil, All-head, All-tail, All-cons, All-push, All-weaker, filter-append}
 use Rattle.std.proofs.lemmas.Option.{none-some}
 use Rattle.vr_base.specs.declared.graph.BuiltFile.{BuiltFile}
 use Rattle.vr_base.specs.declared.child.Request.{Request}
@@ -19,6 +19,7 @@ use Rattle.run_spec.specs.JournalParts.{is_test, is_test_event, compile_part, te
 use Rattle.run_spec.proofs.Journal.{core_after}
 use Rattle.run_spec.proofs.Parts.{build_parts}
 use Rattle.run_spec.proofs.Steps.{AreStarted, started_all, ended_all, gone_all, run_of_running, run_found, All-others, still_all, started_is}
+use Rattle.test_loop.proofs.Answering.{still_more, all_left}
 use Rattle.test_spec.specs.declared.runs.TestRun.{TestRun}
 use Rattle.test_spec.specs.BenchJobs.{bench_request}
 use Rattle.test_journal.specs.TestJournal.{TestSetting, TestBook, test_job, test_moves, after_test, empty_tests, next_run, test_request_at, AreTestsRequested, LawfulTests}
@@ -28,18 +29,6 @@ abbrev pub IsPart : (test : Bool) → List Event → Event → Type 0
 IsPart test before (Started ticket request) = is_test (Some request) ≡ test
 IsPart test before (Ended ticket exit) = (request : Request) × (started_with ticket before ≡ Some request) × (is_test (Some request) ≡ test)
 IsPart test before (Gone ticket) = (request : Request) × (started_with ticket before ≡ Some request) × (is_test (Some request) ≡ test)
-
--- more events change nothing of what a ticket was started with
-still_more : (before more : List Event) (ticket : ℕ) (request : Request) → started_with ticket before ≡ Some request → started_with ticket (before ++ more) ≡ Some request
-still_more [] more ticket request h = absurd (none-some request h)
-still_more (Started other r ∷ before) more ticket request h =
-    elim (cases_Bool (eqb other ticket)) [
-      | inl t ↦ cond-true (eqb other ticket) (Some r) (started_with ticket (before ++ more)) t ∙ sym (cond-true (eqb other ticket) (Some r) (started_with ticket before) t) ∙ h
-      | inr f ↦ cond-false (eqb other ticket) (Some r) (started_with ticket (before ++ more)) f
-          ∙ still_more before more ticket request (sym (cond-false (eqb other ticket) (Some r) (started_with ticket before) f) ∙ h)
-    ]
-still_more (Ended other e ∷ before) more ticket request h = still_more before more ticket request h
-still_more (Gone other ∷ before) more ticket request h = still_more before more ticket request h
 
 one_in : (test : Bool) (before more : List Event) (event : Event) → IsPart test before event → is_test_event (before ++ more) event ≡ test
 one_in test before more (Started ticket request) is = is
@@ -67,16 +56,6 @@ none_pass test [] all = refl
 none_pass test (event ∷ events) all =
     cond-false (test event) (event ∷ filter test events) (filter test events) (All-head (λ e. test e ≡ false) event events all)
     ∙ none_pass test events (All-tail (λ e. test e ≡ false) event events all)
-
-filter_both : (test : Event → Bool) (xs ys : List Event) → filter test (xs ++ ys) ≡ filter test xs ++ filter test ys
-filter_both test [] ys = refl
-filter_both test (x ∷ xs) ys =
-    elim (cases_Bool (test x)) [
-      | inl t ↦ cond-true (test x) (x ∷ filter test (xs ++ ys)) (filter test (xs ++ ys)) t ∙ ap (λ (l : List Event). x ∷ l) (filter_both test xs ys)
-          ∙ sym (ap (λ (l : List Event). l ++ filter test ys) (cond-true (test x) (x ∷ filter test xs) (filter test xs) t))
-      | inr f ↦ cond-false (test x) (x ∷ filter test (xs ++ ys)) (filter test (xs ++ ys)) f ∙ filter_both test xs ys
-          ∙ sym (ap (λ (l : List Event). l ++ filter test ys) (cond-false (test x) (x ∷ filter test xs) (filter test xs) f))
-    ]
 
 -- where none passes each one fails
 each_fails : (test : Event → Bool) (events : List Event) → filter test events ≡ [] → All (λ event. test event ≡ false) events
@@ -144,15 +123,6 @@ one_more before event child is = (is.0, still_more before (event ∷ []) child.t
 all_more : (before : List Event) (event : Event) (running : List RunningChild) → All (IsTestChild before) running → All (IsTestChild (before ++ event ∷ [])) running
 all_more before event running all = All-weaker (IsTestChild before) (IsTestChild (before ++ event ∷ [])) (λ child is. one_more before event child is) running all
 
-all_left : (P : RunningChild → Type 0) (ticket : ℕ) (running : List RunningChild) → All P running → All P (without_child ticket running)
-all_left P ticket [] all = all
-all_left P ticket (child ∷ running) all =
-    elim (cases_Bool (eqb child.ticket ticket)) [
-      | inl t ↦ subst (All P) (sym (cond-true (eqb child.ticket ticket) running (child ∷ without_child ticket running) t)) (All-tail P child running all)
-      | inr f ↦ subst (All P) (sym (cond-false (eqb child.ticket ticket) running (child ∷ without_child ticket running) f))
-          (All-cons P child (without_child ticket running) (All-head P child running all) (all_left P ticket running (All-tail P child running all)))
-    ]
-
 ended_test : (before : List Event) (ticket : ℕ) (running : List RunningChild) → All (IsTestChild before) running → list_any (λ child. eqb child.ticket ticket) running ≡ true →
     (request : Request) × (started_with ticket before ≡ Some request) × (is_test (Some request) ≡ true)
 ended_test before ticket [] all h = absurd (false≢true h)
@@ -209,9 +179,9 @@ both_parts w s compiled tests built tested fresh =
     subst (λ (l : List Event). All (λ event. is_test_event (compiled ++ l) event ≡ true) tests) (append-nil tests) (all_in true compiled tests [] each) in
     let kept : All (λ event. not (is_test_event journal event) ≡ true) compiled = All-weaker (λ event. is_test_event journal event ≡ false) (λ event. not (is_test_event journal event) ≡ true) (λ event is. ap not is) compiled first in
     let dropped : All (λ event. not (is_test_event journal event) ≡ false) tests = All-weaker (λ event. is_test_event journal event ≡ true) (λ event. not (is_test_event journal event) ≡ false) (λ event is. ap not is) tests second in (
-      filter_both (λ event. not (is_test_event journal event)) compiled tests
+      filter-append (λ event. not (is_test_event journal event)) compiled tests
           ∙ ap (λ (l : List Event). l ++ filter (λ event. not (is_test_event journal event)) tests) (all_pass (λ event. not (is_test_event journal event)) compiled kept)
           ∙ ap (λ (l : List Event). compiled ++ l) (none_pass (λ event. not (is_test_event journal event)) tests dropped) ∙ append-nil compiled,
-      filter_both (is_test_event journal) compiled tests
+      filter-append (is_test_event journal) compiled tests
           ∙ ap (λ (l : List Event). l ++ filter (is_test_event journal) tests) (none_pass (is_test_event journal) compiled first) ∙ all_pass (is_test_event journal) tests second,
     )

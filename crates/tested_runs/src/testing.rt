@@ -1,6 +1,6 @@
 //! Runs of tests over what a build left, and nothing but that.
 
-ghost use Rattle.std.specs.Prelude.{◌≡◌, ◌<◌, ◌≤◌, ◌++◌, [], ℕ, Some, true, All, length, slice_get};
+ghost use Rattle.std.specs.Prelude.{◌≡◌, ◌<◌, ◌≤◌, ◌++◌, [], ℕ, Some, true, All, length, slice_get, IfOk};
 ghost use Rattle.std.specs.List.{list_all};
 ghost use Rattle.vr_outside.specs.Records.{IsRecorded};
 ghost use Rattle.run_spec.specs.declared.marks.Mark.{Mark};
@@ -70,6 +70,7 @@ fn test_built<K: Records + Drop, P: Procs>(
         is_made mark ≡ true → IsRecorded (K.latest_of kept.store) graph.now position }
     ensures running { P.running procs.new ≡ [] }
     ensures same { P.answer procs.new ≡ P.answer procs.old }
+    ensures count { IfOk result (λ tested. length tested.marks ≡ length graph.now) }
     ensures ran { let setting = tests_with runs.now simulator.now
         (lent_files (K.latest_of kept.store) graph.now) slots fail_fast in
         RanBuilt P.tells (P.answer procs.old) setting kept.marks result
@@ -134,6 +135,7 @@ pub fn test_over<K: Records + Drop, D: Disk, P: Procs>(
     requires fits { All FitsRun runs.now }
     ensures running { P.running procs.new ≡ [] }
     ensures same { P.answer procs.new ≡ P.answer procs.old }
+    ensures count { IfOk result (λ tested. length tested.marks ≡ length graph.now) }
     ensures follows { P.tells →
         (P.journal procs.new
         ≡ P.journal procs.old ++ since (P.journal procs.old) (P.journal procs.new)) }
