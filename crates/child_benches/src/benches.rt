@@ -107,9 +107,9 @@ fn run_bench(alloc: Global, job: &BenchJob) -> Result<Exit, NoMemory>
     run_cases(alloc, job, &failing)
 }
 
-/// The answer to a bench job.
+/// What the simulator answers to a bench job.
 #[tactic(auto, unfolding(crate::specs::Benches::bench_answer))]
-fn answer(alloc: Global, job: &BenchJob) -> Result<Exit, NoMemory>
+pub fn run_job(alloc: Global, job: &BenchJob) -> Result<Exit, NoMemory>
     ensures { IfOk result (λ exit. exit ≡ bench_answer job.now) }
 {
     if has_bench(job) {
@@ -119,7 +119,7 @@ fn answer(alloc: Global, job: &BenchJob) -> Result<Exit, NoMemory>
 }
 
 /// The bench job whose request an input is, if it is one.
-fn job_of(alloc: Global, input: &[u8]) -> Result<Option<BenchJob>, NoMemory>
+pub fn bench_job(alloc: Global, input: &[u8]) -> Result<Option<BenchJob>, NoMemory>
     ensures { IfOk result (λ job. MatchOption job
         (bench_at input.now ≡ None) (λ job. bench_at input.now ≡ Some job)) }
 {
@@ -137,8 +137,8 @@ fn job_of(alloc: Global, input: &[u8]) -> Result<Option<BenchJob>, NoMemory>
 pub fn bench(alloc: Global, input: &[u8]) -> Result<Exit, NoMemory>
     ensures { IfOk result (λ exit. exit ≡ simulation input.now) }
 {
-    match job_of(alloc, input)? {
-        Some(job) => answer(alloc, &job),
+    match bench_job(alloc, input)? {
+        Some(job) => run_job(alloc, &job),
         None => bad_request(alloc),
     }
 }

@@ -6,4 +6,4 @@ mod ends;
 mod failures;
 mod names;
 
-pub use benches::bench;
+pub use benches::{bench, bench_job, run_job};

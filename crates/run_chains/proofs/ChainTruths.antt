@@ -1,19 +1,17 @@
 -- What follows of one run, and then of the next.
-use Rattle.std.proofs.Common.{◌≡◌, ℕ, ◌<◌, Bool, true, false, List, [], ◌∷◌, ◌++◌, length, Option, Some, None, refl, sym, ap, subst, ◌∙◌, arith, inl, inr}
+use Rattle.std.proofs.Common.{◌≡◌, ℕ, ◌<◌, Bool, true, false, List, [], ◌∷◌, ◌++◌, length, Option, Some, None, refl, sym, ap, subst, ◌∙◌, inl, inr}
 use Rattle.std.specs.Prelude.{◌↔◌, is_some, unwrap_or, Contains}
 use Rattle.std.proofs.lemmas.Bool.{cases_Bool, false≢true}
 use Rattle.std.proofs.lemmas.List.{append-nil}
 use Rattle.std.proofs.lemmas.List.Elements.{All-contains}
 use Rattle.std.proofs.lemmas.Option.{none-some}
 use Rattle.vr_base.specs.declared.file.FileName.{FileName}
-use Rattle.vr_base.specs.declared.graph.Entry.{Entry}
 use Rattle.vr_base.specs.declared.child.Request.{Request}
 use Rattle.vr_base.specs.declared.child.Exit.{Exit}
 use Rattle.vr_base.specs.declared.child.Event.{Event}
 use Rattle.outcomes.specs.declared.outcome.Outcome.{Outcome}
-use Rattle.outcomes.specs.declared.outcome.Outcome.TheVariants as outcome
 use Rattle.vr_outside.specs.declared.records.Record.{Record}
-use Rattle.vr_outside.specs.Disks.{DiskState, Moments, AreSound, reads_of, settled_disk, added_since}
+use Rattle.vr_outside.specs.Disks.{DiskState, reads_of, settled_disk}
 use Rattle.vr_outside.specs.Commits.{last_state}
 use Rattle.run_spec.specs.ChildJournal.{Work, Lawful, Answered, EachAfter, book_of, artefact_after}
 use Rattle.run_spec.specs.Faithful.{IsFaithfulDisk}
@@ -29,13 +27,16 @@ use Rattle.history_laws.specs.Spares.{IsAcknowledged, SparesFile, AllSpare}
 use Rattle.history_laws.proofs.RightRuns.{all_right, all_right_from_empty}
 use Rattle.history_laws.proofs.StoppedRuns.{stopped_spares}
 use Rattle.scan_spec.specs.Scans.{Finding}
+use Rattle.tested_histories.specs.Histories.{TestedStep, HasTested, TestsStep, IsTestedHistory}
+use Rattle.tested_histories.specs.Histories as tested
+use Rattle.tested_histories.specs.Rights.{AllTestedRight}
+use Rattle.tested_histories.proofs.TestedRights.{all_tested_right_from_empty}
 use Rattle.vunit_top.specs.Store.{records_in_image}
-use Rattle.vunit_top.specs.Reading.{Reading, reading}
-use Rattle.disk_runs.specs.Building.{has_risen}
-use Rattle.vunit_top.specs.Runs.{world_of, run_of, RunsAs}
-use Rattle.vunit_top.specs.Said.{HasEnded, no_order, order_of, order_in}
-use Rattle.vunit_top.proofs.RunTruths.{none_in_empty_image, readable_now}
-use Rattle.run_chains.specs.Chains.{Deeds, run_by, RanTwice, RanAfterStop}
+use Rattle.vunit_top.specs.Reading.{Reading, Testing, Bad, Child, Stops, Over, Lists, ListsTests, Exports, Builds, Runs, reading}
+use Rattle.vunit_top.specs.Runs.{world_of, tested_world_of, RunsAs}
+use Rattle.vunit_top.specs.Said.{HasBuilt, no_order, order_of, order_in, plan_in}
+use Rattle.vunit_top.proofs.RunTruths.{built_ended, none_in_empty_image}
+use Rattle.run_chains.specs.Chains.{Deeds, run_by, tested_by, RanTwice, RanAfterStop}
 
 module _ (scan : List ℕ → Finding) (answer : Request → Exit) (run : ProgramRun) (first : DiskState) where
   -- where something is recorded of each file, a run starts nothing
@@ -53,11 +54,11 @@ module _ (scan : List ℕ → Finding) (answer : Request → Exit) (run : Progra
   answered_in (Some order) (inr build) = build.answered
 
   -- a run that is done has started exactly the files that nothing was recorded of
-  exact_starts : (r : Reading) (last : DiskState) → RunsAs scan answer r run first last → IsFaithfulDisk answer records_in_image first → run.outcome ≡ outcome.Done → (position : ℕ) → position < length (order_in r).graph →
+  exact_starts : (r : Reading) (last : DiskState) → RunsAs scan answer r run first last → IsFaithfulDisk answer records_in_image first → HasBuilt run.outcome → (position : ℕ) → position < length (order_in r).graph →
       Contains (book_of (work_over records_in_image (order_in r) first) run.events).taken position ↔ ((work_over records_in_image (order_in r) first).recorded position ≡ None)
   exact_starts r last did faithful done position inside =
       let setting : Work = work_over records_in_image (order_in r) first in
-      let lawful : Lawful setting run.events = (did.whole (subst HasEnded (sym done) tt)).lawful in
+      let lawful : Lawful setting run.events = (did.whole (built_ended run.outcome done)).lawful in
       let answered : Answered answer run.events = answered_in (order_of r) did.step in
       let made : is_some (artefact_after setting run.events position) ≡ true = did.made faithful done position inside in (
         λ contains. All-contains (λ p. setting.recorded p ≡ None) (book_of setting run.events).taken position (started_unrecorded answer setting run.events lawful answered) contains,
@@ -66,6 +67,24 @@ module _ (scan : List ℕ → Finding) (answer : Request → Exit) (run : Progra
           | inr fresh ↦ absurd (false≢true (sym (ap is_some (none_of_untaken setting (book_of setting run.events) position (orderly_book answer setting run.events lawful answered).ends fresh none)) ∙ made))
         ],
       )
+
+-- what a call says of the tests of a run over a disk, by what was read
+pub record TestsOf (answer : Request → Exit) (r : Reading) (events : List Event) (disk : DiskState) : Type 0 where
+  pub untested : plan_in r ≡ None → test_part events ≡ []
+  pub tested : (asked : Testing) → r ≡ Runs asked → HasTested answer asked.order asked.plan (work_over records_in_image asked.order disk) (compile_part events) (test_part events)
+
+-- what they did is a step of a history with tests
+tests_step : (answer : Request → Exit) (compiled tests : List Event) (first : DiskState) (r : Reading) → (plan_in r ≡ None → tests ≡ []) →
+    ((asked : Testing) → r ≡ Runs asked → HasTested answer asked.order asked.plan (work_over records_in_image asked.order first) compiled tests) → TestsStep answer records_in_image (order_of r) (plan_in r) compiled tests first
+tests_step answer compiled tests first Bad none some = none refl
+tests_step answer compiled tests first (Child tool) none some = none refl
+tests_step answer compiled tests first (Stops reason) none some = none refl
+tests_step answer compiled tests first (Over limit number) none some = none refl
+tests_step answer compiled tests first (Lists graph) none some = none refl
+tests_step answer compiled tests first (ListsTests tests_there) none some = none refl
+tests_step answer compiled tests first (Exports path text) none some = none refl
+tests_step answer compiled tests first (Builds order warnings) none some = none refl
+tests_step answer compiled tests first (Runs asked) none some = some asked refl
 
 module _ (scan : List ℕ → Finding) (answer : Request → Exit) (words : List (List ℕ)) (sources : Sources) (one two : Outcome) (before after : Deeds) where
   abbrev r : Reading
@@ -78,22 +97,38 @@ module _ (scan : List ℕ → Finding) (answer : Request → Exit) (words : List
   Second middle last = RunsAs scan answer r (run_by words two after) middle last
 
   -- after a run that is done each file has a current record
-  each_recorded : (first middle : DiskState) → IsReadable middle → First first middle → IsFaithfulDisk answer records_in_image first → (order_in r).clean ≡ false → one ≡ outcome.Done → (position : ℕ) → position < length (order_in r).graph
+  each_recorded : (first middle : DiskState) → IsReadable middle → First first middle → IsFaithfulDisk answer records_in_image first → (order_in r).clean ≡ false → HasBuilt one → (position : ℕ) → position < length (order_in r).graph
       → (work_over records_in_image (order_in r) middle).recorded position ≡ None → ⊥
   each_recorded first middle readable did faithful kept_store done position inside none =
-      let kept = did.recorded (subst HasEnded (sym done) tt) position inside (did.made faithful done position inside) (reads_of middle) readable in
+      let kept = did.recorded (built_ended one done) position inside (did.made faithful done position inside) (reads_of middle) readable in
       none-some kept.artefact (sym (subst (λ (clean : Bool). recorded_at (latest_over records_in_image clean middle) (order_in r).graph position ≡ None) kept_store none) ∙ recorded_of_record (latest_over records_in_image false middle) (order_in r).graph position kept)
 
-  pub ran_twice : (first middle last : DiskState) (old new : List Event) → IsReadable middle → First first middle → Second middle last → new ≡ (old ++ before.events) ++ after.events → test_part after.events ≡ [] → RanTwice scan answer words sources (record { first = one; second = two }) (record { disk = first; journal = old }) (record { disk = last; journal = new })
-  unfolding IsHistory
-  ran_twice first middle last old new readable did next journal untested = record {
-    before = before;
-    after = after;
-    history = (did.step, (subst (RunStep (world_of scan answer) (order_of r) (run_by words two after)) (sym did.ends) next.step, tt));
-    ends = ap (λ (disk : DiskState). last_state disk after.later) did.ends ∙ next.ends;
-    journal = journal;
-    idle = λ faithful kept done. sym (all_compiled after.events untested) ∙ nothing_started scan answer (run_by words two after) middle (order_of r) next.step (each_recorded first middle readable did faithful kept done);
-  }
+  pub ran_twice : (first middle last : DiskState) (old new : List Event) → IsReadable middle → First first middle → Second middle last → new ≡ (old ++ before.events) ++ after.events → TestsOf answer r before.events first → TestsOf answer r after.events middle → RanTwice scan answer words sources (record { first = one; second = two }) (record { disk = first; journal = old }) (record { disk = last; journal = new })
+  unfolding IsHistory IsTestedHistory
+  ran_twice first middle last old new readable did next journal tests again =
+      let kept_at : RunStep (world_of scan answer) (order_of r) (run_by words two after) (last_state first before.later) = subst (RunStep (world_of scan answer) (order_of r) (run_by words two after)) (sym did.ends) next.step in
+      let none : IsFaithfulDisk answer records_in_image first → (order_in r).clean ≡ false → HasBuilt one → compile_part after.events ≡ [] = λ faithful kept done.
+      nothing_started scan answer (run_by words two after) middle (order_of r) next.step (each_recorded first middle readable did faithful kept done) in
+      record {
+        before = before;
+        after = after;
+        history = (did.step, (kept_at, tt));
+        tested = (
+          (did.step, tests_step answer (compile_part before.events) (test_part before.events) first r tests.untested tests.tested),
+          (
+            (
+              kept_at,
+              subst (TestsStep answer records_in_image (order_of r) (plan_in r) (compile_part after.events) (test_part after.events)) (sym did.ends)
+                  (tests_step answer (compile_part after.events) (test_part after.events) middle r again.untested again.tested),
+            ),
+            tt,
+          ),
+        );
+        ends = ap (λ (disk : DiskState). last_state disk after.later) did.ends ∙ next.ends;
+        journal = journal;
+        fresh = none;
+        idle = λ faithful kept done unplanned. sym (all_compiled after.events (again.untested unplanned)) ∙ none faithful kept done;
+      }
 
   -- a stop at a moment of the first run has left what the second finds
   module _ (first middle moment left last : DiskState) (did : First first middle) (is : IsMoment moment first before.later) (stop : IsLeft moment left) (next : Second left last) where
@@ -101,6 +136,16 @@ module _ (scan : List ℕ → Finding) (answer : Request → Exit) (words : List
         IsHistory (world_of scan answer) sources first (Stopped (run_by words one before) (record { events = events; moment = moment; disk = left }) ∷ Ran (run_by words two after) ∷ [])
     unfolding IsHistory
     two_runs events rest prefix = (did.step, record { rest = rest; prefix = prefix; moment = is; left = stop }, (next.step, tt))
+
+    two_tested : TestsOf answer r before.events first → TestsOf answer r after.events left → (events rest tests more : List Event) → compile_part before.events ≡ events ++ rest → test_part before.events ≡ tests ++ more → ((tests ≡ [] → ⊥) → events ≡ compile_part before.events) →
+        IsTestedHistory (tested_world_of scan answer) sources first
+        (tested.Stopped (tested_by words one before) (record { stop = record { events = events; moment = moment; disk = left }; tests = tests }) ∷ tested.Ran (tested_by words two after) ∷ [])
+    unfolding IsTestedHistory
+    two_tested did_test then_test events rest tests more prefix front parted = (
+      (did.step, tests_step answer (compile_part before.events) (test_part before.events) first r did_test.untested did_test.tested),
+      record { build = record { rest = rest; prefix = prefix; moment = is; left = stop }; rest = more; prefix = front; parted = parted },
+      ((next.step, tests_step answer (compile_part after.events) (test_part after.events) left r then_test.untested then_test.tested), tt),
+    )
 
     spares : (name : FileName) (kept : Record) → IsAcknowledged (world_of scan answer) name kept moment → SparesFile (world_of scan answer) (order_of r) name kept.view (run_by words two after) left
     unfolding AllSpare
@@ -114,12 +159,13 @@ module _ (scan : List ℕ → Finding) (answer : Request → Exit) (words : List
         (all_right (world_of scan answer) (Stopped (run_by words one before) (record { events = compile_part before.events; moment = moment; disk = left }) ∷ []) sources first readable faithful
         (did.step, record { rest = []; prefix = sym (append-nil (compile_part before.events)); moment = is; left = stop }, tt)).1
 
-    pub ran_after_stop : (old new : List Event) → IsReadable first → new ≡ (old ++ before.events) ++ after.events →
+    pub ran_after_stop : (old new : List Event) → IsReadable first → new ≡ (old ++ before.events) ++ after.events → TestsOf answer r before.events first → TestsOf answer r after.events left →
         RanAfterStop scan answer words sources (record { first = one; second = two }) (record { failed = before.disk_failed; first = first; later = before.later; moment = moment }) (record { disk = left; journal = old }) (record { disk = last; journal = new })
-    ran_after_stop old new readable journal = record {
+    ran_after_stop old new readable journal tests again = record {
       before = before.events;
       after = after;
       history = two_runs;
+      tested = two_tested tests again;
       ends = next.ends;
       journal = journal;
       spares = spares;
@@ -130,3 +176,8 @@ module _ (scan : List ℕ → Finding) (answer : Request → Exit) (words : List
 pub right_from_empty : (scan : List ℕ → Finding) (answer : Request → Exit) (sources : Sources) (steps : List HistoryStep) → IsHistory (world_of scan answer) sources (settled_disk empty_image) steps →
     AllRight (world_of scan answer) sources (settled_disk empty_image) steps
 right_from_empty scan answer sources steps history = all_right_from_empty (world_of scan answer) steps sources none_in_empty_image history
+
+-- and so is each with its tests
+pub tests_from_empty : (scan : List ℕ → Finding) (answer : Request → Exit) (sources : Sources) (steps : List TestedStep) → IsTestedHistory (tested_world_of scan answer) sources (settled_disk empty_image) steps →
+    AllTestedRight (tested_world_of scan answer) sources (settled_disk empty_image) steps
+tests_from_empty scan answer sources steps history = all_tested_right_from_empty (tested_world_of scan answer) steps sources none_in_empty_image history

@@ -7,7 +7,9 @@ ghost use Rattle.vr_outside.specs.Disks.{settled_disk};
 ghost use Rattle.history_spec.specs.Histories.{Sources, HistoryStep, IsHistory, empty_image};
 ghost use Rattle.history_laws.specs.Rights.{AllRight};
 ghost use Rattle.scan_spec.specs.Scans.{Finding};
-ghost use Rattle.vunit_top.specs.Runs.{world_of};
+ghost use Rattle.tested_histories.specs.Histories.{TestedStep, IsTestedHistory};
+ghost use Rattle.tested_histories.specs.Rights.{AllTestedRight};
+ghost use Rattle.vunit_top.specs.Runs.{tested_world_of, world_of};
 
 /// What holds of every history of runs of the program, edits of the sources, and stops.
 pub fn laws_of_program()
@@ -17,4 +19,10 @@ pub fn laws_of_program()
         (steps : List HistoryStep) →
         IsHistory (world_of scan answer) sources (settled_disk empty_image) steps →
         AllRight (world_of scan answer) sources (settled_disk empty_image) steps }
+    // So is each with its tests: each start of a test, also in a run that is stopped, is over the libraries of a clean build
+    // of the sources of its run.
+    ensures tests_from_empty { (scan : List ℕ → Finding) (answer : Request → Exit)
+        (sources : Sources) (steps : List TestedStep) →
+        IsTestedHistory (tested_world_of scan answer) sources (settled_disk empty_image) steps →
+        AllTestedRight (tested_world_of scan answer) sources (settled_disk empty_image) steps }
 {}

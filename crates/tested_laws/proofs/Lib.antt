@@ -1,2 +1,2 @@
 -- The lemmas.
-mod CleanLibraries
+pub mod CleanLibraries

@@ -1,4 +1,5 @@
 -- The lemmas.
 pub mod Tops
 pub mod RunTruths
+mod TestTruths
 mod ActTruths

@@ -1,6 +1,6 @@
 -- What a run did, from its build, or where it built nothing.
 use Rattle.std.proofs.Common.{◌≡◌, ℕ, ◌<◌, Bool, true, false, List, [], ◌∷◌, ◌++◌, length, Option, Some, None, Result, Ok, Err, OnOk, refl, sym, ap, subst, ◌∙◌, arith, inl, inr}
-use Rattle.std.specs.Prelude.{is_some, unwrap_or, IfOk}
+use Rattle.std.specs.Prelude.{is_some, unwrap_or}
 use Rattle.std.specs.List.{AllByRecursion, list_any}
 use Rattle.std.proofs.lemmas.Bool.{cases_Bool, cond-true, false≢true}
 use Rattle.vr_base.specs.declared.graph.Entry.{Entry}
@@ -12,7 +12,7 @@ use Rattle.outcomes.specs.declared.outcome.Refusal.TheVariants as refusal
 use Rattle.outcomes.specs.declared.outcome.Outcome.{Outcome}
 use Rattle.outcomes.specs.declared.outcome.Outcome.TheVariants as outcome
 use Rattle.vr_base.specs.Graphs.{IsGraph}
-use Rattle.vr_outside.specs.Disks.{DiskState, EachImage, Moments, IsSound, AreSound, reads_of, added_since}
+use Rattle.vr_outside.specs.Disks.{DiskState, EachImage, Moments, IsSound, AreSound, added_since}
 use Rattle.vr_outside.specs.Commits.{last_state}
 use Rattle.vr_outside.proofs.MomentLaws.{last_is}
 use Rattle.vr_outside.proofs.PhaseLaws.{nothing_added}
@@ -23,10 +23,9 @@ use Rattle.run_spec.specs.JournalParts.{compile_part}
 use Rattle.vr_outside.specs.Phases.{HasPhases}
 use Rattle.run_spec.specs.CleanBuild.{RecordsClean}
 use Rattle.run_spec.specs.Faithful.{IsFaithfulDisk}
-use Rattle.history_spec.specs.Histories.{Order, World, ProgramRun, empty_image, IsReadable, IsBuildRun, IsIdleRun, RunStep, work_over}
-use Rattle.run_spec.specs.Marks.{marks_of, is_refused, refused_files, NoRefusalHalts}
+use Rattle.history_spec.specs.Histories.{Order, World, ProgramRun, empty_image, IsReadable, IsIdleRun, RunStep, work_over}
+use Rattle.run_spec.specs.Marks.{marks_of, is_refused, refused_files}
 use Rattle.run_spec.proofs.Parts.{build_parts}
-use Rattle.history_spec.proofs.RunSteps.{idle_run}
 use Rattle.clean_laws.proofs.JournalMarks.{all_files_made}
 use Rattle.clean_laws.proofs.JournalOutcomes.{all_started, all_steady}
 use Rattle.history_laws.specs.Rights.{IsRightStep}
@@ -39,9 +38,9 @@ use Rattle.vunit_top.specs.Store.{records_in_image}
 use Rattle.disk_runs.specs.Orders.{IsDurablyRecorded}
 use Rattle.node_store.proofs.NodeRecords.{none_in_empty}
 use Rattle.vunit_top.specs.Reading.{Reading, Builds}
-use Rattle.vunit_top.specs.Said.{IsSaid, HasEnded, no_order, order_of, order_in}
+use Rattle.vunit_top.specs.Said.{IsSaid, HasEnded, HasBuilt, no_order, order_of, order_in}
 use Rattle.disk_runs.specs.Building.{BuildsOver}
-use Rattle.vunit_top.specs.Runs.{world_of, run_of, IsExact, RunsAs}
+use Rattle.vunit_top.specs.Runs.{world_of, run_of, RunsAs}
 use Rattle.disk_runs.proofs.OverStore.{since_itself}
 
 sound_last : (past : List DiskState) (now : DiskState) → AllByRecursion IsSound (past ++ now ∷ []) → IsSound now
@@ -52,11 +51,33 @@ sound_last (state ∷ past) now sound = sound_last past now sound.1
 pub readable_now : (moments : Moments) → AreSound moments → IsReadable moments.now
 readable_now moments sound = let last = sound_last moments.past moments.now sound in record { a = last.a.image; b = last.b.image }
 
--- a build that is done has no refused file
-pub done_refuses_none : (graph : List Entry) (marks : List Mark) → outcome.Done ≡ build_outcome graph marks → list_any is_refused marks ≡ false
-done_refuses_none graph marks done =
+-- what has been built has ended
+pub built_ended : (said : Outcome) → HasBuilt said → HasEnded said
+built_ended outcome.Done is = tt
+built_ended outcome.TestsFailed is = tt
+built_ended (outcome.Refused reason) is = absurd is
+built_ended outcome.BadWords is = absurd is
+built_ended (outcome.OutsideFault which) is = absurd is
+built_ended outcome.NoMemory is = absurd is
+built_ended (outcome.OverLimit limit) is = absurd is
+built_ended (outcome.Child code) is = absurd is
+
+-- and is said
+pub built_said : (said : Outcome) → HasBuilt said → IsSaid said
+built_said outcome.Done is = tt
+built_said outcome.TestsFailed is = tt
+built_said (outcome.Refused reason) is = absurd is
+built_said outcome.BadWords is = absurd is
+built_said (outcome.OutsideFault which) is = absurd is
+built_said outcome.NoMemory is = absurd is
+built_said (outcome.OverLimit limit) is = absurd is
+built_said (outcome.Child code) is = absurd is
+
+-- a build all of whose files are made has no refused file
+pub built_refuses_none : (graph : List Entry) (marks : List Mark) (said : Outcome) → HasBuilt said → said ≡ build_outcome graph marks → list_any is_refused marks ≡ false
+built_refuses_none graph marks said built is =
     elim (cases_Bool (list_any is_refused marks)) [
-      | inl refused ↦ let not_done : outcome.Done ≡ outcome.Refused (refusal.Compiler (refused_files graph marks)) = done ∙ cond-true (list_any is_refused marks) (outcome.Refused (refusal.Compiler (refused_files graph marks))) outcome.Done refused in absurd cc
+      | inl refused ↦ absurd (subst HasBuilt (is ∙ cond-true (list_any is_refused marks) (outcome.Refused (refusal.Compiler (refused_files graph marks))) outcome.Done refused) built)
       | inr none ↦ none
     ]
 
@@ -100,7 +121,7 @@ module _ (scan : List ℕ → Finding) (answer : Request → Exit) (order : Orde
     clean : IsFaithfulDisk answer records_in_image old.now → RecordsClean answer order.graph s.recorded
     clean faithful = recorded_clean scan answer order old.now over.graph_form (readable_now old sound) faithful
 
-    pub runs_over : (HasEnded said → (marks : List Mark) × (result ≡ Ok marks)) → (said ≡ outcome.Done → list_any is_refused (marks_of s events) ≡ false) → RunsAs scan answer (Builds order warnings) run old.now new.now
+    pub runs_over : (HasEnded said → (marks : List Mark) × (result ≡ Ok marks)) → (HasBuilt said → list_any is_refused (marks_of s events) ≡ false) → RunsAs scan answer (Builds order warnings) run old.now new.now
     runs_over ends done =
         let whole : HasEnded said → IsWhole s events = λ is. subst (λ (r : Result (List Mark) BuildFault). OnOk r (IsWhole s events)) (ends is).1 over.whole in
         record {
@@ -116,7 +137,7 @@ module _ (scan : List ℕ → Finding) (answer : Request → Exit) (order : Orde
             started = all_started answer s over.graph_form (clean faithful) (compile_part events) (moved (λ l. IsWhole s l) (whole is)) (moved (λ l. Answered answer l) over.answered) none;
             steady = all_steady answer s over.graph_form (clean faithful) (compile_part events) (moved (λ l. IsWhole s l) (whole is)) (moved (λ l. Answered answer l) over.answered) none;
           };
-          made = λ faithful is. all_files_made answer s over.graph_form (clean faithful) (compile_part events) (moved (λ l. IsWhole s l) (whole (subst HasEnded (sym is) tt))) (moved (λ l. Answered answer l) over.answered)
+          made = λ faithful is. all_files_made answer s over.graph_form (clean faithful) (compile_part events) (moved (λ l. IsWhole s l) (whole (built_ended said is))) (moved (λ l. Answered answer l) over.answered)
               (moved (λ l. list_any is_refused (marks_of s l) ≡ false) (done is));
         }
 
@@ -129,13 +150,13 @@ pub ended_over : (scan : List ℕ → Finding) (answer : Request → Exit) (orde
     → (IsSaid said → said ≡ build_outcome order.graph marks) → RunsAs scan answer (Builds order warnings) (run_of words said failed events (added_since old new)) old.now new.now
 ended_over scan answer order warnings marks failed old new sound events over words said answered =
     runs_over scan answer order warnings (Ok marks) failed old new sound events over words said (λ is. let nothing : ⊥ = cc in absurd nothing) (λ is. (marks, refl)) (λ is.
-    subst (λ (m : List Mark). list_any is_refused m ≡ false) over.marks (done_refuses_none order.graph marks (sym is ∙ answered (subst IsSaid (sym is) tt))))
+    subst (λ (m : List Mark). list_any is_refused m ≡ false) over.marks (built_refuses_none order.graph marks said is (answered (built_said said is))))
 
 -- a run whose build had a fault
 pub faulted_over : (scan : List ℕ → Finding) (answer : Request → Exit) (order : Order) (warnings : List ℕ) (why : BuildFault) (failed : Bool) (old new : Moments) → AreSound old → (events : List Event) → BuildsOver records_in_image answer order (Err why) failed old new events → (words : List (List ℕ)) (said : Outcome)
     → (HasEnded said → ⊥) → (why ≡ fault.NoMemory → said ≡ outcome.NoMemory) → RunsAs scan answer (Builds order warnings) (run_of words said failed events (added_since old new)) old.now new.now
 faulted_over scan answer order warnings why failed old new sound events over words said fails memory =
-    runs_over scan answer order warnings (Err why) failed old new sound events over words said (λ is. memory (same_fault why is)) (λ is. absurd (fails is)) (λ is. absurd (fails (subst HasEnded (sym is) tt))) where
+    runs_over scan answer order warnings (Err why) failed old new sound events over words said (λ is. memory (same_fault why is)) (λ is. absurd (fails is)) (λ is. absurd (fails (built_ended said is))) where
       same_fault : (why : BuildFault) → ◌≡◌ {A = Result (List Mark) BuildFault} (Err why) (Err fault.NoMemory) → why ≡ fault.NoMemory
       same_fault why is = cc
 
@@ -185,7 +206,7 @@ module _ (scan : List ℕ → Finding) (answer : Request → Exit) (r : Reading)
           started = all_started answer s (empty is) (clean is faithful) (compile_part (since journal journal)) (subst (IsWhole s) (sym nothing) (whole is)) (subst (Answered answer) (sym nothing) tt) halts;
           steady = all_steady answer s (empty is) (clean is faithful) (compile_part (since journal journal)) (subst (IsWhole s) (sym nothing) (whole is)) (subst (Answered answer) (sym nothing) tt) halts;
         };
-        made = λ faithful is position inside. absurd (no_file (subst HasEnded (sym is) tt) position inside);
+        made = λ faithful is position inside. absurd (no_file (built_ended said is) position inside);
       }
 
 -- the empty disk holds no record of the program's store

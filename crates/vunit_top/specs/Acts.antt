@@ -1,23 +1,35 @@
 -- What a run did with its objects and said, by what words and sources say is to be done: one record, which each call hands on.
-use Rattle.std.specs.Prelude.{◌≡◌, ℕ, List, Option, Some, None}
+use Rattle.std.specs.Prelude.{◌≡◌, ℕ, true, if◌then◌else◌, List, [], ◌++◌, Option, Some, None}
+use Rattle.std.specs.List.{list_all}
 use Rattle.vr_base.specs.declared.child.Request.{Request}
 use Rattle.vr_base.specs.declared.child.Exit.{Exit}
 use Rattle.vr_base.specs.declared.child.Event.{Event}
+use Rattle.vr_base.specs.declared.child.MaybeText.TheVariants.{Nothing}
 use Rattle.run_spec.specs.declared.marks.Mark.{Mark}
 use Rattle.outcomes.specs.declared.outcome.Outcome.{Outcome}
 use Rattle.vr_outside.specs.Disks.{Moments, added_since}
 use Rattle.run_spec.specs.ChildJournal.{since}
 use Rattle.history_spec.specs.Histories.{Order, ProgramRun, work_over}
-use Rattle.run_spec.specs.JournalParts.{compile_part}
+use Rattle.run_spec.specs.JournalParts.{compile_part, test_part}
+use Rattle.run_spec.specs.Faithful.{IsFaithfulDisk}
 use Rattle.run_spec.specs.Marks.{marks_of}
 use Rattle.run_report.specs.Outcomes.{build_outcome}
+use Rattle.compile_loop.specs.Ran.{is_made}
+use Rattle.test_spec.specs.declared.ends.TestEnd.{TestEnd}
+use Rattle.test_journal.specs.TestJournal.{TestSetting, IsWholeTests}
+use Rattle.test_loop.specs.Results.{test_ends}
+use Rattle.tested_runs.specs.Tested.{setting_after}
+use Rattle.tested_histories.specs.Histories.{HasTested}
+use Rattle.tested_histories.specs.Rights.{AreRightTests}
+use Rattle.tested_report.specs.declared.said.RunSaid.{RunSaid}
+use Rattle.tested_report.specs.Said.{run_said}
 use Rattle.scan_spec.specs.Scans.{Finding}
 use Rattle.vunit_top.specs.Store.{records_in_image}
-use Rattle.vunit_top.specs.Ends.{Writes}
-use Rattle.vunit_top.specs.Reading.{Reading, Exports, Builds}
+use Rattle.vunit_top.specs.Ends.{Writes, WritesReport}
+use Rattle.vunit_top.specs.Reading.{Reading, Testing, Exports, Builds, Runs}
 use Rattle.disk_runs.specs.Building.{has_risen}
 use Rattle.vunit_top.specs.Runs.{RunsAs, run_of}
-use Rattle.vunit_top.specs.Said.{Said, Says, IsSaid, order_of, report_of, plain_said, build_said}
+use Rattle.vunit_top.specs.Said.{Said, Says, SaysRun, IsSaid, HasEnded, order_of, report_path_of, plan_in, plain_said, plain_run, build_said}
 
 -- the objects that a run may change
 pub data Object : Type 0 where
@@ -54,6 +66,37 @@ run_between words result before after =
 abbrev pub marks_between : Order → Seen → Seen → List Mark
 marks_between order before after = marks_of (work_over records_in_image order before.moments.now) (compile_part (since before.journal after.journal))
 
+-- the events of its tests
+abbrev pub tests_since : Seen → Seen → List Event
+tests_since before after = test_part (since before.journal after.journal)
+
+-- what they worked on, where its compilers made all files
+abbrev pub setting_between : Testing → Seen → Seen → TestSetting
+setting_between asked before after = setting_after asked.order asked.plan (work_over records_in_image asked.order before.moments.now) (compile_part (since before.journal after.journal))
+
+-- what became of them: nothing, where a file isn't made
+abbrev pub tests_between : Testing → Seen → Seen → Option TestEnd
+tests_between asked before after =
+    if list_all is_made (marks_between asked.order before after) then Some (record { runs = test_ends (setting_between asked before after) (tests_since before after) }) else None
+
+-- what is said of both
+abbrev pub said_between : Testing → Seen → Seen → RunSaid
+said_between asked before after = run_said asked.warnings asked.order.graph (marks_between asked.order before after) asked.plan.runs asked.words (tests_between asked before after)
+
+-- What a run with tests did and said between two moments, besides its build. All events of compilers come before those of
+-- tests. These are lawful runs of the plan over exactly what was built, none where a file isn't made, each end the answer to
+-- its start; and they are whole where the run has ended and all files are made. From a disk of true records each start of a
+-- test is over the libraries of a clean build. The text is that of marks, verdicts and outputs, and so are the answer and the
+-- report, which is written last.
+pub record RunsTests (tells : Object → Type 0) (answer : Request → Exit) (asked : Testing) (result : Outcome) (before after : Seen) : Type 0 where
+  pub parted : tells Disk → tells Children → since before.journal after.journal ≡ compile_part (since before.journal after.journal) ++ tests_since before after
+  pub tested : tells Disk → tells Children → HasTested answer asked.order asked.plan (work_over records_in_image asked.order before.moments.now) (compile_part (since before.journal after.journal)) (tests_since before after)
+  pub right : tells Disk → tells Children → IsFaithfulDisk answer records_in_image before.moments.now → AreRightTests answer asked.order asked.plan (tests_since before after)
+  pub whole : tells Disk → tells Children → HasEnded result → list_all is_made (marks_between asked.order before after) ≡ true → IsWholeTests (setting_between asked before after) (tests_since before after)
+  pub says : tells Disk → tells Children → tells Out → SaysRun result (plain_run (said_between asked before after)) before.put after.put
+  pub answers : tells Disk → tells Children → IsSaid result → result ≡ (said_between asked before after).outcome
+  pub writes : tells Disk → tells Children → tells Reports → WritesReport asked.report (said_between asked before after).report result before.report after.report
+
 -- What a run did and said between two moments, by what is to be done. What each clause needs to be told, and which objects
 -- are the same, are its premises.
 pub record Acts (tells same : Object → Type 0) (scan : List ℕ → Finding) (answer : Request → Exit) (r : Reading) (words : List (List ℕ)) (result : Outcome) (before after : Seen) : Type 0 where
@@ -62,7 +105,7 @@ pub record Acts (tells same : Object → Type 0) (scan : List ℕ → Finding) (
   -- where nothing is to be built, disk and children are as before; so are the reports where none is to be written, and the
   -- output where a report is
   pub untouched : order_of r ≡ None → same Disk × same Children
-  pub unreported : report_of r ≡ None → same Reports
+  pub unreported : report_path_of r ≡ Nothing → same Reports
   pub silent : (path text : List ℕ) → r ≡ Exports path text → same Out
   -- the answer and the text that is put: of what isn't a build; and of a build, by its marks
   pub says_plain : tells Out → (what : Said) → plain_said r ≡ Some what → Says result what before.put after.put
@@ -70,5 +113,8 @@ pub record Acts (tells same : Object → Type 0) (scan : List ℕ → Finding) (
       Says result (build_said warnings order.graph (marks_between order before after)) before.put after.put
   pub answers : tells Disk → tells Children → (order : Order) (warnings : List ℕ) → r ≡ Builds order warnings → IsSaid result →
       result ≡ build_outcome order.graph (marks_between order before after)
+  -- of a run with tests: what they did, and what is said of them; and no test is started where there is no plan
+  pub runs : (asked : Testing) → r ≡ Runs asked → RunsTests tells answer asked result before after
+  pub untested : tells Children → plan_in r ≡ None → tests_since before after ≡ []
   -- the report that is written
   pub writes : tells Reports → (path text : List ℕ) → r ≡ Exports path text → Writes result path text before.report after.report

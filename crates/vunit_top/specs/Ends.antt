@@ -1,9 +1,12 @@
 -- What the parts of a run put and answer.
-use Rattle.std.specs.Prelude.{◌≡◌, ℕ, List, Option, Err}
+use Rattle.std.specs.Prelude.{◌≡◌, ℕ, List, Option, Some, None, Err}
 use Rattle.outcomes.specs.declared.outcome.Which.TheVariants as which
 use Rattle.outcomes.specs.declared.outcome.Outcome.{Outcome}
 use Rattle.outcomes.specs.declared.outcome.Outcome.TheVariants as outcome
 use Rattle.vr_outside.specs.Counts.{Rose}
+use Rattle.vr_base.specs.declared.child.MaybeText.{MaybeText}
+use Rattle.vr_base.specs.declared.child.MaybeText.TheVariants.{Given, Nothing}
+use Rattle.vunit_top.specs.Said.{Results}
 use Rattle.report_files.specs.Reports.{HasWritten, IsSameBut}
 use Rattle.project_reading.specs.declared.stops.ReadStop.{ReadStop}
 use Rattle.project_reading.specs.Sources.{ReadCounts}
@@ -31,3 +34,27 @@ Writes answer path text old new = new ≡ old
 -- After a reading that stopped: a fault of the tree was counted, and else its count is unchanged.
 abbrev pub StopCounts : ReadStop → ℕ → ℕ → Type 0
 StopCounts stop old new = ReadCounts {T = Unit {0}} (Err stop) old new
+
+-- What a text that is written last leaves of the files of reports: after an answer the file of the path has exactly the text, and
+-- no other is changed; after a fault of the report no other is changed; after any other fault and out of memory none is.
+abbrev pub WritesLast : Outcome → (path text : List ℕ) → (old new : List ℕ → Option (List ℕ)) → Type 0
+WritesLast outcome.NoMemory path text old new = new ≡ old
+WritesLast (outcome.OutsideFault which.Report) path text old new = IsSameBut path old new
+WritesLast (outcome.OutsideFault other) path text old new = new ≡ old
+WritesLast answer path text old new = HasWritten path text old new
+
+-- What a run leaves of them where this report is said, if any, and this is its file, if it has one.
+abbrev pub WritesReport : MaybeText → Option (List ℕ) → Outcome → (old new : List ℕ → Option (List ℕ)) → Type 0
+WritesReport Nothing said answer old new = new ≡ old
+WritesReport (Given path) None answer old new = new ≡ old
+WritesReport (Given path) (Some text) answer old new = WritesLast answer path text old new
+
+-- What a text leaves that is written before something is put: after a fault of the output too the file has the text.
+abbrev pub WritesFirst : Outcome → (path text : List ℕ) → (old new : List ℕ → Option (List ℕ)) → Type 0
+WritesFirst (outcome.OutsideFault which.Out) path text old new = HasWritten path text old new
+WritesFirst answer path text old new = WritesLast answer path text old new
+
+-- what a child leaves of the files of reports where it has these results, if any
+abbrev pub WritesResults : Option Results → Outcome → (old new : List ℕ → Option (List ℕ)) → Type 0
+WritesResults None answer old new = new ≡ old
+WritesResults (Some results) answer old new = WritesFirst answer results.path results.text old new

@@ -1,5 +1,5 @@
 -- What words and sources say is to be done: a function of both.
-use Rattle.std.specs.Prelude.{ℕ, ◌≤◌, nat_lt, Bool, true, false, if◌then◌else◌, List, [], ◌∷◌, map, codes, Option, Some, None, Result, Ok, Err}
+use Rattle.std.specs.Prelude.{ℕ, ◌≤◌, nat_lt, Bool, true, false, ◌||◌, if◌then◌else◌, List, [], ◌∷◌, map, codes, Option, Some, None, Result, Ok, Err}
 use Rattle.std.specs.Str.{bytes_eq}
 use Rattle.vr_base.specs.declared.graph.Entry.{Entry}
 use Rattle.outcomes.specs.declared.outcome.Refusal.{Refusal}
@@ -11,6 +11,7 @@ use Rattle.vr_base.specs.declared.child.MaybeText.{MaybeText}
 use Rattle.vr_base.specs.declared.child.MaybeText.TheVariants.{Given, Nothing}
 use Rattle.vr_base.specs.declared.limits.TheConstants.{SLOT_LIMIT}
 use Rattle.history_spec.specs.Histories.{Sources, Order}
+use Rattle.run_spec.specs.JournalParts.{is_given}
 use Rattle.run_report.specs.Texts.{warning_text}
 use Rattle.test_report.specs.Export.{export_text}
 use Rattle.test_select.specs.Patterns.{pieces_of}
@@ -22,45 +23,83 @@ use Rattle.project_reading.specs.Reading.{SourceReading, project_reading}
 use Rattle.project_reading.specs.Reading as sources
 use Rattle.disk_runs.specs.declared.building.BuildOptions.{BuildOptions}
 use Rattle.disk_runs.specs.Orders.{order_by}
+use Rattle.project_reading.specs.declared.linking.ReadProject.{ReadProject}
+use Rattle.test_spec.specs.declared.runs.TestRun.{TestRun}
+use Rattle.test_spec.specs.Runs.{test_runs}
+use Rattle.test_journal.specs.TestJournal.{TestPlan}
+use Rattle.tested_report.specs.declared.said.TestWords.{TestWords}
+use Rattle.vunit_top.specs.declared.words.RunOptions.{RunOptions}
 use Rattle.vunit_top.specs.declared.words.Job.{Job}
 use Rattle.vunit_top.specs.declared.words.Job.TheVariants as job
 
+-- which child of the program
+pub data Tool : Type 0 where
+  Compiler : Tool
+  Simulator : Tool
+
+-- what a run is to do: the build, and the tests that follow it; how what became of them is said; the file of a report of the
+-- tests, if one is wanted; and the text of warnings
+pub record Testing : Type 0 where
+  pub order : Order
+  pub plan : TestPlan
+  pub words : TestWords
+  pub report : MaybeText
+  pub warnings : List ℕ
+
 -- The words are no command line; the program is a child; words or sources are refused; a quantity is over its limit, which is
 -- this number; these files are to be listed, in compile order; these tests are to be listed; this text is to be written to
--- the file of this path; or this is to be built, with this text of warnings.
+-- the file of this path; this is to be built, with this text of warnings; or it is to be built and tested.
 pub data Reading : Type 0 where
   Bad : Reading
-  Child : Reading
+  Child : Tool → Reading
   Stops : Refusal → Reading
-  Over : Limit → ℕ → Reading
+  Over : Limit → (number : ℕ) → Reading
   Lists : List Entry → Reading
   ListsTests : List Bench → Reading
   Exports : (path : List ℕ) → (text : List ℕ) → Reading
   Builds : Order → (warnings : List ℕ) → Reading
+  Runs : Testing → Reading
 
 abbrev pub begins_with : List ℕ → List (List ℕ) → Bool
 begins_with first [] = false
 begins_with first (word ∷ words) = bytes_eq word first
 
+-- the program is the compiler child, or the simulator child
+abbrev pub begins_as_compiler : List (List ℕ) → Bool
+begins_as_compiler words = begins_with (codes "child-analyse") words
+
+abbrev pub begins_as_simulator : List (List ℕ) → Bool
+begins_as_simulator words = begins_with (codes "child-bench") words
+
 abbrev pub begins_as_child : List (List ℕ) → Bool
-begins_as_child words = begins_with (codes "child-analyse") words
+begins_as_child words = begins_as_compiler words || begins_as_simulator words
 
 -- how a setting says that files are built
 abbrev pub options_of : Setting → BuildOptions
 options_of setting = record { slots = setting.num_threads; keep_going = setting.keep_compiling; clean = setting.clean }
 
--- what is done by the first of the modes list, files and compile that is named
+-- how it says that their tests are run
+abbrev pub run_options_of : Setting → RunOptions
+run_options_of setting = record {
+  build = options_of setting;
+  fail_fast = setting.fail_fast;
+  words = record { verbose = setting.verbose; quiet = setting.quiet; exit_0 = setting.exit_0; report = is_given setting.xunit_xml };
+  report = setting.xunit_xml;
+  patterns = setting.patterns;
+}
+
+-- what is done by the first of the modes list, files and compile that is named, and else a run
 abbrev pub job_but_export : Setting → Option Job
 job_but_export setting =
     if setting.list then Some (job.ListTests setting.patterns) else if setting.files then Some job.ListFiles
-    else if setting.compile then Some (job.Build (options_of setting)) else None
+    else if setting.compile then Some (job.Build (options_of setting)) else Some (job.Run (run_options_of setting))
 
 abbrev pub job_but_generate : MaybeText → Setting → Option Job
 job_but_generate (Given path) setting = Some (job.Export path setting.patterns)
 job_but_generate Nothing setting = job_but_export setting
 
--- What is done with the sources by the first of the modes generate, export, list, files and compile that is named. Generate,
--- and a run, which is what is done where none is named, aren't built yet.
+-- What is done with the sources by the first of the modes generate, export, list, files and compile that is named, and else
+-- a run. Generate isn't built yet.
 abbrev pub job_of : Setting → Option Job
 job_of setting = if nat_lt 0 setting.generate then None else job_but_generate setting.export_json setting
 
@@ -68,21 +107,35 @@ job_of setting = if nat_lt 0 setting.generate then None else job_but_generate se
 abbrev pub reads_tests : Job → Bool
 reads_tests (job.ListTests patterns) = true
 reads_tests (job.Export path patterns) = true
+reads_tests (job.Run options) = true
 reads_tests _ = false
 
 -- whether a job may build, and so touch the disk and children
 abbrev pub is_build : Job → Bool
 is_build (job.Build options) = true
+is_build (job.Run options) = true
 is_build _ = false
 
 -- whether a job may write a report
-abbrev pub is_export : Job → Bool
-is_export (job.Export path patterns) = true
-is_export _ = false
+abbrev pub may_write : Job → Bool
+may_write (job.Export path patterns) = true
+may_write (job.Run options) = is_given options.report
+may_write _ = false
+
+-- whether a job may start tests
+abbrev pub is_run : Job → Bool
+is_run (job.Run options) = true
+is_run _ = false
+
+-- whether words may
+abbrev pub may_test : Result Job Reading → Bool
+may_test (Ok job) = is_run job
+may_test (Err reading) = false
 
 -- a build has from 1 to 64 children at once
 abbrev pub HasSlots : Job → Type 0
 HasSlots (job.Build options) = (1 ≤ options.slots) × (options.slots ≤ SLOT_LIMIT)
+HasSlots (job.Run options) = (1 ≤ options.build.slots) × (options.build.slots ≤ SLOT_LIMIT)
 HasSlots _ = Unit {0}
 
 abbrev pub built_job : Option Job → Result Job Reading
@@ -99,11 +152,25 @@ maybe_job (Some setting) = setting_job setting
 
 -- what words say is done with the sources, or what they say alone
 abbrev pub words_job : List (List ℕ) → Result Job Reading
-words_job words = if begins_as_child words then Err Child else if begins_with (codes "child-bench") words then Err Bad else maybe_job (setting_of words)
+words_job words = if begins_as_compiler words then Err (Child Compiler) else if begins_as_simulator words then Err (Child Simulator) else maybe_job (setting_of words)
 
 -- the tests that some of these patterns match
 abbrev pub chosen : List (List ℕ) → List Bench → List Bench
 chosen patterns tests = selection (map pieces_of patterns) tests
+
+-- what a run is to do with these runs of tests and this text of warnings
+abbrev pub testing_with : RunOptions → ReadProject → List TestRun → (warnings : List ℕ) → Testing
+testing_with options read runs warnings = record {
+  order = order_by options.build read.graph;
+  plan = record { runs = runs; simulator = read.project.simulator; fail_fast = options.fail_fast };
+  words = options.words;
+  report = options.report;
+  warnings = warnings;
+}
+
+-- what a run is to do with the sources that were read
+abbrev pub testing_of : RunOptions → ReadProject → Testing
+testing_of options read = testing_with options read (test_runs read.project.files (chosen options.patterns read.tests)) (warning_text read.project.files read.warnings)
 
 -- what is done with the sources that were read
 abbrev pub job_reading : Job → SourceReading → Reading
@@ -113,6 +180,7 @@ job_reading job.ListFiles (sources.Found read) = Lists read.graph
 job_reading (job.ListTests patterns) (sources.Found read) = ListsTests (chosen patterns read.tests)
 job_reading (job.Export path patterns) (sources.Found read) = Exports path (export_text read.graph read.project.files (chosen patterns read.tests))
 job_reading (job.Build options) (sources.Found read) = Builds (order_by options read.graph) (warning_text read.project.files read.warnings)
+job_reading (job.Run options) (sources.Found read) = Runs (testing_of options read)
 
 -- what is done with the sources, by whether tests are looked for in them
 abbrev pub full_reading : Result Job Reading → (Bool → SourceReading) → Reading

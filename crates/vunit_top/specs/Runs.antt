@@ -1,10 +1,9 @@
 -- What a run of the program did: a step of a history, and what follows of it.
-use Rattle.std.specs.Prelude.{◌≡◌, ◌↔◌, ℕ, ◌<◌, Bool, true, false, List, length, Option, Some, is_some, Contains}
+use Rattle.std.specs.Prelude.{◌≡◌, ◌↔◌, ℕ, ◌<◌, Bool, true, List, length, Some, is_some, Contains}
 use Rattle.vr_base.specs.declared.child.Request.{Request}
 use Rattle.vr_base.specs.declared.child.Exit.{Exit}
 use Rattle.vr_base.specs.declared.child.Event.{Event}
 use Rattle.outcomes.specs.declared.outcome.Outcome.{Outcome}
-use Rattle.outcomes.specs.declared.outcome.Outcome.TheVariants as outcome
 use Rattle.vr_outside.specs.Disks.{DiskState, EachImage}
 use Rattle.vr_outside.specs.Commits.{last_state}
 use Rattle.run_spec.specs.ChildJournal.{Work, IsWhole, book_of, artefact_after}
@@ -16,14 +15,19 @@ use Rattle.run_spec.specs.JournalParts.{compile_part}
 use Rattle.run_spec.specs.Marks.{marks_of, steady_marks, NoRefusalHalts}
 use Rattle.history_laws.specs.Rights.{IsRightStep}
 use Rattle.scan_spec.specs.Scans.{Finding}
+use Rattle.tested_histories.specs.Histories.{TestedWorld}
 use Rattle.vunit_top.specs.Store.{records_in_image}
 use Rattle.disk_runs.specs.Orders.{IsDurablyRecorded}
 use Rattle.vunit_top.specs.Reading.{Reading, reading}
-use Rattle.vunit_top.specs.Said.{HasEnded, order_of, order_in}
+use Rattle.vunit_top.specs.Said.{HasEnded, HasBuilt, order_of, order_in, plan_in}
 
 -- what runs of the program have in common, over one compiler
 abbrev pub world_of : (List ℕ → Finding) → (Request → Exit) → World
 world_of scan answer = record { answer = answer; records_of = records_in_image; reading = λ words sources. order_of (reading scan words sources) }
+
+-- the same of runs with tests
+abbrev pub tested_world_of : (List ℕ → Finding) → (Request → Exit) → TestedWorld
+tested_world_of scan answer = record { world = world_of scan answer; plan = λ words sources. plan_in (reading scan words sources) }
 
 -- a run with these words and this answer, in which these events and these moments of the disk were added
 abbrev pub run_of : List (List ℕ) → Outcome → Bool → List Event → List DiskState → ProgramRun
@@ -39,8 +43,8 @@ pub record IsExact (answer : Request → Exit) (setting : Work) (events : List E
 -- that last moment. Where it has ended its build did so by itself, and each file that is made has a record of its present
 -- view in whatever a stop can leave; with a store that is to be emptied that has the records of this build alone. From a
 -- disk of true records it is right: at each of its moments a stop can leave true records alone, and each compiler is asked
--- what a clean build asks it; where it has ended and no refusal halted it, it is exact; and where it is done, each file is
--- made.
+-- what a clean build asks it; where it has ended and no refusal halted it, it is exact; and where it is done, or its tests
+-- failed, each file is made.
 pub record RunsAs (scan : List ℕ → Finding) (answer : Request → Exit) (r : Reading) (run : ProgramRun) (first last : DiskState) : Type 0 where
   pub step : RunStep (world_of scan answer) (order_of r) run first
   pub ends : last_state first run.later ≡ last
@@ -49,4 +53,4 @@ pub record RunsAs (scan : List ℕ → Finding) (answer : Request → Exit) (r :
   pub emptied : HasEnded run.outcome → (order_in r).clean ≡ true → EachImage (λ image. records_in_image image ≡ commits (work_over records_in_image (order_in r) first) run.events) last
   pub right : IsFaithfulDisk answer records_in_image first → IsRightStep (world_of scan answer) (order_of r) run first
   pub exact : IsFaithfulDisk answer records_in_image first → HasEnded run.outcome → NoRefusalHalts (work_over records_in_image (order_in r) first) run.events → IsExact answer (work_over records_in_image (order_in r) first) run.events
-  pub made : IsFaithfulDisk answer records_in_image first → run.outcome ≡ outcome.Done → (position : ℕ) → position < length (order_in r).graph → is_some (artefact_after (work_over records_in_image (order_in r) first) run.events position) ≡ true
+  pub made : IsFaithfulDisk answer records_in_image first → HasBuilt run.outcome → (position : ℕ) → position < length (order_in r).graph → is_some (artefact_after (work_over records_in_image (order_in r) first) run.events position) ≡ true

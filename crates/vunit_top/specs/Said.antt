@@ -6,16 +6,31 @@ use Rattle.outcomes.specs.declared.outcome.Which.TheVariants as which
 use Rattle.outcomes.specs.declared.outcome.Outcome.{Outcome}
 use Rattle.outcomes.specs.declared.outcome.Outcome.TheVariants as outcome
 use Rattle.vr_outside.specs.Counts.{Rose}
+use Rattle.compile_loop.specs.declared.faults.BuildFault.{BuildFault}
+use Rattle.compile_loop.specs.declared.faults.BuildFault.TheVariants as fault
 use Rattle.vr_outside.specs.Streams.{AddsPrefix}
 use Rattle.history_spec.specs.Histories.{Order}
 use Rattle.run_report.specs.Outcomes.{build_outcome}
 use Rattle.run_report.specs.Texts.{shown_bytes, build_text, refusal_text, limit_text, usage_text, bad_request, files_list}
 use Rattle.test_report.specs.Listing.{tests_list}
-use Rattle.vunit_top.specs.Reading.{Reading, Bad, Stops, Over, Lists, ListsTests, Exports, Builds}
+use Rattle.vr_base.specs.declared.child.MaybeText.{MaybeText}
+use Rattle.vr_base.specs.declared.child.MaybeText.TheVariants.{Given, Nothing}
+use Rattle.vr_base.specs.declared.child.Exit.{Exit}
+use Rattle.test_spec.specs.declared.jobs.BenchJob.{BenchJob}
+use Rattle.test_journal.specs.TestJournal.{TestPlan}
+use Rattle.bench_codec.specs.Reading.{bench_at}
+use Rattle.child_benches.specs.Benches.{simulation}
+use Rattle.tested_report.specs.declared.said.RunSaid.{RunSaid}
+use Rattle.vunit_top.specs.Reading.{Reading, Bad, Stops, Over, Lists, ListsTests, Exports, Builds, Runs}
 
 -- an answer, and the text that is put with it
 pub record Said : Type 0 where
   pub outcome : Outcome
+  pub text : List ℕ
+
+-- a text that is left in the file of a path
+pub record Results : Type 0 where
+  pub path : List ℕ
   pub text : List ℕ
 
 -- an order of nothing
@@ -25,12 +40,19 @@ no_order = record { graph = []; slots = 1; keep_going = false; clean = false }
 -- the order of a reading, if it gives one
 abbrev pub order_of : Reading → Option Order
 order_of (Builds order warnings) = Some order
+order_of (Runs asked) = Some asked.order
 order_of _ = None
 
--- the report of a reading, if it gives one: the path of its file, and its text
-abbrev pub report_of : Reading → Option (List ℕ × List ℕ)
-report_of (Exports path text) = Some (path, text)
-report_of _ = None
+-- the file that a reading may have a report written to, if any
+abbrev pub report_path_of : Reading → MaybeText
+report_path_of (Exports path text) = Given path
+report_path_of (Runs asked) = asked.report
+report_path_of _ = Nothing
+
+-- the tests of a reading, if it gives any
+abbrev pub plan_in : Reading → Option TestPlan
+plan_in (Runs asked) = Some asked.plan
+plan_in _ = None
 
 -- what is to be built: nothing, where there is no order
 abbrev pub order_in : Reading → Order
@@ -44,9 +66,23 @@ build_said warnings graph marks = record { outcome = build_outcome graph marks; 
 abbrev pub input_bytes : ℕ
 input_bytes = 2147483648
 
--- what a child of the program answers to its input
-abbrev pub child_said : List ℕ → Said
-child_said input = if nat_le (length input) input_bytes then record { outcome = outcome.Child 0; text = [] } else record { outcome = outcome.Child 2; text = bad_request }
+-- what a child of the program answers and puts, by its end
+abbrev pub exit_said : Exit → Said
+exit_said exit = record { outcome = outcome.Child exit.code; text = exit.output }
+
+-- what it says to its input: that of its end, or that the input is too long
+abbrev pub child_said : (List ℕ → Exit) → List ℕ → Said
+child_said answer input = if nat_le (length input) input_bytes then exit_said (answer input) else record { outcome = outcome.Child 2; text = bad_request }
+
+-- the results that a simulator child leaves, if any: the path of its request, and its text
+abbrev pub left_results : Option BenchJob → MaybeText → Option Results
+left_results None results = None
+left_results (Some job) Nothing = None
+left_results (Some job) (Given text) = Some (record { path = job.results; text = text })
+
+-- those that it leaves for its input
+abbrev pub child_results : List ℕ → Option Results
+child_results input = if nat_le (length input) input_bytes then left_results (bench_at input) (simulation input).results else None
 
 -- what is said where nothing is built
 abbrev pub plain_said : Reading → Option Said
@@ -66,6 +102,15 @@ Says (outcome.OutsideFault which.Out) s old new = AddsPrefix s.text old new
 Says (outcome.OutsideFault other) s old new = new ≡ old
 Says answer s old new = (answer ≡ s.outcome) × (new ≡ old ++ s.text)
 
+-- The same of a run with tests: where its report couldn't be written, its text was put all the same.
+abbrev pub SaysRun : Outcome → Said → List ℕ → List ℕ → Type 0
+SaysRun (outcome.OutsideFault which.Report) s old new = new ≡ old ++ s.text
+SaysRun answer s old new = Says answer s old new
+
+-- what a run with tests answers, and its text
+abbrev pub plain_run : RunSaid → Said
+plain_run said = record { outcome = said.outcome; text = said.text }
+
 -- no fault and no out of memory
 abbrev pub IsSaid : Outcome → Type 0
 IsSaid outcome.NoMemory = ⊥
@@ -79,6 +124,19 @@ HasEnded (outcome.OutsideFault which.Out) = Unit {0}
 HasEnded (outcome.OutsideFault which.Report) = Unit {0}
 HasEnded (outcome.OutsideFault which) = ⊥
 HasEnded answer = Unit {0}
+
+-- the run did what it was to do, and all of its files are made
+abbrev pub HasBuilt : Outcome → Type 0
+HasBuilt outcome.Done = Unit {0}
+HasBuilt outcome.TestsFailed = Unit {0}
+HasBuilt answer = ⊥
+
+-- what a fault of a build or of its tests is answered by
+abbrev pub fault_outcome : BuildFault → Outcome
+fault_outcome fault.NoMemory = outcome.NoMemory
+fault_outcome fault.StartFailed = outcome.OutsideFault which.Start
+fault_outcome fault.ChildLost = outcome.OutsideFault which.Child
+fault_outcome fault.DiskFailed = outcome.OutsideFault which.Disk
 
 -- the counts of faults of the objects that a run is handed
 pub record Counts : Type 0 where

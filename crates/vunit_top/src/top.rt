@@ -11,22 +11,28 @@ ghost use Rattle.run_report.specs.Texts.{warning_text};
 ghost use Rattle.scan_spec.specs.Scans.{Finding, IsScanner};
 ghost use Rattle.project_reading.specs.Asked.{AsksFirst, project_paths};
 ghost use Rattle.project_reading.specs.Reading.{SourceReading, Found, project_reading};
-ghost use Rattle.project_reading.specs.Sources.{LeadsTo};
+ghost use Rattle.project_reading.specs.Sources.{IsReadProject, LeadsTo};
+ghost use Rattle.vr_base.specs.declared.child.MaybeText.{MaybeText};
+ghost use Rattle.vr_base.specs.declared.child.MaybeText.TheVariants.{Nothing};
+ghost use Rattle.child_tools.specs.Answers.{analysis};
+ghost use Rattle.child_benches.specs.Benches.{simulation};
 ghost use Rattle.test_report.specs.Listing.{tests_list};
 ghost use Rattle.test_report.specs.Export.{export_text};
 ghost use Rattle.vunit_top.specs.Store.{records_in_image};
-ghost use Rattle.vunit_top.specs.Acts.{Acts, of_each, seen};
-ghost use Rattle.vunit_top.specs.Ends.{StopCounts, OutCauses, ReportCauses, Writes};
+ghost use Rattle.vunit_top.specs.Acts.{Acts, RunsTests, of_each, seen};
+ghost use Rattle.vunit_top.specs.Ends.{StopCounts, OutCauses, ReportCauses, Writes, WritesReport, WritesResults};
 ghost use Rattle.disk_runs.specs.Orders.{order_by};
-ghost use Rattle.vunit_top.specs.Reading.{Reading, Builds, Exports, HasSlots, reading, full_reading, job_reading, setting_job, words_job, begins_as_child, chosen, reads_tests, is_build, is_export};
+ghost use Rattle.vunit_top.specs.Reading.{Reading, Testing, Builds, Exports, Runs, HasSlots, reading, full_reading, job_reading, setting_job, words_job, begins_as_child, begins_as_compiler, begins_as_simulator, chosen, reads_tests, is_build, is_run, may_test, may_write};
 ghost use Rattle.disk_runs.specs.Building.{has_risen};
 ghost use Rattle.vunit_top.specs.Runs.{RunsAs, run_of};
-ghost use Rattle.vunit_top.specs.Said.{Said, Says, IsSaid, HasEnded, Causes, IsAccounted, fault_counts, report_of, order_of, plain_said, build_said, child_said};
+ghost use Rattle.vunit_top.specs.Said.{Said, Says, SaysRun, IsSaid, HasEnded, Causes, IsAccounted, fault_counts, report_path_of, order_of, plan_in, plain_said, build_said, child_said, child_results};
 
+use crate::children::{run_as_compiler, run_as_simulator};
 use crate::ends::{
     say, say_build, say_files, say_limit, say_refusal, say_tests, say_usage, write_report,
 };
-use crate::words::{Job, begins_with, job_of, patterns_of, reads_tests};
+use crate::tests::{chosen, test_project};
+use crate::words::{Job, begins_with, job_of, reads_tests};
 use command_line::{Setting, WordsFault, read_words};
 use compile_loop::BuildFault;
 use disk_runs::{BuildOptions, build_over};
@@ -37,32 +43,8 @@ use report_files::Reports;
 use run_report::warning_text;
 use std::alloc::Global;
 use test_report::export_json;
-use test_select::select;
-use vhdl_benches::Tests;
 use vr_base::{Graph, NoMemory, SLOT_LIMIT, Text, TextList};
-use vr_outside::{Disk, Procs, Sink, Source, SourceFault, TakeEnd, Tree};
-
-/// The most bytes that a child takes.
-const INPUT_BYTES: u64 = 2147483648;
-
-/// Takes the input of a child, and answers its code.
-fn run_as_child<I: Source, O: Sink>(alloc: Global, input: &mut I, out: &mut O) -> Outcome
-    ensures said { I.tells → O.tells →
-        Says result (child_said (I.left input.old)) (O.contents out.old) (O.contents out.new) }
-    ensures silent { I.tells → (child_said (I.left input.old)).text ≡ [] → out.new ≡ out.old }
-    ensures counted { (tree disk start child report : ℕ) → IsAccounted result
-        (fault_counts tree disk start child (O.failed_puts out.old) report
-        (I.failed_takes input.old))
-        (fault_counts tree disk start child (O.failed_puts out.new) report
-        (I.failed_takes input.new)) }
-{
-    match input.take(alloc, INPUT_BYTES) {
-        Ok(TakeEnd::Got(_)) => Outcome::Child(0),
-        Ok(TakeEnd::TooLong) => say(b"bad request\n", Outcome::Child(2), out),
-        Err(SourceFault::NoMemory) => Outcome::NoMemory,
-        Err(SourceFault::Failed) => Outcome::OutsideFault(Which::Input),
-    }
-}
+use vr_outside::{Disk, Procs, Sink, Source, Tree};
 
 /// Builds a graph over the records of a disk, and puts warnings and what became of its files.
 fn build_graph<D: Disk, P: Procs, O: Sink>(
@@ -166,14 +148,6 @@ fn build_project<D: Disk, P: Procs, O: Sink>(
     }
 }
 
-/// The tests of the sources that one of these patterns matches.
-fn chosen(alloc: Global, tests: &Tests, patterns: &TextList) -> Result<Tests, NoMemory>
-    ensures { IfOk result (λ some. some ≡ chosen patterns.now tests.now) }
-{
-    let patterns = patterns_of(alloc, patterns.as_slice())?;
-    select(alloc, tests, &patterns)
-}
-
 /// Puts the tests that one of these patterns matches.
 fn list_chosen<O: Sink>(
     alloc: Global,
@@ -238,12 +212,13 @@ fn run_job<D: Disk, P: Procs, O: Sink, R: Reports>(
 ) -> Outcome
     requires slots { HasSlots job }
     requires idle { P.running procs.old ≡ [] }
+    requires read { IsReadProject (reads_tests job) read.now }
     ensures running { P.running procs.new ≡ [] }
     ensures same { P.answer procs.new ≡ P.answer procs.old }
     ensures kept { P.tells →
         (P.journal procs.new
         ≡ P.journal procs.old ++ since (P.journal procs.old) (P.journal procs.new)) }
-    ensures no_tests { P.tells →
+    ensures no_tests { P.tells → is_run job ≡ false →
         test_part (since (P.journal procs.old) (P.journal procs.new)) ≡ [] }
     ensures acts { (scan : List ℕ → Finding) (words : List (List ℕ)) →
         Acts (of_each D.tells P.tells O.tells R.tells)
@@ -255,7 +230,7 @@ fn run_job<D: Disk, P: Procs, O: Sink, R: Reports>(
         (seen (P.journal procs.new) (D.moments disk.new) (D.failed_disk_calls disk.new)
         (O.contents out.new) (R.report reports.new)) }
     ensures unbuilt { is_build job ≡ false → (disk.new ≡ disk.old) × (procs.new ≡ procs.old) }
-    ensures unwritten { is_export job ≡ false → reports.new ≡ reports.old }
+    ensures unwritten { may_write job ≡ false → reports.new ≡ reports.old }
     ensures counted { (tree input : ℕ) → IsAccounted result
         (fault_counts tree (D.failed_disk_calls disk.old) (P.failed_starts procs.old)
         (P.lost_children procs.old) (O.failed_puts out.old)
@@ -269,6 +244,7 @@ fn run_job<D: Disk, P: Procs, O: Sink, R: Reports>(
         Job::ListTests(patterns) => list_chosen(alloc, read, &patterns, out),
         Job::Export(path, patterns) => export_chosen(alloc, read, &path, &patterns, reports),
         Job::Build(options) => build_project(alloc, read, options, disk, procs, out),
+        Job::Run(options) => test_project(alloc, read, &options, disk, procs, out, reports),
     }
 }
 
@@ -286,6 +262,14 @@ fn say_stop<O: Sink>(alloc: Global, stop: ReadStop, out: &mut O) -> Outcome
         LeadsTo found (Err stop) → (order : Order) (warnings : List ℕ) →
         job_reading job found ≡ Builds order warnings → (what : Said) →
         Says result what (O.contents out.old) (O.contents out.new) }
+    ensures says_run { O.tells → (job : Job) (found : SourceReading) →
+        LeadsTo found (Err stop) → (asked : Testing) →
+        job_reading job found ≡ Runs asked → (what : Said) →
+        SaysRun result what (O.contents out.old) (O.contents out.new) }
+    ensures unwritten { (job : Job) (found : SourceReading) → LeadsTo found (Err stop) →
+        (asked : Testing) → job_reading job found ≡ Runs asked →
+        (path : MaybeText) (said : Option (List ℕ)) (reports : List ℕ → Option (List ℕ)) →
+        WritesReport path said result reports reports }
     ensures writes { (job : Job) (found : SourceReading) → LeadsTo found (Err stop) →
         (path text : List ℕ) → job_reading job found ≡ Exports path text →
         (reports : List ℕ → Option (List ℕ)) → Writes result path text reports reports }
@@ -327,7 +311,7 @@ fn run_sources<T: Tree, D: Disk, P: Procs, O: Sink, R: Reports>(
     ensures kept { P.tells →
         (P.journal procs.new
         ≡ P.journal procs.old ++ since (P.journal procs.old) (P.journal procs.new)) }
-    ensures no_tests { P.tells →
+    ensures no_tests { P.tells → is_run job ≡ false →
         test_part (since (P.journal procs.old) (P.journal procs.new)) ≡ [] }
     ensures acts { (scan : List ℕ → Finding) → IsScanner scan → T.tells →
         (words : List (List ℕ)) →
@@ -341,7 +325,7 @@ fn run_sources<T: Tree, D: Disk, P: Procs, O: Sink, R: Reports>(
         (seen (P.journal procs.new) (D.moments disk.new) (D.failed_disk_calls disk.new)
         (O.contents out.new) (R.report reports.new)) }
     ensures unbuilt { is_build job ≡ false → (disk.new ≡ disk.old) × (procs.new ≡ procs.old) }
-    ensures unwritten { is_export job ≡ false → reports.new ≡ reports.old }
+    ensures unwritten { may_write job ≡ false → reports.new ≡ reports.old }
     ensures placed { (result ≡ Outcome.OutsideFault Which.Tree)
         ⊎ (result ≡ Outcome.OutsideFault Which.Input) →
         (disk.new ≡ disk.old) × (procs.new ≡ procs.old) × (reports.new ≡ reports.old) }
@@ -384,7 +368,7 @@ fn run_setting<T: Tree, D: Disk, P: Procs, O: Sink, R: Reports>(
     ensures kept { P.tells →
         (P.journal procs.new
         ≡ P.journal procs.old ++ since (P.journal procs.old) (P.journal procs.new)) }
-    ensures no_tests { P.tells →
+    ensures no_tests { P.tells → may_test (setting_job setting) ≡ false →
         test_part (since (P.journal procs.old) (P.journal procs.new)) ≡ [] }
     ensures acts { (scan : List ℕ → Finding) → IsScanner scan → T.tells →
         (words : List (List ℕ)) →
@@ -402,7 +386,7 @@ fn run_setting<T: Tree, D: Disk, P: Procs, O: Sink, R: Reports>(
         × (reports.new ≡ reports.old) }
     ensures unbuilt { (job : Job) → setting_job setting ≡ Ok job → is_build job ≡ false →
         (disk.new ≡ disk.old) × (procs.new ≡ procs.old) }
-    ensures unwritten { (job : Job) → setting_job setting ≡ Ok job → is_export job ≡ false →
+    ensures unwritten { (job : Job) → setting_job setting ≡ Ok job → may_write job ≡ false →
         reports.new ≡ reports.old }
     ensures says_words { O.tells → (r : Reading) → setting_job setting ≡ Err r →
         (what : Said) → plain_said r ≡ Some what →
@@ -430,12 +414,15 @@ fn run_setting<T: Tree, D: Disk, P: Procs, O: Sink, R: Reports>(
 /// Runs the program: reads the words, and does what they and the sources say.
 ///
 /// The words are those of the command line without the program's name. Where the first is `child-analyse` the program is a
-/// child. With `--files` the files of the project in the tree are put, in compile order; with `--list` the tests that
+/// child: the compiler that is part of it, or with `child-bench` the simulator. With `--files` the files of the project in the tree are put, in compile order; with `--list` the tests that
 /// one of the patterns matches; with `--export-json` both are written to a file as JSON. With `--compile` they are built in
 /// that order: of a file whose text, name, command and dependencies are those of its record on the disk nothing is
 /// started, and each other file is compiled, once, with as many children at once as `-p` says, until one is refused, or
 /// with `-k` also after it, but for the files that depend on a refused one; what a compiler gives is committed before
-/// the next start. With `--clean` no record counts, and the store is emptied before the first start.
+/// the next start. With `--clean` no record counts, and the store is emptied before the first start. With none of these the
+/// files are built likewise, and where all are made the tests that one of the patterns matches are run over exactly them,
+/// with as many children at once; with `--fail-fast` none is started after one that didn't pass has ended. What became of
+/// both is put in one call, and after that, with `-x`, written to a file as JUnit XML.
 ///
 /// From every object's answers the call answers what the clauses below say; where an object tells nothing, it is
 /// still safe, its answer still has its cause, and no child runs when it returns.
@@ -451,8 +438,8 @@ pub fn run_vunit<I: Source, T: Tree, D: Disk, P: Procs, O: Sink, R: Reports>(
 ) -> Outcome
     requires { P.running procs.old ≡ [] }
 
-    // No child runs at the return, the compilers and the sources are as before, and the journal has grown at its end
-    // alone, by compilers' children alone.
+    // No child runs at the return, the children's answers and the sources are as before, and the journal has grown at its
+    // end alone: by compilers alone, where words alone say that no test is run.
     ensures running { P.running procs.new ≡ [] }
     ensures same { P.answer procs.new ≡ P.answer procs.old }
     ensures sources { T.file tree.new ≡ T.file tree.old }
@@ -460,7 +447,7 @@ pub fn run_vunit<I: Source, T: Tree, D: Disk, P: Procs, O: Sink, R: Reports>(
     ensures kept { P.tells →
         (P.journal procs.new
         ≡ P.journal procs.old ++ since (P.journal procs.old) (P.journal procs.new)) }
-    ensures no_tests { P.tells →
+    ensures no_tests { P.tells → may_test (words_job words.now) ≡ false →
         test_part (since (P.journal procs.old) (P.journal procs.new)) ≡ [] }
 
     // What the run did is a step of a history, and right from a disk of true records.
@@ -487,37 +474,53 @@ pub fn run_vunit<I: Source, T: Tree, D: Disk, P: Procs, O: Sink, R: Reports>(
         (disk.new ≡ disk.old) × (procs.new ≡ procs.old) × (reports.new ≡ reports.old) }
 
     // What isn't needed isn't touched: input but by a child of the program; tree, disk, children and reports where the words
-    // alone say what is done; disk and children where nothing is to be built, by the words, and where the sources give
-    // nothing to build; reports where none is to be written, and where the sources give none; the output where nothing is
-    // said. All this on every answer.
+    // alone say what is done, but for the results of a simulator child; disk and children where nothing is to be built, by the
+    // words, and where the sources give nothing to build; reports where none is to be written, and where the sources give
+    // none; the output where nothing is said. All this on every answer.
     ensures no_input { begins_as_child words.now ≡ false → input.new ≡ input.old }
     ensures words_alone { (r : Reading) → words_job words.now ≡ Err r →
-        (tree.new ≡ tree.old) × (disk.new ≡ disk.old) × (procs.new ≡ procs.old)
-        × (reports.new ≡ reports.old) }
+        (tree.new ≡ tree.old) × (disk.new ≡ disk.old) × (procs.new ≡ procs.old) }
+    ensures words_unwritten { (r : Reading) → words_job words.now ≡ Err r →
+        begins_as_simulator words.now ≡ false → reports.new ≡ reports.old }
     ensures unbuilt { (job : Job) → words_job words.now ≡ Ok job → is_build job ≡ false →
         (disk.new ≡ disk.old) × (procs.new ≡ procs.old) }
-    ensures unwritten { (job : Job) → words_job words.now ≡ Ok job → is_export job ≡ false →
+    ensures unwritten { (job : Job) → words_job words.now ≡ Ok job → may_write job ≡ false →
         reports.new ≡ reports.old }
     ensures unreported { (scan : List ℕ → Finding) → IsScanner scan → T.tells →
-        report_of (reading scan words.now
-        (record { file = T.file tree.old; listed = T.listed tree.old })) ≡ None →
+        begins_as_simulator words.now ≡ false →
+        report_path_of (reading scan words.now
+        (record { file = T.file tree.old; listed = T.listed tree.old })) ≡ Nothing →
         reports.new ≡ reports.old }
     ensures untouched { (scan : List ℕ → Finding) → IsScanner scan → T.tells →
         order_of (reading scan words.now
         (record { file = T.file tree.old; listed = T.listed tree.old })) ≡ None →
         (disk.new ≡ disk.old) × (procs.new ≡ procs.old) }
 
-    ensures silent_child { I.tells → begins_as_child words.now ≡ true →
-        (child_said (I.left input.old)).text ≡ [] → out.new ≡ out.old }
+    ensures silent_compiler { (scan : List ℕ → Finding) → IsScanner scan → I.tells →
+        begins_as_compiler words.now ≡ true →
+        (child_said (analysis scan) (I.left input.old)).text ≡ [] → out.new ≡ out.old }
+    ensures silent_simulator { I.tells → begins_as_compiler words.now ≡ false →
+        begins_as_simulator words.now ≡ true →
+        (child_said simulation (I.left input.old)).text ≡ [] → out.new ≡ out.old }
     ensures silent_export { (scan : List ℕ → Finding) → IsScanner scan → T.tells →
         (path text : List ℕ) →
         reading scan words.now (record { file = T.file tree.old; listed = T.listed tree.old })
         ≡ Exports path text → out.new ≡ out.old }
 
-    // The answer and the text that is put: of a child of the program; of words alone; of words and sources with which nothing
-    // is built; of a build, by its marks.
-    ensures says_child { I.tells → O.tells → begins_as_child words.now ≡ true →
-        Says result (child_said (I.left input.old)) (O.contents out.old) (O.contents out.new) }
+    // The answer and the text that is put: of a child of the program, which is that of its input; of words alone; of words and
+    // sources with which nothing is built; of a build, by its marks. The simulator leaves its results first.
+    ensures says_compiler { (scan : List ℕ → Finding) → IsScanner scan → I.tells → O.tells →
+        begins_as_compiler words.now ≡ true →
+        Says result (child_said (analysis scan) (I.left input.old))
+        (O.contents out.old) (O.contents out.new) }
+    ensures says_simulator { I.tells → O.tells → begins_as_compiler words.now ≡ false →
+        begins_as_simulator words.now ≡ true →
+        Says result (child_said simulation (I.left input.old))
+        (O.contents out.old) (O.contents out.new) }
+    ensures leaves_results { I.tells → R.tells → begins_as_compiler words.now ≡ false →
+        begins_as_simulator words.now ≡ true →
+        WritesResults (child_results (I.left input.old)) result
+        (R.report reports.old) (R.report reports.new) }
     ensures says_words { O.tells → (r : Reading) → words_job words.now ≡ Err r →
         (what : Said) → plain_said r ≡ Some what →
         Says result what (O.contents out.old) (O.contents out.new) }
@@ -544,7 +547,23 @@ pub fn run_vunit<I: Source, T: Tree, D: Disk, P: Procs, O: Sink, R: Reports>(
         let marks = marks_of (work_over records_in_image order (D.moments disk.old).now) events in
         IsSaid result → result ≡ build_outcome order.graph marks }
 
-    // The report that is written: the file of its path has exactly the text after `Done`, and no other file is changed.
+    // What a run with tests did and said besides its build: its tests come after it, over exactly what was built, which are the
+    // libraries of a clean build from a disk of true records, whatever the answer is.
+    ensures runs { (scan : List ℕ → Finding) → IsScanner scan → T.tells → (asked : Testing) →
+        reading scan words.now (record { file = T.file tree.old; listed = T.listed tree.old })
+        ≡ Runs asked →
+        RunsTests (of_each D.tells P.tells O.tells R.tells) (P.answer procs.old) asked result
+        (seen (P.journal procs.old) (D.moments disk.old) (D.failed_disk_calls disk.old)
+        (O.contents out.old) (R.report reports.old))
+        (seen (P.journal procs.new) (D.moments disk.new) (D.failed_disk_calls disk.new)
+        (O.contents out.new) (R.report reports.new)) }
+    // No test is started where words and sources give no runs of tests.
+    ensures untested { (scan : List ℕ → Finding) → IsScanner scan → T.tells → P.tells →
+        plan_in (reading scan words.now
+        (record { file = T.file tree.old; listed = T.listed tree.old })) ≡ None →
+        test_part (since (P.journal procs.old) (P.journal procs.new)) ≡ [] }
+
+    // The report that is written by an export: the file of its path has exactly the text after `Done`, and no other file is changed.
     ensures writes { (scan : List ℕ → Finding) → IsScanner scan → T.tells → R.tells →
         (path text : List ℕ) →
         reading scan words.now (record { file = T.file tree.old; listed = T.listed tree.old })
@@ -562,10 +581,10 @@ pub fn run_vunit<I: Source, T: Tree, D: Disk, P: Procs, O: Sink, R: Reports>(
         (R.failed_reports reports.new) (I.failed_takes input.new)) }
 {
     if begins_with(b"child-analyse", words) {
-        return run_as_child(alloc, input, out);
+        return run_as_compiler(alloc, input, out);
     }
     if begins_with(b"child-bench", words) {
-        return say_usage(out);
+        return run_as_simulator(alloc, input, out, reports);
     }
     match read_words(alloc, words) {
         Ok(setting) => run_setting(alloc, setting, tree, disk, procs, out, reports),

@@ -2,6 +2,7 @@
 
 ghost use Rattle.std.specs.Prelude.{◌≡◌, ◌≤◌, ◌<◌, ◌^◌, length, map, IfOk, IfSome};
 ghost use Rattle.std.specs.Str.{bytes_eq};
+ghost use Rattle.run_spec.specs.JournalParts.{is_given};
 ghost use Rattle.test_select.specs.Patterns.{pieces_of};
 ghost use Rattle.vunit_top.specs.Reading.{HasSlots, begins_with, job_of, reads_tests};
 
@@ -9,7 +10,21 @@ use command_line::Setting;
 use disk_runs::BuildOptions;
 use std::alloc::Global;
 use test_select::{PatternList, read_pattern};
+use tested_report::TestWords;
 use vr_base::{MaybeText, NoMemory, SLOT_LIMIT, Text, TextList};
+
+/// How files are built and their tests are run.
+#[derive(Drop)]
+pub struct RunOptions {
+    pub build: BuildOptions,
+    /// Starts no test after the first that didn't pass.
+    pub fail_fast: bool,
+    pub words: TestWords,
+    /// The file of the report of tests, where one is wanted.
+    pub report: MaybeText,
+    /// Which tests.
+    pub patterns: TextList,
+}
 
 /// What is done with the sources.
 #[derive(Drop)]
@@ -21,6 +36,8 @@ pub enum Job {
     /// The files, and the tests that one of these patterns matches, are written to the file of this path.
     Export(Text, TextList),
     Build(BuildOptions),
+    /// The files are built, and then the tests that one of the patterns matches are run.
+    Run(RunOptions),
 }
 
 /// Whether tests are looked for in the sources.
@@ -32,6 +49,7 @@ pub fn reads_tests(job: &Job) -> bool
         Job::ListTests(_) => true,
         Job::Export(_, _) => true,
         Job::Build(_) => false,
+        Job::Run(_) => true,
     }
 }
 
@@ -51,6 +69,15 @@ pub fn begins_with(first: &[u8], words: &TextList) -> bool
     }
 }
 
+fn is_given(path: &MaybeText) -> bool
+    ensures { result ≡ is_given path.entry.now }
+{
+    match path {
+        MaybeText::Given(_) => true,
+        MaybeText::Nothing => false,
+    }
+}
+
 /// What a setting says is done with the sources; `None` where that isn't built yet.
 pub fn job_of(setting: Setting) -> Option<Job>
     requires some { 1 ≤ setting.num_threads }
@@ -65,10 +92,14 @@ pub fn job_of(setting: Setting) -> Option<Job>
         keep_compiling,
         clean,
         num_threads,
+        fail_fast,
+        xunit_xml,
+        exit_0,
+        verbose,
+        quiet,
         export_json,
         generate,
         patterns,
-        ..
     } = setting;
     if generate > 0 {
         return None;
@@ -82,14 +113,27 @@ pub fn job_of(setting: Setting) -> Option<Job>
     if files {
         return Some(Job::ListFiles);
     }
+    let build = BuildOptions {
+        slots: num_threads as u32,
+        keep_going: keep_compiling,
+        clean,
+    };
     if compile {
-        return Some(Job::Build(BuildOptions {
-            slots: num_threads as u32,
-            keep_going: keep_compiling,
-            clean,
-        }));
+        return Some(Job::Build(build));
     }
-    None
+    let report = is_given(&xunit_xml);
+    Some(Job::Run(RunOptions {
+        build,
+        fail_fast,
+        words: TestWords {
+            verbose,
+            quiet,
+            exit_0,
+            report,
+        },
+        report: xunit_xml,
+        patterns,
+    }))
 }
 
 /// The patterns that these words are.

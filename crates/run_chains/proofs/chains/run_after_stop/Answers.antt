@@ -29,3 +29,12 @@ returns-clause-ran g c = λ scan is t d e p moment at stop.
     (g.P.Procs.journal c.args.procs.now) (g.P.Procs.journal two.procs)
     (readable_now (g.D.Disk.moments c.args.disk.now) (g.met.D.Disk.sound c.args.disk.now))
     (c.run_vunit-second.ensures.kept p ∙ ap (λ (l : List Event). l ++ after.events) (c.run_vunit-first.ensures.kept p))
+    (record {
+      untested = λ none. c.run_vunit-first.ensures.untested scan is t p none;
+      tested = λ asked reads. (c.run_vunit-first.ensures.runs scan is t asked reads).tested d p;
+    })
+    (rw (sym c.run_vunit-first.ensures.same, sym c.run_vunit-first.ensures.sources, sym c.run_vunit-first.ensures.listed)
+    (record {
+      untested = λ none. c.run_vunit-second.ensures.untested scan is t p none;
+      tested = λ asked reads. (c.run_vunit-second.ensures.runs scan is t asked reads).tested e p;
+    }))

@@ -28,4 +28,12 @@ returns-clause-ran g c = λ scan is t d p.
     (c.run_vunit-first.ensures.ran scan is t d p)
     (rw (sym c.run_vunit-first.ensures.same, sym c.run_vunit-first.ensures.sources, sym c.run_vunit-first.ensures.listed) (c.run_vunit-second.ensures.ran scan is t d p))
     (c.run_vunit-second.ensures.kept p ∙ ap (λ (l : List Event). l ++ after.events) (c.run_vunit-first.ensures.kept p))
-    (c.run_vunit-second.ensures.no_tests p)
+    (record {
+      untested = λ none. c.run_vunit-first.ensures.untested scan is t p none;
+      tested = λ asked reads. (c.run_vunit-first.ensures.runs scan is t asked reads).tested d p;
+    })
+    (rw (sym c.run_vunit-first.ensures.same, sym c.run_vunit-first.ensures.sources, sym c.run_vunit-first.ensures.listed)
+    (record {
+      untested = λ none. c.run_vunit-second.ensures.untested scan is t p none;
+      tested = λ asked reads. (c.run_vunit-second.ensures.runs scan is t asked reads).tested d p;
+    }))

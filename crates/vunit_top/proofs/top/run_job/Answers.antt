@@ -4,9 +4,9 @@ use Rattle.run_report.specs.Texts.{warning_text}
 use Rattle.test_report.specs.Export.{export_text}
 use Rattle.disk_runs.specs.Orders.{order_by}
 use Rattle.vunit_top.specs.Acts.{of_each, seen}
-use Rattle.vunit_top.specs.Reading.{Lists, ListsTests, chosen}
+use Rattle.vunit_top.specs.Reading.{Lists, ListsTests, chosen, testing_of}
 use Rattle.disk_runs.proofs.OverStore.{no_test_since}
-use Rattle.vunit_top.proofs.ActTruths.{acts_said, acts_export, acts_built}
+use Rattle.vunit_top.proofs.ActTruths.{acts_said, acts_export, acts_built, acts_tested}
 use Rattle.vunit_top.proofs.top.run_job.Goals as goal
 
 pub returns-in-ListFiles-clause-acts : goal.returns-in-ListFiles-clause-acts
@@ -48,16 +48,27 @@ returns-in-Build-clause-acts g c = λ scan words.
     scan _ (order_by c.in-Build.options c.args.read.now.graph) (warning_text c.args.read.now.project.files c.args.read.now.warnings) words c.build_project.result
     (seen (g.P.Procs.journal c.args.procs.now) (g.D.Disk.moments c.args.disk.now) (g.D.Disk.failed_disk_calls c.args.disk.now) (g.O.Sink.contents c.args.out.now) (g.R.Reports.report c.args.reports.now))
     (seen (g.P.Procs.journal c.build_project.new.procs) (g.D.Disk.moments c.build_project.new.disk) (g.D.Disk.failed_disk_calls c.build_project.new.disk) (g.O.Sink.contents c.build_project.new.out) (g.R.Reports.report c.args.reports.now))
-    refl (c.build_project.ensures.ran scan words) c.build_project.ensures.says c.build_project.ensures.answers)
+    refl (c.build_project.ensures.ran scan words) c.build_project.ensures.says c.build_project.ensures.answers c.build_project.ensures.no_tests)
 
 pub returns-in-Build-clause-counted : goal.returns-in-Build-clause-counted
 returns-in-Build-clause-counted g c = λ tree input. c.build_project.ensures.counted tree _ input
 
 pub returns-in-ListFiles-clause-no_tests : goal.returns-in-ListFiles-clause-no_tests
-returns-in-ListFiles-clause-no_tests g c = λ runs. no_test_since (g.P.Procs.journal c.args.procs.now)
+returns-in-ListFiles-clause-no_tests g c = λ runs none. no_test_since (g.P.Procs.journal c.args.procs.now)
 
 pub returns-in-ListTests-clause-no_tests : goal.returns-in-ListTests-clause-no_tests
-returns-in-ListTests-clause-no_tests g c = λ runs. no_test_since (g.P.Procs.journal c.args.procs.now)
+returns-in-ListTests-clause-no_tests g c = λ runs none. no_test_since (g.P.Procs.journal c.args.procs.now)
 
 pub returns-in-Export-clause-no_tests : goal.returns-in-Export-clause-no_tests
-returns-in-Export-clause-no_tests g c = λ runs. no_test_since (g.P.Procs.journal c.args.procs.now)
+returns-in-Export-clause-no_tests g c = λ runs none. no_test_since (g.P.Procs.journal c.args.procs.now)
+
+pub returns-in-Run-clause-acts : goal.returns-in-Run-clause-acts
+returns-in-Run-clause-acts g c = λ scan words.
+    rw c.in-Run.is
+    (acts_tested
+    (of_each g.D.Disk.tells g.P.Procs.tells g.O.Sink.tells g.R.Reports.tells)
+    (of_each (c.test_project.new.disk ≡ c.args.disk.now) (c.test_project.new.procs ≡ c.args.procs.now) (c.test_project.new.out ≡ c.args.out.now) (c.test_project.new.reports ≡ c.args.reports.now))
+    scan _ (testing_of c.in-Run.options c.args.read.now) words c.test_project.result
+    (seen (g.P.Procs.journal c.args.procs.now) (g.D.Disk.moments c.args.disk.now) (g.D.Disk.failed_disk_calls c.args.disk.now) (g.O.Sink.contents c.args.out.now) (g.R.Reports.report c.args.reports.now))
+    (seen (g.P.Procs.journal c.test_project.new.procs) (g.D.Disk.moments c.test_project.new.disk) (g.D.Disk.failed_disk_calls c.test_project.new.disk) (g.O.Sink.contents c.test_project.new.out) (g.R.Reports.report c.test_project.new.reports))
+    c.test_project.ensures.unwritten (c.test_project.ensures.ran scan words) c.test_project.ensures.runs)

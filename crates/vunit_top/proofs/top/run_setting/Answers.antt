@@ -37,7 +37,7 @@ returns-in-None-clause-acts g c = λ scan is t words.
     refl refl refl refl refl c.say_refusal.ensures.said)
 
 pub returns-then-setting-clause-no_tests : goal.returns-then-setting-clause-no_tests
-returns-then-setting-clause-no_tests g c = λ runs. no_test_since (g.P.Procs.journal c.args.procs.now)
+returns-then-setting-clause-no_tests g c = λ runs none. no_test_since (g.P.Procs.journal c.args.procs.now)
 
 pub returns-in-None-clause-no_tests : goal.returns-in-None-clause-no_tests
-returns-in-None-clause-no_tests g c = λ runs. no_test_since (g.P.Procs.journal c.args.procs.now)
+returns-in-None-clause-no_tests g c = λ runs none. no_test_since (g.P.Procs.journal c.args.procs.now)

@@ -31,6 +31,8 @@ returns-in-Err-clause-acts g c = λ scan is t words.
     (λ puts. c.say_stop.ensures.says puts c.args.job found led)
     (λ puts. c.say_stop.ensures.says_build puts c.args.job found led)
     (λ writes path text exports. c.say_stop.ensures.writes c.args.job found led path text exports (g.R.Reports.report c.args.reports.now))
+    (λ puts. c.say_stop.ensures.says_run puts c.args.job found led)
+    (λ writes asked runs said. c.say_stop.ensures.unwritten c.args.job found led asked runs asked.report said (g.R.Reports.report c.args.reports.now))
 
 pub returns-in-Err-clause-no_tests : goal.returns-in-Err-clause-no_tests
-returns-in-Err-clause-no_tests g c = λ runs. no_test_since (g.P.Procs.journal c.args.procs.now)
+returns-in-Err-clause-no_tests g c = λ runs none. no_test_since (g.P.Procs.journal c.args.procs.now)

@@ -1,0 +1,3 @@
+-- The definitions.
+pub mod Histories
+pub mod Rights

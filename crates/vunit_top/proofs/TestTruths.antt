@@ -1,0 +1,244 @@
+-- What a run with tests did and said, from its build and its tests.
+use Rattle.std.proofs.Common.{◌≡◌, ℕ, Bool, true, false, List, [], ◌∷◌, ◌++◌, Option, Some, None, Result, Ok, Err, refl, sym, ap, subst, ◌∙◌, arith}
+use Rattle.std.specs.Prelude.{if◌then◌else◌, IfOk}
+use Rattle.std.specs.List.{list_all, list_any}
+use Rattle.std.proofs.lemmas.Bool.{cond-true, cond-false, false≢true}
+use Rattle.vr_base.specs.declared.child.MaybeText.{MaybeText}
+use Rattle.vr_base.specs.declared.child.MaybeText.TheVariants.{Given, Nothing}
+use Rattle.vr_base.specs.declared.graph.Entry.{Entry}
+use Rattle.vr_base.specs.declared.child.Request.{Request}
+use Rattle.vr_base.specs.declared.child.Exit.{Exit}
+use Rattle.vr_base.specs.declared.child.Event.{Event}
+use Rattle.run_spec.specs.declared.marks.Mark.{Mark}
+use Rattle.run_spec.specs.declared.marks.Mark.TheVariants as mark
+use Rattle.outcomes.specs.declared.outcome.Outcome.{Outcome}
+use Rattle.outcomes.specs.declared.outcome.Outcome.TheVariants as outcome
+use Rattle.vr_outside.specs.Disks.{Moments, AreSound, added_since}
+use Rattle.run_spec.specs.ChildJournal.{Work, since}
+use Rattle.run_spec.specs.JournalParts.{compile_part, test_part}
+use Rattle.run_spec.specs.Faithful.{IsFaithfulDisk}
+use Rattle.run_spec.specs.Marks.{marks_of, is_refused}
+use Rattle.run_spec.proofs.Parts.{build_parts}
+use Rattle.history_spec.specs.Histories.{ProgramRun, work_over}
+use Rattle.vr_outside.specs.Disks.{DiskState}
+use Rattle.compile_loop.specs.Faults.{Explains, FaultCounts, NoneFell}
+use Rattle.compile_loop.specs.Ran.{is_made}
+use Rattle.compile_loop.specs.declared.faults.BuildFault.{BuildFault}
+use Rattle.compile_loop.specs.declared.faults.BuildFault.TheVariants as fault
+use Rattle.scan_spec.specs.Scans.{Finding}
+use Rattle.test_spec.specs.declared.runs.TestRun.{TestRun}
+use Rattle.test_spec.specs.declared.ends.TestEnd.{TestEnd}
+use Rattle.test_spec.specs.declared.ends.RunEnd.{RunEnd}
+use Rattle.test_journal.specs.TestJournal.{TestSetting, IsWholeTests}
+use Rattle.test_loop.specs.Results.{test_ends}
+use Rattle.tested_runs.specs.declared.testing.Tested.{Tested}
+use Rattle.tested_runs.specs.Tested.{SaysTests, TestsOver, setting_after}
+use Rattle.tested_histories.specs.Histories.{HasTested}
+use Rattle.tested_histories.specs.Rights.{AreRightTests}
+use Rattle.tested_histories.proofs.TestedRights.{tests_right}
+use Rattle.tested_report.specs.declared.said.RunSaid.{RunSaid}
+use Rattle.tested_report.specs.declared.said.TestWords.{TestWords}
+use Rattle.tested_report.specs.Said.{run_said}
+use Rattle.vunit_top.specs.Store.{records_in_image}
+use Rattle.vunit_top.specs.Acts.{Object, Disk, Children, Out, Reports, Seen, RunsTests, marks_between, setting_between, tests_since, said_between}
+use Rattle.vunit_top.specs.Ends.{WritesReport}
+use Rattle.vunit_top.specs.Reading.{Testing, Builds, Runs}
+use Rattle.vunit_top.specs.Runs.{RunsAs, run_of}
+use Rattle.vunit_top.specs.Said.{Causes, IsAccounted, IsSaid, HasEnded, HasBuilt, SaysRun, Said, fault_counts, fault_outcome, plain_run}
+use Rattle.vunit_top.proofs.RunTruths.{built_refuses_none, built_said, readable_now, runs_over}
+
+-- files that are made aren't refused
+made_refuses_none : (marks : List Mark) → list_all is_made marks ≡ true → list_any is_refused marks ≡ false
+made_refuses_none [] made = refl
+made_refuses_none (mark.Fresh ∷ marks) made = made_refuses_none marks made
+made_refuses_none (mark.Compiled ∷ marks) made = made_refuses_none marks made
+made_refuses_none (mark.Refused code output ∷ marks) made = absurd (false≢true made)
+made_refuses_none (mark.Skipped ∷ marks) made = absurd (false≢true made)
+made_refuses_none (mark.Left ∷ marks) made = absurd (false≢true made)
+
+-- what is said of tests is what became of them, where all files are made
+ends_said : (setting : TestSetting) (made : Bool) (tests : Option TestEnd) (events : List Event) → SaysTests setting made tests events → tests ≡ (if made then Some (record { runs = test_ends setting events }) else None)
+ends_said setting made None events says = sym (cond-false made (Some (record { runs = test_ends setting events })) None says)
+ends_said setting made (Some end) events says = ap (λ (runs : List RunEnd). Some (record { runs = runs })) says.2 ∙ sym (cond-true made (Some (record { runs = test_ends setting events })) None says.0)
+
+whole_if : (setting : TestSetting) (made : Bool) (tests : Option TestEnd) (events : List Event) → SaysTests setting made tests events → made ≡ true → IsWholeTests setting events
+whole_if setting made None events says is = absurd (false≢true (sym says ∙ is))
+whole_if setting made (Some end) events says is = says.1
+
+-- a run that is done, or whose tests failed, has no refused file
+none_refused : (setting : TestSetting) (warnings : List ℕ) (graph : List Entry) (marks : List Mark) (runs : List TestRun) (words : TestWords) (tests : Option TestEnd) (events : List Event) (said : Outcome) → SaysTests setting (list_all is_made marks) tests events → HasBuilt said →
+    said ≡ (run_said warnings graph marks runs words tests).outcome → list_any is_refused marks ≡ false
+none_refused setting warnings graph marks runs words None events said says built is = built_refuses_none graph marks said built is
+none_refused setting warnings graph marks runs words (Some end) events said says built is = made_refuses_none marks says.0
+
+-- ## After a fault
+
+pub never_ended : (why : BuildFault) → HasEnded (fault_outcome why) → ⊥
+never_ended fault.NoMemory is = is
+never_ended fault.StartFailed is = is
+never_ended fault.ChildLost is = is
+never_ended fault.DiskFailed is = is
+
+pub never_said : (why : BuildFault) → IsSaid (fault_outcome why) → ⊥
+never_said fault.NoMemory is = is
+never_said fault.StartFailed is = is
+never_said fault.ChildLost is = is
+never_said fault.DiskFailed is = is
+
+never_built : (why : BuildFault) → HasBuilt (fault_outcome why) → ⊥
+never_built why is = never_said why (built_said (fault_outcome why) is)
+
+pub nothing_put : (why : BuildFault) (said : Said) (put : List ℕ) → SaysRun (fault_outcome why) said put put
+nothing_put fault.NoMemory said put = refl
+nothing_put fault.StartFailed said put = refl
+nothing_put fault.ChildLost said put = refl
+nothing_put fault.DiskFailed said put = refl
+
+pub nothing_written : (why : BuildFault) (path : MaybeText) (said : Option (List ℕ)) (report : List ℕ → Option (List ℕ)) → WritesReport path said (fault_outcome why) report report
+nothing_written why Nothing said report = refl
+nothing_written why (Given path) None report = refl
+nothing_written fault.NoMemory (Given path) (Some text) report = refl
+nothing_written fault.StartFailed (Given path) (Some text) report = refl
+nothing_written fault.ChildLost (Given path) (Some text) report = refl
+nothing_written fault.DiskFailed (Given path) (Some text) report = refl
+
+-- the counts of a build and of its tests say why
+pub fault_counted : (why : BuildFault) (first now : FaultCounts) (tree out report input : ℕ) → Explains (Some why) first now → NoneFell first now →
+    IsAccounted (fault_outcome why) (fault_counts tree first.disks first.starts first.losses out report input) (fault_counts tree now.disks now.starts now.losses out report input)
+fault_counted why first now tree out report input explains fell = record { cause = cause why explains; stand = record { tree = omega arith; disk = fell.disks; start = fell.starts; child = fell.losses; out = omega arith; report = omega arith; input = omega arith } } where
+  cause : (why : BuildFault) → Explains (Some why) first now → Causes (fault_outcome why) (fault_counts tree first.disks first.starts first.losses out report input) (fault_counts tree now.disks now.starts now.losses out report input)
+  cause fault.NoMemory is = tt
+  cause fault.StartFailed is = is
+  cause fault.ChildLost is = is
+  cause fault.DiskFailed is = is
+
+-- and where there is no fault, those of what is said after it count
+pub ended_counted : (first now : FaultCounts) (tree before out reported report input : ℕ) (said : Outcome) → Explains None first now → IsAccounted said (fault_counts tree now.disks now.starts now.losses before reported input) (fault_counts tree now.disks now.starts now.losses out report input) →
+    IsAccounted said (fault_counts tree first.disks first.starts first.losses before reported input) (fault_counts tree now.disks now.starts now.losses out report input)
+ended_counted first now tree before out reported report input said same accounted =
+    subst (λ (f : FaultCounts). IsAccounted said (fault_counts tree f.disks f.starts f.losses before reported input) (fault_counts tree now.disks now.starts now.losses out report input)) same accounted
+
+-- ## The run
+
+-- a run with tests builds as one without
+as_run : (scan : List ℕ → Finding) (answer : Request → Exit) (asked : Testing) (run : ProgramRun) (first last : DiskState) → RunsAs scan answer (Builds asked.order asked.warnings) run first last → RunsAs scan answer (Runs asked) run first last
+as_run scan answer asked run first last did = record {
+  step = did.step;
+  ends = did.ends;
+  whole = did.whole;
+  recorded = did.recorded;
+  emptied = did.emptied;
+  right = did.right;
+  exact = did.exact;
+  made = did.made;
+}
+
+-- the marks that are said are those of what the compilers did
+marked : (answer : Request → Exit) (asked : Testing) (failed : Bool) (old new : Moments) (events : List Event) (tested : Tested) (over : TestsOver records_in_image answer asked.order asked.plan (Ok tested) failed old new events) →
+    tested.marks ≡ marks_of (work_over records_in_image asked.order old.now) over.compiled
+marked answer asked failed old new events tested over =
+    subst (λ (r : Result (List Mark) BuildFault). IfOk r (λ marks. marks ≡ marks_of (work_over records_in_image asked.order old.now) over.compiled)) over.gives.0 over.builds.marks
+
+module _ (scan : List ℕ → Finding) (answer : Request → Exit) (asked : Testing) (failed : Bool) (old new : Moments) (sound : AreSound old) (events : List Event) where
+  abbrev work : Work
+  work = work_over records_in_image asked.order old.now
+
+  abbrev Over : Result Tested BuildFault → Type 0
+  Over result = TestsOver records_in_image answer asked.order asked.plan result failed old new events
+
+  ran_over : (result : Result Tested BuildFault) (over : Over result) (words : List (List ℕ)) (said : Outcome) → (over.build ≡ Err fault.NoMemory → said ≡ outcome.NoMemory) → (HasEnded said → (marks : List Mark) × (over.build ≡ Ok marks)) →
+      (HasBuilt said → list_any is_refused (marks_of work over.compiled) ≡ false) → RunsAs scan answer (Runs asked) (run_of words said failed events (added_since old new)) old.now new.now
+  ran_over result over words said memory ends none =
+      as_run scan answer asked (run_of words said failed events (added_since old new)) old.now new.now
+      (subst (λ (l : List Event). RunsAs scan answer (Builds asked.order asked.warnings) (record { words = words; outcome = said; disk_failed = failed; events = l; later = added_since old new }) old.now new.now)
+      ((build_parts work over.compiled over.builds.lawful).0 ∙ sym over.compilers)
+      (runs_over scan answer asked.order asked.warnings over.build failed old new sound over.compiled over.builds words said memory ends none))
+
+  pub ran_ended : (tested : Tested) → Over (Ok tested) → (words : List (List ℕ)) (said : Outcome) → (IsSaid said → said ≡ (run_said asked.warnings asked.order.graph tested.marks asked.plan.runs asked.words tested.tests).outcome) →
+      RunsAs scan answer (Runs asked) (run_of words said failed events (added_since old new)) old.now new.now
+  ran_ended tested over words said answered =
+      ran_over (Ok tested) over words said (λ is. let nothing : Ok tested.marks ≡ Err fault.NoMemory = sym over.gives.0 ∙ is in absurd cc) (λ is. (tested.marks, over.gives.0))
+      (λ is. subst (λ (m : List Mark). list_any is_refused m ≡ false) (marked answer asked failed old new events tested over)
+      (none_refused (setting_after asked.order asked.plan work over.compiled) asked.warnings asked.order.graph tested.marks asked.plan.runs asked.words tested.tests over.tests said over.gives.1 is (answered (built_said said is))))
+
+  pub ran_faulted : (why : BuildFault) → Over (Err why) → (words : List (List ℕ)) → RunsAs scan answer (Runs asked) (run_of words (fault_outcome why) failed events (added_since old new)) old.now new.now
+  ran_faulted why over words =
+      ran_over (Err why) over words (fault_outcome why) (λ is. ap fault_outcome (same_fault why fault.NoMemory (over.stops fault.NoMemory is).0)) (λ is. absurd (never_ended why is)) (λ is. absurd (never_built why is)) where
+        same_fault : (why other : BuildFault) → ◌≡◌ {A = Result Tested BuildFault} (Err why) (Err other) → why ≡ other
+        same_fault why other is = cc
+
+-- ## The tests
+
+module _ (tells : Object → Type 0) (answer : Request → Exit) (asked : Testing) (failed : Bool) (before after : Seen) (sound : AreSound before.moments) where
+  abbrev events : List Event
+  events = since before.journal after.journal
+
+  abbrev built : Work
+  built = work_over records_in_image asked.order before.moments.now
+
+  abbrev Tests : Result Tested BuildFault → Type 0
+  Tests result = TestsOver records_in_image answer asked.order asked.plan result failed before.moments after.moments events
+
+  module _ (result : Result Tested BuildFault) (over : Tests result) where
+    moved : (P : List Event → List Event → Type 0) → P over.compiled over.tests → P (compile_part events) (test_part events)
+    moved P p = subst (P (compile_part events)) (sym over.simulators) (subst (λ (l : List Event). P l over.tests) (sym over.compilers) p)
+
+    parts : events ≡ compile_part events ++ test_part events
+    parts = moved (λ c t. events ≡ c ++ t) over.parted
+
+    here : HasTested answer asked.order asked.plan built over.compiled over.tests
+    here = record { graph = λ some. over.builds.graph_form; made = over.made; lawful = over.lawful; answered = over.answered }
+
+    has_tested : HasTested answer asked.order asked.plan built (compile_part events) (test_part events)
+    has_tested = moved (λ c t. HasTested answer asked.order asked.plan built c t) here
+
+    are_right : IsFaithfulDisk answer records_in_image before.moments.now → AreRightTests answer asked.order asked.plan (test_part events)
+    are_right faithful =
+        moved (λ c t. AreRightTests answer asked.order asked.plan t)
+        (tests_right answer records_in_image asked.order asked.plan before.moments.now over.compiled over.tests (readable_now before.moments sound) faithful over.builds.graph_form over.builds.lawful over.builds.answered here)
+
+  module _ (tested : Tested) (over : Tests (Ok tested)) where
+    same_marks : tested.marks ≡ marks_between asked.order before after
+    same_marks = moved (Ok tested) over (λ c t. tested.marks ≡ marks_of built c) (marked answer asked failed before.moments after.moments events tested over)
+
+    same_tests : tested.tests ≡ (if list_all is_made tested.marks then Some (record { runs = test_ends (setting_between asked before after) (tests_since before after) }) else None)
+    same_tests =
+        moved (Ok tested) over (λ c t. tested.tests ≡ (if list_all is_made tested.marks then Some (record { runs = test_ends (setting_after asked.order asked.plan built c) t }) else None))
+        (ends_said (setting_after asked.order asked.plan built over.compiled) (list_all is_made tested.marks) tested.tests over.tests over.gives.1)
+
+    same_said : run_said asked.warnings asked.order.graph tested.marks asked.plan.runs asked.words tested.tests ≡ said_between asked before after
+    same_said =
+        ap (λ (m : List Mark). run_said asked.warnings asked.order.graph m asked.plan.runs asked.words tested.tests) same_marks
+        ∙ ap (run_said asked.warnings asked.order.graph (marks_between asked.order before after) asked.plan.runs asked.words)
+        (same_tests ∙ ap (λ (m : List Mark). if list_all is_made m then Some (record { runs = test_ends (setting_between asked before after) (tests_since before after) }) else None) same_marks)
+
+    are_whole : list_all is_made (marks_between asked.order before after) ≡ true → IsWholeTests (setting_between asked before after) (tests_since before after)
+    are_whole made =
+        moved (Ok tested) over (λ c t. IsWholeTests (setting_after asked.order asked.plan built c) t)
+        (whole_if (setting_after asked.order asked.plan built over.compiled) (list_all is_made tested.marks) tested.tests over.tests over.gives.1 (ap (list_all is_made) same_marks ∙ made))
+
+  pub tests_ended : (tested : Tested) → (tells Disk → tells Children → Tests (Ok tested)) → (result : Outcome) →
+      (tells Out → SaysRun result (plain_run (run_said asked.warnings asked.order.graph tested.marks asked.plan.runs asked.words tested.tests)) before.put after.put) →
+      (IsSaid result → result ≡ (run_said asked.warnings asked.order.graph tested.marks asked.plan.runs asked.words tested.tests).outcome) →
+      (tells Reports → WritesReport asked.report (run_said asked.warnings asked.order.graph tested.marks asked.plan.runs asked.words tested.tests).report result before.report after.report) →
+      RunsTests tells answer asked result before after
+  tests_ended tested over result says answers writes = record {
+    parted = λ d c. parts (Ok tested) (over d c);
+    tested = λ d c. has_tested (Ok tested) (over d c);
+    right = λ d c. are_right (Ok tested) (over d c);
+    whole = λ d c ended. are_whole tested (over d c);
+    says = λ d c o. subst (λ (s : RunSaid). SaysRun result (plain_run s) before.put after.put) (same_said tested (over d c)) (says o);
+    answers = λ d c. subst (λ (s : RunSaid). IsSaid result → result ≡ s.outcome) (same_said tested (over d c)) answers;
+    writes = λ d c w. subst (λ (s : RunSaid). WritesReport asked.report s.report result before.report after.report) (same_said tested (over d c)) (writes w);
+  }
+
+  pub tests_faulted : (why : BuildFault) → (tells Disk → tells Children → Tests (Err why)) → (result : Outcome) → result ≡ fault_outcome why → after.put ≡ before.put → after.report ≡ before.report → RunsTests tells answer asked result before after
+  tests_faulted why over result is put report = record {
+    parted = λ d c. parts (Err why) (over d c);
+    tested = λ d c. has_tested (Err why) (over d c);
+    right = λ d c. are_right (Err why) (over d c);
+    whole = λ d c ended. absurd (never_ended why (subst HasEnded is ended));
+    says = λ d c o. rw (is, put) (nothing_put why (plain_run (said_between asked before after)) before.put);
+    answers = λ d c said. absurd (never_said why (subst IsSaid is said));
+    writes = λ d c w. rw (is, report) (nothing_written why asked.report (said_between asked before after).report before.report);
+  }

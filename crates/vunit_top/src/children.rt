@@ -1,0 +1,225 @@
+//! The program as a child of another run of it.
+
+ghost use Rattle.std.specs.Prelude.{◌≡◌, ◌≤◌, ◌⊎◌, ℕ, List, [], Option, None, Some};
+ghost use Rattle.bench_codec.specs.Reading.{bench_at};
+ghost use Rattle.child_benches.specs.Benches.{bench_answer, simulation};
+ghost use Rattle.child_lines.specs.Ends.{bad_request};
+ghost use Rattle.child_tools.specs.Answers.{analysis};
+ghost use Rattle.report_files.specs.Reports.{HasWritten};
+ghost use Rattle.scan_spec.specs.Scans.{Finding, IsScanner};
+ghost use Rattle.vunit_top.specs.Ends.{OutCauses, WritesFirst, WritesResults};
+ghost use Rattle.vunit_top.specs.Said.{Results, Says, IsAccounted, child_results, child_said, exit_said, fault_counts, left_results};
+
+use crate::ends::say;
+use child_benches::{bench_job, run_job};
+use child_lines::bad_request;
+use child_tools::analyse;
+use outcomes::{Outcome, Which};
+use report_files::{ReportFault, Reports};
+use std::alloc::Global;
+use test_spec::BenchJob;
+use vr_base::{Exit, MaybeText, Text};
+use vr_outside::{Sink, SinkFault, Source, SourceFault, TakeEnd};
+
+/// The most bytes that a child takes.
+const INPUT_BYTES: u64 = 2147483648;
+
+/// Puts the output of a child, if there is any, and answers its code. What was written before stays.
+fn say_exit<O: Sink>(exit: &Exit, out: &mut O) -> Outcome
+    ensures said { O.tells → Says result (exit_said exit.now) (O.contents out.old) (O.contents out.new) }
+    ensures silent { exit.now.output ≡ [] → out.new ≡ out.old }
+    ensures cause { OutCauses result (O.failed_puts out.old) (O.failed_puts out.new) }
+    ensures stand { O.failed_puts out.old ≤ O.failed_puts out.new }
+    ensures stays { (path text : List ℕ) (old new : List ℕ → Option (List ℕ)) →
+        HasWritten path text old new → WritesFirst result path text old new }
+{
+    let text = exit.output.bytes();
+    if text.is_empty() {
+        return Outcome::Child(exit.code);
+    }
+    match out.put(text) {
+        Ok(()) => Outcome::Child(exit.code),
+        Err(SinkFault::Failed) => Outcome::OutsideFault(Which::Out),
+    }
+}
+
+/// Answers that an input is no request.
+fn say_bad_request<O: Sink>(alloc: Global, out: &mut O) -> Outcome
+    ensures said { O.tells → Says result (exit_said bad_request) (O.contents out.old) (O.contents out.new) }
+    ensures silent { bad_request.output ≡ [] → out.new ≡ out.old }
+    ensures cause { OutCauses result (O.failed_puts out.old) (O.failed_puts out.new) }
+    ensures stand { O.failed_puts out.old ≤ O.failed_puts out.new }
+{
+    match bad_request(alloc) {
+        Ok(exit) => say_exit(&exit, out),
+        Err(_) => Outcome::NoMemory,
+    }
+}
+
+/// Answers the input of a compiler child.
+fn answer_source<O: Sink>(alloc: Global, input: &[u8], out: &mut O) -> Outcome
+    ensures said { (scan : List ℕ → Finding) → IsScanner scan → O.tells →
+        Says result (exit_said (analysis scan input.now)) (O.contents out.old) (O.contents out.new) }
+    ensures silent { (scan : List ℕ → Finding) → IsScanner scan →
+        (analysis scan input.now).output ≡ [] → out.new ≡ out.old }
+    ensures cause { OutCauses result (O.failed_puts out.old) (O.failed_puts out.new) }
+    ensures stand { O.failed_puts out.old ≤ O.failed_puts out.new }
+{
+    match analyse(alloc, input) {
+        Ok(exit) => say_exit(&exit, out),
+        Err(_) => Outcome::NoMemory,
+    }
+}
+
+/// Takes the input of a compiler child, puts what it gives, and answers its code.
+pub fn run_as_compiler<I: Source, O: Sink>(alloc: Global, input: &mut I, out: &mut O) -> Outcome
+    ensures said { (scan : List ℕ → Finding) → IsScanner scan → I.tells → O.tells →
+        Says result (child_said (analysis scan) (I.left input.old))
+        (O.contents out.old) (O.contents out.new) }
+    ensures silent { (scan : List ℕ → Finding) → IsScanner scan → I.tells →
+        (child_said (analysis scan) (I.left input.old)).text ≡ [] → out.new ≡ out.old }
+    ensures counted { (tree disk start child report : ℕ) → IsAccounted result
+        (fault_counts tree disk start child (O.failed_puts out.old) report
+        (I.failed_takes input.old))
+        (fault_counts tree disk start child (O.failed_puts out.new) report
+        (I.failed_takes input.new)) }
+{
+    match input.take(alloc, INPUT_BYTES) {
+        Ok(TakeEnd::Got(source)) => answer_source(alloc, source.bytes(), out),
+        Ok(TakeEnd::TooLong) => say(b"bad request\n", Outcome::Child(2), out),
+        Err(SourceFault::NoMemory) => Outcome::NoMemory,
+        Err(SourceFault::Failed) => Outcome::OutsideFault(Which::Input),
+    }
+}
+
+/// Writes the results of a simulator child, puts its output, and answers its code.
+fn leave_results<O: Sink, R: Reports>(
+    exit: &Exit,
+    path: &Text,
+    text: &Text,
+    out: &mut O,
+    reports: &mut R,
+) -> Outcome
+    ensures said { O.tells → Says result (exit_said exit.now) (O.contents out.old) (O.contents out.new) }
+    ensures silent { exit.now.output ≡ [] → out.new ≡ out.old }
+    ensures writes { R.tells →
+        let results : Results = record { path = path.now; text = text.now } in
+        WritesResults (Some results) result (R.report reports.old) (R.report reports.new) }
+    ensures counted { (tree disk start child input : ℕ) → IsAccounted result
+        (fault_counts tree disk start child (O.failed_puts out.old)
+        (R.failed_reports reports.old) input)
+        (fault_counts tree disk start child (O.failed_puts out.new)
+        (R.failed_reports reports.new) input) }
+{
+    match reports.write(path, text.bytes()) {
+        Ok(()) => say_exit(exit, out),
+        Err(ReportFault::Failed) => Outcome::OutsideFault(Which::Report),
+    }
+}
+
+/// Writes the results of a simulator child, if it has any, puts its output, and answers its code.
+fn leave_exit<O: Sink, R: Reports>(
+    exit: &Exit,
+    job: &BenchJob,
+    out: &mut O,
+    reports: &mut R,
+) -> Outcome
+    ensures said { O.tells → Says result (exit_said exit.now) (O.contents out.old) (O.contents out.new) }
+    ensures silent { exit.now.output ≡ [] → out.new ≡ out.old }
+    ensures writes { R.tells →
+        WritesResults (left_results (Some job.now) exit.now.results) result
+        (R.report reports.old) (R.report reports.new) }
+    ensures counted { (tree disk start child input : ℕ) → IsAccounted result
+        (fault_counts tree disk start child (O.failed_puts out.old)
+        (R.failed_reports reports.old) input)
+        (fault_counts tree disk start child (O.failed_puts out.new)
+        (R.failed_reports reports.new) input) }
+{
+    match &exit.results {
+        MaybeText::Given(text) => leave_results(exit, &job.results, text, out, reports),
+        MaybeText::Nothing => say_exit(exit, out),
+    }
+}
+
+/// Answers a bench job.
+fn answer_job<O: Sink, R: Reports>(
+    alloc: Global,
+    job: &BenchJob,
+    out: &mut O,
+    reports: &mut R,
+) -> Outcome
+    ensures said { O.tells →
+        Says result (exit_said (bench_answer job.now)) (O.contents out.old) (O.contents out.new) }
+    ensures silent { (bench_answer job.now).output ≡ [] → out.new ≡ out.old }
+    ensures writes { R.tells →
+        WritesResults (left_results (Some job.now) (bench_answer job.now).results) result
+        (R.report reports.old) (R.report reports.new) }
+    ensures counted { (tree disk start child input : ℕ) → IsAccounted result
+        (fault_counts tree disk start child (O.failed_puts out.old)
+        (R.failed_reports reports.old) input)
+        (fault_counts tree disk start child (O.failed_puts out.new)
+        (R.failed_reports reports.new) input) }
+{
+    match run_job(alloc, job) {
+        Ok(exit) => leave_exit(&exit, job, out, reports),
+        Err(_) => Outcome::NoMemory,
+    }
+}
+
+/// Answers the input of a simulator child.
+#[tactic(auto, unfolding(child_benches::specs::Benches::simulation))]
+fn answer_bench<O: Sink, R: Reports>(
+    alloc: Global,
+    input: &[u8],
+    out: &mut O,
+    reports: &mut R,
+) -> Outcome
+    ensures said { O.tells →
+        Says result (exit_said (simulation input.now)) (O.contents out.old) (O.contents out.new) }
+    ensures silent { (simulation input.now).output ≡ [] → out.new ≡ out.old }
+    ensures writes { R.tells →
+        WritesResults (left_results (bench_at input.now) (simulation input.now).results) result
+        (R.report reports.old) (R.report reports.new) }
+    ensures counted { (tree disk start child input : ℕ) → IsAccounted result
+        (fault_counts tree disk start child (O.failed_puts out.old)
+        (R.failed_reports reports.old) input)
+        (fault_counts tree disk start child (O.failed_puts out.new)
+        (R.failed_reports reports.new) input) }
+{
+    match bench_job(alloc, input) {
+        Ok(Some(job)) => answer_job(alloc, &job, out, reports),
+        Ok(None) => say_bad_request(alloc, out),
+        Err(_) => Outcome::NoMemory,
+    }
+}
+
+/// Takes the input of a simulator child, writes its results, puts what it gives, and answers its code.
+pub fn run_as_simulator<I: Source, O: Sink, R: Reports>(
+    alloc: Global,
+    input: &mut I,
+    out: &mut O,
+    reports: &mut R,
+) -> Outcome
+    ensures said { I.tells → O.tells →
+        Says result (child_said simulation (I.left input.old))
+        (O.contents out.old) (O.contents out.new) }
+    ensures silent { I.tells →
+        (child_said simulation (I.left input.old)).text ≡ [] → out.new ≡ out.old }
+    ensures writes { I.tells → R.tells →
+        WritesResults (child_results (I.left input.old)) result
+        (R.report reports.old) (R.report reports.new) }
+    ensures placed { (result ≡ Outcome.OutsideFault Which.Tree)
+        ⊎ (result ≡ Outcome.OutsideFault Which.Input) → reports.new ≡ reports.old }
+    ensures counted { (tree disk start child : ℕ) → IsAccounted result
+        (fault_counts tree disk start child (O.failed_puts out.old)
+        (R.failed_reports reports.old) (I.failed_takes input.old))
+        (fault_counts tree disk start child (O.failed_puts out.new)
+        (R.failed_reports reports.new) (I.failed_takes input.new)) }
+{
+    match input.take(alloc, INPUT_BYTES) {
+        Ok(TakeEnd::Got(request)) => answer_bench(alloc, request.bytes(), out, reports),
+        Ok(TakeEnd::TooLong) => say(b"bad request\n", Outcome::Child(2), out),
+        Err(SourceFault::NoMemory) => Outcome::NoMemory,
+        Err(SourceFault::Failed) => Outcome::OutsideFault(Which::Input),
+    }
+}

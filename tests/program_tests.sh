@@ -1,0 +1,277 @@
+#!/bin/sh
+# Runs of tests by the real program: which are started, in which order and with what, what becomes of each end and of each
+# text of results, what is printed and written, and what each fault of something outside leaves.
+command -v python3 >/dev/null || { echo "python3 is missing"; exit 77; }
+PYTHONPATH=$TOP/tests/support exec python3 -B - <<'END'
+import json, os, re, shutil, subprocess, sys, time
+import xml.etree.ElementTree as xml
+
+from simulator import passed, read_bench
+from trial import PROGRAM, end, expect, fail, package, project, run, toml, write
+
+SIMULATOR = [sys.executable, "-B", os.path.join(os.environ["TOP"], "tests", "support", "simulator.py")]
+
+
+def bench(name, cases, more="", head=""):
+    calls = "".join(f'if run("{case}") then null; end if;\n' for case in cases)
+    return f"{head}entity {name} is generic (runner_cfg : string); end;\narchitecture a of {name} is begin\np : process begin\n{calls}{more}end process;\nend;\n"
+
+
+SAME = "-- vunit: run_all_in_same_sim\n"
+
+
+def listing(libraries, simulator=SIMULATOR):
+    return toml(libraries, more=f"simulator = {json.dumps(simulator)}\n" if simulator else "")
+
+
+def planned(plan, requests="requests"):
+    """The environment of a run whose simulators do what a plan says, and keep their requests in a folder made anew."""
+    shutil.rmtree(requests, ignore_errors=True)
+    os.makedirs(requests)
+    with open("plan", "w") as file:
+        json.dump(plan, file)
+    return dict(os.environ, REQUESTS=os.path.abspath(requests), PLAN=os.path.abspath("plan"))
+
+
+def started(requests="requests"):
+    """The requests of the simulators, in the order of their starts."""
+    found = []
+    for name in sorted(os.listdir(requests)):
+        with open(os.path.join(requests, name), "rb") as file:
+            found.append(read_bench(file.read()))
+    return found
+
+
+def summary(passes, fails, skips):
+    total = passes + fails + skips
+    return f"==== Summary\npass {passes} of {total}\nfail {fails} of {total}\nskip {skips} of {total}\n" + ("Some failed!\n" if fails + skips else "All passed!\n")
+
+
+# Nothing to build, and nothing to run.
+project("two", {"vunit.csv": ""})
+expect("no files", "two", 0, "Re-compile not needed\nNo tests were run!\n")
+expect("no files, with a report", "two", 0, "Re-compile not needed\nNo tests were run!\n", "-x", "out.xml")
+with open("two/out.xml") as file:
+    if file.read() != '<?xml version="1.0" encoding="utf-8"?>\n<testsuite name="testsuite" tests="0" failures="0" skipped="0" errors="0">\n</testsuite>\n':
+        fail("no files, with a report", "the report isn't that of no case")
+
+# A refusal goes before tests, whatever --exit-0 says: no test is started, and no report is written.
+uses = "use work.{}.all;\n"
+files = {"vunit.csv": "lib,v.vhd\nlib,t.vhd\nlib,p.vhd\n", "p.vhd": package("p") + "-- child: refuse bad p\n", "v.vhd": package("v"),
+         "t.vhd": bench("t", ["one"])}
+project("refused", files)
+for words in (["-x", "out.xml"], ["-k", "-x", "out.xml", "--exit-0"], ["-p", "8", "--exit-0", "-k", "-x", "out.xml"]):
+    shutil.rmtree("refused/vunit_out", ignore_errors=True)
+    expect(f"a refusal with {words}", "refused", 1,
+           "Compiling into lib: v.vhd passed\nCompiling into lib: t.vhd passed\nCompiling into lib: p.vhd failed\nbad p\nCompile failed\n", *words)
+    if os.path.exists("refused/out.xml") or os.path.exists("refused/vunit_out/tests"):
+        fail(f"a refusal with {words}", "there is a report, or a test was started")
+
+# The configuration of a case, by which patterns select cases, and what a request holds.
+project("cfg", {"vunit.toml": listing({"tb_lib": ["tb/*.vhd"]}), "tb/tb_x.vhd": bench("tb_x", ["a", "b,c"])})
+env = planned({})
+for pattern, names in (("*.b*", ["b,c"]), ("[", []), ("[!a]*", ["a", "b,c"])):
+    text = run("cfg", "-l", pattern)[1].decode()
+    wanted = "".join(f"tb_lib.tb_x.{name}\n" for name in names) + f"Listed {len(names)} tests\n"
+    if text != wanted:
+        fail(f"the pattern {pattern}", f"it lists {text}")
+env = planned({})
+expect("one of two cases", "cfg", 0, "Compiling into tb_lib: tb/tb_x.vhd passed\nCompile passed\npass tb_lib.tb_x.b,c\n" + summary(1, 0, 0), "*.b*", env=env)
+artefact = b"unit entity tb_x\nunit architecture a of tb_x\n"
+wanted = [(b"tb_lib", b"tb_x", b"a", [b"b,c"],
+           b"active python runner : true,enabled_test_cases : b,,,,c,output path : vunit_out/tests/tb_lib.tb_x.b=2cc/,tb path : tb/,use_color : false",
+           b"vunit_out/tests/tb_lib.tb_x.b=2cc/vunit_results", [(b"tb_lib", b"tb/tb_x.vhd", artefact)])]
+if started() != wanted:
+    fail("one of two cases", f"the request is {started()}")
+env = planned({})
+expect("patterns that match nothing", "cfg", 0, "Re-compile not needed\nNo tests were run!\n", "[", env=env)
+if started():
+    fail("patterns that match nothing", "a test was started")
+
+# One simulation for all cases, whose last case isn't done.
+project("same", {"vunit.toml": listing({"lib": ["t.vhd"]}), "t.vhd": bench("t", "ab", head=SAME)})
+boom = {"lib.t": {"output": "boom\n", "results": "test_start:a\ntest_start:b\n"}}
+first = "Compiling into lib: t.vhd passed\nCompile passed\n"
+lines = "pass lib.t.a\nfail lib.t.b\n" + summary(1, 1, 0)
+expect("a last case without done", "same", 1, first + "boom\n" + lines, env=planned(boom))
+expect("with --exit-0", "same", 0, "Re-compile not needed\nboom\n" + lines, "--exit-0", env=planned(boom))
+expect("with -q", "same", 1, "Re-compile not needed\n" + lines, "-q", env=planned(boom))
+expect("with -q and -v", "same", 1, "Re-compile not needed\n" + lines, "-qv", env=planned(boom))
+expect("without results", "same", 1, "Re-compile not needed\nboom\nfail lib.t.a\nfail lib.t.b\n" + summary(0, 2, 0),
+       env=planned({"lib.t": {"output": "boom\n", "results": None}}))
+quiet = {"lib.t": {"output": "said"}}
+expect("output of what passed", "same", 0, "Re-compile not needed\nsaid\npass lib.t.a\npass lib.t.b\n" + summary(2, 0, 0), "-v", env=planned(quiet))
+expect("no output of what passed", "same", 0, "Re-compile not needed\npass lib.t.a\npass lib.t.b\n" + summary(2, 0, 0), env=planned(quiet))
+
+# A project as users have it, over the children that come with the program, and its report.
+project("real", {
+    "vunit.toml": 'external = ["unisim"]\n\n[[library]]\nname = "lib"\nfiles = ["src/*.vhd"]\n\n[[library]]\nname = "tb_lib"\nfiles = ["tb/*.vhd"]\n',
+    "src/counter_pkg.vhd": "package counter_pkg is\n  subtype count_t is natural range 0 to 15;\nend package counter_pkg;\n",
+    "src/counter.vhd": "library ieee;\nuse ieee.std_logic_1164.all;\nuse work.counter_pkg.all;\nentity counter is\n  port (clk : in std_logic; q : out count_t);\nend entity counter;\n"
+    "architecture rtl of counter is\nbegin\n  q <= 0 when clk = '0' else 1;\nend architecture rtl;\n",
+    "tb/tb_counter.vhd": """library ieee;
+use ieee.std_logic_1164.all;
+library vunit_lib;
+context vunit_lib.vunit_context;
+library lib;
+use lib.counter_pkg.all;
+entity tb_counter is
+  generic (runner_cfg : string);
+end entity;
+architecture sim of tb_counter is
+  signal clk : std_logic := '0';
+  signal q : count_t;
+begin
+  dut : entity lib.counter port map (clk => clk, q => q);
+  main : process
+  begin
+    test_runner_setup(runner, runner_cfg);
+    while test_suite loop
+      if run("reset") then
+        check_equal(q, 0);
+      elsif run("count & wrap") then
+        check_equal(q, 1);
+      end if;
+    end loop;
+    test_runner_cleanup(runner);
+  end process;
+end architecture;
+"""})
+JUNIT = """<?xml version="1.0" encoding="utf-8"?>
+<testsuite name="testsuite" tests="2" failures="{}" skipped="0" errors="0">
+  <testcase classname="tb_lib.tb_counter" name="reset"/>
+  <testcase classname="tb_lib.tb_counter" name="count &amp; wrap"{}
+</testsuite>
+"""
+built = "".join(f"Compiling into {file} passed\n" for file in ("lib: src/counter_pkg.vhd", "lib: src/counter.vhd", "tb_lib: tb/tb_counter.vhd"))
+both = "pass tb_lib.tb_counter.reset\npass tb_lib.tb_counter.count & wrap\n" + summary(2, 0, 0)
+expect("a project as users have it", "real", 0, built + "Compile passed\n" + both, "-x", "out.xml")
+with open("real/out.xml") as file:
+    if (text := file.read()) != JUNIT.format(0, "/>"):
+        fail("its report", text)
+write("real", {"tb/tb_counter.vhd": open("real/tb/tb_counter.vhd").read() + "-- child: fail tb_lib.tb_counter.count & wrap\n"})
+one = "pass tb_lib.tb_counter.reset\nfailed tb_lib.tb_counter.count & wrap\nfail tb_lib.tb_counter.count & wrap\n" + summary(1, 1, 0)
+expect("a case that fails", "real", 1, "Compiling into tb_lib: tb/tb_counter.vhd passed\nCompile passed\n" + one, "-x", "new/folder/out.xml", "-p", "2")
+with open("real/new/folder/out.xml") as file:
+    if (text := file.read()) != JUNIT.format(1, '>\n    <failure message="Failed"/>\n  </testcase>'):
+        fail("the report of a failure", text)
+
+# A report that can't be written leaves the text, and what was there.
+for path, cause in (("src", "write: Is a directory (os error 21)"), ("src/counter.vhd/o.xml", "stat: Not a directory (os error 20)"),
+                    ("/dev/full", "write: No space left on device (os error 28)")):
+    expect(f"a report to {path}", "real", 3, "Re-compile not needed\n" + one, "-x", path, error=f"vunit_run: fault of report\nvunit_run: {path}: {cause}\n")
+with open("/dev/full", "w") as full:
+    shutil.rmtree("real/new")
+    ran = subprocess.run([PROGRAM, "-x", "new/out.xml"], cwd="real", stdin=subprocess.DEVNULL, stdout=full, stderr=subprocess.PIPE)
+    if ran.returncode != 3 or b"fault of out" not in ran.stderr or os.path.exists("real/new"):
+        fail("an output that is full", f"{ran}, and a report is {os.path.exists('real/new')}")
+
+# Each end of a simulator and each text of results. The cases are a and b, in one simulation.
+RESULTS = {
+    "nothing wrong": ("test_start:a\ntest_start:b\ntest_suite_done\n", "pp"),
+    "an empty text": ("", "ff"),
+    "only done": ("test_suite_done\n", "ss"),
+    "the first alone": ("test_start:a\ntest_suite_done\n", "ps"),
+    "the second alone": ("test_start:b\ntest_suite_done\n", "sp"),
+    "no done": ("test_start:a\ntest_start:b\n", "pf"),
+    "no line end": ("test_start:a\ntest_start:b\ntest_suite_done", "pp"),
+    "a case that isn't one": ("test_start:x\ntest_suite_done\n", "ff"),
+}
+project("ends", {"vunit.toml": listing({"lib": ["t.vhd"]}), "t.vhd": bench("t", "ab", head=SAME)})
+run("ends", "--compile")
+word = {"p": "pass", "f": "fail", "s": "skip"}
+
+
+def verdicts_of(text):
+    found = re.findall(rb"^(pass|fail|skip) lib\.t\.", text, re.M)
+    return "".join(found.decode()[:1] for found in found)
+
+
+for name, (results, wanted) in RESULTS.items():
+    status, text, error = run("ends", env=planned({"lib.t": {"results": results}}))
+    if name in ("an empty text", "only done", "the first alone", "the second alone", "a case that isn't one"):
+        continue
+    if verdicts_of(text) != wanted or status != (wanted != "pp") or error:
+        fail(name, f"{status}: {text} {error}")
+
+# Codes of a simulator that says that all passed, and a signal: only 0 has passed. With 75 it had no answer.
+for code, wanted in ((0, 0), (1, 1), (2, 1), (255, 1), (75, 3)):
+    status, text, error = run("ends", env=planned({"lib.t": {"code": code}}))
+    if status != wanted:
+        fail(f"code {code}", f"{status}: {text} {error}")
+status, text, error = run("ends", env=planned({"lib.t": {"signal": 9}}))
+if status != 1:
+    fail("a signal", f"{status}: {text} {error}")
+loud = run("ends", "-v", env=planned({"lib.t": {"output": "x" * (1 << 20)}}))
+if loud != (0, b"Re-compile not needed\n" + b"x" * 4096 + b"\npass lib.t.a\npass lib.t.b\n" + summary(2, 0, 0).encode(), b""):
+    fail("an output of a mebibyte", f"{loud[0]}, {len(loud[1])} bytes, {loud[2][:300]}")
+long = "test_start:a\n" + "x\n" * (1 << 19) + "test_start:b\ntest_suite_done\n"
+if (status := run("ends", env=planned({"lib.t": {"results": long}}))[0]) != 1:
+    fail("results of over a mebibyte", f"status {status}")
+
+# Results of an earlier run aren't those of this one.
+expect("a pass", "ends", 0, "Re-compile not needed\npass lib.t.a\npass lib.t.b\n" + summary(2, 0, 0), env=planned({}))
+expect("and then no results", "ends", 1, "Re-compile not needed\nfail lib.t.a\nfail lib.t.b\n" + summary(0, 2, 0), env=planned({"lib.t": {"results": None}}))
+
+# Several at once: each waits for the other's file.
+project("pair", {"vunit.toml": listing({"lib": ["*.vhd"]}), "t.vhd": bench("t", ["a", "b", "c"])})
+pair = {"lib.t.a": {"makes": "a_runs", "awaits": "b_runs"}, "lib.t.b": {"makes": "b_runs", "awaits": "a_runs"}}
+text = "pass lib.t.a\npass lib.t.b\npass lib.t.c\n" + summary(3, 0, 0)
+expect("two at once", "pair", 0, "Compiling into lib: t.vhd passed\nCompile passed\n" + text, "-p", "2", env=planned(pair))
+if [found[3] for found in started()] not in ([[b"a"], [b"b"], [b"c"]], [[b"b"], [b"a"], [b"c"]]):
+    fail("two at once", f"these were started: {started()}")
+
+# With --fail-fast none is started after a run that didn't pass has ended.
+broken = {"lib.t.a": {"code": 1, "results": None}}
+expect("--fail-fast", "pair", 1, "Re-compile not needed\nfail lib.t.a\nskip lib.t.b\nskip lib.t.c\n" + summary(0, 1, 2), "--fail-fast", env=planned(broken))
+if len(started()) != 1:
+    fail("--fail-fast", f"these were started: {started()}")
+expect("and without", "pair", 1, "Re-compile not needed\nfail lib.t.a\npass lib.t.b\npass lib.t.c\n" + summary(2, 1, 0), env=planned(broken))
+
+# A lost child: the other one is waited for, nothing is put, and nothing else is started.
+os.path.exists("pair/waited") and os.remove("pair/waited")
+lost = {"lib.t.a": {"code": 75, "awaits": "b_began"}, "lib.t.b": {"makes": "b_began", "awaits": "vunit_out"}}
+before = os.listdir("pair")
+status, text, error = run("pair", "-p", "2", "-x", "lost.xml", env=planned(lost))
+if status != 3 or text or not error.startswith(b"vunit_run: fault of child\nvunit_run: lib, t: ") or os.path.exists("pair/lost.xml"):
+    fail("a lost child", f"{status} {text} {error}")
+if sorted(found[3] for found in started()) != [[b"a"], [b"b"]]:
+    fail("a lost child", f"these were started: {started()}")
+
+# A simulator that isn't there.
+project("none", {"vunit.toml": listing({"lib": ["t.vhd"]}, ["no_such_simulator"]), "t.vhd": bench("t", ["a"])})
+expect("no simulator", "none", 3, "", error="vunit_run: fault of start\nvunit_run: no_such_simulator: start: No such file or directory (os error 2)\n")
+expect("and what was compiled is kept", "none", 3, "", error="vunit_run: fault of start\nvunit_run: no_such_simulator: start: No such file or directory (os error 2)\n")
+
+# Names: commas, colons, spaces, quotes, ampersands, and characters of two to four bytes run, and the report is XML.
+names = ["a,b", "a:b", "a b", 'a""b', "a&b", "<a>", "é", "€", "𝄞", "a'b", "\u0080", "\u009f", "\ufffe", "\uffff", "=", "a/b", "..", "%s"]
+project("names", {"vunit.toml": listing({"lib": ["t.vhd"]}, None), "t.vhd": bench("t", names)})
+shown = [name.replace('""', '"') for name in names]
+status, text, error = run("names", "-x", "out.xml", "-p", "4")
+wanted = "".join(f"pass lib.t.{name}\n" for name in shown) + summary(len(names), 0, 0)
+if status != 0 or not text.decode().endswith(wanted) or error:
+    fail("names", f"{status} {text.decode()[-1500:]} {error}")
+found = [case.get("name") for case in xml.parse("names/out.xml").getroot()]
+if found != [name.replace("\ufffe", "\ufffd").replace("\uffff", "\ufffd") for name in shown]:
+    fail("names in a report", f"{found}")
+
+# A name whose folder is longer than a file system takes is a failed start, and the line names the test's folder.
+project("long", {"vunit.toml": listing({"lib": ["t.vhd"]}, None), "t.vhd": bench("t", ["a" * 250])})
+status, text, error = run("long")
+if status != 3 or text or not error.startswith(b"vunit_run: fault of start\n") or b"a" * 250 not in error:
+    fail("a long name", f"{status} {text[:300]} {error[:600]}")
+project("fits", {"vunit.toml": listing({"lib": ["t.vhd"]}, None), "t.vhd": bench("t", ["a" * 249])})
+if run("fits")[0] != 0:
+    fail("a name that just fits", f"{run('fits')}")
+
+# As many cases as may be, in one simulation.
+letters = "abcdefghijklmnopqrstuvwxyz0123456789"
+many = [f"{letters[at // 36 // 36 // 36]}{letters[at // 36 // 36 % 36]}{letters[at // 36 % 36]}{letters[at % 36]}"[-3 if at < 46656 else -4:] for at in range(65537)]
+project("many", {"vunit.csv": "lib,t.vhd\n", "t.vhd": bench("t", many[:65536], head=SAME)})
+status, text, error = run("many", seconds=250)
+if not text.endswith(b"pass 65536 of 65536\nfail 0 of 65536\nskip 0 of 65536\nAll passed!\n") and not text.endswith(b"Some failed!\n") or error:
+    fail("65,536 cases", f"{status} {text[-300:]} {error}")
+project("more", {"vunit.csv": "lib,t.vhd\n", "t.vhd": bench("t", many, head=SAME)})
+expect("65,537 cases", "more", 5, "vunit_run: over limit: tests 65536\n")
+end()
+END
