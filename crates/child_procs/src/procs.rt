@@ -15,7 +15,7 @@ use std::io::{ErrorKind, Write};
 use std::os::fd::{AsRawFd, RawFd};
 use std::process::{ChildStdin, Processes, SystemProcess};
 use std::{env, io};
-use vr_base::{NoMemory, Request, Text};
+use vr_base::{MaybeText, NoMemory, Request, Text};
 use vr_outside::{Ended, Procs, StartFault, WaitFault, counted};
 
 /// The bytes that one read takes at most: what a pipe holds.
@@ -33,9 +33,9 @@ pub struct ChildProcs<R: Processes<Started = SystemProcess>> {
     tickets: Vec<u64>,
     failed_starts: u64,
     lost_children: u64,
-    // why the first start failed that did, with its command where there was memory for it
+    // why the first start failed that did, and what it was about where there was memory for that
     start_cause: Option<Cause>,
-    start_command: Option<Text>,
+    start_title: Option<Text>,
     // why the first child was lost that was
     child_cause: Option<Cause>,
     // what the system is asked, kept for its room
@@ -60,7 +60,7 @@ impl<R: Processes<Started = SystemProcess> + Files + AllocGlobal + Drop> ChildPr
             failed_starts: 0,
             lost_children: 0,
             start_cause: None,
-            start_command: None,
+            start_title: None,
             child_cause: None,
             asked: Vec::new(alloc),
             buffer: vec![in alloc; 0; CHUNK]?,
@@ -74,11 +74,11 @@ impl<R: Processes<Started = SystemProcess> + Files + AllocGlobal + Drop> ChildPr
         self.tickets.as_slice()
     }
 
-    /// Why the first start failed that did, and its command.
+    /// Why the first start failed that did, and what it was about: its command, and for a test where its results were to go.
     pub fn start_cause(&self) -> Option<(&[u8], Cause)> {
         let cause = self.start_cause?;
-        match &self.start_command {
-            Some(command) => Some((command.bytes(), cause)),
+        match &self.start_title {
+            Some(title) => Some((title.bytes(), cause)),
             None => Some((b"a command", cause)),
         }
     }
@@ -96,8 +96,8 @@ impl<R: Processes<Started = SystemProcess> + Files + AllocGlobal + Drop> ChildPr
     {
         if self.start_cause.is_none() {
             self.start_cause = Some(cause);
-            self.start_command = match joined(alloc, request.command.as_slice()) {
-                Ok(command) => Some(command),
+            self.start_title = match title_of(alloc, request) {
+                Ok(title) => Some(title),
                 Err(_) => None,
             };
         }
@@ -263,14 +263,19 @@ fn read_ready(children: &mut [Running], asked: &[pollfd], buffer: &mut [u8]) {
     }
 }
 
-/// The words of a command, with blanks between them.
-fn joined(alloc: Global, words: &[Text]) -> Result<Text, NoMemory> {
+/// The words of a command with blanks between them, and then the path of results, if there is one.
+fn title_of(alloc: Global, request: &Request) -> Result<Text, NoMemory> {
     let mut line = Vec::new(alloc);
-    for word in words {
+    for word in request.command.as_slice() {
         if !line.is_empty() {
             line.push(b' ')?;
         }
         line.extend_from_slice(word.bytes())?;
+    }
+    if let MaybeText::Given(path) = &request.results {
+        line.extend_from_slice(b" (")?;
+        line.extend_from_slice(path.bytes())?;
+        line.push(b')')?;
     }
     Ok(Text::from_vec(line))
 }
