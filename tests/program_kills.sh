@@ -5,7 +5,7 @@
 command -v python3 >/dev/null || { echo "python3 is missing"; exit 77; }
 python3 -c 'import tomllib' 2>/dev/null || { echo "python3 has no tomllib"; exit 77; }
 PYTHONPATH=$TOP/tests/support exec python3 -B - <<'END'
-import ctypes, os, shutil, subprocess, time
+import ctypes, json, os, shutil, subprocess, sys, time
 
 from store_reader import clean_artefacts, graph_of, latest_of, read_request, records_of, request_of, stale_of, view_at
 from trial import (COMPILER, PROGRAM, artefact_of, build_text, end, environment, expect, fail, package, project, requests_in, run,
@@ -167,6 +167,49 @@ killed.kill()
 killed.wait()
 check_run("while compilers of a killed program run", "requests")
 reap()
+# Runs that are killed in the middle of their tests leave simulators running. The next run's verdicts are those of its own: by turns
+# what was left passed and it has no results, and the other way about. What still runs writes nothing before the next run is over.
+CASES = [f"c{at}" for at in range(8)]
+calls = "".join(f'x{at} <= run("{case}");\n' for at, case in enumerate(CASES))
+more = f"simulator = {json.dumps([sys.executable, '-B', os.path.join(os.environ['TOP'], 'tests', 'support', 'simulator.py')])}\n"
+project("tested", {"vunit.toml": toml({"lib": ["t.vhd"]}, more=more),
+                   "t.vhd": f"entity t is generic (runner_cfg : string); end;\narchitecture a of t is begin\n{calls}end;\n"})
+
+
+def by(plan, name):
+    """The environment of a run whose simulators all do this, but that only the first three don't sleep."""
+    with open(name, "w") as file:
+        json.dump({f"lib.t.{case}": dict(plan, sleeps=plan["sleeps"] * (at > 2), makes=f"{name}_{at}") for at, case in enumerate(CASES)}, file)
+    return dict(os.environ, PLAN=os.path.abspath(name))
+
+
+def test_text(word, first="Re-compile not needed\n"):
+    passes, fails = (len(CASES), 0) if word == "pass" else (0, len(CASES))
+    return (first + "".join(f"{word} lib.t.{case}\n" for case in CASES) + f"==== Summary\npass {passes} of 8\nfail {fails} of 8\nskip 0 of 8\n"
+            + ("All passed!\n" if passes else "Some failed!\n"))
+
+
+passes, has_none = {"sleeps": 0}, {"sleeps": 0, "results": None}
+expect("tests", "tested", 0, test_text("pass", "Compiling into lib: t.vhd passed\nCompile passed\n"), "-p", "3", env=by(passes, "plan"))
+for at in range(6):
+    left, own, word, status = ((passes, has_none, "fail", 1), (has_none, passes, "pass", 0))[at % 2]
+    killed = subprocess.Popen([PROGRAM, "-p", "3"], cwd="tested", env=by(dict(left, sleeps=60), f"left{at}"), stdin=subprocess.DEVNULL,
+                              stdout=subprocess.PIPE, start_new_session=True)
+    until = time.monotonic() + 20
+    while not os.path.exists(f"tested/left{at}_{3 + at % 3}") and time.monotonic() < until:
+        time.sleep(0.001)
+    killed.kill()
+    if killed.wait() != -9 or killed.stdout.read():
+        fail("kills of tests", f"kill {at} didn't find the run at work")
+    expect(f"tests after kill {at}", "tested", status, test_text(word), "-p", "3", env=by(own, "plan"))
+    for pid in os.listdir("/proc"):
+        # (what was left is ended, so that it can't write into a later run)
+        try:
+            if pid.isdigit() and os.readlink(f"/proc/{pid}/cwd") == os.path.realpath("tested"):
+                os.kill(int(pid), 9)
+        except (FileNotFoundError, ProcessLookupError, PermissionError):
+            pass
+    reap()
 print(f"{kills} kills, {inside} of them inside a run, in {time.monotonic() - begun:.0f} seconds")
 end()
 END

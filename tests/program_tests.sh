@@ -3,10 +3,10 @@
 # text of results, what is printed and written, and what each fault of something outside leaves.
 command -v python3 >/dev/null || { echo "python3 is missing"; exit 77; }
 PYTHONPATH=$TOP/tests/support exec python3 -B - <<'END'
-import json, os, re, shutil, subprocess, sys, time
+import json, os, shutil, subprocess, sys
 import xml.etree.ElementTree as xml
 
-from simulator import passed, read_bench
+from simulator import read_bench
 from trial import PROGRAM, end, expect, fail, package, project, run, toml, write
 
 SIMULATOR = [sys.executable, "-B", os.path.join(os.environ["TOP"], "tests", "support", "simulator.py")]
@@ -166,48 +166,58 @@ with open("/dev/full", "w") as full:
     if ran.returncode != 3 or b"fault of out" not in ran.stderr or os.path.exists("real/new"):
         fail("an output that is full", f"{ran}, and a report is {os.path.exists('real/new')}")
 
-# Each end of a simulator and each text of results. The cases are a and b, in one simulation.
-RESULTS = {
-    "nothing wrong": ("test_start:a\ntest_start:b\ntest_suite_done\n", "pp"),
-    "an empty text": ("", "ff"),
-    "only done": ("test_suite_done\n", "ss"),
-    "the first alone": ("test_start:a\ntest_suite_done\n", "ps"),
-    "the second alone": ("test_start:b\ntest_suite_done\n", "sp"),
-    "no done": ("test_start:a\ntest_start:b\n", "pf"),
-    "no line end": ("test_start:a\ntest_start:b\ntest_suite_done", "pp"),
-    "a case that isn't one": ("test_start:x\ntest_suite_done\n", "ff"),
-}
+# Each text of results, with the code 0 and with another. The cases are a and b, in one simulation: p passed, f failed, s skipped.
+both = "test_start:a\ntest_start:b\n"
+done = "test_suite_done\n"
+MOST = 1 << 20
+RESULTS = [
+    ("none", None, "ff", "ff"),
+    ("an empty text", "", "ss", "ss"),
+    ("only done", done, "ss", "ss"),
+    ("both", both + done, "pp", "pf"),
+    ("no line end", (both + done)[:-1], "pp", "pf"),
+    ("carriage returns", (both + done).replace("\n", "\r\n"), "pp", "pf"),
+    ("two carriage returns", (both + done).replace("\n", "\r\r\n"), "ss", "ss"),
+    ("no done", both, "pf", "pf"),
+    ("done in capitals", both + done.upper(), "pf", "pf"),
+    ("the first alone", "test_start:a\n" + done, "ps", "fs"),
+    ("the second alone", "test_start:b\n" + done, "sp", "sf"),
+    ("the other order", "test_start:b\ntest_start:a\n" + done, "pp", "fp"),
+    ("done before the last", "test_start:a\n" + done + "test_start:b\n", "pp", "pf"),
+    ("done first", done + both, "pp", "pf"),
+    ("a case twice", both + "test_start:a\n" + done, "pp", "fp"),
+    ("a case twice without done", both + "test_start:a\n", "fp", "fp"),
+    ("a name that is no case", "test_start:x\n" + done, "ss", "ss"),
+    ("such a name last", both + "test_start:x\n" + done, "pp", "pf"),
+    ("a blank behind a name", "test_start:a \ntest_start:b\n" + done, "sp", "sf"),
+    ("a blank before a line", " test_start:a\ntest_start:b\n" + done, "sp", "sf"),
+    ("other lines", "said\n" + both + "\n\0\n" + done, "pp", "pf"),
+    ("bytes that aren't UTF-8", "\xff\xfe\n" + both + done + "\xc3", "pp", "pf"),
+    ("a mebibyte", both + done + "x" * (MOST - len(both + done)), "pp", "pf"),
+    ("a byte more", both + done + "x" * (MOST + 1 - len(both + done)), "ff", "ff"),
+]
 project("ends", {"vunit.toml": listing({"lib": ["t.vhd"]}), "t.vhd": bench("t", "ab", head=SAME)})
 run("ends", "--compile")
-word = {"p": "pass", "f": "fail", "s": "skip"}
+said = {"p": "pass", "f": "fail", "s": "skip"}
 
 
-def verdicts_of(text):
-    found = re.findall(rb"^(pass|fail|skip) lib\.t\.", text, re.M)
-    return "".join(found.decode()[:1] for found in found)
+def ended(name, plan, wanted):
+    lines = "".join(f"{said[verdict]} lib.t.{case}\n" for case, verdict in zip("ab", wanted)) + summary(*map(wanted.count, "pfs"))
+    expect(name, "ends", 0 if wanted == "pp" else 1, "Re-compile not needed\n" + lines, env=planned({"lib.t": plan}))
 
 
-for name, (results, wanted) in RESULTS.items():
-    status, text, error = run("ends", env=planned({"lib.t": {"results": results}}))
-    if name in ("an empty text", "only done", "the first alone", "the second alone", "a case that isn't one"):
-        continue
-    if verdicts_of(text) != wanted or status != (wanted != "pp") or error:
-        fail(name, f"{status}: {text} {error}")
+for name, results, well, badly in RESULTS:
+    ended(f"results: {name}", {"results": results}, well)
+    ended(f"results: {name}, and code 1", {"results": results, "code": 1}, badly)
 
-# Codes of a simulator that says that all passed, and a signal: only 0 has passed. With 75 it had no answer.
-for code, wanted in ((0, 0), (1, 1), (2, 1), (255, 1), (75, 3)):
-    status, text, error = run("ends", env=planned({"lib.t": {"code": code}}))
-    if status != wanted:
-        fail(f"code {code}", f"{status}: {text} {error}")
-status, text, error = run("ends", env=planned({"lib.t": {"signal": 9}}))
-if status != 1:
-    fail("a signal", f"{status}: {text} {error}")
+# Codes of a simulator that says that all is done, and a signal: only 0 is a good end. With 75 it had no answer.
+for code in (1, 2, 3, 74, 76, 127, 128, 254, 255):
+    ended(f"code {code}", {"code": code}, "pf")
+ended("a signal", {"signal": 9}, "pf")
+expect("no answer", "ends", 3, "", env=planned({"lib.t": {"code": 75}}), error="vunit_run: fault of child\nvunit_run: lib, t: end: its code, 75, says that it has no answer\n")
 loud = run("ends", "-v", env=planned({"lib.t": {"output": "x" * (1 << 20)}}))
 if loud != (0, b"Re-compile not needed\n" + b"x" * 4096 + b"\npass lib.t.a\npass lib.t.b\n" + summary(2, 0, 0).encode(), b""):
     fail("an output of a mebibyte", f"{loud[0]}, {len(loud[1])} bytes, {loud[2][:300]}")
-long = "test_start:a\n" + "x\n" * (1 << 19) + "test_start:b\ntest_suite_done\n"
-if (status := run("ends", env=planned({"lib.t": {"results": long}}))[0]) != 1:
-    fail("results of over a mebibyte", f"status {status}")
 
 # Results of an earlier run aren't those of this one.
 expect("a pass", "ends", 0, "Re-compile not needed\npass lib.t.a\npass lib.t.b\n" + summary(2, 0, 0), env=planned({}))
@@ -229,9 +239,7 @@ if len(started()) != 1:
 expect("and without", "pair", 1, "Re-compile not needed\nfail lib.t.a\npass lib.t.b\npass lib.t.c\n" + summary(2, 1, 0), env=planned(broken))
 
 # A lost child: the other one is waited for, nothing is put, and nothing else is started.
-os.path.exists("pair/waited") and os.remove("pair/waited")
-lost = {"lib.t.a": {"code": 75, "awaits": "b_began"}, "lib.t.b": {"makes": "b_began", "awaits": "vunit_out"}}
-before = os.listdir("pair")
+lost = {"lib.t.a": {"code": 75, "awaits": "b_began"}, "lib.t.b": {"makes": "b_began", "sleeps": 1}}
 status, text, error = run("pair", "-p", "2", "-x", "lost.xml", env=planned(lost))
 if status != 3 or text or not error.startswith(b"vunit_run: fault of child\nvunit_run: lib, t: ") or os.path.exists("pair/lost.xml"):
     fail("a lost child", f"{status} {text} {error}")
@@ -240,8 +248,9 @@ if sorted(found[3] for found in started()) != [[b"a"], [b"b"]]:
 
 # A simulator that isn't there.
 project("none", {"vunit.toml": listing({"lib": ["t.vhd"]}, ["no_such_simulator"]), "t.vhd": bench("t", ["a"])})
-expect("no simulator", "none", 3, "", error="vunit_run: fault of start\nvunit_run: no_such_simulator: start: No such file or directory (os error 2)\n")
-expect("and what was compiled is kept", "none", 3, "", error="vunit_run: fault of start\nvunit_run: no_such_simulator: start: No such file or directory (os error 2)\n")
+missing = "vunit_run: fault of start\nvunit_run: no_such_simulator (vunit_out/tests/lib.t.a/vunit_results): start: No such file or directory (os error 2)\n"
+expect("no simulator", "none", 3, "", error=missing)
+expect("and what was compiled is kept", "none", 3, "", error=missing)
 
 # Names: commas, colons, spaces, quotes, ampersands, and characters of two to four bytes run, and the report is XML.
 names = ["a,b", "a:b", "a b", 'a""b', "a&b", "<a>", "é", "€", "𝄞", "a'b", "\u0080", "\u009f", "\ufffe", "\uffff", "=", "a/b", "..", "%s"]
@@ -258,7 +267,8 @@ if found != [name.replace("\ufffe", "\ufffd").replace("\uffff", "\ufffd") for na
 # A name whose folder is longer than a file system takes is a failed start, and the line names the test's folder.
 project("long", {"vunit.toml": listing({"lib": ["t.vhd"]}, None), "t.vhd": bench("t", ["a" * 250])})
 status, text, error = run("long")
-if status != 3 or text or not error.startswith(b"vunit_run: fault of start\n") or b"a" * 250 not in error:
+place = b"vunit_out/tests/lib.t." + b"a" * 250 + b"/vunit_results"
+if (status, text, error) != (3, b"", b"vunit_run: fault of start\nvunit_run: @self child-bench (" + place + b"): make the folder of its results: File name too long (os error 36)\n"):
     fail("a long name", f"{status} {text[:300]} {error[:600]}")
 project("fits", {"vunit.toml": listing({"lib": ["t.vhd"]}, None), "t.vhd": bench("t", ["a" * 249])})
 if run("fits")[0] != 0:
@@ -269,7 +279,7 @@ letters = "abcdefghijklmnopqrstuvwxyz0123456789"
 many = [f"{letters[at // 36 // 36 // 36]}{letters[at // 36 // 36 % 36]}{letters[at // 36 % 36]}{letters[at % 36]}"[-3 if at < 46656 else -4:] for at in range(65537)]
 project("many", {"vunit.csv": "lib,t.vhd\n", "t.vhd": bench("t", many[:65536], head=SAME)})
 status, text, error = run("many", seconds=250)
-if not text.endswith(b"pass 65536 of 65536\nfail 0 of 65536\nskip 0 of 65536\nAll passed!\n") and not text.endswith(b"Some failed!\n") or error:
+if status != 0 or not text.endswith(summary(65536, 0, 0).encode()) or error:
     fail("65,536 cases", f"{status} {text[-300:]} {error}")
 project("more", {"vunit.csv": "lib,t.vhd\n", "t.vhd": bench("t", many, head=SAME)})
 expect("65,537 cases", "more", 5, "vunit_run: over limit: tests 65536\n")

@@ -1,5 +1,5 @@
 # Words that are no command line of the program give status 2 and the usage text, before anything is looked at. A number
-# of children that is too high comes next, then the modes that aren't built yet, and then the project.
+# of children that is too high comes next, then the mode that isn't built yet, and then the project.
 . "$TOP/tests/support/program.sh"
 
 # a project that is refused
@@ -29,8 +29,6 @@ done <<'ROWS'
 --version
 -lm
 --list -p 65 --frob
-child-bench
-child-bench --compile
 ROWS
 expect "a word that isn't UTF-8" 2 "$usage" "$(printf '\377')"
 expect "a word that isn't UTF-8, after a child's" 2 "$usage" child-analyse "$(printf '\377')"
@@ -50,9 +48,7 @@ while IFS= read -r words; do
     # shellcheck disable=SC2086
     expect "a mode that comes later: $words" 1 "vunit_run: not built yet" $words
 done <<'ROWS'
-
-a.b.* c
--p 64 -k -v -q --fail-fast --clean --exit-0 -x out.xml
+--generate 3
 --generate 3 -f
 --generate 3 --export-json e.json -l
 ROWS
@@ -62,6 +58,10 @@ while IFS= read -r words; do
     told='vunit.csv:1:1: vunit.csv: bad line 1'
     expect "a project that is refused: $words" 1 "$refused" $words
 done <<'ROWS'
+
+a.b.* c
+-p 64 -k -v -q --fail-fast --clean --exit-0 -x out.xml
+compile
 --compile
 --compile -p 64
 --compile -p +3
@@ -75,10 +75,11 @@ done <<'ROWS'
 -fkvq -p4
 --compile x child-analyse
 --compile child-bench
+x child-bench
 -k --compile --num-threads=8 --clean --exit-0 --fail-fast --xunit-xml=out.xml
 --compile -- -l --frob
 ROWS
-if [ -e vunit_out ] || [ -e e.json ]; then
+if [ -e vunit_out ] || [ -e e.json ] || [ -e out.xml ]; then
     echo "there is a vunit_out, or a report"
     failures=$((failures + 1))
 fi

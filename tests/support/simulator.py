@@ -1,6 +1,7 @@
 """A simulator for tests of the program. It keeps each request that it gets in the folder REQUESTS, and does what the file PLAN, a
 JSON text, says of the folder of its results: `code`, `output` and `results` (texts of which each character is a byte), a
-`signal` that ends it, a file that it `makes`, and one that it then `awaits` for at most 20 seconds. What isn't said passes."""
+`signal` that ends it, a file that it `makes`, one that it then `awaits` for at most 20 seconds, and how many seconds it then
+`sleeps`. What isn't said passes."""
 import json, os, signal, struct, sys, time
 
 
@@ -51,6 +52,7 @@ def main():
             if time.monotonic() > end:
                 sys.exit(9)
             time.sleep(0.005)
+    time.sleep(plan.get("sleeps", 0))
     text = plan["results"].encode("latin-1") if plan.get("results") is not None else None if "results" in plan else passed(cases)
     if text is not None:
         with open(results, "wb") as file:
