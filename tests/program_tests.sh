@@ -252,17 +252,31 @@ missing = "vunit_run: fault of start\nvunit_run: no_such_simulator (vunit_out/te
 expect("no simulator", "none", 3, "", error=missing)
 expect("and what was compiled is kept", "none", 3, "", error=missing)
 
-# Names: commas, colons, spaces, quotes, ampersands, and characters of two to four bytes run, and the report is XML.
-names = ["a,b", "a:b", "a b", 'a""b', "a&b", "<a>", "é", "€", "𝄞", "a'b", "\u0080", "\u009f", "\ufffe", "\uffff", "=", "a/b", "..", "%s"]
-project("names", {"vunit.toml": listing({"lib": ["t.vhd"]}, None), "t.vhd": bench("t", names)})
+# Names: each byte alone. What ends a line ends the string, a control character isn't in a name, nor is what isn't UTF-8; all else is.
+project("byte", {"vunit.csv": "lib,t.vhd\n"})
+for byte in range(256):
+    write("byte", {"t.vhd": b'entity t is generic (runner_cfg : string); end;\narchitecture a of t is begin\nx <= run("' + bytes([byte]) * (1 + (byte == 34)) + b'");\nend;\n'})
+    status, text, error = run("byte", "-l")
+    wanted = ((1, b"vunit_run: lib, t.vhd: unclosed string at 86\n") if byte in (10, 11, 12, 13)
+              else (1, b"vunit_run: bench lib.t has a bad test name\n") if byte < 32 or byte > 126
+              else (0, b"lib.t." + bytes([byte]) + b"\nListed 1 tests\n"))
+    if (status, text) != wanted:
+        fail(f"the byte {byte} in a name", f"{status, text} and not {wanted}")
+
+# Names of commas, colons, quotes, ampersands, and characters of two to four bytes run, each a run and all in one, and the report is XML.
+names = [chr(code).replace('"', '""') for code in [*range(32, 127), *range(0x80, 0xA0), 0x7FF, 0x800, 0xD7FF, 0xE000, 0xFFFD, 0xFFFE, 0xFFFF, 0x10000, 0x10FFFF]]
+names += ["a,b", "a:b", 'a""b', "a&amp;b", "<a>", "é€𝄞", "..", "%s", "\\n", "a" * 200]
 shown = [name.replace('""', '"') for name in names]
-status, text, error = run("names", "-x", "out.xml", "-p", "4")
-wanted = "".join(f"pass lib.t.{name}\n" for name in shown) + summary(len(names), 0, 0)
-if status != 0 or not text.decode().endswith(wanted) or error:
-    fail("names", f"{status} {text.decode()[-1500:]} {error}")
-found = [case.get("name") for case in xml.parse("names/out.xml").getroot()]
-if found != [name.replace("\ufffe", "\ufffd").replace("\uffff", "\ufffd") for name in shown]:
-    fail("names in a report", f"{found}")
+for head in ("", SAME):
+    project("names", {"vunit.toml": listing({"lib": ["t.vhd"]}, None), "t.vhd": bench("t", names, head=head)})
+    status, text, error = run("names", "-x", "out.xml", "-p", "16")
+    # (in one simulation a case that begins with a comma, behind one that ends with one, can't be told from it: here none is)
+    wanted = "".join(f"pass lib.t.{name}\n" for name in shown) + summary(len(names), 0, 0)
+    if status != 0 or not text.decode().endswith(wanted) or error:
+        fail("names", f"{status} {text.decode()[-1500:]} {error}")
+    found = [case.get("name") for case in xml.parse("names/out.xml").getroot()]
+    if found != [name.replace("\ufffe", "\ufffd").replace("\uffff", "\ufffd") for name in shown]:
+        fail("names in a report", f"{found}")
 
 # A name whose folder is longer than a file system takes is a failed start, and the line names the test's folder.
 project("long", {"vunit.toml": listing({"lib": ["t.vhd"]}, None), "t.vhd": bench("t", ["a" * 250])})
