@@ -8,3 +8,4 @@ mod storage;
 mod tests;
 
 pub use disk::FileDisk;
+pub use opening::STORE_NAMES;

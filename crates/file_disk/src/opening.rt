@@ -9,6 +9,9 @@ use std::os::fd::AsRawFd;
 use std::os::unix::fs::MetadataExt;
 use std::{fs, io};
 
+/// The names of the files of a disk.
+pub const STORE_NAMES: [&str; 2] = ["store_a", "store_b"];
+
 /// The files of a disk, in one folder.
 #[derive(Drop)]
 pub struct Paths {
@@ -21,8 +24,8 @@ impl Paths {
     pub fn new(alloc: Global, folder: &str) -> Result<Paths, AllocError> {
         Ok(Paths {
             folder: String::from_str(alloc, folder)?,
-            a: in_folder(alloc, folder, "store_a")?,
-            b: in_folder(alloc, folder, "store_b")?,
+            a: in_folder(alloc, folder, STORE_NAMES[0])?,
+            b: in_folder(alloc, folder, STORE_NAMES[1])?,
         })
     }
 

@@ -3,8 +3,10 @@
 
 mod beside;
 mod reports;
+mod spared;
 #[cfg(test)]
 mod tests;
 mod writing;
 
 pub use reports::FileReports;
+pub use spared::Spared;

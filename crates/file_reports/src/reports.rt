@@ -3,6 +3,7 @@
 ghost use Rattle.std.specs.Prelude.{◌≡◌};
 ghost use Rattle.file_reports.specs.NoReports.{no_report};
 
+use crate::spared::Spared;
 use crate::writing::write_report;
 use fault_causes::Cause;
 use report_files::{ReportFault, Reports};
@@ -14,6 +15,7 @@ use vr_outside::counted;
 #[derive(Drop)]
 pub struct FileReports {
     runtime: HostRuntime,
+    spared: Spared,
     failures: u64,
     // why the first write failed that did, and its path where there was memory for it
     cause: Option<Cause>,
@@ -21,12 +23,13 @@ pub struct FileReports {
 }
 
 impl FileReports {
-    /// No file is written yet.
-    pub fn new(runtime: HostRuntime) -> FileReports
+    /// No file is written yet. Spared files never are.
+    pub fn new(runtime: HostRuntime, spared: Spared) -> FileReports
         ensures { result.failures ≡ 0 }
     {
         FileReports {
             runtime,
+            spared,
             failures: 0,
             cause: None,
             path: None,
@@ -61,7 +64,7 @@ impl Reports for FileReports {
     ghost failed_reports = { λ a. a.failures };
 
     fn write(&mut self, path: &Text, bytes: &[u8]) -> Result<(), ReportFault> {
-        match write_report(self.runtime, path.bytes(), bytes) {
+        match write_report(self.runtime, path.bytes(), bytes, self.spared) {
             Ok(()) => Ok(()),
             Err(cause) => {
                 self.note(path, cause);

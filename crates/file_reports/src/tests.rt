@@ -1,6 +1,6 @@
 //! Tests over real files.
 
-use crate::FileReports;
+use crate::{FileReports, Spared};
 use report_files::Reports;
 use std::alloc::Global;
 use std::fs::Permissions;
@@ -9,6 +9,12 @@ use std::path::PathBuf;
 use std::test::Fail;
 use std::{env, fs};
 use vr_base::Text;
+
+/// No file is spared: there is no such folder.
+static NONE: Spared = Spared {
+    folder: "/no such folder",
+    names: ["a", "b"],
+};
 
 /// A new folder for a test.
 fn new_folder(rt: &HostRuntime, name: &str) -> Result<PathBuf, Fail> {
@@ -26,7 +32,7 @@ fn at(alloc: Global, folder: &str, name: &str) -> Result<String, Fail> {
 
 /// Whether a report can be written.
 fn writes(rt: &HostRuntime, path: &[u8], bytes: &str) -> Result<bool, Fail> {
-    let mut reports = FileReports::new(*rt);
+    let mut reports = FileReports::new(*rt, NONE);
     let path = Text::from_slice(rt.alloc(), path)?;
     Ok(reports.write(&path, bytes.as_bytes()).is_ok())
 }

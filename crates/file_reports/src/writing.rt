@@ -1,29 +1,39 @@
 //! A report on its way to its path.
 
 use crate::beside::write_beside;
+use crate::spared::{Spared, folder_of};
 use fault_causes::{Cause, named};
 use std::fs::{Metadata, OpenOptions};
 use std::io::{ErrorKind, Write};
 use std::{fs, io, str};
 
 /// Writes a report. Where a regular file has the path, or nothing, the report is written beside it and moved into place, so
-/// that a reader never sees a part of it; missing folders are made. Anything else, such as a device, is written in place.
-pub fn write_report(runtime: HostRuntime, path: &[u8], bytes: &[u8]) -> Result<(), Cause> {
+/// that a reader never sees a part of it; missing folders are made. Anything else, such as a device, is written in place. Spared
+/// files stay as they are.
+pub fn write_report(
+    runtime: HostRuntime,
+    path: &[u8],
+    bytes: &[u8],
+    spared: Spared,
+) -> Result<(), Cause> {
     let Ok(path) = str::from_utf8(path) else {
         return named("open", Err(io::Error::other("the path isn't UTF-8")));
     };
+    named("write", spared.test(runtime, path))?;
     match fs::metadata(&runtime, path) {
         Ok(found) if found.is_file() => replace(runtime, path, bytes),
         Ok(_) => named("write", write_in_place(runtime, path, bytes)),
-        Err(error) if error.kind() == ErrorKind::NotFound => make(runtime, path, bytes),
+        Err(error) if error.kind() == ErrorKind::NotFound => make(runtime, path, bytes, spared),
         Err(error) => named("stat", Err(error)),
     }
 }
 
 /// Writes a new file, and makes the folders that it is in.
-fn make(runtime: HostRuntime, path: &str, bytes: &[u8]) -> Result<(), Cause> {
+fn make(runtime: HostRuntime, path: &str, bytes: &[u8], spared: Spared) -> Result<(), Cause> {
     let folder = fs::create_dir_all(&runtime, folder_of(path));
     named("make its folder", folder)?;
+    // (the folder may be that of the spared files, which wasn't there)
+    named("write", spared.test(runtime, path))?;
     write_beside(runtime, folder_of(path), path, None, bytes)
 }
 
@@ -51,13 +61,4 @@ fn write_in_place(runtime: HostRuntime, path: &str, bytes: &[u8]) -> io::Result<
     let mut file = OpenOptions::new().write(true).open(&runtime, path)?;
     file.write_all(bytes)?;
     file.flush()
-}
-
-/// The folder that a path is in.
-fn folder_of(path: &str) -> &str {
-    match path.rsplit_once('/') {
-        Some(("", _)) => "/",
-        Some((folder, _)) => folder,
-        None => ".",
-    }
 }

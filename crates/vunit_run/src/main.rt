@@ -7,8 +7,8 @@ mod places;
 use crate::causes::{Outside, fault_cause};
 use crate::places::refusal_place;
 use child_procs::ChildProcs;
-use file_disk::FileDisk;
-use file_reports::FileReports;
+use file_disk::{FileDisk, STORE_NAMES};
+use file_reports::{FileReports, Spared};
 use file_tree::{FileTree, OUTPUT_FOLDER};
 use outcomes::{Outcome, Which};
 use run_report::status_of;
@@ -19,6 +19,12 @@ use std_streams::{StdSink, StdSource};
 use told_procs::ToldProcs;
 use vr_base::{NoMemory, Text, TextList};
 use vunit_top::run_vunit;
+
+/// The store, which no report may take the place of.
+static STORE: Spared = Spared {
+    folder: OUTPUT_FOLDER,
+    names: STORE_NAMES,
+};
 
 /// How a run ended, and the line that says more of it on standard error.
 #[derive(Drop)]
@@ -116,7 +122,7 @@ fn run_over(
     };
     let mut children = ToldProcs::new(rt.alloc(), procs, screen(&rt));
     let mut out = StdSink::new(rt);
-    let mut reports = FileReports::new(rt);
+    let mut reports = FileReports::new(rt, STORE);
     let outcome = run_vunit(
         rt.alloc(),
         words,
