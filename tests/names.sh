@@ -1,7 +1,7 @@
 #!/bin/sh
-# Every name of this repository's specs that a public clause cites is explained in docs/DEFINITIONS.md: it occurs there
-# between backticks. Public are the exported functions and the traits of the library crates. Prints the names that are
-# missing. Ends with 0, with 1 where a name is missing, and with 77 where python3 is missing.
+# Every name of this repository's specs that a public clause cites has an entry in docs/DEFINITIONS.md: it stands there in
+# bold, between backticks, in an item or below a heading that names a file of specs. Public are the exported functions and the
+# traits of the library crates. Prints the names that are missing. Ends with 0, with 1 where a name is missing, and with 77 where python3 is missing.
 command -v python3 >/dev/null 2>&1 || { echo "python3 is missing"; exit 77; }
 cd -- "${TOP:-$(dirname -- "$0")/..}" || exit 1
 exec python3 - <<'END'
@@ -28,7 +28,11 @@ def clauses(text, start):
             start = found.end() + len(inside)
 
 page = pathlib.Path("docs/DEFINITIONS.md").read_text()
-explained = {word for code in re.findall(r"`([^`]+)`", page) for word in re.findall(r"\w+", code)}
+explained, heading = set(), ""
+for item in re.split(r"\n(?=- |#)|\n\n", page):
+    heading = item if item.startswith("#") else heading
+    if re.search(r"`\w+/specs|the same file|specs/", item + heading) or re.search(r"specs", heading):
+        explained |= {word for code in re.findall(r"\*\*`([^`]+)`\*\*", item) for word in re.findall(r"\w+", code)}
 missing = {}
 for crate, root in crates.items():
     lib = root.read_text()
