@@ -83,4 +83,40 @@ with open("e.json") as file:
     found = json.load(file)
 if found["files"] != wanted["files"] or found["tests"] != wanted["tests"][1:2]:
     sys.exit(f"the export of one test is {found}")
+
+# No report takes the place of the store, whatever path leads there, nor is one made where the store is to be.
+os.mkdir("../three")
+os.chdir("../three")
+write("vunit.csv", "lib,tb.vhd")
+write("tb.vhd", TEXT)
+SPARED = ["vunit_out/store_a", "vunit_out/store_b", "./vunit_out//store_a", "vunit_out/../vunit_out/./store_b", os.path.abspath("vunit_out/store_a")]
+for path in SPARED:
+    export(path, status=3, err=f"vunit_run: fault of report\nvunit_run: {path}: write: it is a file of the store\n")
+if os.listdir("vunit_out"):
+    sys.exit(f"an export made {os.listdir('vunit_out')}")
+
+
+def run(*words, status=0, out="", err=""):
+    ran = subprocess.run([program, *words], stdin=subprocess.DEVNULL, capture_output=True, text=True)
+    if (ran.returncode, ran.stdout, ran.stderr) != (status, out, err):
+        sys.exit(f"{words}: {ran.returncode, ran.stdout[:500], ran.stderr[:500]} and not {status, out, err}")
+
+
+def store():
+    return [open(f"vunit_out/store_{side}", "rb").read() for side in "ab"]
+
+
+run("--compile", out="Compiling into lib: tb.vhd passed\nCompile passed\n")
+os.symlink("vunit_out/store_a", "link")
+os.symlink("vunit_out", "folder_link")
+before = store()
+for path in [*SPARED, "link", "folder_link/store_b", "folder_link/../vunit_out/store_a"]:
+    told = f"vunit_run: fault of report\nvunit_run: {path}: write: it is a file of the store\n"
+    export(path, status=3, err=told)
+    run("-x", path, status=3, out="Re-compile not needed\npass lib.t.one\n==== Summary\npass 1 of 1\nfail 0 of 1\nskip 0 of 1\nAll passed!\n", err=told)
+    if store() != before or not os.path.islink("link"):
+        sys.exit(f"a report to {path} changed the store")
+run("--compile", out="Re-compile not needed\n")
+# (a file beside the store is one like others)
+run("--export-json", "vunit_out/store_c")
 EOF
