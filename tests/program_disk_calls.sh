@@ -1,0 +1,104 @@
+#!/bin/sh
+# What the program asks the system of its store, call by call: a first build, a run with nothing to do, one record more, a store
+# that is emptied, and one that is compacted as it is opened. What a file holds is on the device (`sync`, `datasync`) before the
+# next write says that it is; both files are synced and their kept pages dropped (`advise`) before anything is read of
+# them; and a new file is in its folder, and that in the one around it, before the first write.
+command -v python3 >/dev/null || { echo "python3 is missing"; exit 77; }
+strace --quiet=all -o /dev/null -e trace=none true 2>/dev/null || { echo "strace is missing, or may not trace"; exit 77; }
+PYTHONPATH=$TOP/tests/support exec python3 -B - <<'END'
+import os, re
+
+from trial import end, fail, package, project, run, write
+
+CALLS = "?mkdir,mkdirat,?open,openat,close,flock,fsync,fdatasync,fadvise64,ftruncate,?read,pread64,?write,pwrite64,?rename,?renameat,?renameat2,?unlink,unlinkat,mmap"
+HERE = os.path.realpath("project")
+PATHS = [".", "vunit_out", "vunit_out/store_a", "vunit_out/store_b"]
+NAMES = {HERE: ".", HERE + "/vunit_out": "vunit_out", HERE + "/vunit_out/store_a": "a", HERE + "/vunit_out/store_b": "b"}
+WORDS = {"flock": "lock", "fsync": "sync", "fdatasync": "datasync", "fadvise64": "advise", "close": "close"}
+
+
+def said(line):
+    """A call in the words of the lists below, or nothing for a signal."""
+    found = re.match(r"(\w+)\((.*)\) += (\S+)", line)
+    if not found:
+        return None
+    call, words, result = found.groups()
+    there = " (there)" if result == "-1" and "EEXIST" in line else "" if not result.startswith("-") else " (failed)"
+    if call in ("mkdir", "mkdirat"):
+        return "make " + re.search(r'"([^"]*)"', words)[1] + there
+    if call in ("open", "openat"):
+        path = re.search(r'"([^"]*)"', words)[1]
+        return ("create " if "O_CREAT" in words else "open ") + {"vunit_out/store_a": "a", "vunit_out/store_b": "b"}.get(path, path) + there
+    name = NAMES[re.match(r"\d+<([^>]*)>", words)[1]]
+    numbers = words.split(", ")
+    if call == "ftruncate":
+        return f"cut {name} to {numbers[-1]}"
+    if call in ("pread64", "pwrite64"):
+        return f"{'read' if call == 'pread64' else 'write'} {name} {numbers[-2]} at {numbers[-1]}"
+    return f"{WORDS.get(call, call)} {name}"
+
+
+def calls_of(*words):
+    before = ["strace", "--quiet=all", "-y", "-s", "0", "-o", "../calls", "-e", "trace=" + CALLS]
+    for path in PATHS:
+        before += ["-P", path, "-P", os.path.join(HERE, path)]
+    status, text, error = run("project", "--compile", *words, before=before)
+    if (status, error) != (0, b""):
+        fail(f"{words}", f"{status, text, error}")
+    with open("calls") as file:
+        return [call for line in file if (call := said(line))], text
+
+
+def check(name, wanted, *words, text):
+    found, printed = calls_of(*words)
+    if printed.decode() != text:
+        fail(name, f"it printed {printed}")
+    if found != wanted:
+        at = next((at for at, pair in enumerate(zip(found, wanted)) if pair[0] != pair[1]), min(len(found), len(wanted)))
+        fail(name, f"call {at} of {len(found)} is {found[at:at + 6]}\nand not {wanted[at:at + 6]} of {len(wanted)}")
+
+
+def size(side):
+    return os.path.getsize(f"project/vunit_out/store_{side}")
+
+
+SYNCED = ["sync a", "advise a", "sync b", "advise b"]
+OPENED = ["make vunit_out (there)", "create a (there)", "open a", "lock a", "create b (there)", "open b", *SYNCED]
+CLOSED = ["close a", "close b"]
+HEAD = 19  # a gate, the mark with its form, the generation, and the gate of the first payload
+
+
+def new_side(side):
+    """An empty side: what it held is cut off, it is shut, its head is written, and then it is opened."""
+    return [f"cut {side} to 0", f"sync {side}", f"write {side} 1 at 0", f"datasync {side}",
+            f"write {side} {HEAD - 1} at 1", f"datasync {side}", f"write {side} 1 at 0", f"datasync {side}"]
+
+
+def added(side, before, after):
+    """A payload behind the last, and then the gate before it."""
+    return [f"write {side} {after - before} at {before}", f"datasync {side}", f"write {side} 1 at {before - 1}", f"datasync {side}"]
+
+
+BUILT = "Compiling into lib: a.vhd passed\nCompile passed\n"
+TEXT = package("a")
+project("project", {"vunit.csv": "lib,a.vhd\n", "a.vhd": TEXT})
+found, printed = calls_of()
+first = size("a")
+wanted = ["make vunit_out", "create a", "lock a", "create b", "open vunit_out", "sync vunit_out", "close vunit_out", "open .", "sync .", "close .",
+          *SYNCED, *new_side("a"), *added("a", HEAD, first), *CLOSED]
+if found != wanted or printed.decode() != BUILT or size("b") != 0:
+    fail("a first build", f"{found}\nand not {wanted}")
+check("nothing to do", [*OPENED, f"read a {HEAD} at 0", f"read a {first} at 0", *CLOSED], text="Re-compile not needed\n")
+
+write("project", {"a.vhd": TEXT + "-- more\n"})
+found, printed = calls_of()
+second = size("a")
+if found != [*OPENED, f"read a {HEAD} at 0", f"read a {first} at 0", *added("a", first, second), *CLOSED]:
+    fail("one record more", f"{found}")
+
+check("a store that is emptied", [*OPENED, f"read a {HEAD} at 0", f"read a {second} at 0", "cut b to 0", "sync b", "write a 1 at 0", "datasync a",
+                                  *new_side("b"), *added("b", HEAD, HEAD + second - first), *CLOSED], "--clean", text=BUILT)
+if size("a") != second or size("b") != HEAD + second - first:
+    fail("a store that is emptied", f"its sides have {size('a')} and {size('b')} bytes")
+end()
+END
