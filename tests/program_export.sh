@@ -17,11 +17,11 @@ def write(path, text):
         file.write(text)
 
 
-def export(path, *patterns, status=0, out="", err=""):
+def export(path, *patterns, status=0, out="", err="", opened=False):
     ran = subprocess.run([program, "--export-json", path, *patterns], stdin=subprocess.DEVNULL, capture_output=True, text=True)
     if (ran.returncode, ran.stdout, ran.stderr) != (status, out, err):
         sys.exit(f"--export-json {path}: {ran.returncode, ran.stdout[:500], ran.stderr[:500]} and not {status, out, err}")
-    if os.path.exists("vunit_out"):
+    if os.path.exists("vunit_out") and not opened:
         sys.exit("an export opened the store")
 
 
@@ -92,8 +92,6 @@ write("tb.vhd", TEXT)
 SPARED = ["vunit_out/store_a", "vunit_out/store_b", "./vunit_out//store_a", "vunit_out/../vunit_out/./store_b", os.path.abspath("vunit_out/store_a")]
 for path in SPARED:
     export(path, status=3, err=f"vunit_run: fault of report\nvunit_run: {path}: write: it is a file of the store\n")
-if os.listdir("vunit_out"):
-    sys.exit(f"an export made {os.listdir('vunit_out')}")
 
 
 def run(*words, status=0, out="", err=""):
@@ -112,7 +110,7 @@ os.symlink("vunit_out", "folder_link")
 before = store()
 for path in [*SPARED, "link", "folder_link/store_b", "folder_link/../vunit_out/store_a"]:
     told = f"vunit_run: fault of report\nvunit_run: {path}: write: it is a file of the store\n"
-    export(path, status=3, err=told)
+    export(path, status=3, err=told, opened=True)
     run("-x", path, status=3, out="Re-compile not needed\npass lib.t.one\n==== Summary\npass 1 of 1\nfail 0 of 1\nskip 0 of 1\nAll passed!\n", err=told)
     if store() != before or not os.path.islink("link"):
         sys.exit(f"a report to {path} changed the store")

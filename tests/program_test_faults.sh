@@ -81,7 +81,10 @@ for slots in 1, 3:
     all_fail("child", "?open,openat", "EIO", "open", [path + "/vunit_results" for path in RUNS], slots, least=3)
     all_fail("child", "read", "EIO", "read", [path + "/vunit_results" for path in RUNS], slots, least=3)
 all_fail("report", "?mkdir,mkdirat", "EIO", "make its folder", ["new"])
-all_fail("report", "?open,openat", "EIO", "open|make a file beside it|write", ["new/out.xml", "new"], base="tested")
-all_fail("report", "write", "ENOSPC", "write", ["new/out.xml"], base="tested", least=0)
+BESIDE = ["new/.vunit_report_0"]
+all_fail("report", "?open,openat", "EIO", "make a file beside it", BESIDE)
+all_fail("report", "write", "ENOSPC", "write", BESIDE)
+all_fail("report", "fsync", "EIO", "write", BESIDE)
+all_fail("report", "?rename,?renameat,?renameat2", "EIO", "move", BESIDE)
 end()
 END

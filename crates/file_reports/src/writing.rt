@@ -30,11 +30,14 @@ pub fn write_report(
 
 /// Writes a new file, and makes the folders that it is in.
 fn make(runtime: HostRuntime, path: &str, bytes: &[u8], spared: Spared) -> Result<(), Cause> {
-    let folder = fs::create_dir_all(&runtime, folder_of(path));
-    named("make its folder", folder)?;
-    // (the folder may be that of the spared files, which wasn't there)
-    named("write", spared.test(runtime, path))?;
-    write_beside(runtime, folder_of(path), path, None, bytes)
+    let folder = folder_of(path);
+    named("make its folder", fs::create_dir_all(&runtime, folder))?;
+    if let Err(cause) = named("write", spared.test(runtime, path)) {
+        // It is the folder of the spared files, which wasn't there.
+        let _ = fs::remove_dir(&runtime, folder);
+        return Err(cause);
+    }
+    write_beside(runtime, folder, path, None, bytes)
 }
 
 /// Writes a file in place of one that is there and may be written. The new one has the permissions of the old one. Where the

@@ -414,15 +414,16 @@ fn run_setting<T: Tree, D: Disk, P: Procs, O: Sink, R: Reports>(
 /// Runs the program: reads the words, and does what they and the sources say.
 ///
 /// The words are those of the command line without the program's name. Where the first is `child-analyse` the program is a
-/// child: the compiler that is part of it, or with `child-bench` the simulator. With `--files` the files of the project in the tree are put, in compile order; with `--list` the tests that
-/// one of the patterns matches; with `--export-json` both are written to a file as JSON. With `--compile` they are built in
-/// that order: of a file whose text, name, command and dependencies are those of its record on the disk nothing is
-/// started, and each other file is compiled, once, with as many children at once as `-p` says, until one is refused, or
-/// with `-k` also after it, but for the files that depend on a refused one; what a compiler gives is committed before
-/// the next start. With `--clean` no record counts, and the store is emptied before the first start. With none of these the
-/// files are built likewise, and where all are made the tests that one of the patterns matches are run over exactly them,
-/// with as many children at once; with `--fail-fast` none is started after one that didn't pass has ended. What became of
-/// both is put in one call, and after that, with `-x`, written to a file as JUnit XML.
+/// child, the compiler that is part of it, and with `child-bench` the simulator. With `--files` the files of the project in
+/// the tree are put, in compile order; with `--list` the tests that one of the patterns matches; with `--export-json` both
+/// are written to a file as JSON. With `--compile` they are built in that order: of a file whose text, name, command and
+/// dependencies are those of its record on the disk nothing is started, and each other file is compiled, once, with as many
+/// children at once as `-p` says, until one is refused, or with `-k` also after it, but for the files that depend on a
+/// refused one; what a compiler gives is committed before the next start. With `--clean` no record counts, and the store is
+/// emptied before the first start. With none of these the files are built likewise, and where all are made the tests that
+/// one of the patterns matches are run over exactly them, with as many children at once; with `--fail-fast` none is started
+/// after one that didn't pass has ended. What became of both is put in one call, and after that, with `-x`, written to a file
+/// as JUnit XML.
 ///
 /// From every object's answers the call answers what the clauses below say; where an object tells nothing, it is
 /// still safe, its answer still has its cause, and no child runs when it returns.
@@ -563,7 +564,8 @@ pub fn run_vunit<I: Source, T: Tree, D: Disk, P: Procs, O: Sink, R: Reports>(
         (record { file = T.file tree.old; listed = T.listed tree.old })) ≡ None →
         test_part (since (P.journal procs.old) (P.journal procs.new)) ≡ [] }
 
-    // The report that is written by an export: the file of its path has exactly the text after `Done`, and no other file is changed.
+    // The report that is written by an export: the file of its path has exactly the text after `Done`, and no other file is
+    // changed.
     ensures writes { (scan : List ℕ → Finding) → IsScanner scan → T.tells → R.tells →
         (path text : List ℕ) →
         reading scan words.now (record { file = T.file tree.old; listed = T.listed tree.old })
