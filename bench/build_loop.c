@@ -6,43 +6,15 @@
    is started with the words, and is looked for in PATH; without words it is the runner itself, as its own compiler.
 
    usage: build_loop LIST SLOTS STORE PROGRAM [WORD ..] */
-#define _GNU_SOURCE
-#include <fcntl.h>
-#include <poll.h>
-#include <spawn.h>
-#include <stdint.h>
-#include <stdio.h>
-#include <stdlib.h>
-#include <string.h>
-#include <sys/wait.h>
-#include <unistd.h>
-
-extern char **environ;
-
-struct bytes { uint8_t *at; size_t length, room; };
+#include "children.c"
 
 struct file {
+    struct child child; /* (first, so that a child leads to its file; what it has printed is the artefact) */
     char *path;
     uint32_t *needs, count;
     int started, done;
-    pid_t child;
-    struct bytes source, artefact;
+    struct bytes source;
 };
-
-static void fail(const char *what) {
-    perror(what);
-    exit(1);
-}
-
-static void add(struct bytes *to, const void *from, size_t length) {
-    if (to->length + length > to->room) {
-        to->room = 2 * (to->length + length);
-        to->at = realloc(to->at, to->room);
-        if (!to->at) fail("memory");
-    }
-    if (length) memcpy(to->at + to->length, from, length);
-    to->length += length;
-}
 
 static void add_number(struct bytes *to, uint64_t number, int width) {
     uint8_t digits[8];
@@ -53,14 +25,6 @@ static void add_number(struct bytes *to, uint64_t number, int width) {
 static void add_text(struct bytes *to, const void *text, size_t length) {
     add_number(to, length, 4);
     add(to, text, length);
-}
-
-static void read_all(int from, struct bytes *to) {
-    uint8_t buffer[65536];
-    ssize_t count;
-    while ((count = read(from, buffer, sizeof buffer)) > 0) add(to, buffer, (size_t)count);
-    if (count < 0) fail("read");
-    close(from);
 }
 
 static struct file *read_list(const char *path, uint32_t *count) {
@@ -85,11 +49,9 @@ static struct file *read_list(const char *path, uint32_t *count) {
     return files;
 }
 
-/* Starts the compiler of a file, and gives the pipe of its output. */
-static int start(char **words, struct file *files, struct file *file) {
+/* Starts the compiler of a file. */
+static void start(struct children *all, char **words, struct file *files, struct file *file) {
     static struct bytes request;
-    int in[2], out[2];
-    posix_spawn_file_actions_t actions;
     request.length = 0;
     add(&request, "VRC1", 4);
     add_text(&request, "lib", 3);
@@ -100,24 +62,10 @@ static int start(char **words, struct file *files, struct file *file) {
         struct file *need = &files[file->needs[at]];
         add_text(&request, "lib", 3);
         add_text(&request, need->path, strlen(need->path));
-        add_text(&request, need->artefact.at, need->artefact.length);
+        add_text(&request, need->child.output.at, need->child.output.length);
     }
-    if (pipe2(in, O_CLOEXEC) || pipe2(out, O_CLOEXEC)) fail("pipe");
-    posix_spawn_file_actions_init(&actions);
-    posix_spawn_file_actions_adddup2(&actions, in[0], 0);
-    posix_spawn_file_actions_adddup2(&actions, out[1], 1);
-    if (posix_spawnp(&file->child, words[0], &actions, NULL, words, environ)) fail("spawn");
-    posix_spawn_file_actions_destroy(&actions);
-    close(in[0]);
-    close(out[1]);
-    for (size_t at = 0; at < request.length;) {
-        ssize_t count = write(in[1], request.at + at, request.length - at);
-        if (count < 0) fail("write");
-        at += (size_t)count;
-    }
-    close(in[1]);
+    start_child(all, &file->child, words, &request, 1);
     file->started = 1;
-    return out[0];
 }
 
 /* Writes length, payload and a closed gate, syncs, opens the gate, and syncs. */
@@ -136,7 +84,7 @@ static void commit(int store, uint64_t *gate, char **command, const struct file 
     add_text(&record, file->source.at, file->source.length);
     add_number(&record, file->count, 4);
     for (uint32_t at = 0; at < file->count; at++) add_number(&record, numbers[file->needs[at]], 8);
-    add_text(&record, file->artefact.at, file->artefact.length);
+    add_text(&record, file->child.output.at, file->child.output.length);
     length = (uint32_t)(record.length - 4);
     memcpy(record.at, &length, 4);
     add_number(&record, 0, 1);
@@ -152,28 +100,12 @@ static int can_start(const struct file *files, const struct file *file) {
     return 1;
 }
 
-/* Waits until an output comes to its end, reads each as it comes, and gives the place of one that is at its end. */
-static uint32_t wait_any(struct pollfd *asked, struct file **running, uint32_t count) {
-    for (;;) {
-        if (poll(asked, count, -1) < 0) fail("poll");
-        for (uint32_t at = 0; at < count; at++) {
-            uint8_t buffer[65536];
-            ssize_t length;
-            if (!asked[at].revents) continue;
-            length = read(asked[at].fd, buffer, sizeof buffer);
-            if (length < 0) fail("read");
-            if (length == 0) return at;
-            add(&running[at]->artefact, buffer, (size_t)length);
-        }
-    }
-}
-
 int main(int count, char **words) {
     static char *own_words[] = { NULL, "child-analyse", NULL }, *own_command[] = { "@self", "child-analyse", NULL };
-    uint32_t total, slots, in_flight = 0, ended = 0, first = 0;
+    uint32_t total, slots, ended = 0, first = 0;
     uint64_t gate = 18, *numbers;
-    struct file *files, **running;
-    struct pollfd *asked;
+    struct file *files;
+    struct children all;
     char **started, **recorded;
     int store;
     if (count < 5) {
@@ -186,10 +118,9 @@ int main(int count, char **words) {
     started = count > 5 ? words + 4 : own_words;
     recorded = count > 5 ? words + 4 : own_command;
     numbers = malloc(total * sizeof *numbers);
-    running = malloc(slots * sizeof *running);
-    asked = malloc(slots * sizeof *asked);
+    all = no_children(slots);
     store = open(words[3], O_RDWR | O_CREAT | O_TRUNC | O_CLOEXEC, 0644);
-    if (store < 0 || !numbers || !running || !asked) fail(words[3]);
+    if (store < 0 || !numbers) fail(words[3]);
     if (pwrite(store, "\1VUNITREC\2\1\0\0\0\0\0\0\0\0", 19, 0) != 19 || fdatasync(store)) fail("store");
     for (uint32_t at = 0; at < total; at++) {
         int from = open(files[at].path, O_RDONLY | O_CLOEXEC);
@@ -199,30 +130,18 @@ int main(int count, char **words) {
     while (ended < total) {
         uint32_t next = total, at;
         struct file *file;
-        int status;
         while (first < total && files[first].started) first++;
-        for (at = first; at < total && in_flight < slots && next == total; at++) {
+        for (at = first; at < total && all.count < slots && next == total; at++) {
             if (!files[at].started && can_start(files, &files[at])) next = at;
         }
         if (next < total) {
-            asked[in_flight] = (struct pollfd){ .fd = start(started, files, &files[next]), .events = POLLIN };
-            running[in_flight++] = &files[next];
+            start(&all, started, files, &files[next]);
             continue;
         }
-        at = wait_any(asked, running, in_flight);
-        file = running[at];
-        close(asked[at].fd);
-        if (waitpid(file->child, &status, 0) < 0) fail("wait");
-        if (!WIFEXITED(status) || WEXITSTATUS(status)) {
-            fprintf(stderr, "build_loop: a child refused its file\n");
-            return 1;
-        }
+        file = (struct file *)take_any(&all);
         numbers[file - files] = ended++;
         commit(store, &gate, recorded, file, numbers);
         file->done = 1;
-        in_flight--;
-        memmove(asked + at, asked + at + 1, (in_flight - at) * sizeof *asked);
-        memmove(running + at, running + at + 1, (in_flight - at) * sizeof *running);
     }
     printf("%u files\n", ended);
     return 0;

@@ -1,5 +1,5 @@
 """What the benches in Python share: generated projects, and runs that are timed by turns."""
-import os, random, statistics, subprocess, sys, tempfile, time
+import json, os, random, statistics, subprocess, sys, tempfile, time
 
 from generate import ENTITY
 
@@ -32,7 +32,7 @@ def needs_of(at, kind, chance):
     return sorted(chance.sample(range(at), min(at, 4)))
 
 
-def make_project(folder, count, kind, compiler=None, size=SIZE):
+def make_project(folder, count, kind, compiler=None, size=SIZE, simulator=None):
     """Makes a project of so many packages of so many bytes each, and gives what each uses."""
     chance = random.Random(15)
     all_needs = [needs_of(at, kind, chance) for at in range(count)]
@@ -48,9 +48,10 @@ def make_project(folder, count, kind, compiler=None, size=SIZE):
             sys.exit("a generated file has another size")
         with open(os.path.join(folder, "src", f"p{at:04}.vhd"), "w") as file:
             file.write(text)
-    words = "compiler = [" + ", ".join(f"'{word}'" for word in compiler) + "]\n" if compiler else ""
+    commands = {"compiler": compiler, "simulator": simulator}
     with open(os.path.join(folder, "vunit.toml"), "w") as file:
-        file.write(words + '[[library]]\nname = "lib"\nfiles = ["src/*.vhd"]\n')
+        file.write("".join(f"{key} = {json.dumps(words)}\n" for key, words in commands.items() if words))
+        file.write('[[library]]\nname = "lib"\nfiles = ["src/*.vhd"]\n')
     return all_needs
 
 
@@ -99,10 +100,10 @@ def check_no_op(text):
         sys.exit(f"something is compiled: it says {text[:200]}")
 
 
-def compiled(name, room):
+def compiled(name, room, *options):
     """A program in C of this folder, in a room."""
     made = os.path.join(room, name)
-    subprocess.run([os.environ.get("CC", "cc"), "-O2", "-o", made, os.path.join(BENCH, name + ".c")], check=True)
+    subprocess.run([os.environ.get("CC", "cc"), "-O2", *options, "-o", made, os.path.join(BENCH, name + ".c")], check=True)
     return made
 
 
@@ -115,6 +116,36 @@ def by_turns(rounds, *works):
             if at:
                 times.append(value)
     return [statistics.median(times) for times in found]
+
+
+class Turns:
+    """The times of one command over one project, by turns with others."""
+
+    def __init__(self, words, folder, check=None):
+        self.words, self.folder, self.check, self.found = words, folder, check, []
+
+    def run(self, is_kept):
+        took, usage, text = measured(self.words, self.folder)
+        if self.check:
+            self.check(text)
+        if is_kept:
+            self.found.append((took, usage.ru_utime + usage.ru_stime, usage.ru_stime, usage.ru_maxrss * 1024))
+
+    def median(self, at):
+        return statistics.median(times[at] for times in self.found)
+
+    clock = property(lambda self: self.median(0))
+    processor = property(lambda self: self.median(1))
+    system = property(lambda self: self.median(2))
+    memory = property(lambda self: self.median(3))
+    most_memory = property(lambda self: max(times[3] for times in self.found))
+
+
+def take_turns(rounds, *all_turns):
+    """Runs each command once in a round, over so many rounds. A round before them is thrown away."""
+    for at in range(rounds + 1):
+        for each in all_turns:
+            each.run(at > 0)
 
 
 def store_bytes(folder):
