@@ -8,6 +8,7 @@ import xml.etree.ElementTree as xml
 
 from simulator import read_bench
 from trial import PROGRAM, end, expect, fail, package, project, run, toml, write
+from realistic_project import FILES as REALISTIC
 
 SIMULATOR = [sys.executable, "-B", os.path.join(os.environ["TOP"], "tests", "support", "simulator.py")]
 
@@ -104,39 +105,7 @@ expect("output of what passed", "same", 0, "Re-compile not needed\nsaid\npass li
 expect("no output of what passed", "same", 0, "Re-compile not needed\npass lib.t.a\npass lib.t.b\n" + summary(2, 0, 0), env=planned(quiet))
 
 # A project as users have it, over the children that come with the program, and its report.
-project("real", {
-    "vunit.toml": 'external = ["unisim"]\n\n[[library]]\nname = "lib"\nfiles = ["src/*.vhd"]\n\n[[library]]\nname = "tb_lib"\nfiles = ["tb/*.vhd"]\n',
-    "src/counter_pkg.vhd": "package counter_pkg is\n  subtype count_t is natural range 0 to 15;\nend package counter_pkg;\n",
-    "src/counter.vhd": "library ieee;\nuse ieee.std_logic_1164.all;\nuse work.counter_pkg.all;\nentity counter is\n  port (clk : in std_logic; q : out count_t);\nend entity counter;\n"
-    "architecture rtl of counter is\nbegin\n  q <= 0 when clk = '0' else 1;\nend architecture rtl;\n",
-    "tb/tb_counter.vhd": """library ieee;
-use ieee.std_logic_1164.all;
-library vunit_lib;
-context vunit_lib.vunit_context;
-library lib;
-use lib.counter_pkg.all;
-entity tb_counter is
-  generic (runner_cfg : string);
-end entity;
-architecture sim of tb_counter is
-  signal clk : std_logic := '0';
-  signal q : count_t;
-begin
-  dut : entity lib.counter port map (clk => clk, q => q);
-  main : process
-  begin
-    test_runner_setup(runner, runner_cfg);
-    while test_suite loop
-      if run("reset") then
-        check_equal(q, 0);
-      elsif run("count & wrap") then
-        check_equal(q, 1);
-      end if;
-    end loop;
-    test_runner_cleanup(runner);
-  end process;
-end architecture;
-"""})
+project("real", REALISTIC)
 JUNIT = """<?xml version="1.0" encoding="utf-8"?>
 <testsuite name="testsuite" tests="2" failures="{}" skipped="0" errors="0">
   <testcase classname="tb_lib.tb_counter" name="reset"/>
