@@ -1,8 +1,8 @@
 # Runs the session of one section of README.md line by line in a copy of what it needs, and compares it with what README.md
 # prints. The lines of its fenced blocks that begin with `$ ` are commands, and the others what these print. Blocks
-# without a command are passed over.
+# without a command are passed over. EDIT is a command of sed for what is otherwise on this machine than in README.md.
 #
-# usage: session.sh SECTION
+# usage: session.sh SECTION [EDIT]
 set -eu
 mkdir -p vunit_run/bin tmp home
 cp -R "$TOP/examples" "$TOP/README.md" vunit_run
@@ -16,7 +16,7 @@ awk -v section="## $1" '
     /^## / { inside = $0 == section }
     inside && /^```/ { fenced = !fenced; is_session = 0; next }
     inside && fenced && /^\$ / { is_session = 1 }
-    inside && fenced && is_session' vunit_run/README.md | sed "s#/tmp/#$PWD/tmp/#g" >wanted
+    inside && fenced && is_session' vunit_run/README.md | sed -e "s#/tmp/#$PWD/tmp/#g" -e "${2:-}" >wanted
 awk -v quote="'" '
     /^\$ / {
         command = shown = substr($0, 3)
@@ -26,8 +26,8 @@ awk -v quote="'" '
         print command
     }' wanted >commands
 
-if ! grep -q -- '--compile' commands || ! grep -q '^cp .*examples/' commands; then
-    echo "README.md has no session in '$1' that copies an example and compiles it"
+if ! grep -q -e '^"$program" ' -e '^vunit_run ' commands || ! grep -q '^cp .*examples/' commands; then
+    echo "README.md has no session in '$1' that copies an example and runs the program there"
     exit 1
 fi
 room=$PWD
