@@ -3,52 +3,15 @@ and with the runner: no process and no folder is left. Works in the present fold
 
 import os, random, signal, subprocess, sys, time
 from bench_requests import SIMULATOR, Run, build
+from ghdl_bench_texts import ENDLESS
+from ghdl_left import MARK, left, see_nothing
 
 tmp = os.path.abspath("tmp")
 os.mkdir(tmp)
 os.environ["TMPDIR"] = tmp
-# a word by which the wrapper and its keeper are known; GHDL is known by the folder
-MARK = f"--cpu-limit={random.SystemRandom().randrange(10**6, 10**8)}"
-ENDLESS = b"""library vunit_lib;
-context vunit_lib.vunit_context;
-entity tb is
-  generic (runner_cfg : string);
-end entity;
-architecture sim of tb is
-begin
-  main : process
-  begin
-    test_runner_setup(runner, runner_cfg);
-    while true loop
-    end loop;
-  end process;
-end architecture;
-"""
-run = Run(build([(b"tb_lib", b"tb.vhd", ENDLESS)]), b"tb_lib", b"tb", b"sim", [b"one"])
+run = Run(build([(b"tb_lib", b"tb.vhd", ENDLESS.encode())]), b"tb_lib", b"tb", b"sim", [b"no time"])
 run.prepare()
 whole = run.request()
-
-
-def left():
-    """What is there of wrappers, keepers and GHDL: command lines and folders."""
-    found = os.listdir(tmp)
-    for name in os.listdir("/proc"):
-        if name.isdigit() and int(name) != os.getpid():
-            try:
-                with open(f"/proc/{name}/cmdline", "rb") as file:
-                    words = file.read()
-            except OSError:
-                continue
-            if MARK.encode() in words or tmp.encode() in words:
-                found.append(words)
-    return found
-
-
-def see_nothing(name):
-    until = time.monotonic() + 20
-    while left():
-        assert time.monotonic() < until, f"{name}: left behind: {left()}"
-        time.sleep(0.02)
 
 
 def start():

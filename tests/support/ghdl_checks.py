@@ -3,41 +3,12 @@ with texts by hand. Works in the present folder."""
 
 import os, re
 from bench_requests import Run, build
+from ghdl_check_texts import BENCH, EQUAL, OTHERS
 
 tmp = os.path.abspath("tmp")
 os.mkdir(tmp)
 os.environ["TMPDIR"] = tmp
 
-# Arguments of check_equal that pass, and such that fail; how the got value is written, and the two of the failing check.
-EQUAL = [
-    ("3, 3", "-3, 4", "3", "-3", "4"),
-    ("u4, u4", "u4, u8", "0101 (5)", "0101 (5)", "00000110 (6)"),
-    ("u4, resize(u4, 40)", "resize(u4, 40), u8", "0101 (5)", "0" * 37 + "101", "00000110 (6)"),
-    ("u4, five", "u4, four", "0101 (5)", "0101 (5)", "4"),
-    ("five, u4", "four, u4", "5", "4", "0101 (5)"),
-    ("u4, std_logic_vector(u4)", "u4, v4", "0101 (5)", "0101 (5)", "01X1"),
-    ("std_logic_vector(u4), u4", "v4, u4", "0101 (5)", "01X1", "0101 (5)"),
-    ("v4, v4", "v4, std_logic_vector(u4)", "01X1", "01X1", "0101 (5)"),
-    ("std_logic_vector(u4), five", "v4, five", "0101 (5)", "01X1", "5"),
-    ("five, std_logic_vector(u4)", "five, v4", "5", "5", "01X1"),
-    ("s4, resize(s4, 9)", "s4, s8", "1101 (-3)", "1101 (-3)", "00001101 (13)"),
-    ("s4, minus_three", "s4, 13", "1101 (-3)", "1101 (-3)", "13"),
-    ("minus_three, s4", "13, s4", "-3", "13", "1101 (-3)"),
-    ("one, one", "one, zero", "1", "1", "0"),
-    ("one, true", "one, false", "1", "1", "false"),
-    ("false, zero", "true, unknown", "false", "true", "X"),
-    ("true, five = 5", "true, five = 4", "true", "true", "false"),
-    ("character'('a'), character'('a')", "character'('a'), character'('b')", "a", "a", "b"),
-    ('string\'("ab"), string\'("ab")', 'string\'("ab"), string\'("abc")', "ab", "ab", "abc"),
-    ("2.5, 2.5", "2.5, -1.5", "2.5", "2.5", "-1.5"),
-    ("1 ns, 1000 ps", "1 ns, 2 ns", "1 ns", "1 ns", "2 ns"),
-    ("0 ns, 0 sec", "9000 sec + 10 ns, -12 us", "0 fs", "9000000000010 ns", "-12 us"),
-    ("5 us + 1 fs, 5 us + 1 fs", "60 ms, 61 ps", "5000000001 fs", "60 ms", "61 ps"),
-]
-# The other checks: statements that pass and that fail, and their names in the log.
-OTHERS = [("check(five = 5%s)", "check(five = 4%s)", "Check"), ("check_true(five = 5%s)", "check_true(five = 4%s)", "True check"),
-          ("check_false(five = 4%s)", "check_false(five = 5%s)", "False check"),
-          ("check_passed%s", "check_failed%s", "Unconditional check")]
 rows = []
 for passing, failing, got, wrong, wanted in EQUAL:
     rows.append((f"check_equal({passing});", f"check - PASS - Equality check passed - Got {got}."))
@@ -80,35 +51,6 @@ rows += [
     ('for n in 1 to 40 loop info(get_logger("logger " & to_string(n)), "a"); end loop;', None),
     ('info(to_string(get_log_count(get_logger("logger 1"), info)));', "default - INFO - 1"),
 ]
-BENCH = """library ieee;
-use ieee.std_logic_1164.all;
-use ieee.numeric_std.all;
-library vunit_lib;
-context vunit_lib.vunit_context;
-entity tb is
-  generic (runner_cfg : string);
-end entity;
-architecture sim of tb is
-  constant u4 : unsigned(3 downto 0) := "0101";
-  constant u8 : unsigned(0 to 7) := "00000110";
-  constant v4 : std_logic_vector(3 downto 0) := "01X1";
-  constant s4 : signed(3 downto 0) := "1101";
-  constant s8 : signed(7 downto 0) := "00001101";
-  constant five : natural := 5;
-  constant four : natural := 4;
-  constant minus_three : integer := -3;
-  constant one : std_logic := '1';
-  constant zero : std_logic := '0';
-  constant unknown : std_logic := 'X';
-begin
-  main : process
-  begin
-    test_runner_setup(runner, runner_cfg);
-%s
-    test_runner_cleanup(runner);
-  end process;
-end architecture;
-"""
 
 
 def run(statements, words=()):
