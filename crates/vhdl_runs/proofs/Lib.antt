@@ -5,4 +5,5 @@ mod Calling
 mod Quotes
 mod Counted
 mod Placing
+mod Passed
 mod ByHand

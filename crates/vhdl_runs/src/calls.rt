@@ -6,6 +6,7 @@ ghost use Rattle.scan_spec.specs.Units.{AreTokensOf, roles_of, token_at};
 ghost use Rattle.vhdl_runs.specs.Calls.{is_run_call, is_string, run_strings};
 ghost use Rattle.vhdl_runs.specs.Runs.{IsStringIn};
 
+use crate::passing::next_call;
 use crate::words::{is_closing, is_opening, is_string, is_word};
 use std::alloc::Global;
 use vhdl_units::role_at;
@@ -85,8 +86,10 @@ pub fn run_strings(
     ensures lie { IfOk result (All (IsStringIn text.now)) }
 {
     let mut strings = Vec::new(alloc);
-    for at in start..end {
+    let mut at = next_call(roles, start, end);
+    while at < end {
         push_call(text, tokens, roles, at, &mut strings)?;
+        at = next_call(roles, at + 1, end);
     }
     Ok(Items::from_vec(strings))
 }

@@ -5,6 +5,7 @@
 mod calls;
 mod cases;
 mod comments;
+mod passing;
 mod runner;
 mod runs;
 mod units;

@@ -5,6 +5,7 @@ ghost use Rattle.std.specs.Str.{bytes_eq};
 ghost use Rattle.scan_spec.specs.References.{is_name};
 ghost use Rattle.scan_spec.specs.Units.{AreTokensOf, is_closing, is_opening, name_of, roles_of};
 ghost use Rattle.vhdl_runs.specs.Calls.{is_generic_word, is_string, is_word_at};
+ghost use Rattle.vhdl_runs.specs.Passing.{is_other};
 
 use vhdl_units::{is_named, role_at};
 use vr_base::{Role, TokenKind, Tokens};
@@ -45,6 +46,16 @@ pub fn is_generic_word(role: Role) -> bool
 {
     match role {
         Role::Generic => true,
+        _ => false,
+    }
+}
+
+#[inline(always)]
+pub fn is_other(role: Role) -> bool
+    ensures { result ≡ is_other role }
+{
+    match role {
+        Role::Other => true,
         _ => false,
     }
 }

@@ -1,0 +1,24 @@
+-- Tokens of which the roles alone tell that no case is called there.
+use Rattle.std.specs.Prelude.{◌≡◌, ℕ, ◌+◌, ◌<◌, ◌≤◌, Bool, true, false, ◌&&◌, List}
+use Rattle.vr_base.specs.declared.design.Role.{Role}
+use Rattle.vr_base.specs.declared.design.Role.TheVariants.{Other}
+use Rattle.scan_spec.specs.Units.{is_closing, is_opening, role_at}
+
+-- a token that no rule names, as a string
+abbrev pub is_other : Role → Bool
+is_other Other = true
+is_other _ = false
+
+-- `(`, such a token and `)` follow a token
+abbrev pub may_call : List Role → ℕ → Bool
+may_call roles at = is_opening (role_at roles (at + 1)) && is_other (role_at roles (at + 2)) && is_closing (role_at roles (at + 3))
+
+-- they follow no token from one up to another
+abbrev pub IsUncalled : List Role → ℕ → ℕ → Type 0
+IsUncalled roles from end = (at : ℕ) → from ≤ at → at < end → may_call roles at ≡ false
+
+-- a walk that goes up to a place at most has passed over tokens that they don't follow
+pub record HasPassed (roles : List Role) (from end at : ℕ) : Type 0 where
+  pub reaches : from ≤ at
+  pub within : at ≤ end
+  pub none : IsUncalled roles from at
