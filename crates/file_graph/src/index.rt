@@ -12,7 +12,7 @@ ghost use Rattle.file_graph.specs.Indexes.{AddsAll, AddsUnit, ArePlacesOfFiles, 
 
 use crate::key::{UnitKey, unit_key};
 use crate::spelling::spelled;
-use file_outlines::FileOutline;
+use file_outlines::{FileOutline, room_for_units};
 use key_index::KeyMap;
 use std::alloc::Global;
 use vr_base::{FILE_LIMIT, FileName, Items, LinkFault, NoMemory, Project, Unit, UnitKind};
@@ -142,7 +142,10 @@ pub fn index_of(
         (first_duplicate [] (link_units 0 project.now.files texts scans))
         (IsIndex project.now.files (link_units 0 project.now.files texts scans)) result }
 {
-    let mut index = Index::new(alloc);
+    let Ok(index) = Index::with_room(alloc, room_for_units(files)) else {
+        return Err(LinkFault::NoMemory);
+    };
+    let mut index = index;
     for file in 0..project.files.len() {
         let units = files.get(file).units.as_slice();
         add_file(alloc, project, file as u32, units, &mut index)?;

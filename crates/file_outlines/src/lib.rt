@@ -4,4 +4,4 @@
 mod copies;
 mod outlines;
 
-pub use outlines::{FileOutline, Outlines, UnitScope, outlines_of};
+pub use outlines::{FileOutline, Outlines, UnitScope, outlines_of, room_for_units};

@@ -37,6 +37,16 @@ pub struct Outlines {
     pub files: Items<FileOutline>,
 }
 
+/// How many units files have, or a number above all that memory holds: how much room is made for them. Nothing that is said
+/// of them rests on it.
+pub fn room_for_units(files: &Items<FileOutline>) -> usize {
+    let mut count: usize = 0;
+    for file in 0..files.len() {
+        count = count.saturating_add(files.get(file).units.len() as usize);
+    }
+    count
+}
+
 /// What each unit of a scan mentions, in order.
 fn mentions_of_units(
     alloc: Global,

@@ -6,12 +6,12 @@ ghost use Rattle.std.specs.List.{position_or_len};
 ghost use Rattle.std.specs.Option.{unwrap_or};
 ghost use Rattle.std.specs.Ordering.{is_eq};
 ghost use Rattle.indexmap.specs.IndexSet.{insert_key};
-ghost use Rattle.key_index.specs.Keys.{TakesNumber, IsKeyAt, short_mark};
+ghost use Rattle.key_index.specs.Keys.{TakesNumber, IsKeyAt, hash_of};
 
-use indexmap::IndexMap;
+use crate::table::{Found, hash_of, look, put};
 use std::alloc::Global;
 use std::collections::BTreeMap;
-use std::hash::{FoldHasher, Hash, Hasher};
+use std::hash::Hash;
 use std::marker::Model;
 use vr_base::NoMemory;
 
@@ -25,19 +25,6 @@ pub trait Key: Ord + Hash + Drop {
         ensures { IfOk result (λ copy. copy ≡ self.now) };
 
     ghost decides: { (a b : Self) → Decides (Self.eq a b) (a ≡ b) };
-}
-
-/// The last bits of a hash are left out of a mark. There are so few marks that `first` is quick whichever of them come.
-const SHIFT: u32 = 47;
-
-/// The mark of a key: a number of 17 bits, which equal keys share, and other keys may.
-#[tactic(auto, unfolding(crate::specs::Keys::short_mark))]
-fn short_mark<K: Key>(key: &K) -> u32
-    ensures { result ≡ short_mark (K.hash_input key.now) }
-{
-    let mut state = FoldHasher::default();
-    key.hash(&mut state);
-    (state.finish() >> SHIFT) as u32
 }
 
 /// The number that a key has among others, where it takes one if it has none: one search in all.
@@ -54,43 +41,69 @@ fn take_other<K: Key>(
     Ok(*others.entry(key)?.or_insert(number))
 }
 
+/// As many keys as a place of the table can name.
+const MOST: usize = u32::MAX as usize;
+
+/// The number of a key among others, if it has one.
+fn other_number<K: Key>(others: &BTreeMap<K, usize>, key: &K) -> Option<usize>
+    ensures { result ≡ other_of K.cmp others.now key.now }
+{
+    match others.get(key) {
+        Some(other) => Some(*other),
+        None => None,
+    }
+}
+
 /// Keys, each once, numbered from 0 in the order in which they came. Contracts see them.
 ///
-/// The first key of a mark is found by its mark. What other keys have that mark, be it by chance or because they were
-/// chosen to, is found by an ordered map. So looking keys up takes n log n comparisons in all, whatever they are.
+/// A key is found at one of its two places in a table, if there is one. What keys are at neither, be it by chance or because
+/// they were chosen to, is found by an ordered map. So looking keys up takes n log n comparisons in all, whatever they are.
 #[derive(Drop)]
 pub struct KeyNumbers<K: Key> {
     alloc: Global,
     keys: Vec<K>,
-    first: IndexMap<u32, usize>,
+    slots: Vec<u32>,
     others: BTreeMap<K, usize>,
 }
 
 impl<K: Key> Model for KeyNumbers<K> {
-    ghost use Rattle.std.specs.Prelude.{List, nat_eq};
-    ghost use Rattle.indexmap.specs.IndexMap.{get as first_of};
+    ghost use Rattle.std.specs.Prelude.{List, length};
     ghost use Rattle.std.specs.BTreeMap.{get as other_of};
-    ghost use Rattle.key_index.specs.Keys.{AreMarked, short_mark};
+    ghost use Rattle.key_index.specs.Keys.{AreMarked, first_of, hash_of, second_of, slot_at};
 
     ghost Value = { List K };
 
     ghost view = { λ a. a.keys.items };
 
-    ghost invariant = { λ a. AreMarked (λ key. short_mark (K.hash_input key)) (first_of nat_eq a.first)
-        (other_of K.cmp a.others) a.keys.items };
+    ghost invariant = { λ a. AreMarked (λ key. first_of (length a.slots.items) (hash_of (K.hash_input key)))
+        (λ key. second_of (length a.slots.items) (hash_of (K.hash_input key))) (length a.slots.items)
+        (slot_at a.slots.items) (other_of K.cmp a.others) a.keys.items };
 }
 
 impl<K: Key> KeyNumbers<K> {
-    /// No key, which takes no memory.
+    /// No key, which takes no memory. Keys are found by the ordered map alone.
     pub fn new(alloc: Global) -> KeyNumbers<K>
         ensures { result ≡ [] }
     {
         KeyNumbers {
             alloc,
             keys: Vec::new(alloc),
-            first: IndexMap::new(alloc),
+            slots: Vec::new(alloc),
             others: BTreeMap::new(alloc),
         }
+    }
+
+    /// No key, with a table for so many, or more. Most are then found at their places.
+    pub fn with_room(alloc: Global, count: usize) -> Result<KeyNumbers<K>, NoMemory>
+        ensures { IfOk result (λ keys. keys ≡ []) }
+    {
+        let places = count.saturating_mul(4);
+        Ok(KeyNumbers {
+            alloc,
+            keys: Vec::with_capacity(alloc, count)?,
+            slots: vec![in alloc; 0; places]?,
+            others: BTreeMap::new(alloc),
+        })
     }
 
     /// The number of keys. No two are the same.
@@ -109,22 +122,16 @@ impl<K: Key> KeyNumbers<K> {
         &self.keys[number]
     }
 
-    /// The number of a key that has a mark, if it has one.
-    fn find(&self, mark: u32, key: &K) -> Option<usize>
-        requires { mark ≡ short_mark (K.hash_input key.now) }
+    /// The number of a key that has a hash, if it has one.
+    fn find(&self, hash: u64, key: &K) -> Option<usize>
+        requires { hash ≡ hash_of (K.hash_input key.now) }
         ensures place { IsKeyAt self.now key.now result }
         ensures once { AllPairs (λ a b. a ≢ b) self.now }
     {
-        let Some(first) = self.first.get(&mark) else {
-            return None;
-        };
-        let first = *first;
-        if self.keys[first].eq(key) {
-            return Some(first);
-        }
-        match self.others.get(key) {
-            Some(other) => Some(*other),
-            None => None,
+        match look(self.slots.as_slice(), self.keys.as_slice(), hash, key) {
+            Found::At(number) => Some(number),
+            Found::Free(_place) => None,
+            Found::Nowhere => other_number(&self.others, key),
         }
     }
 
@@ -133,24 +140,30 @@ impl<K: Key> KeyNumbers<K> {
         ensures place { IsKeyAt self.now key.now result }
         ensures position { result ≡ position (K.eq key.now) self.now }
     {
-        self.find(short_mark(key), key)
+        self.find(hash_of(key), key)
     }
 
-    /// The number of a key that has a mark, which is added at the end where it has none. After `NoMemory` the keys are
+    /// The number of a key that has a hash, which is added at the end where it has none. After `NoMemory` the keys are
     /// unchanged.
-    fn take(&mut self, mark: u32, key: K) -> Result<usize, NoMemory>
-        requires { mark ≡ short_mark (K.hash_input key) }
+    fn take(&mut self, hash: u64, key: K) -> Result<usize, NoMemory>
+        requires { hash ≡ hash_of (K.hash_input key) }
         ensures ok { IfOk result (λ number. TakesNumber key number self.old self.new) }
         ensures err { OnErr result (self.new ≡ self.old) }
         ensures once { AllPairs (λ a b. a ≢ b) self.new }
     {
         let number = self.keys.len();
-        match self.first.get(&mark) {
-            Some(first) => {
-                let first = *first;
-                if self.keys[first].eq(&key) {
-                    return Ok(first);
+        match look(self.slots.as_slice(), self.keys.as_slice(), hash, &key) {
+            Found::At(found) => Ok(found),
+            Found::Free(place) => {
+                if number >= MOST {
+                    return Err(NoMemory);
                 }
+                self.keys.reserve(1)?;
+                put(&mut self.slots, place, number as u32);
+                self.keys.push_reserved(key);
+                Ok(number)
+            }
+            Found::Nowhere => {
                 let copy = key.copy(self.alloc)?;
                 self.keys.reserve(1)?;
                 let found = take_other(&mut self.others, copy, number)?;
@@ -159,12 +172,6 @@ impl<K: Key> KeyNumbers<K> {
                     return Ok(number);
                 }
                 Ok(found)
-            }
-            None => {
-                self.keys.reserve(1)?;
-                self.first.insert(mark, number)?;
-                self.keys.push_reserved(key);
-                Ok(number)
             }
         }
     }
@@ -177,7 +184,7 @@ impl<K: Key> KeyNumbers<K> {
         ensures err { OnErr result (self.new ≡ self.old) }
         ensures once { AllPairs (λ a b. a ≢ b) self.new }
     {
-        let mark = short_mark(&key);
-        self.take(mark, key)
+        let hash = hash_of(&key);
+        self.take(hash, key)
     }
 }

@@ -3,6 +3,7 @@
 
 mod keys;
 mod map;
+mod table;
 
 pub use keys::{Key, KeyNumbers};
 pub use map::KeyMap;

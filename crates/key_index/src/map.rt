@@ -39,6 +39,17 @@ impl<K: Key, V: Copy> KeyMap<K, V> {
         }
     }
 
+    /// No key, with a table for so many, or more. Most are then found at their places.
+    pub fn with_room(alloc: Global, count: usize) -> Result<KeyMap<K, V>, NoMemory>
+        ensures empty { IfOk result (λ map. map ≡ record { keys = []; values = [] }) }
+        ensures none { IfOk result (λ map. (key : K) → get K.eq map key ≡ None) }
+    {
+        Ok(KeyMap {
+            numbers: KeyNumbers::with_room(alloc, count)?,
+            values: Vec::with_capacity(alloc, count)?,
+        })
+    }
+
     /// The value of a key, if it has one.
     pub fn get(&self, key: &K) -> Option<V>
         ensures { result ≡ get K.eq self.now key.now }

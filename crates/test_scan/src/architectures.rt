@@ -109,7 +109,7 @@ pub fn index_of(alloc: Global, files: Files, ids: &[UnitId]) -> Result<Index, No
     ensures holds { IfOk result (λ index. (scans : List Scan) → AreScannedAs files.entry scans →
         HoldsArchitectures (scanned files.entry scans) ids.now index) }
 {
-    let mut index = Index::new(alloc);
+    let mut index = Index::with_room(alloc, ids.len())?;
     for id in ids {
         add_unit(alloc, files, *id, &mut index)?;
     }
