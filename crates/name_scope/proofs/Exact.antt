@@ -30,7 +30,7 @@ use Rattle.name_scope.proofs.BitLemmas.{past}
 use Rattle.name_scope.proofs.KeyLemmas.{numbered}
 use Rattle.name_scope.proofs.NameLemmas.{Contains-map, same_bytes, same_group, told_group, told_same}
 use Rattle.name_scope.proofs.ScopeLemmas.{as_long, at_place}
-use Rattle.name_scope.proofs.OwnGroups.{Wants, a_context, a_primary, an_architecture, configured_wanted, context_wanted, gate_is, is_configured, is_context, is_primary, primary_wanted, want_cases, want_of_configured, want_of_context, want_of_primary}
+use Rattle.name_scope.proofs.OwnGroups.{Wants, a_context, a_primary, an_architecture, configured_wanted, context_wanted, gate_is, is_configured, is_context, is_primary, kept_own, own_kept, plain_want, primary_wanted, want_cases, want_of_configured, want_of_context, want_of_primary}
 
 abbrev pub no_unit : ScopeUnit
 no_unit = no_user
@@ -246,10 +246,10 @@ module _ (units : List ScopeUnit) (names : List (List ℕ)) (rows : List (List �
       let member = is.members_are.only group link there in
       let source : link.source < length units = omega (arith, member.1) in
       by_member source (member.2) where
-        by_member : link.source < length units → IsOneOf is.groups (groups_at units link.source) group → IsTrue (sets (length units + group) number)
+        by_member : link.source < length units → IsOneOf is.groups (groups_at is.keeps units link.source) group → IsTrue (sets (length units + group) number)
         by_member source one =
             let v : ScopeUnit = unit_at units link.source in
-            let owned : Contains (own_groups v.library v.unit) one.group = one.owned in
+            let owned : Contains (own_groups v.library v.unit) one.group = kept_own is.keeps v one.group one.owned in
             let group_is : group_at group ≡ one.group = ap group_at one.is ∙ (numbered is_same_group same_group told_group is.groups one.group (group_of false [] []) one.there).1 in
             let in_it : is_in one.group v ≡ true = any_by (is_same_group one.group) (own_groups v.library v.unit) one.group owned (told_group one.group one.group refl) in
             let seen : sees units v (name_of_number names number) ≡ true = sym (set_unit link.source number source) ∙ handed in
@@ -301,11 +301,12 @@ module _ (units : List ScopeUnit) (names : List (List ℕ)) (rows : List (List �
   -- a row takes what the row of a unit has that it wants
   through : (at : ℕ) → at < length units → (from : ℕ) → from < length units → (want : Want) → Contains (wants_at units at) want → Contains (own_groups (unit_at units from).library (unit_at units from).unit) want.group → Contains names (gate_of want) × (has rows at (number_of names (gate_of want)) ≡ true) → (number : ℕ) → has rows from number ≡ true → has rows at number ≡ true
   through at within from from_within want wanted owned gate number told =
-      let group_known : Contains is.groups want.group = is.groups_are.added want.group (in_parts user_groups units (unit_at units from) want.group (unit_there from from_within) owned) in
+      let kept : Contains (user_groups is.keeps (unit_at units from)) want.group = own_kept is.keeps (unit_at units from) want.group owned (λ without. plain_want (unit_at units at) want (is.enough without (unit_at units at) (unit_there at within)) (want_cases (unit_at units at) want wanted)) in
+      let group_known : Contains is.groups want.group = is.groups_are.added want.group (in_parts (user_groups is.keeps) units (unit_at units from) want.group (unit_there from from_within) kept) in
       let group : ℕ = group_number is.groups want.group in
       let group_within : group < length is.groups = (numbered is_same_group same_group told_group is.groups want.group (group_of false [] []) group_known).0 in
       let member : Contains (links_at is.of_groups group) (record { gate = number_of names work; source = from }) =
-      is.members_are.joined from from_within want.group owned group_known in
+      is.members_are.joined from from_within want.group kept group_known in
       let in_links : Contains (links_at links (length units + group)) (record { gate = number_of names work; source = from }) = subst (λ (some : List Link). Contains some (record { gate = number_of names work; source = from })) (sym (group_links_at group)) member in
       let group_gate : has rows (length units + group) (number_of names work) ≡ true = is.spread.larger (length units + group) (number_of names work) ((row_group group group_within).put work (Contains-first work (codes "std" ∷ []))) in
       let in_group_row : has rows (length units + group) number ≡ true = is.taken (length units + group) (record { gate = number_of names work; source = from }) in_links group_gate number told in

@@ -1,5 +1,5 @@
 -- The links that are added for what is wanted, and to those of groups.
-use Rattle.std.proofs.Common.{◌≡◌, ◌≢◌, ℕ, ◌+◌, ◌<◌, ◌≤◌, true, false, List, [], ◌∷◌, ◌++◌, Contains, length, nat_eq, replicate, ◌⊎◌, inl, inr, refl, sym, ◌∙◌, ap, subst, arith}
+use Rattle.std.proofs.Common.{◌≡◌, Bool, ◌≢◌, ℕ, ◌+◌, ◌<◌, ◌≤◌, true, false, List, [], ◌∷◌, ◌++◌, Contains, length, nat_eq, replicate, ◌⊎◌, inl, inr, refl, sym, ◌∙◌, ap, subst, arith}
 use Rattle.std.specs.Str.{bytes_eq}
 use Rattle.std.proofs.Math.ListN.{set}
 use Rattle.std.proofs.lemmas.Bool.{cases_lt}
@@ -141,28 +141,28 @@ member_both groups first next link old mid new one two = record {
   by_next at other (inr (same, is)) = inr (same, weaker_one groups next (first ++ next) at (λ (group : Group) there. Contains-append_right first next group there) is)
 
 -- the unit of one place more
-pub members_more : (groups : List Group) (units : List ScopeUnit) (gate end : ℕ) (own : List Group) (old new : List (List Link)) → own ≡ groups_at units end → AreMembersTo end groups units gate old → HasMember groups own (record { gate = gate; source = end }) old new → AreMembersTo (end + 1) groups units gate new
-members_more groups units gate end own old new is before more = record {
+pub members_more : (keeps : Bool) (groups : List Group) (units : List ScopeUnit) (gate end : ℕ) (own : List Group) (old new : List (List Link)) → own ≡ groups_at keeps units end → AreMembersTo keeps end groups units gate old → HasMember groups own (record { gate = gate; source = end }) old new → AreMembersTo keeps (end + 1) groups units gate new
+members_more keeps groups units gate end own old new is before more = record {
   each = more.each ∙ before.each;
   joined = λ (at : ℕ) (below : at < end + 1) (group : Group) owned known. by_joined at below group owned known (eqb_tells at end);
   only = λ (place : ℕ) (link : Link) (there : Contains (links_at new place) link). by_only place link (more.only place link there);
 } where
-  by_joined : (at : ℕ) → at < end + 1 → (group : Group) → Contains (groups_at units at) group → Contains groups group → (((nat_eq at end ≡ true) × (at ≡ end)) ⊎ ((nat_eq at end ≡ false) × (at ≢ end))) → Contains (links_at new (group_number groups group)) (record { gate = gate; source = at })
+  by_joined : (at : ℕ) → at < end + 1 → (group : Group) → Contains (groups_at keeps units at) group → Contains groups group → (((nat_eq at end ≡ true) × (at ≡ end)) ⊎ ((nat_eq at end ≡ false) × (at ≢ end))) → Contains (links_at new (group_number groups group)) (record { gate = gate; source = at })
   by_joined at below group owned known (inl (_, same)) =
       subst (λ (n : ℕ). Contains (links_at new (group_number groups group)) (record { gate = gate; source = n })) (sym same)
-      (more.joined group (subst (λ (some : List Group). Contains some group) (sym is) (subst (λ (n : ℕ). Contains (groups_at units n) group) same owned)) known)
+      (more.joined group (subst (λ (some : List Group). Contains some group) (sym is) (subst (λ (n : ℕ). Contains (groups_at keeps units n) group) same owned)) known)
   by_joined at below group owned known (inr (_, differ)) = more.unchanged (group_number groups group) (record { gate = gate; source = at }) (before.joined at (omega arith) group owned known)
 
-  by_only : (place : ℕ) (link : Link) → Contains (links_at old place) link ⊎ ((link ≡ record { gate = gate; source = end }) × IsOneOf groups own place) → (link.gate ≡ gate) × (link.source < end + 1) × IsOneOf groups (groups_at units link.source) place
+  by_only : (place : ℕ) (link : Link) → Contains (links_at old place) link ⊎ ((link ≡ record { gate = gate; source = end }) × IsOneOf groups own place) → (link.gate ≡ gate) × (link.source < end + 1) × IsOneOf groups (groups_at keeps units link.source) place
   by_only place link (inl there) = let h = before.only place link there in (h.0, omega (arith, h.1), h.2)
   by_only place link (inr (same, one)) = (
     ap (λ (l : Link). l.gate) same,
     (let source : link.source ≡ end = ap (λ (l : Link). l.source) same in omega arith),
-    subst (λ (n : ℕ). IsOneOf groups (groups_at units n) place) (sym (ap (λ (l : Link). l.source) same)) (subst (λ (some : List Group). IsOneOf groups some place) is one),
+    subst (λ (n : ℕ). IsOneOf groups (groups_at keeps units n) place) (sym (ap (λ (l : Link). l.source) same)) (subst (λ (some : List Group). IsOneOf groups some place) is one),
   )
 
-pub members_none : (groups : List Group) (units : List ScopeUnit) (gate : ℕ) → AreMembersTo 0 groups units gate (replicate (length groups) [])
-members_none groups units gate = record {
+pub members_none : (keeps : Bool) (groups : List Group) (units : List ScopeUnit) (gate : ℕ) → AreMembersTo keeps 0 groups units gate (replicate (length groups) [])
+members_none keeps groups units gate = record {
   each = length-replicate (length groups) [];
   joined = λ (at : ℕ) below. absurd (omega arith);
   only = λ (place : ℕ) (link : Link) (there : Contains (links_at (replicate (length groups) []) place) link). absurd (no_link place link there (cases_lt place (length groups)));

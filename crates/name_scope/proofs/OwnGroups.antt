@@ -1,16 +1,18 @@
 -- Who is in a group, and who wants it.
-use Rattle.std.proofs.Common.{◌≡◌, ℕ, zero, suc, Bool, true, false, ◌&&◌, not, if◌then◌else◌, List, [], ◌∷◌, ◌++◌, Contains, map, ◌⊎◌, inl, inr, refl, sym, ap, subst, arith}
+use Rattle.std.proofs.Common.{◌≡◌, ℕ, zero, suc, Bool, true, false, ◌&&◌, not, if◌then◌else◌, List, [], ◌∷◌, ◌++◌, Contains, map, ◌⊎◌, inl, inr, refl, sym, ◌∙◌, ap, subst, arith}
 use Rattle.std.specs.Str.{bytes_eq}
 use Rattle.std.proofs.lemmas.List.Elements.{Contains-append_cases, Contains-append_left, Contains-append_right}
 use Rattle.vr_base.specs.declared.child.MaybeText.{MaybeText}
 use Rattle.vr_base.specs.declared.child.MaybeText.TheVariants.{Nothing, Given}
+use Rattle.vr_base.specs.declared.design.UnitKind.{UnitKind}
+use Rattle.vr_base.specs.declared.design.UnitKind.TheVariants as kinds
 use Rattle.vr_base.specs.declared.refs.Ref.{Ref}
-use Rattle.scan_spec.specs.References.{work, is_context_kind, owner_name}
+use Rattle.scan_spec.specs.References.{work, is_configuration, is_context_kind, owner_name}
 use Rattle.scan_spec.specs.Visibility.{ScopeUnit, configured_name, is_architecture_kind, is_configured_by, is_context_of, is_given, is_primary_of, is_secondary, primary_name, resolved}
 use Rattle.scan_spec.proofs.SomeTests.{and_both, and_cases, Contains-first, Contains-later}
 use Rattle.name_scope.specs.declared.want.Group.{Group}
 use Rattle.name_scope.specs.declared.want.Want.{Want}
-use Rattle.name_scope.specs.Wants.{architecture_want, architectures_of, configured_wants, context_want, gate_of, group_of, own_groups, primary_want, primary_wants, unit_wants}
+use Rattle.name_scope.specs.Wants.{architecture_want, architectures_of, configured_wants, context_want, gate_of, group_of, kept_groups, own_groups, primary_want, primary_wants, unit_wants}
 use Rattle.name_scope.proofs.LookLemmas.{one_of}
 use Rattle.name_scope.proofs.NameLemmas.{Contains-map, same_bytes, told_same}
 
@@ -238,3 +240,48 @@ want_cases user want there = by_part (Contains-append_cases (primary_side user) 
   by_part : Contains (primary_side user) want ⊎ Contains (configured_side user ++ context_side user) want → Wants user want
   by_part (inl first) = by_name (primary_name user.unit.kind user.unit) refl first
   by_part (inr rest) = by_rest (Contains-append_cases (configured_side user) (context_side user) want rest)
+
+-- groups that are kept are own ones
+pub kept_own : (keeps : Bool) (v : ScopeUnit) (g : Group) → Contains (kept_groups keeps v.library v.unit) g → Contains (own_groups v.library v.unit) g
+kept_own true v g there = there
+kept_own false v g there = by_part (Contains-append_cases (primary_part v) (context_part v ++ []) g there) where
+  by_rest : Contains (context_part v) g ⊎ Contains [] g → Contains (own_groups v.library v.unit) g
+  by_rest (inl second) = Contains-append_right (primary_part v) (context_part v ++ architecture_part v) g (Contains-append_left (context_part v) (architecture_part v) g second)
+  by_rest (inr (k, within, is)) = absurd (omega arith)
+
+  by_part : Contains (primary_part v) g ⊎ Contains (context_part v ++ []) g → Contains (own_groups v.library v.unit) g
+  by_part (inl first) = Contains-append_left (primary_part v) (context_part v ++ architecture_part v) g first
+  by_part (inr rest) = by_rest (Contains-append_cases (context_part v) [] g rest)
+
+-- own groups are kept, but for those of architectures
+pub own_kept : (keeps : Bool) (v : ScopeUnit) (g : Group) → Contains (own_groups v.library v.unit) g → (keeps ≡ false → g.architecture ≡ false) → Contains (kept_groups keeps v.library v.unit) g
+own_kept true v g there plain = there
+own_kept false v g there plain = by_part (Contains-append_cases (primary_part v) (context_part v ++ architecture_part v) g there) where
+  by_rest : Contains (context_part v) g ⊎ Contains (architecture_part v) g → Contains (kept_groups false v.library v.unit) g
+  by_rest (inl second) = Contains-append_right (primary_part v) (context_part v ++ []) g (Contains-append_left (context_part v) [] g second)
+  by_rest (inr third) =
+      let is = where_true (is_architecture_kind v.unit.kind) (architectures_of v.library (owner_name v.unit.owner) v.unit.name) g third in
+      let never : true ≡ false = ap (λ (one : Group). one.architecture) is.1 ∙ plain refl in
+      let impossible : ⊥ = cc in absurd impossible
+
+  by_part : Contains (primary_part v) g ⊎ Contains (context_part v ++ architecture_part v) g → Contains (kept_groups false v.library v.unit) g
+  by_part (inl first) = Contains-append_left (primary_part v) (context_part v ++ []) g first
+  by_part (inr rest) = by_rest (Contains-append_cases (context_part v) (architecture_part v) g rest)
+
+-- a unit that isn't a configuration configures no architecture
+configures_none : (kind : UnitKind) (configured : MaybeText) → is_configuration kind ≡ false → configured_name kind configured ≡ Nothing
+configures_none kinds.Entity configured is = refl
+configures_none kinds.Architecture configured is = refl
+configures_none kinds.Configuration configured is = let never : ⊥ = cc in absurd never
+configures_none kinds.Package configured is = refl
+configures_none kinds.PackageBody configured is = refl
+configures_none kinds.PackageInstance configured is = refl
+configures_none kinds.Context configured is = refl
+
+-- nor does it want one
+pub plain_want : (user : ScopeUnit) (want : Want) → is_configuration user.unit.kind ≡ false → Wants user want → want.group.architecture ≡ false
+plain_want user want is (a_primary given given_is same) = ap (λ (w : Want). w.group.architecture) same
+plain_want user want is (an_architecture entity given entity_is given_is same) =
+    let never : ◌≡◌ {A = MaybeText} Nothing (Given given) = sym (configures_none user.unit.kind user.configured is) ∙ given_is in
+    let impossible : ⊥ = cc in absurd impossible
+plain_want user want is (a_context ref ref_there same) = sym (ap (λ (w : Want). w.group.architecture) same)

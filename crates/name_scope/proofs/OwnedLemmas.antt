@@ -1,15 +1,16 @@
 -- What stays of the numbers of groups when groups are added.
-use Rattle.std.proofs.Common.{◌≡◌, ℕ, ◌+◌, ◌<◌, ◌≤◌, Bool, true, false, cond, not, List, [], ◌∷◌, ◌++◌, Contains, Option, Some, None, length, map, take, get_or, nat_eq, ◌⊎◌, inl, inr, refl, sym, ◌∙◌, ap, subst, arith, length-append, append-nil}
+use Rattle.std.proofs.Common.{◌≡◌, ℕ, ◌+◌, ◌<◌, ◌≤◌, Bool, true, false, true≢false, ◌||◌, cond, not, List, [], ◌∷◌, ◌++◌, Contains, Option, Some, None, length, map, take, get_or, nat_eq, ◌⊎◌, inl, inr, refl, sym, ◌∙◌, ap, subst, arith, length-append, append-nil}
 use Rattle.std.specs.List.{AllZip, flat_map, list_any, slice_get}
-use Rattle.std.proofs.lemmas.Bool.{cases_lt, eq-eqb}
+use Rattle.std.proofs.lemmas.Bool.{cases_lt, eq-eqb, false_from_ne_true}
 use Rattle.std.proofs.lemmas.Bool.Decides.{nat_tests}
 use Rattle.std.proofs.lemmas.List.Folds.{position_or_len_push}
 use Rattle.std.proofs.lemmas.List.Sums.{prefix_len-le-length}
-use Rattle.std.proofs.lemmas.List.Elements.{Contains-append_left, Contains-append_right}
+use Rattle.std.proofs.lemmas.List.Elements.{Contains-append_cases, Contains-append_left, Contains-append_right}
 use Rattle.std.proofs.lemmas.Grind.{flat_map-append}
 use Rattle.std.proofs.lemmas.Option.{get_or_from_slice_get, same_Some, slice_get_within}
 use Rattle.vr_base.specs.declared.design.Scan.{Scan}
 use Rattle.vr_base.specs.declared.design.Unit.{Unit as DesignUnit}
+use Rattle.scan_spec.specs.References.{is_configuration}
 use Rattle.scan_spec.specs.Visibility.{ScopeUnit, scope_unit}
 use Rattle.scan_spec.proofs.SomeTests.{Contains-first}
 use Rattle.name_scope.specs.declared.groups.Owned.{Owned}
@@ -17,11 +18,13 @@ use Rattle.name_scope.specs.declared.want.Group.{Group}
 use Rattle.name_scope.specs.Groups.{is_same_group}
 use Rattle.name_scope.specs.Names.{HasAll, group_number}
 use Rattle.name_scope.specs.Owned.{AddsOwned, HasGrown, IsNumbered, IsOnly, IsOwned, IsOwnedBy}
-use Rattle.name_scope.specs.Wants.{own_groups, user_groups}
+use Rattle.name_scope.specs.Scopes.{NeedNoMore}
+use Rattle.name_scope.specs.Wants.{kept_groups, user_groups}
 use Rattle.name_scope.proofs.KeyLemmas.{all_both, all_more, all_none, already, numbered}
 use Rattle.name_scope.proofs.ScopeLemmas.{unit_more}
 use Rattle.name_scope.proofs.LookLemmas.{one_of}
 use Rattle.name_scope.proofs.NameLemmas.{same_group, told_group}
+use Rattle.name_scope.proofs.Exact.{any_by}
 
 -- the groups after one was put among them, where it wasn't there
 abbrev pub with_group : List Group → Group → List Group
@@ -99,39 +102,39 @@ pub stays_numbered : (old new own : List Group) (number : Option ℕ) → HasGro
 stays_numbered old new own None grown is = is
 stays_numbered old new own (Some number) grown is = stays_only old new own number grown is
 
-pub stays_owned : (old new : List Group) (library : List ℕ) (unit : DesignUnit) (owned : Owned) → HasGrown old new → IsOwned old library unit owned → IsOwned new library unit owned
-stays_owned old new library unit owned grown is = record { primary = stays_numbered old new _ owned.primary grown is.primary; context = stays_numbered old new _ owned.context grown is.context; architecture = stays_numbered old new _ owned.architecture grown is.architecture }
+pub stays_owned : (keeps : Bool) (old new : List Group) (library : List ℕ) (unit : DesignUnit) (owned : Owned) → HasGrown old new → IsOwned keeps old library unit owned → IsOwned keeps new library unit owned
+stays_owned keeps old new library unit owned grown is = record { primary = stays_numbered old new _ owned.primary grown is.primary; context = stays_numbered old new _ owned.context grown is.context; architecture = stays_numbered old new _ owned.architecture grown is.architecture }
 
-pub stay_owned : (old new : List Group) (owned : List Owned) (users : List ScopeUnit) → HasGrown old new → AllZip (IsOwnedBy old) owned users → AllZip (IsOwnedBy new) owned users
-stay_owned old new [] [] grown all = all
-stay_owned old new [] (user ∷ users) grown all = all
-stay_owned old new (one ∷ owned) [] grown all = all
-stay_owned old new (one ∷ owned) (user ∷ users) grown all = (stays_owned old new user.library user.unit one grown (all.0), stay_owned old new owned users grown (all.1))
+pub stay_owned : (keeps : Bool) (old new : List Group) (owned : List Owned) (users : List ScopeUnit) → HasGrown old new → AllZip (IsOwnedBy keeps old) owned users → AllZip (IsOwnedBy keeps new) owned users
+stay_owned keeps old new [] [] grown all = all
+stay_owned keeps old new [] (user ∷ users) grown all = all
+stay_owned keeps old new (one ∷ owned) [] grown all = all
+stay_owned keeps old new (one ∷ owned) (user ∷ users) grown all = (stays_owned keeps old new user.library user.unit one grown (all.0), stay_owned keeps old new owned users grown (all.1))
 
 -- one group that has a number
 pub numbered_one : (groups : List Group) (group : Group) (number : ℕ) → (number ≡ group_number groups group) × (number < length groups) → IsNumbered groups (group ∷ []) (Some number)
 numbered_one groups group number is = record { group = group; only = refl; is = is.0; within = is.1 }
 
 -- the groups of the units of a scan
-pub groups_of_units : (library text : List ℕ) (scan : Scan) (units : List DesignUnit) → flat_map user_groups (map (scope_unit library text scan) units) ≡ flat_map (own_groups library) units
-groups_of_units library text scan [] = refl
-groups_of_units library text scan (unit ∷ units) = ap (λ (rest : List Group). own_groups library unit ++ rest) (groups_of_units library text scan units)
+pub groups_of_units : (keeps : Bool) (library text : List ℕ) (scan : Scan) (units : List DesignUnit) → flat_map (user_groups keeps) (map (scope_unit library text scan) units) ≡ flat_map (kept_groups keeps library) units
+groups_of_units keeps library text scan [] = refl
+groups_of_units keeps library text scan (unit ∷ units) = ap (λ (rest : List Group). kept_groups keeps library unit ++ rest) (groups_of_units keeps library text scan units)
 
 -- no unit so far, and one unit more
-pub owned_none : (library : List ℕ) (groups : List Group) (owned : List Owned) → AddsOwned library [] groups owned groups owned
-owned_none library groups owned = record {
+pub owned_none : (keeps : Bool) (library : List ℕ) (groups : List Group) (owned : List Owned) → AddsOwned keeps library [] groups owned groups owned
+owned_none keeps library groups owned = record {
   all = all_none groups;
   grown = grown_none groups;
-  each = λ (users : List ScopeUnit) (text : List ℕ) (scan : Scan) (zipped : AllZip (IsOwnedBy groups) owned users). subst (AllZip (IsOwnedBy groups) owned) (sym (append-nil users)) zipped;
+  each = λ (users : List ScopeUnit) (text : List ℕ) (scan : Scan) (zipped : AllZip (IsOwnedBy keeps groups) owned users). subst (AllZip (IsOwnedBy keeps groups) owned) (sym (append-nil users)) zipped;
 }
 
-pub owned_more : (library : List ℕ) (designs : List DesignUnit) (number : ℕ) (unit : DesignUnit) (one : Owned) (old mid new : List Group) (first owned : List Owned) → slice_get designs number ≡ Some unit → AddsOwned library (take number designs) old first mid owned → IsOwned new library unit one → HasAll (own_groups library unit) mid new → HasGrown mid new → AddsOwned library (take (number + 1) designs) old first new (owned ++ one ∷ [])
-owned_more library designs number unit one old mid new first owned is so_far own all grown = record {
-  all = all_more [] (own_groups library) designs number unit old mid new within so_far.all (subst (λ (u : DesignUnit). HasAll (own_groups library u) mid new) here all);
+pub owned_more : (keeps : Bool) (library : List ℕ) (designs : List DesignUnit) (number : ℕ) (unit : DesignUnit) (one : Owned) (old mid new : List Group) (first owned : List Owned) → slice_get designs number ≡ Some unit → AddsOwned keeps library (take number designs) old first mid owned → IsOwned keeps new library unit one → HasAll (kept_groups keeps library unit) mid new → HasGrown mid new → AddsOwned keeps library (take (number + 1) designs) old first new (owned ++ one ∷ [])
+owned_more keeps library designs number unit one old mid new first owned is so_far own all grown = record {
+  all = all_more [] (kept_groups keeps library) designs number unit old mid new within so_far.all (subst (λ (u : DesignUnit). HasAll (kept_groups keeps library u) mid new) here all);
   grown = grown_both old mid new so_far.grown grown;
-  each = λ (users : List ScopeUnit) (text : List ℕ) (scan : Scan) (zipped : AllZip (IsOwnedBy old) first users).
-      unit_more (IsOwnedBy new) (scope_unit library text scan) designs number owned one users within (λ (u : DesignUnit) (there : slice_get designs number ≡ Some u). subst (λ (v : DesignUnit). IsOwned new library v one) (same_Some unit u (sym is ∙ there)) own)
-      (stay_owned mid new owned (users ++ map (scope_unit library text scan) (take number designs)) grown (so_far.each users text scan zipped));
+  each = λ (users : List ScopeUnit) (text : List ℕ) (scan : Scan) (zipped : AllZip (IsOwnedBy keeps old) first users).
+      unit_more (IsOwnedBy keeps new) (scope_unit library text scan) designs number owned one users within (λ (u : DesignUnit) (there : slice_get designs number ≡ Some u). subst (λ (v : DesignUnit). IsOwned keeps new library v one) (same_Some unit u (sym is ∙ there)) own)
+      (stay_owned keeps mid new owned (users ++ map (scope_unit library text scan) (take number designs)) grown (so_far.each users text scan zipped));
 } where
   within : number < length designs
   within = slice_get_within designs number unit is
@@ -140,8 +143,33 @@ owned_more library designs number unit one old mid new first owned is so_far own
   here = sym (get_or_from_slice_get designs number unit unit is)
 
 -- the groups of the units of one file more
-pub grouped_more : (users : List ScopeUnit) (library : List ℕ) (scan : Scan) (text : List ℕ) (old new : List Group) → HasAll (flat_map user_groups users) [] old → HasAll (flat_map (own_groups library) scan.units) old new → HasAll (flat_map user_groups (users ++ map (scope_unit library text scan) scan.units)) [] new
-grouped_more users library scan text old new one two =
+pub grouped_more : (keeps : Bool) (users : List ScopeUnit) (library : List ℕ) (scan : Scan) (text : List ℕ) (old new : List Group) → HasAll (flat_map (user_groups keeps) users) [] old → HasAll (flat_map (kept_groups keeps library) scan.units) old new → HasAll (flat_map (user_groups keeps) (users ++ map (scope_unit library text scan) scan.units)) [] new
+grouped_more keeps users library scan text old new one two =
     subst (λ (all : List Group). HasAll all [] new)
-    (sym (flat_map-append user_groups users (map (scope_unit library text scan) scan.units) ∙ ap (λ (rest : List Group). flat_map user_groups users ++ rest) (groups_of_units library text scan scan.units)))
-    (all_both (flat_map user_groups users) (flat_map (own_groups library) scan.units) [] old new one two)
+    (sym (flat_map-append (user_groups keeps) users (map (scope_unit library text scan) scan.units) ∙ ap (λ (rest : List Group). flat_map (user_groups keeps) users ++ rest) (groups_of_units keeps library text scan scan.units)))
+    (all_both (flat_map (user_groups keeps) users) (flat_map (kept_groups keeps library) scan.units) [] old new one two)
+
+-- a unit that isn't a configuration needs none of architectures
+none_of : {X : Type 0} (test : X → Bool) (xs : List X) (x : X) → list_any test xs ≡ false → Contains xs x → test x ≡ false
+none_of test xs x none there = false_from_ne_true (test x) (λ told. true≢false (sym (any_by test xs x there told) ∙ none))
+
+-- the units of a scan, as others see them
+first_plain : (first rest rest_seen : Bool) → (first || rest) ≡ false → (rest ≡ false → rest_seen ≡ false) → (first || rest_seen) ≡ false
+first_plain true rest rest_seen never later = never
+first_plain false rest rest_seen none later = later none
+
+none_seen : (library text : List ℕ) (scan : Scan) (units : List DesignUnit) → list_any (λ unit. is_configuration unit.kind) units ≡ false → list_any (λ (u : ScopeUnit). is_configuration u.unit.kind) (map (scope_unit library text scan) units) ≡ false
+none_seen library text scan [] none = refl
+none_seen library text scan (unit ∷ units) none =
+    first_plain (is_configuration unit.kind) (list_any (λ (u : DesignUnit). is_configuration u.kind) units) (list_any (λ (u : ScopeUnit). is_configuration u.unit.kind) (map (scope_unit library text scan) units)) none (none_seen library text scan units)
+
+-- where groups of architectures aren't kept, the units of one file more need none either
+pub enough_more : (keeps : Bool) (users : List ScopeUnit) (library text : List ℕ) (scan : Scan) → NeedNoMore keeps users → (keeps ≡ false → list_any (λ unit. is_configuration unit.kind) scan.units ≡ false) → NeedNoMore keeps (users ++ map (scope_unit library text scan) scan.units)
+enough_more keeps users library text scan so_far none without user there = by_part (Contains-append_cases users (map (scope_unit library text scan) scan.units) user there) where
+  by_part : Contains users user ⊎ Contains (map (scope_unit library text scan) scan.units) user → is_configuration user.unit.kind ≡ false
+  by_part (inl before) = so_far without user before
+  by_part (inr here) = none_of (λ (u : ScopeUnit). is_configuration u.unit.kind) (map (scope_unit library text scan) scan.units) user (none_seen library text scan scan.units (none without)) here
+
+-- no file of those in which none passes has one that does
+pub file_none : {X : Type 0} (test : X → Bool) (xs : List X) (at : ℕ) (x : X) → list_any test xs ≡ false → slice_get xs at ≡ Some x → test x ≡ false
+file_none test xs at x none there = none_of test xs x none (at, slice_get_within xs at x there, get_or_from_slice_get xs at x x there)

@@ -1,5 +1,5 @@
 -- The rows and links of a project fit together.
-use Rattle.std.proofs.Common.{◌≡◌, ℕ, false, ◌+◌, ◌<◌, List, [], ◌++◌, Contains, length, map, get_or, replicate, ◌⊎◌, inl, inr, ◌∙◌, ap, subst, arith, length-append, take}
+use Rattle.std.proofs.Common.{◌≡◌, ℕ, Bool, false, ◌+◌, ◌<◌, List, [], ◌++◌, Contains, length, map, get_or, replicate, ◌⊎◌, inl, inr, ◌∙◌, ap, subst, arith, length-append, take}
 use Rattle.std.specs.List.{All, AllZip, flat_map}
 use Rattle.std.proofs.Math.Seq.{take-append_seam}
 use Rattle.std.proofs.lemmas.List.{get_or_default, length-map, length-replicate}
@@ -24,7 +24,7 @@ pub names_known : (units : List UnitScope) (names : List (List ℕ)) → HasAll 
 names_known units names are k d within name there =
     are.added name (Contains-append_right implicit (flat_map (λ (unit : UnitScope). unit.names) units) name (in_parts (λ (unit : UnitScope). unit.names) units (get_or units k d) name (Contains-get_or units k d within) there))
 
-module _ (units : List UnitScope) (names : List (List ℕ)) (groups : List Group) (words : ℕ) (rows : List (List ℕ)) (of_units of_groups : List (List Link)) (gate : ℕ) (rows_are : AllZip (IsRowOf names words) rows (map (λ unit. implicit ++ unit.names) units ++ replicate (length groups) (implicit ++ []))) (users : List ScopeUnit) (long : length users ≡ length units) (links_are : AllZip (IsLinkedFor names groups (length units)) of_units users) (members_are : AreMembers groups users gate of_groups) where
+module _ (units : List UnitScope) (names : List (List ℕ)) (groups : List Group) (words : ℕ) (rows : List (List ℕ)) (of_units of_groups : List (List Link)) (gate : ℕ) (rows_are : AllZip (IsRowOf names words) rows (map (λ unit. implicit ++ unit.names) units ++ replicate (length groups) (implicit ++ []))) (users : List ScopeUnit) (long : length users ≡ length units) (links_are : AllZip (IsLinkedFor names groups (length units)) of_units users) {keeps : Bool} (members_are : AreMembers keeps groups users gate of_groups) where
   abbrev lists : List (List (List ℕ))
   lists = map (λ (unit : UnitScope). implicit ++ unit.names) units ++ replicate (length groups) (implicit ++ [])
 

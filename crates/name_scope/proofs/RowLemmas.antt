@@ -1,5 +1,5 @@
 -- What runs tell of the words of a row.
-use Rattle.std.proofs.Common.{◌≡◌, ◌≢◌, ℕ, zero, suc, ◌+◌, ◌*◌, ◌/◌, ◌%◌, ◌<◌, ◌≤◌, Bool, true, false, ◌||◌, List, [], ◌∷◌, ◌++◌, length, nat_eq, nat_lt, get_or, drop, replicate, take, below_more, ◌⊎◌, inl, inr, refl, sym, ◌∙◌, ap, subst, arith, if◌then◌else◌, not, bit_or, length-append}
+use Rattle.std.proofs.Common.{◌≡◌, ◌≢◌, ℕ, zero, suc, ◌+◌, ◌*◌, ◌/◌, ◌%◌, ◌<◌, ◌≤◌, Bool, true, false, ◌||◌, cond, List, [], ◌∷◌, ◌++◌, length, nat_eq, nat_lt, get_or, drop, replicate, take, below_more, ◌⊎◌, inl, inr, refl, sym, ◌∙◌, ap, subst, arith, if◌then◌else◌, not, bit_or, length-append}
 use Rattle.std.specs.Int.{bit_at}
 use Rattle.std.proofs.Math.ListN.{get_or-append}
 use Rattle.std.proofs.Math.Seq.{get_or-append_seam}
@@ -199,6 +199,18 @@ merged_grows words first second merged runs fit more =
     (λ at below. let is : word_or 0 merged at ≡ bit_or (word_or 0 first at) (word_or 0 second at) = runs.told 0 at below in omega (arith, is, le_or_l (word_or 0 first at) (word_or 0 second at)))
     more.below
     (let is : word_or 0 merged more.at ≡ bit_or (word_or 0 first more.at) (word_or 0 second more.at) = runs.told 0 more.at more.below in let less = bit_or_less (word_or 0 first more.at) (word_or 0 second more.at) more.differs in omega (arith, is, less)))
+
+-- a run that has all bits of another
+pub one_over : (first second : List Run) (none : Run) → length first ≡ 1 → length second ≡ 1 → ((get_or first 0 none).end ≡ (get_or second 0 none).end) × (bit_or (get_or first 0 none).word (get_or second 0 none).word ≡ (get_or first 0 none).word) → (at : ℕ) → both_words first second at ≡ word_or 0 first at
+unfolding word_or
+one_over [] second none long other has at = absurd (omega (arith, long))
+one_over (a ∷ b ∷ rest) second none long other has at = absurd (omega (arith, long))
+one_over (a ∷ []) [] none long other has at = absurd (omega (arith, other))
+one_over (a ∷ []) (b ∷ c ∷ rest) none long other has at = absurd (omega (arith, other))
+one_over (a ∷ []) (b ∷ []) none long other has at = ap (λ (end : ℕ). bit_or (cond (nat_lt at a.end) a.word 0) (cond (nat_lt at end) b.word 0)) (sym has.0) ∙ by_place (nat_lt at a.end) where
+  by_place : (here : Bool) → bit_or (cond here a.word 0) (cond here b.word 0) ≡ cond here a.word 0
+  by_place true = has.1
+  by_place false = refl
 
 -- nothing is merged yet
 pub merged_none : (first second : List Run) → AreMergedTo 0 first second [] false

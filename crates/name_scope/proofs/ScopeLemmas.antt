@@ -1,5 +1,5 @@
 -- The units of files follow one another.
-use Rattle.std.proofs.Common.{◌≡◌, ℕ, zero, suc, ◌+◌, ◌<◌, ◌≤◌, List, [], ◌∷◌, ◌++◌, Some, length, map, take, get_or, refl, sym, ◌∙◌, ap, subst, arith, below_more, append_assoc}
+use Rattle.std.proofs.Common.{Bool, ◌≡◌, ℕ, zero, suc, ◌+◌, ◌<◌, ◌≤◌, List, [], ◌∷◌, ◌++◌, Some, length, map, take, get_or, refl, sym, ◌∙◌, ap, subst, arith, below_more, append_assoc}
 use Rattle.std.specs.List.{AllZip, slice_get}
 use Rattle.std.proofs.lemmas.List.{map-append, append-nil, take_all, take_more}
 use Rattle.std.proofs.Math.ListN.{get_or-append}
@@ -112,8 +112,8 @@ pub starts_more : (starts : List ℕ) (start end : ℕ) (wanted : ℕ → ℕ) �
 starts_more starts start end wanted each is so_far = below_more _ _ (λ (k : ℕ) (below : k < end). get_or-append starts (start ∷ []) 0 k (omega arith) ∙ so_far k below) (ap (λ (n : ℕ). get_or (starts ++ start ∷ []) n 0) (sym each) ∙ (get_or-append_seam starts start [] 0 ∙ is))
 
 -- the units of so many files, with their groups
-pub record AreFirst (files : List ProjectFile) (texts : List (List ℕ)) (scans : List Scan) (count : ℕ) (starts : List ℕ) (groups : List Group) (owned : List Owned) : Type 0 where
-  pub grouped : AreGrouped (scope_units (take count files) (take count texts) (take count scans)) groups owned
+pub record AreFirst (keeps : Bool) (files : List ProjectFile) (texts : List (List ℕ)) (scans : List Scan) (count : ℕ) (starts : List ℕ) (groups : List Group) (owned : List Owned) : Type 0 where
+  pub grouped : AreGrouped keeps (scope_units (take count files) (take count texts) (take count scans)) groups owned
   pub begins : (file : ℕ) → file < count → get_or starts file 0 ≡ units_before files texts scans file
 
 -- the units of as many files as there are

@@ -1,5 +1,5 @@
 -- Links between units and groups, by what units want and are.
-use Rattle.std.specs.Prelude.{◌≡◌, ℕ, ◌+◌, ◌<◌, ◌⊎◌, List, [], Contains, length, slice_index_or}
+use Rattle.std.specs.Prelude.{◌≡◌, ℕ, ◌+◌, ◌<◌, ◌⊎◌, Bool, List, [], Contains, length, slice_index_or}
 use Rattle.vr_base.specs.declared.child.MaybeText.TheVariants.{Nothing}
 use Rattle.vr_base.specs.declared.design.UnitKind.TheVariants.{Entity}
 use Rattle.scan_spec.specs.Visibility.{ScopeUnit}
@@ -59,14 +59,14 @@ pub no_user : ScopeUnit
 no_user = record { library = []; unit = record { kind = Entity; name = []; owner = Nothing; lead = 0; first = 0; last = 0 }; names = []; contexts = []; configured = Nothing }
 
 -- the groups of the unit of a place
-abbrev pub groups_at : List ScopeUnit → ℕ → List Group
-groups_at users at = user_groups (slice_index_or users at no_user)
+abbrev pub groups_at : Bool → List ScopeUnit → ℕ → List Group
+groups_at keeps users at = user_groups keeps (slice_index_or users at no_user)
 
 -- the links of groups lead to exactly the units in them, up to a place
-pub record AreMembersTo (end : ℕ) (groups : List Group) (users : List ScopeUnit) (gate : ℕ) (members : List (List Link)) : Type 0 where
+pub record AreMembersTo (keeps : Bool) (end : ℕ) (groups : List Group) (users : List ScopeUnit) (gate : ℕ) (members : List (List Link)) : Type 0 where
   pub each : length members ≡ length groups
-  pub joined : (at : ℕ) → at < end → (group : Group) → Contains (groups_at users at) group → Contains groups group → Contains (links_at members (group_number groups group)) (record { gate = gate; source = at })
-  pub only : (place : ℕ) (link : Link) → Contains (links_at members place) link → (link.gate ≡ gate) × (link.source < end) × IsOneOf groups (groups_at users link.source) place
+  pub joined : (at : ℕ) → at < end → (group : Group) → Contains (groups_at keeps users at) group → Contains groups group → Contains (links_at members (group_number groups group)) (record { gate = gate; source = at })
+  pub only : (place : ℕ) (link : Link) → Contains (links_at members place) link → (link.gate ≡ gate) × (link.source < end) × IsOneOf groups (groups_at keeps users link.source) place
 
-abbrev pub AreMembers : List Group → List ScopeUnit → ℕ → List (List Link) → Type 0
-AreMembers groups users gate members = AreMembersTo (length users) groups users gate members
+abbrev pub AreMembers : Bool → List Group → List ScopeUnit → ℕ → List (List Link) → Type 0
+AreMembers keeps groups users gate members = AreMembersTo keeps (length users) groups users gate members

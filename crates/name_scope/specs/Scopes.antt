@@ -1,8 +1,9 @@
 -- The design units of a project, as the program keeps them.
-use Rattle.std.specs.Prelude.{◌≡◌, ℕ, ◌<◌, List, ◌++◌, [], length, map, take, slice_index}
+use Rattle.std.specs.Prelude.{◌≡◌, ℕ, ◌<◌, Bool, false, Contains, List, ◌++◌, [], length, map, take, slice_index}
 use Rattle.std.specs.List.{AllZip, flat_map}
 use Rattle.vr_base.specs.declared.design.Scan.{Scan}
 use Rattle.vr_base.specs.declared.project.ProjectFile.{ProjectFile}
+use Rattle.scan_spec.specs.References.{is_configuration}
 use Rattle.scan_spec.specs.Visibility.{ScopeUnit, scope_unit, scope_units}
 use Rattle.file_outlines.specs.declared.outlines.UnitScope.{UnitScope}
 use Rattle.name_scope.specs.declared.groups.Owned.{Owned}
@@ -22,14 +23,24 @@ as_scope unit = record { names = unit.names }
 abbrev pub units_before : List ProjectFile → List (List ℕ) → List Scan → ℕ → ℕ
 units_before files texts scans file = length (scope_units (take file files) (take file texts) (take file scans))
 
+-- where groups of architectures aren't kept, no unit is a configuration, which alone wants them
+abbrev pub NeedNoMore : Bool → List ScopeUnit → Type 0
+NeedNoMore keeps units = keeps ≡ false → (user : ScopeUnit) → Contains units user → is_configuration user.unit.kind ≡ false
+
 -- the groups that units are in have numbers, and each unit those of its own
-pub record AreGrouped (units : List ScopeUnit) (groups : List Group) (owned : List Owned) : Type 0 where
-  pub all : HasAll (flat_map user_groups units) [] groups
-  pub each : AllZip (IsOwnedBy groups) owned units
+pub record AreGrouped (keeps : Bool) (units : List ScopeUnit) (groups : List Group) (owned : List Owned) : Type 0 where
+  pub all : HasAll (flat_map (user_groups keeps) units) [] groups
+  pub each : AllZip (IsOwnedBy keeps groups) owned units
+  pub enough : NeedNoMore keeps units
+
+-- the same, whichever groups are kept
+pub record HasGroups (units : List ScopeUnit) (groups : List Group) (owned : List Owned) : Type 0 where
+  pub keeps : Bool
+  pub grouped : AreGrouped keeps units groups owned
 
 -- the groups of the units of all files, and where the units of each file begin
 pub record AreScopes (files : List ProjectFile) (texts : List (List ℕ)) (scans : List Scan) (scopes : Scopes) : Type 0 where
-  pub grouped : AreGrouped (scope_units files texts scans) scopes.groups scopes.owned.items
+  pub grouped : HasGroups (scope_units files texts scans) scopes.groups scopes.owned.items
   pub each : length scopes.starts.items ≡ length files
   pub starts : (file : ℕ) → file < length files → slice_index scopes.starts.items file ≡ units_before files texts scans file
 

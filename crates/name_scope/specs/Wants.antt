@@ -29,12 +29,20 @@ context_group library unit = if is_context_kind unit.kind then group_of true lib
 abbrev pub architecture_group : List ℕ → DesignUnit → List Group
 architecture_group library unit = if is_architecture_kind unit.kind then architectures_of library (owner_name unit.owner) unit.name ∷ [] else []
 
+-- groups of architectures are kept only where a configuration may want one
+abbrev pub kept_architectures : Bool → List ℕ → DesignUnit → List Group
+kept_architectures keeps library unit = if keeps then architecture_group library unit else []
+
 -- the groups that a unit of a library is in
 abbrev pub own_groups : List ℕ → DesignUnit → List Group
 own_groups library unit = primary_group library unit ++ (context_group library unit ++ architecture_group library unit)
 
-abbrev pub user_groups : ScopeUnit → List Group
-user_groups user = own_groups user.library user.unit
+-- the same, without those of architectures where they aren't kept
+abbrev pub kept_groups : Bool → List ℕ → DesignUnit → List Group
+kept_groups keeps library unit = primary_group library unit ++ (context_group library unit ++ kept_architectures keeps library unit)
+
+abbrev pub user_groups : Bool → ScopeUnit → List Group
+user_groups keeps user = kept_groups keeps user.library user.unit
 
 -- the primary units of a name in a library are wanted
 abbrev pub primary_want : List ℕ → List ℕ → Want

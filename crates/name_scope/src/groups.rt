@@ -4,7 +4,7 @@ ghost use Rattle.std.specs.Prelude.{◌≡◌, ◌<◌, ◌∷◌, [], Contains,
 ghost use Rattle.scan_spec.specs.References.{owner_name};
 ghost use Rattle.name_scope.specs.Names.{HasAll, group_number};
 ghost use Rattle.name_scope.specs.Owned.{AddsOwned, HasGrown, IsNumbered, IsOwned};
-ghost use Rattle.name_scope.specs.Wants.{architecture_group, context_group, own_groups, primary_group};
+ghost use Rattle.name_scope.specs.Wants.{architecture_group, context_group, kept_architectures, kept_groups, primary_group};
 
 use crate::want::Group;
 use crate::wants::{
@@ -118,21 +118,42 @@ fn add_architecture(
     Ok(Some(add(groups, group)?))
 }
 
+/// The same, where groups of architectures are kept.
+fn add_kept(
+    alloc: Global,
+    keeps: bool,
+    groups: &mut Groups,
+    library: &Text,
+    unit: &Unit,
+) -> Result<Option<usize>, NoMemory>
+    ensures number { IfOk result
+        (IsNumbered groups.new (kept_architectures keeps library.now unit.now)) }
+    ensures all { OnOk result
+        (HasAll (kept_architectures keeps library.now unit.now) groups.old groups.new) }
+    ensures grown { OnOk result (HasGrown groups.old groups.new) }
+{
+    if !keeps {
+        return Ok(None);
+    }
+    add_architecture(alloc, groups, library, unit)
+}
+
 /// Gives the groups that a unit is in numbers, where they have none.
 fn add_own(
     alloc: Global,
+    keeps: bool,
     groups: &mut Groups,
     library: &Text,
     unit: &Unit,
 ) -> Result<Owned, NoMemory>
-    ensures owned { IfOk result (IsOwned groups.new library.now unit.now) }
+    ensures owned { IfOk result (IsOwned keeps groups.new library.now unit.now) }
     ensures all { OnOk result
-        (HasAll (own_groups library.now unit.now) groups.old groups.new) }
+        (HasAll (kept_groups keeps library.now unit.now) groups.old groups.new) }
     ensures grown { OnOk result (HasGrown groups.old groups.new) }
 {
     let primary = add_primary(alloc, groups, library, unit)?;
     let context = add_context(alloc, groups, library, unit)?;
-    let architecture = add_architecture(alloc, groups, library, unit)?;
+    let architecture = add_kept(alloc, keeps, groups, library, unit)?;
     Ok(Owned {
         primary,
         context,
@@ -140,19 +161,21 @@ fn add_own(
     })
 }
 
-/// Gives the groups of the units of one file numbers, where they have none, and lists those of each unit.
+/// Gives the groups of the units of one file numbers, where they have none, and lists those of each unit. Those of
+/// architectures are left out where they aren't kept.
 pub fn add_groups(
     alloc: Global,
+    keeps: bool,
     library: &Text,
     units: &[Unit],
     groups: &mut Groups,
     owned: &mut Vec<Owned>,
 ) -> Result<(), NoMemory>
-    ensures { OnOk result (AddsOwned library.now units.now
+    ensures { OnOk result (AddsOwned keeps library.now units.now
         groups.old owned.old.items groups.new owned.new.items) }
 {
     for number in 0..units.len() {
-        owned.push(add_own(alloc, groups, library, &units[number])?)?;
+        owned.push(add_own(alloc, keeps, groups, library, &units[number])?)?;
     }
     Ok(())
 }

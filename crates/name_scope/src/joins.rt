@@ -1,6 +1,6 @@
 //! The links of units to groups, and of groups to the units in them.
 
-ghost use Rattle.std.specs.Prelude.{◌≡◌, ℕ, ◌+◌, ◌<◌, ◌≤◌, ◌∷◌, List, [], IfOk, OnOk, length, replicate};
+ghost use Rattle.std.specs.Prelude.{◌≡◌, ℕ, Bool, ◌+◌, ◌<◌, ◌≤◌, ◌∷◌, List, [], IfOk, OnOk, length, replicate};
 ghost use Rattle.std.specs.List.{AllZip};
 ghost use Rattle.vr_base.specs.declared.design.Unit.{Unit};
 ghost use Rattle.scan_spec.specs.Visibility.{ScopeUnit};
@@ -8,7 +8,7 @@ ghost use Rattle.name_scope.specs.declared.want.Group.{Group};
 ghost use Rattle.name_scope.specs.Names.{keys_of};
 ghost use Rattle.name_scope.specs.Joins.{AreMembers, HasLinked, HasMember};
 ghost use Rattle.name_scope.specs.Owned.{IsNumbered, IsOnly, IsOwned, IsOwnedBy};
-ghost use Rattle.name_scope.specs.Wants.{own_groups};
+ghost use Rattle.name_scope.specs.Wants.{kept_groups};
 
 use crate::groups::{self, Groups, Owned};
 use crate::links::{Link, LinkList};
@@ -85,9 +85,9 @@ fn join_own(
     link: Link,
     members: &mut Vec<LinkList>,
 ) -> Result<(), NoMemory>
-    ensures { OnOk result ((groups : List Group) (library : List ℕ) (unit : Unit) →
-        length members.old.items ≡ length groups → IsOwned groups library unit owned →
-        HasMember groups (own_groups library unit) link members.old.items members.new.items) }
+    ensures { OnOk result ((keeps : Bool) (groups : List Group) (library : List ℕ) (unit : Unit) →
+        length members.old.items ≡ length groups → IsOwned keeps groups library unit owned →
+        HasMember groups (kept_groups keeps library unit) link members.old.items members.new.items) }
 {
     join_group(alloc, owned.primary, link, members)?;
     join_group(alloc, owned.context, link, members)?;
@@ -113,9 +113,9 @@ pub fn group_links(
     owned: &[Owned],
     gate: usize,
 ) -> Result<Vec<LinkList>, NoMemory>
-    ensures { IfOk result (λ members. (users : List ScopeUnit) →
-        AllZip (IsOwnedBy groups.now) owned.now users →
-        AreMembers groups.now users gate members.items) }
+    ensures { IfOk result (λ members. (keeps : Bool) (users : List ScopeUnit) →
+        AllZip (IsOwnedBy keeps groups.now) owned.now users →
+        AreMembers keeps groups.now users gate members.items) }
 {
     let mut members = no_links(alloc, groups.len())?;
     for at in 0..owned.len() {

@@ -3,7 +3,7 @@
 ghost use Rattle.std.specs.Prelude.{◌≡◌, ℕ, ◌/◌, ◌<◌, ◌≤◌, ◌||◌, ◌∷◌, ◌++◌, [], true, false, bit_or, drop, length, nat_eq, IfOk, OnOk, IsTrue, replicate};
 ghost use Rattle.std.specs.Int.{bit_at};
 ghost use Rattle.name_scope.specs.Bits.{row_has, gap};
-ghost use Rattle.name_scope.specs.Rows.{AreMergedTo, ArePassed, AreRunsTo, row_words, runs_of, word_or};
+ghost use Rattle.name_scope.specs.Rows.{AreMergedTo, ArePassed, AreRunsTo, both_words, row_words, runs_of, word_or};
 
 use crate::bits::set_bit;
 use std::alloc::Global;
@@ -245,8 +245,32 @@ fn merge(
     Ok(grown)
 }
 
+/// Whether a run ends where another does, and has all its bits.
+fn has_all(one: Run, other: Run) -> bool
+    ensures { IsTrue result → (one.end ≡ other.end) × (bit_or one.word other.word ≡ one.word) }
+{
+    if one.end != other.end {
+        return false;
+    }
+    one.word | other.word == one.word
+}
+
+/// Whether it shows at once that a row has all numbers of another: most rows are one run each.
+fn is_over(runs: &[Run], others: &[Run]) -> bool
+    ensures { IsTrue result → (at : ℕ) →
+        both_words runs.now others.now at ≡ word_or 0 runs.now at }
+{
+    if runs.len() != 1 {
+        return false;
+    }
+    if others.len() != 1 {
+        return false;
+    }
+    has_all(runs[0], others[0])
+}
+
 /// Puts the numbers of a row into another one of so many words, and says whether that has grown. What is in `spare` is lost.
-fn join_runs(
+fn join_all(
     words: usize,
     runs: &mut Vec<Run>,
     other: &[Run],
@@ -265,6 +289,26 @@ fn join_runs(
         swap(runs, spare);
     }
     Ok(grown)
+}
+
+/// The same, for nothing where it shows at once that there is nothing to put in.
+fn join_runs(
+    words: usize,
+    runs: &mut Vec<Run>,
+    other: &[Run],
+    spare: &mut Vec<Run>,
+) -> Result<bool, NoMemory>
+    ensures bits { OnOk result ((number : ℕ) → row_has (row_words words runs.new.items) number ≡
+        (row_has (row_words words runs.old.items) number
+        || row_has (row_words words other.now) number)) }
+    ensures same { IfOk result (λ grown. grown ≡ false → runs.new.items ≡ runs.old.items) }
+    ensures grows { IfOk result (λ grown. grown ≡ true →
+        gap (row_words words runs.new.items) < gap (row_words words runs.old.items)) }
+{
+    if is_over(runs.as_slice(), other) {
+        return Ok(false);
+    }
+    join_all(words, runs, other, spare)
 }
 
 impl Runs {

@@ -1,14 +1,16 @@
 //! The design units of a project in one list: where those of each file begin, and the groups that they are in.
 
 ghost use Rattle.std.specs.Prelude.{◌≡◌, ℕ, List, IfOk, length};
+ghost use Rattle.std.specs.List.{list_any};
 ghost use Rattle.vr_base.specs.declared.design.Scan.{Scan};
+ghost use Rattle.scan_spec.specs.References.{is_configuration};
 ghost use Rattle.file_outlines.specs.Outlines.{FilesAreOf};
 ghost use Rattle.name_scope.specs.Scopes.{AreScopes};
 
 use crate::groups::{Groups, Owned, add_groups};
-use file_outlines::FileOutline;
+use file_outlines::{FileOutline, room_for_units};
 use std::alloc::Global;
-use vr_base::{Items, NoMemory, Project};
+use vr_base::{Items, NoMemory, Project, Unit, UnitKind};
 
 /// For each file of a project the number of its first unit; and the groups of units, with the numbers of those that each
 /// unit is in.
@@ -19,7 +21,34 @@ pub struct Scopes {
     pub owned: Vec<Owned>,
 }
 
-/// The units of a project, by the outlines of its files.
+fn is_configuration(kind: UnitKind) -> bool
+    ensures { result ≡ is_configuration kind }
+{
+    match kind {
+        UnitKind::Configuration => true,
+        _ => false,
+    }
+}
+
+/// Whether one of some units is a configuration.
+fn has_configuration(units: &[Unit]) -> bool
+    ensures { result ≡ list_any (λ unit. is_configuration unit.kind) units.now }
+{
+    units.iter().any(|unit| is_configuration(unit.kind))
+}
+
+/// Whether a unit of files is a configuration: configurations alone want architectures.
+fn have_configuration(files: &[FileOutline]) -> bool
+    ensures { result ≡ list_any
+        (λ file. list_any (λ unit. is_configuration unit.kind) file.units) files.now }
+{
+    files
+        .iter()
+        .any(|file| has_configuration(file.units.as_slice()))
+}
+
+/// The units of a project, by the outlines of its files. Groups of architectures, which are many, are left out where no unit
+/// is a configuration.
 pub fn scopes_of(
     alloc: Global,
     project: &Project,
@@ -29,14 +58,15 @@ pub fn scopes_of(
     ensures { IfOk result (λ scopes. (texts : List (List ℕ)) (scans : List Scan) →
         FilesAreOf texts scans files.now → AreScopes project.now.files texts scans scopes) }
 {
+    let keeps = have_configuration(files.as_slice());
     let mut starts = Vec::new(alloc);
-    let mut groups = Groups::new(alloc);
+    let mut groups = Groups::with_room(alloc, room_for_units(files))?;
     let mut owned = Vec::new(alloc);
     for file in 0..project.files.len() {
         starts.push(owned.len())?;
         let library = &project.files.get(file).name.library;
         let units = files.get(file).units.as_slice();
-        add_groups(alloc, library, units, &mut groups, &mut owned)?;
+        add_groups(alloc, keeps, library, units, &mut groups, &mut owned)?;
     }
     Ok(Scopes {
         starts,

@@ -10,7 +10,7 @@ ghost use Rattle.file_outlines.specs.Outlines.{AreOutlined, AreOutlinesOf};
 ghost use Rattle.file_outlines.specs.Roles.{IsTextSmall};
 ghost use Rattle.name_scope.specs.Exact.{AreGrown};
 ghost use Rattle.name_scope.specs.Names.{HasAll, implicit, keys_of};
-ghost use Rattle.name_scope.specs.Scopes.{AreGrouped};
+ghost use Rattle.name_scope.specs.Scopes.{HasGroups};
 ghost use Rattle.name_scope.specs.Tables.{AreExactly, AreVisible, ListsNames, IsUnitAt, set_at, table_sees};
 
 use crate::groups::{Groups, Owned};
@@ -43,7 +43,7 @@ fn grown_rows(
     requires named { HasAll (implicit ++ flat_map (λ unit. unit.names) outlines.now.scopes)
         [] (keys_of names.now) }
     requires grouped { (scans : List Scan) → AreOutlinesOf texts.now scans outlines.now →
-        AreGrouped (scope_units project.now.files texts.now scans) groups.now owned.now }
+        HasGroups (scope_units project.now.files texts.now scans) groups.now owned.now }
     ensures { IfOk result (λ rows. (scans : List Scan) →
         AreOutlinesOf texts.now scans outlines.now →
         AreGrown outlines.now.scopes (scope_units project.now.files texts.now scans)

@@ -4,4 +4,4 @@ use Rattle.name_scope.specs.Owned.{AddsOwned}
 use Rattle.name_scope.proofs.groups.add_groups.Given as goal
 
 abbrev pub invariant-loop-number : goal.invariant-loop-number
-invariant-loop-number l = AddsOwned l.library (take l.number l.units) l.initial.groups l.initial.owned.items l.groups l.owned.items
+invariant-loop-number l = AddsOwned l.keeps l.library (take l.number l.units) l.initial.groups l.initial.owned.items l.groups l.owned.items

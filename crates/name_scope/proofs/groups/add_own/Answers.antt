@@ -10,7 +10,7 @@ pub returns : goal.returns
 returns c =
     let first : List Group = c.add_primary.new.groups in
     let second : List Group = c.add_context.new.groups in
-    let third : List Group = c.add_architecture.new.groups in
+    let third : List Group = c.add_kept.new.groups in
     let later : HasGrown first third = grown_both first second third c.in_ok-context.ensures.grown c.in_ok-architecture.ensures.grown in
     record {
       owned = record {

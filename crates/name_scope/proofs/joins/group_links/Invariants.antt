@@ -1,5 +1,5 @@
 -- So far the members up to the place.
-use Rattle.std.proofs.Common.{List}
+use Rattle.std.proofs.Common.{Bool, List}
 use Rattle.std.specs.List.{AllZip}
 use Rattle.scan_spec.specs.Visibility.{ScopeUnit}
 use Rattle.name_scope.specs.Joins.{AreMembersTo}
@@ -7,4 +7,4 @@ use Rattle.name_scope.specs.Owned.{IsOwnedBy}
 use Rattle.name_scope.proofs.joins.group_links.Given as goal
 
 abbrev pub invariant-loop-at : goal.invariant-loop-at
-invariant-loop-at l = (users : List ScopeUnit) → AllZip (IsOwnedBy l.groups) l.owned users → AreMembersTo l.at l.groups users l.gate l.members.items
+invariant-loop-at l = (keeps : Bool) (users : List ScopeUnit) → AllZip (IsOwnedBy keeps l.groups) l.owned users → AreMembersTo keeps l.at l.groups users l.gate l.members.items

@@ -4,7 +4,7 @@ use Rattle.name_scope.proofs.JoinLemmas.{member_both}
 use Rattle.name_scope.proofs.joins.join_own.Goals as goal
 
 pub returns : goal.returns
-returns c groups library unit each is =
+returns c keeps groups library unit each is =
     let one = c.in_ok-join_group.ensures groups _ each is.primary in
     let two = c.in_ok-join_group-2.ensures groups _ (one.each ∙ each) is.context in
     let three = c.in_ok-join_group-3.ensures groups _ (two.each ∙ (one.each ∙ each)) is.architecture in

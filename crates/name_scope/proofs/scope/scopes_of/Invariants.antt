@@ -8,5 +8,5 @@ use Rattle.name_scope.proofs.scope.scopes_of.Given as goal
 abbrev pub invariant-loop-file : goal.invariant-loop-file
 invariant-loop-file l = record {
   each : length l.starts.items ≡ l.file;
-  first : (texts : List (List ℕ)) (scans : List Scan) → FilesAreOf texts scans l.files → AreFirst l.project.files texts scans l.file l.starts.items l.groups l.owned.items;
+  first : (texts : List (List ℕ)) (scans : List Scan) → FilesAreOf texts scans l.files → AreFirst l.keeps l.project.files texts scans l.file l.starts.items l.groups l.owned.items;
 }

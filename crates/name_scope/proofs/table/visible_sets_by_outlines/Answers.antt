@@ -4,14 +4,14 @@ use Rattle.scan_spec.specs.Visibility.{scope_units}
 use Rattle.file_outlines.specs.declared.outlines.UnitScope.{UnitScope}
 use Rattle.name_scope.specs.Names.{keys_of}
 use Rattle.name_scope.specs.Exact.{AreGrown}
-use Rattle.name_scope.specs.Scopes.{AreGrouped}
+use Rattle.name_scope.specs.Scopes.{HasGroups}
 use Rattle.name_scope.proofs.ScopeLemmas.{scopes_are}
 use Rattle.name_scope.proofs.TableLemmas.{visible}
 use Rattle.name_scope.proofs.table.visible_sets_by_outlines.Goals as goal
 
 pub grown_rows-requires-clause-grouped : goal.grown_rows-requires-clause-grouped
 grown_rows-requires-clause-grouped c scans are =
-    subst (AreGrouped (scope_units c.args.project.now.files c.args.texts.now scans) c.in_ok-starts.field-0.groups) (sym c.as_slice-2.ensures.value) (c.in_ok-starts.ensures c.args.texts.now scans are.files).grouped
+    subst (HasGroups (scope_units c.args.project.now.files c.args.texts.now scans) c.in_ok-starts.field-0.groups) (sym c.as_slice-2.ensures.value) (c.in_ok-starts.ensures c.args.texts.now scans are.files).grouped
 
 pub returns : goal.returns
 returns c scans are =
