@@ -63,7 +63,7 @@ def size(side):
 
 
 SYNCED = ["sync a", "advise a", "sync b", "advise b"]
-OPENED = ["make vunit_out (there)", "create a (there)", "open a", "lock a", "create b (there)", "open b", *SYNCED]
+OPENED = ["make vunit_out (there)", "create a (there)", "open a", "lock a", "create b (there)", "open b", "lock b", *SYNCED]
 CLOSED = ["close a", "close b"]
 HEAD = 19  # a gate, the mark with its form, the generation, and the gate of the first payload
 
@@ -84,7 +84,7 @@ TEXT = package("a")
 project("project", {"vunit.csv": "lib,a.vhd\n", "a.vhd": TEXT})
 found, printed = calls_of()
 first = size("a")
-wanted = ["make vunit_out", "create a", "lock a", "create b", "open vunit_out", "sync vunit_out", "close vunit_out", "open .", "sync .", "close .",
+wanted = ["make vunit_out", "create a", "lock a", "create b", "lock b", "open vunit_out", "sync vunit_out", "close vunit_out", "open .", "sync .", "close .",
           *SYNCED, *new_side("a"), *added("a", HEAD, first), *CLOSED]
 if found != wanted or printed.decode() != BUILT or size("b") != 0:
     fail("a first build", f"{found}\nand not {wanted}")

@@ -6,10 +6,10 @@ command -v python3 >/dev/null || { echo "python3 is missing"; exit 77; }
 python3 -c 'import tomllib' 2>/dev/null || { echo "python3 has no tomllib"; exit 77; }
 strace --quiet=all -o /dev/null -e trace=none true 2>/dev/null || { echo "strace is missing, or may not trace"; exit 77; }
 PYTHONPATH=$TOP/tests/support exec python3 -B - <<'END'
-import os, re, shutil
+import os, re, shutil, subprocess, time
 
 from store_reader import read_request, records_of, stale_of
-from trial import COMPILER, build_text, end, environment, expect, fail, package, project, run, started_in, toml, write
+from trial import COMPILER, PROGRAM, build_text, end, environment, expect, fail, package, project, run, started_in, toml, write
 
 FILES = {"p.vhd": package("p"), "u.vhd": package("u", "work.p"), "v.vhd": package("v"), "w.vhd": package("w")}
 FILES["vunit.toml"] = toml({"lib": ["*.vhd"]}, COMPILER)
@@ -124,6 +124,27 @@ all_fail("edited", "child", "wait4", "ECHILD", slots=3, call="wait")
 all_fail("new", "child", "poll", "ENOMEM", slots=1)
 all_fail("new", "child", "poll", "ENOMEM", slots=3)
 all_fail("new", "start", "ioctl", "ENOTTY", slots=1, wanted=[ALL, [U, V, W], [V, W], [W]], first=2)
+
+# After a failed call of the disk the store stays locked until the compilers that run have ended.
+project("project", FILES)
+slow = subprocess.Popen([*failing("pwrite64", "EIO", 4, STORE), PROGRAM, "--compile", "-p", "3"], cwd="project", env=environment("requests", 2),
+                        stdin=subprocess.DEVNULL, stdout=subprocess.PIPE, stderr=subprocess.PIPE)
+until = time.monotonic() + 20
+while len(started_in("requests")) < 3 and time.monotonic() < until:
+    time.sleep(0.01)
+locked = "vunit_run: fault of disk\nvunit_run: vunit_out/store_a: lock: another run has locked it\n"
+seen = 0
+while slow.poll() is None:
+    with open("calls") as file:
+        has_failed = "(INJECTED)" in file.read()
+    ran = run("project", "--compile", env=environment("beside"))
+    # (the run may end between the two)
+    if slow.poll() is None:
+        seen += has_failed
+        if ran != (3, b"", locked.encode()):
+            fail("a second run after a failed call", f"it is {ran}")
+if slow.returncode != 3 or not seen:
+    fail("a failed call while compilers run", f"{slow.communicate()}, and it was looked at {seen} times")
 
 # A build whose one compiler takes a second asks the system for its output a few times, and not all the time.
 project("project", {"p.vhd": FILES["p.vhd"], "vunit.toml": FILES["vunit.toml"]})

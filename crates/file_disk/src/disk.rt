@@ -8,7 +8,7 @@ use crate::opening::{Part, PartFault, Paths, Sides, open_sides};
 use crate::storage::Storage;
 use fault_causes::Cause;
 use std::alloc::Global;
-use std::io;
+use std::{io, mem};
 use vr_base::{DiskFailed, NoMemory};
 use vr_outside::{Disk, Side, counted};
 
@@ -18,12 +18,12 @@ enum State {
     /// No call was made.
     Fresh,
     Open(Sides),
-    /// A call failed, and so does every later one.
-    Failed,
+    /// A call failed, and so does every later one. Files that were open stay so, and locked: children may still run.
+    Failed(Option<Sides>),
 }
 
-/// A disk over the files `store_a` and `store_b` of a folder, which are opened or made at the first call, with the lock of
-/// the first one. It counts its failures, and tells nothing of what it holds. After a failure every later call fails:
+/// A disk over the files `store_a` and `store_b` of a folder, which are opened or made at the first call, with the locks of
+/// both, which are held as long as the object is there. It counts its failures, and tells nothing of what it holds. After a failure every later call fails:
 /// what the system then holds of a file may be other than what is on the device.
 #[derive(Drop)]
 pub struct FileDisk {
@@ -64,10 +64,21 @@ impl FileDisk {
                 Ok(sides) => self.state = State::Open(sides),
                 Err(fault) => {
                     self.fault = Some(fault);
-                    self.state = State::Failed;
+                    self.state = State::Failed(None);
                 }
             }
         }
+    }
+
+    /// Lets every later call fail.
+    fn fail(&mut self)
+        ensures { self.new.failures ≡ self.old.failures }
+    {
+        self.state = match mem::replace(&mut self.state, State::Fresh) {
+            State::Fresh => State::Failed(None),
+            State::Open(sides) => State::Failed(Some(sides)),
+            State::Failed(kept) => State::Failed(kept),
+        };
     }
 
     /// Keeps why a call failed, if none did before.
@@ -96,7 +107,7 @@ impl FileDisk {
             Ok(value) => Ok(value),
             Err(error) => {
                 self.note(side, Cause { call, error });
-                self.state = State::Failed;
+                self.fail();
                 self.failures = counted(self.failures);
                 Err(DiskFailed)
             }

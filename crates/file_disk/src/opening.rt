@@ -78,7 +78,7 @@ struct Opened {
 }
 
 /// Opens both files, and makes those that are missing. The lock of the first one is asked for before anything else is
-/// done with either, and is held until the file is closed.
+/// done with either, and that of the second as it is opened. They are held until the files are closed.
 pub fn open_sides(runtime: HostRuntime, paths: &Paths) -> Result<Sides, PartFault> {
     let folder = paths.folder.as_str();
     of(Part::Folder, "make", make_folder(runtime, folder))?;
@@ -90,6 +90,7 @@ pub fn open_sides(runtime: HostRuntime, paths: &Paths) -> Result<Sides, PartFaul
         test_named(runtime, &a.file, paths.a.as_str()),
     )?;
     let b = of(Part::B, "open", open_side(runtime, paths.b.as_str()))?;
+    of(Part::B, "lock", lock(&b.file))?;
     of(
         Part::B,
         "open",
