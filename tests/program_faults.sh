@@ -127,7 +127,7 @@ all_fail("new", "start", "ioctl", "ENOTTY", slots=1, wanted=[ALL, [U, V, W], [V,
 
 # After a failed call of the disk the store stays locked until the compilers that run have ended.
 project("project", FILES)
-slow = subprocess.Popen([*failing("pwrite64", "EIO", 4, STORE), PROGRAM, "--compile", "-p", "3"], cwd="project", env=environment("requests", 2),
+slow = subprocess.Popen([*failing("pwrite64", "EIO", 6, STORE), PROGRAM, "--compile", "-p", "2"], cwd="project", env=environment("requests", 2),
                         stdin=subprocess.DEVNULL, stdout=subprocess.PIPE, stderr=subprocess.PIPE)
 until = time.monotonic() + 20
 while len(started_in("requests")) < 3 and time.monotonic() < until:
