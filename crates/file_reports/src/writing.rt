@@ -34,7 +34,7 @@ fn make(runtime: HostRuntime, path: &str, bytes: &[u8], spared: Spared) -> Resul
     named("make its folder", fs::create_dir_all(&runtime, folder))?;
     if let Err(cause) = named("write", spared.test(runtime, path)) {
         // It is the folder of the spared files, which wasn't there.
-        let _ = fs::remove_dir(&runtime, folder);
+        let _ = fs::remove_dir(&runtime, spared.folder);
         return Err(cause);
     }
     write_beside(runtime, folder, path, None, bytes)
