@@ -1,10 +1,11 @@
 -- The files of a graph with the artefacts of their latest records.
-use Rattle.std.specs.Prelude.{ℕ, List, length, slice_get, Option}
+use Rattle.std.specs.Prelude.{◌≡◌, ℕ, List, length, slice_get, Option}
 use Rattle.std.specs.Option.{option_map, option_and_then}
-use Rattle.std.specs.List.{filter_map}
+use Rattle.std.specs.List.{filter_map, flat_map}
 use Rattle.vr_base.specs.declared.file.FileName.{FileName}
 use Rattle.vr_base.specs.declared.graph.Entry.{Entry}
 use Rattle.vr_base.specs.declared.graph.BuiltFile.{BuiltFile}
+use Rattle.vr_base.specs.Jobs.{built_bytes}
 use Rattle.vr_base.specs.PresentGraph.{below}
 use Rattle.vr_outside.specs.declared.records.Record.{Record}
 
@@ -19,3 +20,8 @@ lent_at latest_of graph position = option_and_then (lent_file latest_of) (slice_
 -- all files of a graph that have a record, in order
 abbrev pub lent_files : (FileName → Option Record) → List Entry → List BuiltFile
 lent_files latest_of graph = filter_map (lent_at latest_of graph) (below (length graph))
+
+-- these are the bytes of all files of a graph, each of which has a record, as they stand in a request
+pub record AreBuilt (latest_of : FileName → Option Record) (graph : List Entry) (bytes : List ℕ) : Type 0 where
+  pub count : length (lent_files latest_of graph) ≡ length graph
+  pub written : bytes ≡ flat_map built_bytes (lent_files latest_of graph)

@@ -6,26 +6,24 @@ ghost use Rattle.vr_base.specs.Jobs.{built_bytes};
 ghost use Rattle.vr_outside.specs.Records.{IsRecorded};
 ghost use Rattle.test_spec.specs.Runs.{FitsRun};
 ghost use Rattle.test_spec.specs.BenchJobs.{bench_request};
-ghost use Rattle.test_loop.specs.Requests.{lent_at, lent_files};
+ghost use Rattle.test_loop.specs.Requests.{AreBuilt, lent_at, lent_files};
 
-use bench_codec::BenchWriter;
+use bench_codec::{BenchWriter, BuiltWriter};
 use std::alloc::Global;
 use test_spec::TestRun;
-use vr_base::{FILE_LIMIT, Graph, NoMemory, Request, TextList};
+use vr_base::{FILE_LIMIT, Graph, NoMemory, Request, Text, TextList};
 use vr_outside::Records;
 
 /// Adds the file at a position with the artefact that the store lends.
 fn add_lent<K: Records>(
-    writer: &mut BenchWriter,
+    writer: &mut BuiltWriter,
     graph: &Graph,
     at: u32,
     store: &K,
 ) -> Result<(), NoMemory>
     requires position { at < length graph.now }
     requires recorded { IsRecorded (K.latest_of store.now) graph.now at }
-    ensures words { OnOk result (writer.new.command ≡ writer.old.command) }
-    ensures results { OnOk result (writer.new.results ≡ writer.old.results) }
-    ensures input { OnOk result (writer.new.input ≡ writer.old.input ++
+    ensures { OnOk result (writer.new ≡ writer.old ++
         flat_map built_bytes (filter_map (lent_at (K.latest_of store.now) graph.now) (at ∷ []))) }
 {
     let entry = graph.get(at as u64);
@@ -35,25 +33,41 @@ fn add_lent<K: Records>(
     }
 }
 
-/// What the simulator of a run is started with, over the artefacts of all files of the graph.
-pub(crate) fn request_of<K: Records>(
+/// The bytes of all files of the graph with the artefacts that the store lends, as they stand in each request.
+pub(crate) fn built_of<K: Records>(
     alloc: Global,
     graph: &Graph,
     store: &K,
+) -> Result<Text, NoMemory>
+    requires recorded { (position : ℕ) → position < length graph.now →
+        IsRecorded (K.latest_of store.now) graph.now position }
+    ensures { IfOk result (AreBuilt (K.latest_of store.now) graph.now) }
+{
+    prove!(graph.len() <= FILE_LIMIT as u64);
+    let count = graph.len() as u32;
+    let mut writer = BuiltWriter::new(alloc);
+    for at in 0..count {
+        add_lent(&mut writer, graph, at, store)?;
+    }
+    Ok(writer.finish())
+}
+
+/// What the simulator of a run is started with, over the bytes of all files of the graph.
+pub(crate) fn request_of<K: Records>(
+    alloc: Global,
+    graph: &Graph,
+    _store: &K,
+    built: &Text,
     run: &TestRun,
     simulator: &TextList,
 ) -> Result<Request, NoMemory>
     requires fits { FitsRun run.now }
-    requires recorded { (position : ℕ) → position < length graph.now →
-        IsRecorded (K.latest_of store.now) graph.now position }
+    requires built { AreBuilt (K.latest_of _store.now) graph.now built.now }
     ensures { IfOk result (λ request. request ≡
-        bench_request run.now simulator.now (lent_files (K.latest_of store.now) graph.now)) }
+        bench_request run.now simulator.now (lent_files (K.latest_of _store.now) graph.now)) }
 {
     prove!(graph.len() <= FILE_LIMIT as u64);
-    let count = graph.len() as u32;
-    let mut writer = BenchWriter::new(alloc, run, simulator, count)?;
-    for at in 0..count {
-        add_lent(&mut writer, graph, at, store)?;
-    }
+    let mut writer = BenchWriter::new(alloc, run, simulator, graph.len() as u32)?;
+    writer.add_all(built.bytes())?;
     Ok(writer.finish())
 }

@@ -7,7 +7,7 @@ ghost use Rattle.run_spec.specs.Moves.{Job, empty_core};
 ghost use Rattle.test_spec.specs.Runs.{FitsRun};
 ghost use Rattle.test_spec.specs.Verdicts.{unstarted_run};
 ghost use Rattle.test_row.specs.Rows.{IsRowJob, IsRowOf, tickets_of, run_count};
-ghost use Rattle.test_loop.specs.Requests.{lent_files};
+ghost use Rattle.test_loop.specs.Requests.{AreBuilt, lent_files};
 ghost use Rattle.test_loop.specs.Results.{test_ends};
 ghost use Rattle.test_loop.specs.Faults.{TestsCountBy, test_fault_of};
 ghost use Rattle.test_loop.specs.UnderWay.{tests_with};
@@ -15,13 +15,14 @@ ghost use Rattle.test_loop.specs.Ran.{TestsRan};
 
 use crate::ends::end_one;
 use crate::faults::TestRunFault;
+use crate::requests::built_of;
 use crate::results::unstarted_runs;
 use crate::starts::start_one;
 use child_steps::Step;
 use std::alloc::Global;
 use test_row::Row;
 use test_spec::{RunEnd, TestEnd, TestRunList};
-use vr_base::{CASE_LIMIT, Graph, Items, NoMemory, SLOT_LIMIT, TextList};
+use vr_base::{CASE_LIMIT, Graph, Items, NoMemory, SLOT_LIMIT, Text, TextList};
 use vr_outside::{Procs, Records};
 
 /// Runs of tests before their first start.
@@ -29,26 +30,39 @@ use vr_outside::{Procs, Records};
 struct Begun {
     row: Row,
     found: Vec<RunEnd>,
+    built: Text,
 }
 
-/// The row of runs, and what became of each, where nothing has happened yet.
-fn begin(alloc: Global, runs: &TestRunList, limit: u32, fail_fast: bool) -> Result<Begun, NoMemory>
+/// The row of runs, what became of each where nothing has happened yet, and the bytes of the files that all are over.
+fn begin<K: Records>(
+    alloc: Global,
+    graph: &Graph,
+    store: &K,
+    runs: &TestRunList,
+    limit: u32,
+    fail_fast: bool,
+) -> Result<Begun, NoMemory>
     requires limit { (1 ≤ limit) × (limit ≤ SLOT_LIMIT) }
     requires few { length runs.now ≤ CASE_LIMIT }
+    requires recorded { (position : ℕ) → position < length graph.now →
+        IsRecorded (K.latest_of store.now) graph.now position }
     ensures runs { IfOk result (λ begun. run_count begun.row ≡ length runs.now) }
     ensures tickets { IfOk result (λ begun. tickets_of begun.row ≡ []) }
     ensures in_step { IfOk result (λ begun. (job : Job) →
         IsRowJob job (length runs.now) limit fail_fast → IsRowOf begun.row job empty_core) }
     ensures found { IfOk result (λ begun. begun.found.items ≡ map unstarted_run runs.now) }
+    ensures built { IfOk result
+        (λ begun. AreBuilt (K.latest_of store.now) graph.now begun.built) }
 {
     let count = runs.len() as u32;
     let row = Row::new(alloc, count, limit, fail_fast)?;
     let found = unstarted_runs(alloc, runs)?;
-    Ok(Begun { row, found })
+    let built = built_of(alloc, graph, store)?;
+    Ok(Begun { row, found, built })
 }
 
 /// Runs tests in order, each by one child of the simulator, which is asked over the artefacts that the store has of all
-/// files of the graph, and gives what became of each run. At most `limit` children run at once, from 1 to 64; there are
+/// files of the graph, and gives what became of each run. The bytes of these files are put together once for all runs. At most `limit` children run at once, from 1 to 64; there are
 /// at most 65,536 runs. With `fail_fast` nothing more is started after the first run of which not all cases passed.
 /// After a fault nothing more is started, and the children that still run are waited for; the first fault is answered,
 /// but out of memory in the place of any other. No child runs in the end.
@@ -84,14 +98,21 @@ pub fn run_tests<K: Records, P: Procs>(
           losses = P.lost_children procs.new;
         }) }
 {
-    let Ok(Begun { mut row, mut found }) = begin(alloc, runs, limit, fail_fast) else {
+    let Ok(
+        Begun {
+            mut row,
+            mut found,
+            built,
+        },
+    ) = begin(alloc, graph, store, runs, limit, fail_fast)
+    else {
         return Err(TestRunFault::NoMemory);
     };
     let mut noted = None;
     loop {
         match row.next() {
             Step::Start(at) => start_one(
-                alloc, graph, store, runs, simulator, at, &mut row, &mut noted, procs,
+                alloc, graph, store, &built, runs, simulator, at, &mut row, &mut noted, procs,
             ),
             Step::Wait => end_one(alloc, runs, &mut row, &mut found, &mut noted, procs),
             Step::Finished => break,

@@ -6,7 +6,6 @@ ghost use Rattle.vr_base.specs.declared.child.Exit.{Exit};
 ghost use Rattle.vr_base.specs.declared.child.Event.{Event};
 ghost use Rattle.vr_base.specs.declared.child.Event.TheVariants.{Started};
 ghost use Rattle.vr_outside.specs.Children.{IsFresh};
-ghost use Rattle.vr_outside.specs.Records.{IsRecorded};
 ghost use Rattle.run_spec.specs.Moves.{Job, Core};
 ghost use Rattle.child_steps.specs.declared.step.Step.TheVariants.{Start};
 ghost use Rattle.child_steps.specs.Steps.{halted_if};
@@ -14,7 +13,7 @@ ghost use Rattle.test_spec.specs.declared.ends.RunEnd.{RunEnd};
 ghost use Rattle.test_spec.specs.Runs.{FitsRun};
 ghost use Rattle.test_spec.specs.BenchJobs.{bench_request};
 ghost use Rattle.test_row.specs.Rows.{IsRowOf, next_of, tickets_of, run_count, to_come};
-ghost use Rattle.test_loop.specs.Requests.{lent_files};
+ghost use Rattle.test_loop.specs.Requests.{AreBuilt, lent_files};
 ghost use Rattle.test_loop.specs.Faults.{CountsStart, TestCounts, TestsCountBy, noted_with};
 ghost use Rattle.test_loop.specs.UnderWay.{Goes, tests_with};
 
@@ -24,7 +23,7 @@ use crate::requests::request_of;
 use std::alloc::Global;
 use test_row::Row;
 use test_spec::{TestRun, TestRunList};
-use vr_base::{Graph, TextList};
+use vr_base::{Graph, Text, TextList};
 use vr_outside::{Procs, Records, StartFault};
 
 /// Notes a fault, and nothing more is started.
@@ -46,13 +45,13 @@ fn try_start<K: Records, P: Procs>(
     alloc: Global,
     graph: &Graph,
     store: &K,
+    built: &Text,
     run: &TestRun,
     simulator: &TextList,
     procs: &mut P,
 ) -> Result<u64, TestRunFault>
     requires fits { FitsRun run.now }
-    requires recorded { (position : ℕ) → position < length graph.now →
-        IsRecorded (K.latest_of store.now) graph.now position }
+    requires built { AreBuilt (K.latest_of store.now) graph.now built.now }
     ensures running { IfOk result (λ ticket.
         P.running procs.new ≡ P.running procs.old ++ ticket ∷ []) }
     ensures runs { OnErr result (P.running procs.new ≡ P.running procs.old) }
@@ -65,7 +64,7 @@ fn try_start<K: Records, P: Procs>(
     ensures starts { CountsStart result (P.failed_starts procs.old) (P.failed_starts procs.new) }
     ensures losses { P.lost_children procs.new ≡ P.lost_children procs.old }
 {
-    let request = request_of(alloc, graph, store, run, simulator)?;
+    let request = request_of(alloc, graph, store, built, run, simulator)?;
     match procs.start(alloc, &request) {
         Ok(ticket) => Ok(ticket),
         Err(StartFault::NoMemory) => Err(TestRunFault::NoMemory),
@@ -78,6 +77,7 @@ pub(crate) fn start_one<K: Records, P: Procs>(
     alloc: Global,
     graph: &Graph,
     store: &K,
+    built: &Text,
     runs: &TestRunList,
     simulator: &TextList,
     at: u32,
@@ -87,8 +87,7 @@ pub(crate) fn start_one<K: Records, P: Procs>(
 )
     requires position { at < length runs.now }
     requires fits { All FitsRun runs.now }
-    requires recorded { (position : ℕ) → position < length graph.now →
-        IsRecorded (K.latest_of store.now) graph.now position }
+    requires built { AreBuilt (K.latest_of store.now) graph.now built.now }
     requires step { next_of row.old ≡ Start at }
     requires running { P.running procs.old ≡ tickets_of row.old }
     requires unnoted { noted.old ≡ None }
@@ -113,7 +112,7 @@ pub(crate) fn start_one<K: Records, P: Procs>(
         }) }
 {
     let run = runs.get(at as u64);
-    match try_start(alloc, graph, store, run, simulator, procs) {
+    match try_start(alloc, graph, store, built, run, simulator, procs) {
         Ok(ticket) => row.started(at, ticket),
         Err(fault) => halt(row, noted, fault),
     }

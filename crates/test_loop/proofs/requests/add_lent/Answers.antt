@@ -5,17 +5,14 @@ use Rattle.std.proofs.lemmas.List.{append-nil}
 use Rattle.std.proofs.lemmas.Result.{on_ok_weaker}
 use Rattle.vr_base.specs.declared.graph.BuiltFile.{BuiltFile}
 use Rattle.vr_base.specs.Jobs.{built_bytes}
-use Rattle.bench_codec.specs.Written.{WrittenRun}
 use Rattle.test_loop.specs.Requests.{lent_at}
 use Rattle.test_loop.proofs.Lent.{lent_of}
 use Rattle.test_loop.proofs.requests.add_lent.Goals as goal
 
-pub returns-clause-input : goal.returns-clause-input
-returns-clause-input g c =
+pub returns : goal.returns
+returns g c =
     let file : BuiltFile = record { name = c.get-entry.result.now.name; artefact = c.in-Some.artefact.now } in
     let lent : lent_at (g.K.Records.latest_of c.args.store.now) c.args.graph.now c.args.at ≡ Some file = lent_of _ c.args.graph.now c.args.at c.get-entry.result.now c.in-Some.artefact.now c.get-entry.ensures.entry c.in-Some.ensures.bytes in
     on_ok_weaker c.add.result
-    (λ is.
-    ap (λ (w : WrittenRun). w.input) is
-    ∙ ap (λ (l : List ℕ). c.args.writer.now.input ++ l) (sym (append-nil (built_bytes file)) ∙ sym (ap (λ (o : Option BuiltFile). flat_map built_bytes (cons_option o [])) lent)))
+    (λ is. is ∙ ap (λ (l : List ℕ). c.args.writer.now ++ l) (sym (append-nil (built_bytes file)) ∙ sym (ap (λ (o : Option BuiltFile). flat_map built_bytes (cons_option o [])) lent)))
     c.add.ensures

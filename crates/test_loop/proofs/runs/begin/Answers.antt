@@ -3,7 +3,7 @@ use Rattle.std.proofs.Common.{arith}
 use Rattle.test_loop.proofs.runs.begin.Goals as goal
 
 pub returns-clause-in_step : goal.returns-clause-in_step
-returns-clause-in_step c = λ job is. c.in_ok-row.ensures.in_step job (record {
+returns-clause-in_step g c = λ job is. c.in_ok-row.ensures.in_step job (record {
   count = omega (arith, c.len-count.ensures, is.count);
   deps = is.deps;
   is_due = is.is_due;
@@ -12,4 +12,4 @@ returns-clause-in_step c = λ job is. c.in_ok-row.ensures.in_step job (record {
 })
 
 pub returns-clause-runs : goal.returns-clause-runs
-returns-clause-runs c = omega (arith, c.in_ok-row.ensures.runs, c.len-count.ensures)
+returns-clause-runs g c = omega (arith, c.in_ok-row.ensures.runs, c.len-count.ensures)
