@@ -28,6 +28,8 @@ check_bench("kinds of cases", texts.OF_CASES, [
 with open(f"one/{texts.COPIED}") as file:
     if (found := file.read()) != texts.DATA:
         fail("a file that a bench writes", found)
+check_bench("-v", texts.OF_CASES, [("passes", "p", "0 fs - default - INFO - all is well\nsimulation finished @0ms with status 0\n")],
+            "-v", "*.passes")
 check_bench("without cleanup", texts.OF_CASES, [
     ("finishes without cleanup", "f", "simulation finished @0ms\nghdl_bench: the bench ended without test_runner_cleanup\n")],
     "*without cleanup")
@@ -94,5 +96,4 @@ project("checks", {"vunit.toml": with_ghdl({"tb_lib": ["*.vhd"]}),
 check("checks", "checks", ["tb_lib: failing.vhd", "tb_lib: passing.vhd"], [
     *(("tb_lib.failing", failing, "f", [f"0 fs - check - ERROR - {said}\n"]) for _, failing, said in checks),
     *(("tb_lib.passing", passing, "p", "") for passing, _, _ in checks)])
-
 end()
