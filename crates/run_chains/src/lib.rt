@@ -9,4 +9,6 @@ pub use chains::{Outcomes, run_after_stop, run_twice};
 pub use laws::laws_of_program;
 
 #[cfg(test)]
+mod bench_tests;
+#[cfg(test)]
 mod tests;
