@@ -34,7 +34,8 @@ impl LoopProcs {
     pub fn new(alloc: Global, picks: Positions, failing: Numbers) -> LoopProcs
         ensures book { result.book ≡ no_children picks failing }
         // By whatever scanner the answer is told, it is the same.
-        ensures answer { (scan : List ℕ → Finding) → IsScanner scan → answer_in result.known ≡ loop_answer scan }
+        ensures answer { (scan : List ℕ → Finding) → IsScanner scan →
+            answer_in result.known ≡ loop_answer scan }
     {
         LoopProcs {
             book: ChildBook::new(alloc, picks, failing),
@@ -91,7 +92,8 @@ impl Procs for LoopProcs {
             self.new.book.running ≡ without (ended_ticket result) before }
         ensures sizes { IfOk result (λ end. FitsExit end.exit) }
         ensures journal { self.new.book.journal ≡ self.old.book.journal ++ end_event result ∷ [] }
-        ensures exit { IfOk result (AnswersStarted (answer_in self.old.known) self.old.book.journal) }
+        ensures exit { IfOk result
+            (AnswersStarted (answer_in self.old.known) self.old.book.journal) }
         ensures results { IfOk result (AnswersStartedPath self.old.book.journal) }
         ensures same { answer_in self.new.known ≡ answer_in self.old.known }
         ensures cause { ChildCounts result self.old.book.lost_children self.new.book.lost_children }
