@@ -26,7 +26,8 @@ const INPUT_BYTES: u64 = 2147483648;
 
 /// Puts the output of a child, if there is any, and answers its code. What was written before stays.
 fn say_exit<O: Sink>(exit: &Exit, out: &mut O) -> Outcome
-    ensures said { O.tells → Says result (exit_said exit.now) (O.contents out.old) (O.contents out.new) }
+    ensures said { O.tells →
+        Says result (exit_said exit.now) (O.contents out.old) (O.contents out.new) }
     ensures silent { exit.now.output ≡ [] → out.new ≡ out.old }
     ensures cause { OutCauses result (O.failed_puts out.old) (O.failed_puts out.new) }
     ensures stand { O.failed_puts out.old ≤ O.failed_puts out.new }
@@ -45,7 +46,8 @@ fn say_exit<O: Sink>(exit: &Exit, out: &mut O) -> Outcome
 
 /// Answers that an input is no request.
 fn say_bad_request<O: Sink>(alloc: Global, out: &mut O) -> Outcome
-    ensures said { O.tells → Says result (exit_said bad_request) (O.contents out.old) (O.contents out.new) }
+    ensures said { O.tells →
+        Says result (exit_said bad_request) (O.contents out.old) (O.contents out.new) }
     ensures silent { bad_request.output ≡ [] → out.new ≡ out.old }
     ensures cause { OutCauses result (O.failed_puts out.old) (O.failed_puts out.new) }
     ensures stand { O.failed_puts out.old ≤ O.failed_puts out.new }
@@ -59,7 +61,8 @@ fn say_bad_request<O: Sink>(alloc: Global, out: &mut O) -> Outcome
 /// Answers the input of a compiler child.
 fn answer_source<O: Sink>(alloc: Global, input: &[u8], out: &mut O) -> Outcome
     ensures said { (scan : List ℕ → Finding) → IsScanner scan → O.tells →
-        Says result (exit_said (analysis scan input.now)) (O.contents out.old) (O.contents out.new) }
+        Says result (exit_said (analysis scan input.now))
+        (O.contents out.old) (O.contents out.new) }
     ensures silent { (scan : List ℕ → Finding) → IsScanner scan →
         (analysis scan input.now).output ≡ [] → out.new ≡ out.old }
     ensures cause { OutCauses result (O.failed_puts out.old) (O.failed_puts out.new) }
@@ -100,7 +103,8 @@ fn leave_results<O: Sink, R: Reports>(
     out: &mut O,
     reports: &mut R,
 ) -> Outcome
-    ensures said { O.tells → Says result (exit_said exit.now) (O.contents out.old) (O.contents out.new) }
+    ensures said { O.tells →
+        Says result (exit_said exit.now) (O.contents out.old) (O.contents out.new) }
     ensures silent { exit.now.output ≡ [] → out.new ≡ out.old }
     ensures writes { R.tells →
         let results : Results = record { path = path.now; text = text.now } in
@@ -124,7 +128,8 @@ fn leave_exit<O: Sink, R: Reports>(
     out: &mut O,
     reports: &mut R,
 ) -> Outcome
-    ensures said { O.tells → Says result (exit_said exit.now) (O.contents out.old) (O.contents out.new) }
+    ensures said { O.tells →
+        Says result (exit_said exit.now) (O.contents out.old) (O.contents out.new) }
     ensures silent { exit.now.output ≡ [] → out.new ≡ out.old }
     ensures writes { R.tells →
         WritesResults (left_results (Some job.now) exit.now.results) result
