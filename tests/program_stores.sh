@@ -218,6 +218,25 @@ stopped.wait()
 write("project", {"p.vhd": FILES["p.vhd"]})
 expect("p is edited back after a stop", "project", 0, build_text([(b"lib", b"p.vhd")]), "--compile", env=environment("requests"))
 
+# A side of more bytes than there is memory for, most of which take no room on the disk: `--clean` doesn't read it.
+restore()
+put(A, side(given, end=b"\1\0\0\0\x40"))
+os.truncate(A, 2**40)
+expect("a side of a tebibyte", "project", 4, "", "--compile", error="vunit_run: out of memory\n", env=environment("requests"))
+expect("a side of a tebibyte that is emptied", "project", 0, build_text([(b"lib", path.encode()) for path in sorted(FILES) if path != "vunit.toml"]), "--compile", "--clean", env=environment("requests"))
+expect("and once more", "project", 0, build_text([]), "--compile", env=environment("requests"))
+
+
+def fill(path):
+    """Makes a file longer until the disk is full."""
+    with open(path, "ab", buffering=0) as file:
+        try:
+            while True:
+                file.write(b"x" * 4096)
+        except OSError:
+            pass
+
+
 # A full disk, at the opening and inside a build.
 os.makedirs("small/project")
 long = {f"f{at}.vhd": package(f"f{at}") + f"-- {at:08}\n" * 1700 for at in range(6)}
@@ -227,12 +246,7 @@ if root and subprocess.run(["mount", "-t", "tmpfs", "-o", "size=256k", "none", "
         shutil.rmtree("project")
         os.symlink("small/project", "project")
         write("project", long | {"vunit.toml": FILES["vunit.toml"]})
-        with open("small/filler", "wb", buffering=0) as filler:
-            try:
-                while True:
-                    filler.write(b"x" * 4096)
-            except OSError:
-                pass
+        fill("small/filler")
         check_fault("a disk that is full before", "vunit_out/store_a", "write", FULL)
         os.truncate("small/filler", os.stat("small/filler").st_size - 60000)
         full = fault("vunit_out/store_a", "write", FULL)
@@ -244,6 +258,12 @@ if root and subprocess.run(["mount", "-t", "tmpfs", "-o", "size=256k", "none", "
         expect("a disk that is still full", "project", 3, "", "--compile", error=full, env=environment("requests"))
         if [record.view[-1].path for record in records_of("project")][:len(kept)] != kept:
             fail("a disk that is still full", "a record is lost")
+        # What is kept gives its room back before anything is written, so `--clean` builds as much again on a full disk.
+        for at in range(len(kept), 6):
+            os.remove(f"small/project/f{at}.vhd")
+        fill("small/filler")
+        again = build_text([(b"lib", path) for path in kept])
+        expect("a full disk that is emptied", "project", 0, again, "--compile", "--clean", env=environment("requests"))
         os.remove("small/filler")
         check_build("a disk that is full no more")
     finally:

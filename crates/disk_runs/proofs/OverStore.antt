@@ -3,7 +3,7 @@ use Rattle.std.proofs.Common.{◌≡◌, ℕ, ◌+◌, ◌-◌, ◌^◌, ◌<◌
 use Rattle.std.specs.Prelude.{slice_get, take, is_some, IfOk}
 use Rattle.std.specs.Bool.{OnTrue, OnFalse}
 use Rattle.std.specs.Result.{is_ok}
-use Rattle.std.specs.List.{AllByRecursion, filter_map, list_all}
+use Rattle.std.specs.List.{filter_map, list_all}
 use Rattle.std.specs.Option.{option_map}
 use Rattle.std.proofs.Math.Path.{fun_ext}
 use Rattle.std.proofs.lemmas.Bool.{false≢true, OnTrue_at}
@@ -20,16 +20,16 @@ use Rattle.vr_base.specs.PresentGraph.{below}
 use Rattle.vr_base.proofs.Below.{get_or-below, length-below}
 use Rattle.vr_outside.specs.Counts.{Rose}
 use Rattle.vr_outside.specs.declared.records.Record.{Record}
-use Rattle.vr_outside.specs.Disks.{DiskState, Image, IsImage, EachImage, Moments, AreSound, IsDurable, Follows, AtAnyMoment, IsEither, OpensWith, added_since, reads_of}
+use Rattle.vr_outside.specs.Disks.{DiskState, Image, EachImage, Moments, AreSound, IsDurable, Follows, IsEither, OpensWith, added_since, reads_of}
 use Rattle.vr_outside.specs.Commits.{HasFirst, most_committed}
 use Rattle.vr_outside.specs.Records.{latest, IsAllOrLatest, IsRecorded}
 use Rattle.vr_outside.specs.declared.records.StoreFault.{StoreFault}
 use Rattle.vr_outside.specs.Phases.{IsOpening, IsBase, HasPhases, opened, committed}
-use Rattle.vr_outside.proofs.MomentLaws.{follows_by, joined_follows}
-use Rattle.vr_outside.proofs.PhaseLaws.{open_failed, open_done, then_emptied, then_committed}
-use Rattle.run_spec.specs.ChildJournal.{Work, End, Lawful, IsWhole, book_of, artefact_after, artefact_so_far, exit_at, since, EachAfter}
+use Rattle.vr_outside.proofs.MomentLaws.{follows_by, goes_follows, joined_follows}
+use Rattle.vr_outside.proofs.PhaseLaws.{open_failed, open_done, empty_failed, empty_done, then_committed}
+use Rattle.run_spec.specs.ChildJournal.{Work, Lawful, book_of, artefact_after, exit_at, since, EachAfter}
 use Rattle.run_spec.specs.Commits.{work_of, commits}
-use Rattle.history_spec.specs.Histories.{Order, IsReadable, work_over, latest_over}
+use Rattle.history_spec.specs.Histories.{Order, work_over, latest_over}
 use Rattle.run_spec.specs.JournalParts.{test_part}
 use Rattle.run_spec.specs.Marks.{mark_of, mark_at, marks_of}
 use Rattle.run_spec.proofs.Journal.{since-added}
@@ -47,32 +47,32 @@ use Rattle.disk_runs.specs.Orders.{IsDurablyRecorded}
 use Rattle.disk_runs.proofs.LentFiles.{lent_are}
 use Rattle.disk_runs.specs.Building.{OpensStore, BuildsOver, has_risen}
 
-module _ (K : Type 0) (records_of : Image → List Record) (old middle new : Moments) where
+module _ (K : Type 0) (records_of : Image → List Record) (old new : Moments) where
   abbrev HasRead : Image → Type 0
   HasRead image = IsAllOrLatest (records_of (reads_of old.now)) (records_of image)
 
-  -- a store that could not be opened
-  pub open_fails : (clean : Bool) (why : StoreFault) → Follows old new → OpensWith old new HasRead → OpensStore {K = K} records_of clean (Err why) old new
-  open_fails clean why follows opens = record { follows = follows; phases = λ more. open_failed records_of clean more old new opens; opening = tt; base = tt }
+  abbrev HasReadOrNone : Image → Type 0
+  HasReadOrNone image = IsEither (records_of image) (records_of (reads_of old.now)) []
 
-  -- one that is open
-  pub opens_store : (store : K) → Follows old new → OpensWith old new HasRead → HasRead (reads_of new.now) → IsDurable new.now → OpensStore records_of false (Ok store) old new
-  opens_store store follows opens kept durable =
+  -- a store that was opened, or couldn't be
+  pub opens_store : (result : Result K StoreFault) → Follows old new → OpensWith old new HasRead → OnOk result (HasRead (reads_of new.now)) → IfOk result (λ store. IsDurable new.now) → OpensStore records_of false result old new
+  opens_store (Ok store) follows opens kept durable =
       let opening : IsOpening records_of false old.now (added_since old new) = open_done records_of false old new opens kept durable in
       record { follows = follows; phases = λ more. opened refl opening; opening = opening; base = kept }
+  opens_store (Err why) follows opens kept durable = record { follows = follows; phases = λ more. open_failed records_of false more old new opens; opening = tt; base = tt }
 
-  -- one that is emptied once it is open
-  module _ (first : Follows old middle) (opens : OpensWith old middle HasRead) (kept : HasRead (reads_of middle.now)) (durable : IsDurable middle.now)
-      (moments : AtAnyMoment middle new (λ image. IsEither (records_of image) (records_of (reads_of middle.now)) [])) where
-    emptying : IsOpening records_of true old.now (added_since old new)
-    emptying = then_emptied records_of old middle new first (open_done records_of true old middle opens kept durable) kept moments
+  opens_follows : OpensWith old new HasReadOrNone → Follows old new
+  opens_follows (inl goes) = goes_follows old.now old new goes
+  opens_follows (inr opens) =
+      let middle = opens.0 in
+      follows_by old new (added_since old middle ++ added_since middle new) (joined_follows old middle new (goes_follows old.now old middle opens.1) opens.2.follows)
 
-    follows_both : Follows old new
-    follows_both = follows_by old new (added_since old middle ++ added_since middle new) (joined_follows old middle new first moments.follows)
-
-    pub empties_store : (result : Result K StoreFault) → OnOk result (records_of (reads_of new.now) ≡ []) → OpensStore records_of true result old new
-    empties_store (Ok store) none = record { follows = follows_both; phases = λ more. opened refl emptying; opening = emptying; base = none }
-    empties_store (Err why) none = record { follows = follows_both; phases = λ more. opened refl emptying; opening = tt; base = tt }
+  -- one that was opened empty, or couldn't be
+  pub empties_store : (result : Result K StoreFault) → OpensWith old new HasReadOrNone → OnOk result (records_of (reads_of new.now) ≡ []) → IfOk result (λ store. IsDurable new.now) → OpensStore records_of true result old new
+  empties_store (Ok store) opens none durable =
+      let opening : IsOpening records_of true old.now (added_since old new) = empty_done records_of old new opens none durable in
+      record { follows = opens_follows opens; phases = λ more. opened refl opening; opening = opening; base = none }
+  empties_store (Err why) opens none durable = record { follows = opens_follows opens; phases = λ more. empty_failed records_of more old new opens; opening = tt; base = tt }
 
 -- a build whose store could not be opened starts nothing
 pub not_opened : (records_of : Image → List Record) (answer : Request → Exit) (order : Order) (why : BuildFault) (failed : Bool) (old new : Moments) (events : List Event) → events ≡ [] → IsGraph order.graph → AreSound new → Follows old new

@@ -5,7 +5,6 @@ ghost use Rattle.std.specs.List.{filter_map, list_all};
 ghost use Rattle.vr_base.specs.PresentGraph.{below};
 ghost use Rattle.vr_outside.specs.Counts.{StoreCounts};
 ghost use Rattle.vr_outside.specs.Records.{IsRecorded};
-ghost use Rattle.vr_outside.specs.Disks.{reads_of, AtAnyMoment, IsEither};
 ghost use Rattle.run_spec.specs.declared.marks.Mark.{Mark};
 ghost use Rattle.run_spec.specs.ChildJournal.{since};
 ghost use Rattle.history_spec.specs.Histories.{work_over};
@@ -19,7 +18,7 @@ ghost use Rattle.disk_runs.specs.Orders.{order_by};
 use compile_loop::{BuildFault, build_marks};
 use run_spec::MarkList;
 use std::alloc::Global;
-use vr_base::{DiskFailed, FILE_LIMIT, Graph, SLOT_LIMIT};
+use vr_base::{FILE_LIMIT, Graph, SLOT_LIMIT};
 use vr_outside::{Disk, Procs, Records, StoreFault};
 
 /// How a graph is built: with so many children at once, going on after a refusal or not, and over the records that are there
@@ -38,27 +37,7 @@ pub struct Kept<K> {
     pub store: K,
 }
 
-/// Empties a store.
-fn emptied<K: Records + Drop, D: Disk>(mut store: K, disk: &mut D) -> Result<K, StoreFault>
-    requires usable { K.broken store ≡ false }
-    requires in_step { D.tells → K.in_step store (D.moments disk.old).now }
-    ensures any_moment { D.tells →
-        let before = K.records_of (reads_of (D.moments disk.old).now) in
-        AtAnyMoment (D.moments disk.old) (D.moments disk.new)
-        (λ image. IsEither (K.records_of image) before []) }
-    ensures none { D.tells → OnOk result (K.records_of (reads_of (D.moments disk.new).now) ≡ []) }
-    ensures in_step { D.tells → IfOk result (λ store. K.in_step store (D.moments disk.new).now) }
-    ensures usable { IfOk result (λ store. K.broken store ≡ false) }
-    ensures cause { StoreCounts result (D.failed_disk_calls disk.old)
-        (D.failed_disk_calls disk.new) }
-{
-    match store.reset(disk) {
-        Ok(()) => Ok(store),
-        Err(DiskFailed) => Err(StoreFault::DiskFailed),
-    }
-}
-
-/// Opens the store of a disk, and empties it where it is to be clean.
+/// Opens the store of a disk: with what it holds, or empty.
 fn open_store<K: Records + Drop, D: Disk>(
     alloc: Global,
     disk: &mut D,
@@ -71,15 +50,10 @@ fn open_store<K: Records + Drop, D: Disk>(
     ensures cause { StoreCounts result (D.failed_disk_calls disk.old)
         (D.failed_disk_calls disk.new) }
 {
-    match K::from_disk(alloc, disk) {
-        Ok(store) => {
-            if clean {
-                return emptied(store, disk);
-            }
-            Ok(store)
-        }
-        Err(fault) => Err(fault),
+    if clean {
+        return K::emptied(alloc, disk);
     }
+    K::from_disk(alloc, disk)
 }
 
 /// Opens the store of a disk, builds over its records, and keeps the store, which lends the artefacts of all files that are made.

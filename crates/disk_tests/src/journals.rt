@@ -159,9 +159,8 @@ fn with_cd(alloc: Global, disk: &mut MemDisk) -> Result<Journal, StoreFault> {
 
 /// A journal that was emptied, with `ab` before.
 fn emptied(alloc: Global, disk: &mut MemDisk) -> Result<Journal, StoreFault> {
-    let mut journal = with_ab(alloc, disk)?;
-    journal.reset(disk)?;
-    Ok(journal)
+    with_ab(alloc, disk)?;
+    Journal::emptied(alloc, disk, 1)
 }
 
 /// What is done to an empty disk: a journal is opened; `ab` is committed; then `cd` takes its place, or it is emptied.
@@ -170,7 +169,7 @@ enum Change {
     Opens,
     Commits,
     Replaces,
-    Resets,
+    Empties,
 }
 
 /// Whether opening an empty disk finds no payload.
@@ -193,7 +192,7 @@ fn make(alloc: Global, disk: &mut MemDisk, change: Change) -> Result<bool, Store
             with_cd(alloc, disk)?;
             Ok(true)
         }
-        Change::Resets => {
+        Change::Empties => {
             emptied(alloc, disk)?;
             Ok(true)
         }
@@ -208,7 +207,7 @@ fn has_sides(disk: &MemDisk, change: Change) -> bool {
         Change::Opens => a == EMPTY.as_slice() && b.is_empty(),
         Change::Commits => a == WITH_AB.as_slice(),
         Change::Replaces => a == WITH_AB.as_slice() && b == WITH_CD.as_slice(),
-        Change::Resets => b == EMPTY.as_slice(),
+        Change::Empties => a == EMPTY.as_slice() && b.is_empty(),
     }
 }
 
@@ -248,6 +247,33 @@ fn opening_a_healthy_disk_writes_nothing(rt: HostRuntime) -> Result<(), Fail> {
     assert!(rt; stays(rt.alloc(), &[], &WITH_AB)?);
     assert!(rt; stays(rt.alloc(), &WITH_CD, &WITH_AB)?);
     assert!(rt; stays(rt.alloc(), &WITH_AB, &WITH_CD)?);
+    Ok(())
+}
+
+/// Whether emptying a disk of these sides leaves them so.
+fn empties_on(
+    alloc: Global,
+    disk: &mut MemDisk,
+    sides: [&[u8]; 2],
+    left: [&[u8]; 2],
+) -> Result<bool, StoreFault> {
+    write_durably(disk, Side::A, 0, sides[0])?;
+    write_durably(disk, Side::B, 0, sides[1])?;
+    Journal::emptied(alloc, disk, 1)?;
+    Ok(disk.reads(Side::A) == left[0] && disk.reads(Side::B) == left[1])
+}
+
+fn empties(alloc: Global, sides: [&[u8]; 2], left: [&[u8]; 2]) -> Result<bool, StoreFault> {
+    let mut disk = disk(alloc, &[])?;
+    empties_on(alloc, &mut disk, sides, left)
+}
+
+#[test]
+fn an_emptied_disk_has_the_side_that_counted_or_a(rt: HostRuntime) -> Result<(), Fail> {
+    assert!(rt; empties(rt.alloc(), [&WITH_AB, &[]], [&EMPTY, &[]])?);
+    assert!(rt; empties(rt.alloc(), [&WITH_AB, &WITH_CD], [&[], &EMPTY])?);
+    assert!(rt; empties(rt.alloc(), [&[0; 30], &WITH_AB], [&[], &EMPTY])?);
+    assert!(rt; empties(rt.alloc(), [&[7; 30], &[9; 40]], [&EMPTY, &[]])?);
     Ok(())
 }
 
@@ -302,11 +328,13 @@ fn a_stop_inside_a_replacement_leaves_either_list(rt: HostRuntime) -> Result<(),
     Ok(())
 }
 
-static RESETTING: &str = "aaaa---------\naa-----------";
+/// From the call after the commit on: 6 calls sync both sides and read how they begin; then B is cut, A made dead, and A is
+/// made, two calls for each write or cut. While A is made dead its first byte may be any.
+static EMPTYING: &str = "aaaaaaaaaa---------\naaaaaaaa-----------";
 
 #[test]
-fn a_stop_inside_a_reset_leaves_the_list_or_none(rt: HostRuntime) -> Result<(), Fail> {
-    assert!(rt; goes(rt.alloc(), Change::Resets, NEXT, RESETTING)?);
+fn a_stop_while_a_disk_is_emptied_leaves_the_list_or_none(rt: HostRuntime) -> Result<(), Fail> {
+    assert!(rt; goes(rt.alloc(), Change::Empties, NEXT, EMPTYING)?);
     Ok(())
 }
 
@@ -374,11 +402,11 @@ fn each_disk_call_may_fail(rt: HostRuntime) -> Result<(), Fail> {
 }
 
 /// From the call after the commit on.
-static FAILING_IN_RESET: &str = "aaaa--------\naa----------";
+static FAILING_IN_EMPTYING: &str = "aaaaaaaaaa--------\naaaaaaaa----------";
 
 #[test]
-fn each_disk_call_of_a_reset_may_fail(rt: HostRuntime) -> Result<(), Fail> {
-    assert!(rt; fails_all(rt.alloc(), Change::Resets, NEXT, FAILING_IN_RESET)?);
+fn each_disk_call_that_empties_a_disk_may_fail(rt: HostRuntime) -> Result<(), Fail> {
+    assert!(rt; fails_all(rt.alloc(), Change::Empties, NEXT, FAILING_IN_EMPTYING)?);
     Ok(())
 }
 

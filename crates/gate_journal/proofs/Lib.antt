@@ -15,8 +15,8 @@ pub mod SideBytes
 pub mod Standing
 pub mod Replacing
 pub mod Fresh
+pub mod Emptied
 pub mod Emptying
-pub mod Resetting
 pub mod Buffers
 pub mod Lives
 pub mod Openings

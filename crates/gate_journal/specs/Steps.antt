@@ -37,12 +37,12 @@ committing live len bytes disk =
     then_steps (write_step live len bytes disk) (λ after.
     write_step live (len - 1) (1 ∷ []) after ∷ [])
 
--- Emptying: the other side first, then the live one is made dead, then the other is made.
-unfoldable pub resetting : (live other : Side) → List ℕ → DiskState → List Step
-resetting live other bytes disk =
+-- Emptying a side that counts: the other side first, then that one is made dead, and then it is made.
+unfoldable pub emptying : (live other : Side) → List ℕ → DiskState → List Step
+emptying live other bytes disk =
     then_steps (cut_step other disk) (λ emptied.
     then_steps (write_step live 0 (0 ∷ []) emptied) (λ dead.
-    making other bytes dead))
+    making live bytes dead))
 
 -- the disk after the last step
 unfoldable pub last_moment : DiskState → List Step → DiskState

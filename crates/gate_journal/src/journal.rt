@@ -1,4 +1,4 @@
-//! The journal of payloads: commits, replacements and resets.
+//! The journal of payloads: commits and replacements.
 
 ghost use Rattle.std.specs.Prelude.{◌≡◌, ◌≤◌, ◌+◌, ◌-◌, ◌^◌, ◌<◌, ◌++◌, ◌∷◌, [], false, length, IfOk, OnOk, is_err};
 ghost use Rattle.vr_base.specs.Bytes.{text_bytes};
@@ -6,9 +6,8 @@ ghost use Rattle.vr_outside.specs.Counts.{DiskCounts};
 ghost use Rattle.vr_outside.specs.Disks.{reads_of, IsEither, AtAnyMoment, NeverLoses};
 ghost use Rattle.gate_journal.specs.Payloads.{payloads};
 ghost use Rattle.gate_journal.specs.Journals.{IsInStep, CountsAs, IsWithTwo, other_side};
-ghost use Rattle.gate_journal.specs.Steps.{Went, last_moment, committing, resetting};
+ghost use Rattle.gate_journal.specs.Steps.{Went, last_moment, committing};
 
-use crate::layout::empty_side;
 use crate::making::make_side;
 use crate::{Payloads, Ready, ReadySide};
 use std::alloc::Global;
@@ -217,74 +216,15 @@ impl Journal {
             }
         }
     }
-
-    /// Leaves no payload, by a side of generation 1. It takes no memory.
-    pub fn reset<D: Disk>(&mut self, disk: &mut D) -> Result<(), DiskFailed>
-        requires usable { self.old.broken ≡ false }
-        requires in_step { D.tells → IsInStep self.old (D.moments disk.old).now }
-        ensures in_step { D.tells → OnOk result (IsInStep self.new (D.moments disk.new).now) }
-        ensures emptied { D.tells →
-            OnOk result (payloads self.old.form (reads_of (D.moments disk.new).now) ≡ []) }
-        ensures any_moment { D.tells →
-            AtAnyMoment (D.moments disk.old) (D.moments disk.new)
-            (λ image.
-            IsEither (payloads self.old.form image)
-            (payloads self.old.form (reads_of (D.moments disk.old).now)) []) }
-        ensures loses { D.tells →
-            NeverLoses (D.moments disk.old) (D.moments disk.new)
-            (λ image. payloads self.old.form image ≡ []) }
-        ensures counts { OnOk result (CountsAs (other_side self.old.live) 1 self.new) }
-        ensures form { self.new.form ≡ self.old.form }
-        ensures broken { self.new.broken ≡ is_err result }
-        ensures cause { DiskCounts result (D.failed_disk_calls disk.old)
-            (D.failed_disk_calls disk.new) }
-    {
-        let other = other(self.live);
-        match clear_sides(disk, self.live, other, &empty_side(self.form)) {
-            Ok(()) => {
-                self.live = other;
-                self.generation = 1;
-                self.len = 19;
-                Ok(())
-            }
-            Err(fault) => {
-                self.broken = true;
-                Err(fault)
-            }
-        }
-    }
 }
 
-fn other(side: Side) -> Side
+pub(crate) fn other(side: Side) -> Side
     ensures { result ≡ other_side side }
 {
     match side {
         Side::A => Side::B,
         Side::B => Side::A,
     }
-}
-
-/// Empties the other side, makes the live one dead, and then makes the other.
-fn clear_sides<D: Disk>(
-    disk: &mut D,
-    live: Side,
-    other: Side,
-    bytes: &[u8],
-) -> Result<(), DiskFailed>
-    ensures steps { D.tells →
-        Went (resetting live other bytes.now (D.moments disk.old).now) (D.moments disk.old)
-        (D.moments disk.new) }
-    ensures made { D.tells →
-        OnOk result
-        ((D.moments disk.new).now
-        ≡ last_moment (D.moments disk.old).now
-        (resetting live other bytes.now (D.moments disk.old).now)) }
-    ensures cause { DiskCounts result (D.failed_disk_calls disk.old)
-        (D.failed_disk_calls disk.new) }
-{
-    cut_durably(disk, other, 0)?;
-    write_durably(disk, live, 0, &[0])?;
-    make_side(disk, other, bytes)
 }
 
 /// Commits two payloads, one after the other. At any moment a stop can leave the payloads from before, with the first

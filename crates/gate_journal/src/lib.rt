@@ -2,6 +2,7 @@
 //! before it is open, and that is written alone, after all that comes after it.
 #![tactic(auto)]
 
+mod clearing;
 mod journal;
 mod layout;
 mod making;

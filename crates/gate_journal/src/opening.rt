@@ -110,7 +110,7 @@ fn open_sides<D: Disk>(
 }
 
 /// Makes side A, where no side counts.
-fn begin<D: Disk>(alloc: Global, disk: &mut D, form: u8) -> Result<Opened, StoreFault>
+pub(crate) fn begin<D: Disk>(alloc: Global, disk: &mut D, form: u8) -> Result<Opened, StoreFault>
     requires settled { D.tells →
         (D.moments disk.old).now ≡ settled_disk (reads_of (D.moments disk.old).now) }
     requires none { D.tells → counting form (reads_of (D.moments disk.old).now) ≡ None }

@@ -84,12 +84,4 @@ impl MarkIndex {
             Err(_) => unreachable!(),
         }
     }
-
-    /// Removes all marks.
-    pub fn clear(&mut self)
-        ensures { self.new.marks ≡ [] }
-    {
-        self.last.clear();
-        self.entries.clear();
-    }
 }

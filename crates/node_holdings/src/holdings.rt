@@ -370,12 +370,4 @@ impl Holdings {
         put_node(&mut self.shelf, &self.pieces, at, row, source);
         put_record(&mut self.shelf, &self.pieces, number, at, artefact);
     }
-
-    /// Removes all payloads. It takes no memory.
-    pub fn clear(&mut self)
-        ensures { self.new.payloads ≡ [] }
-    {
-        self.pieces.clear();
-        self.shelf.clear();
-    }
 }

@@ -72,12 +72,4 @@ impl Pieces {
     {
         self.more.push_reserved(payload);
     }
-
-    /// Removes all payloads. It takes no memory.
-    pub fn clear(&mut self)
-        ensures { self.new.payloads ≡ [] }
-    {
-        self.opened = Payloads::new(self.alloc);
-        self.more.clear();
-    }
 }

@@ -54,13 +54,4 @@ impl RecordPlaces {
         self.places.push_reserved(place);
         self.names.put(name as u64);
     }
-
-    /// Removes all records.
-    pub fn clear(&mut self)
-        ensures places { self.new.places.items ≡ [] }
-        ensures names { self.new.names.marks ≡ [] }
-    {
-        self.places.clear();
-        self.names.clear();
-    }
 }

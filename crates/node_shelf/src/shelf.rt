@@ -47,14 +47,4 @@ impl ShelfPlaces {
         self.texts.reserve()?;
         self.records.reserve()
     }
-
-    /// Removes all. It takes no memory.
-    pub fn clear(&mut self)
-        ensures are { (payloads : List (List ℕ)) → IsShelf payloads self.new }
-        ensures is { (payloads : List (List ℕ)) → shelf_in payloads self.new ≡ empty_shelf }
-    {
-        self.table.clear();
-        self.texts.clear();
-        self.records.clear();
-    }
 }

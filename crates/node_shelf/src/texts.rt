@@ -55,15 +55,6 @@ impl TextPlaces {
         self.places.push_reserved(place);
         self.marks.put(mark);
     }
-
-    /// Removes all texts.
-    pub fn clear(&mut self)
-        ensures places { self.new.places.items ≡ [] }
-        ensures marks { self.new.marks.marks ≡ [] }
-    {
-        self.places.clear();
-        self.marks.clear();
-    }
 }
 
 /// The bytes of a text.

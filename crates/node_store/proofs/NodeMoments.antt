@@ -1,12 +1,13 @@
 -- What stops can leave of a store, from what they leave of its journal.
-use Rattle.std.proofs.Common.{◌≡◌, ℕ, List, [], ◌∷◌, ◌++◌, sym, ap, subst, ◌∙◌, inl, inr}
+use Rattle.std.proofs.Common.{◌≡◌, ℕ, List, [], ◌∷◌, ◌++◌, refl, sym, ap, subst, ◌∙◌, inl, inr}
+use Rattle.std.specs.Prelude.{Result}
 use Rattle.std.specs.List.{AllByRecursion}
 use Rattle.vr_outside.specs.declared.records.Record.{Record}
 use Rattle.vr_outside.specs.Disks.{DiskState, Image, IsEither, Moments, EachImage, AtAnyMoment, StaysTrue, NeverLoses, OpensWith, added_since, reads_of, IsImage, AreSound, IsSound}
 use Rattle.vr_outside.specs.Records.{IsAllOrLatest, HasRecordsOf, latest_alone}
-use Rattle.vr_outside.proofs.MomentLaws.{joined_moments, started_moments, weaker_moments}
+use Rattle.vr_outside.proofs.MomentLaws.{call_loses_nothing, joined_losses, joined_moments, started_moments, weaker_moments}
 use Rattle.gate_journal.specs.Payloads.{payloads}
-use Rattle.gate_journal.specs.Journals.{HasPayloadsOf, JournalState}
+use Rattle.gate_journal.specs.Journals.{HasPayloadsOf, JournalState, OpensEmpty}
 use Rattle.node_holdings.specs.Held.{HoldingState}
 use Rattle.node_store.specs.StoreLaws.{node_store_durable}
 use Rattle.node_store.specs.Stored.{IsNodeStoreInStep, node_records_among, node_records_in}
@@ -118,3 +119,19 @@ last_of P (first ∷ rest) last all = last_of P rest last all.1
 
 pub reads_image : (moments : Moments) → AreSound moments → IsImage moments.now (reads_of moments.now)
 reads_image moments sound = (let now = last_of IsSound moments.past moments.now sound in record { a = now.a.image; b = now.b.image })
+
+-- a disk that is emptied: the records of what reads gave, or none,
+pub empty_opens : {E : Type 0} (result : Result JournalState E) (old new : Moments) → OpensEmpty 2 result old new → OpensWith old new (λ image. IsEither (node_records_in image) (node_records_in (reads_of old.now)) [])
+empty_opens result old new (inl goes) = inl goes
+empty_opens result old new (inr later) =
+    let middle = later.0 in
+    let same : reads_of middle.now ≡ reads_of old.now = ap reads_of later.2 in
+    inr (middle, later.1, subst (λ (reads : Image). AtAnyMoment middle new (λ image. IsEither (node_records_in image) (node_records_in reads) [])) same (reset_leaves middle new (reads_of middle.now) later.3.any_moment))
+
+-- and once no image has a record, none has one
+pub empty_loses : {E : Type 0} (result : Result JournalState E) (old new : Moments) → OpensEmpty 2 result old new → NeverLoses old new (λ image. node_records_in image ≡ [])
+empty_loses result old new (inl goes) = call_loses_nothing old.now old new (λ image. node_records_in image ≡ []) goes (λ each. each)
+empty_loses result old new (inr later) =
+    let P = λ (image : Image). node_records_in image ≡ [] in
+    let middle = later.0 in
+    joined_losses old middle new P (call_loses_nothing old.now old middle P later.1 (λ each. each)) (reset_keeps middle new (reads_of middle.now) (node_records_in (reads_of middle.now)) refl later.3.any_moment later.3.loses)

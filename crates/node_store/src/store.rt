@@ -11,7 +11,7 @@ ghost use Rattle.node_holdings.specs.Held.{KeepsLatest};
 ghost use Rattle.node_store.specs.Stored.{AsksAt, AsksCompaction, HasCompacted, HasManyDead, ImageAsks, IsAtRest, LeavesAll, IsNodeReady, IsNodeStoreInStep, OnNoMemory, added_record, capped_length, generation_in, has_disk_failed, latest_among, node_records_among, node_records_in};
 ghost use Rattle.node_store.specs.StoreLaws.{node_store_durable, node_store_held};
 
-use gate_journal::{Journal, Opened, Ready, ReadySide};
+use gate_journal::{Journal, Opened, Payloads, Ready, ReadySide};
 use node_holdings::{Addition, Holdings, NextPiece, Plan};
 use std::alloc::Global;
 use std::mem;
@@ -352,6 +352,12 @@ impl Records for NodeStore {
         NodeStore::open(alloc, disk)
     }
 
+    fn emptied<D: Disk>(alloc: Global, disk: &mut D) -> Result<NodeStore, StoreFault> {
+        let journal = Journal::emptied(alloc, disk, FORM)?;
+        let held = Holdings::of(alloc, Payloads::new(alloc))?;
+        Ok(NodeStore { journal, held })
+    }
+
     fn needs(&self, alloc: Global, graph: &Graph) -> Result<Needs, NoMemory> {
         self.held.needs(alloc, graph)
     }
@@ -376,12 +382,6 @@ impl Records for NodeStore {
         let PreparedNode { ready, addition } = prepared;
         self.journal.commit(disk, &ready)?;
         self.held.put(addition, ready);
-        Ok(())
-    }
-
-    fn reset<D: Disk>(&mut self, disk: &mut D) -> Result<(), DiskFailed> {
-        self.journal.reset(disk)?;
-        self.held.clear();
         Ok(())
     }
 

@@ -159,15 +159,4 @@ impl NodeTable {
     {
         self.rows.put(row);
     }
-
-    /// Removes all nodes and names.
-    pub fn clear(&mut self)
-        ensures names { self.new.names ≡ [] }
-        ensures rows { self.new.rows ≡ [] }
-        ensures nodes { self.new.nodes ≡ [] }
-    {
-        self.rows.clear();
-        self.names.clear();
-        self.commands.clear();
-    }
 }

@@ -1,12 +1,13 @@
 -- What stops can leave of a store, from what they leave of its journal.
-use Rattle.std.proofs.Common.{◌≡◌, ℕ, List, [], ◌∷◌, ◌++◌, Some, sym, ap, ◌∙◌, inl, inr}
+use Rattle.std.proofs.Common.{◌≡◌, ℕ, List, [], ◌∷◌, ◌++◌, Some, refl, sym, ap, subst, ◌∙◌, inl, inr}
+use Rattle.std.specs.Prelude.{Result}
 use Rattle.std.specs.List.{AllByRecursion}
 use Rattle.vr_outside.specs.declared.records.Record.{Record}
-use Rattle.vr_outside.specs.Disks.{DiskState, Image, IsEither, Moments, EachImage, AtAnyMoment, StaysTrue, NeverLoses, OpensWith, added_since}
+use Rattle.vr_outside.specs.Disks.{DiskState, Image, IsEither, Moments, EachImage, AtAnyMoment, StaysTrue, NeverLoses, OpensWith, added_since, reads_of}
 use Rattle.vr_outside.specs.Records.{IsAllOrLatest, HasRecordsOf}
-use Rattle.vr_outside.proofs.MomentLaws.{weaker_moments}
+use Rattle.vr_outside.proofs.MomentLaws.{call_loses_nothing, joined_losses, weaker_moments}
 use Rattle.gate_journal.specs.Payloads.{payloads}
-use Rattle.gate_journal.specs.Journals.{HasPayloadsOf}
+use Rattle.gate_journal.specs.Journals.{HasPayloadsOf, JournalState, OpensEmpty}
 use Rattle.record_store.specs.Stored.{record_of, records_among, records_in}
 use Rattle.record_store.proofs.RecordLists.{among-record, no_longer}
 
@@ -84,3 +85,19 @@ pub open_opens : (old new : Moments) (reads : Image) → OpensWith old new (λ i
 open_opens old new reads (inl goes) = inl goes
 open_opens old new reads (inr later) =
     inr (later.0, later.1, weaker_moments later.0 new (λ image. payloads 1 image ≡ payloads 1 reads) (λ image. IsAllOrLatest (records_in reads) (records_in image)) (λ image same. inl (ap records_among same)) later.2)
+
+-- a disk that is emptied: the records of what reads gave, or none,
+pub empty_opens : {E : Type 0} (result : Result JournalState E) (old new : Moments) → OpensEmpty 1 result old new → OpensWith old new (λ image. IsEither (records_in image) (records_in (reads_of old.now)) [])
+empty_opens result old new (inl goes) = inl goes
+empty_opens result old new (inr later) =
+    let middle = later.0 in
+    let same : reads_of middle.now ≡ reads_of old.now = ap reads_of later.2 in
+    inr (middle, later.1, subst (λ (reads : Image). AtAnyMoment middle new (λ image. IsEither (records_in image) (records_in reads) [])) same (reset_leaves middle new (reads_of middle.now) later.3.any_moment))
+
+-- and once no image has a record, none has one
+pub empty_loses : {E : Type 0} (result : Result JournalState E) (old new : Moments) → OpensEmpty 1 result old new → NeverLoses old new (λ image. records_in image ≡ [])
+empty_loses result old new (inl goes) = call_loses_nothing old.now old new (λ image. records_in image ≡ []) goes (λ each. each)
+empty_loses result old new (inr later) =
+    let P = λ (image : Image). records_in image ≡ [] in
+    let middle = later.0 in
+    joined_losses old middle new P (call_loses_nothing old.now old middle P later.1 (λ each. each)) (reset_keeps middle new (reads_of middle.now) (records_in (reads_of middle.now)) refl later.3.any_moment later.3.loses)

@@ -10,7 +10,7 @@ ghost use Rattle.record_store.specs.StoreLaws.{store_durable, store_held};
 
 use crate::bounded::BoundedRecord;
 use crate::index::{Index, index_of, make_room, name_of, put, record_of};
-use gate_journal::{Journal, Opened, Ready};
+use gate_journal::{Journal, Opened, Payloads, Ready};
 use record_codec::record_bytes;
 use source_view::{is_view_of, view_of};
 use std::alloc::Global;
@@ -70,6 +70,12 @@ impl Records for RecordStore {
         Ok(RecordStore { journal, index })
     }
 
+    fn emptied<D: Disk>(alloc: Global, disk: &mut D) -> Result<RecordStore, StoreFault> {
+        let journal = Journal::emptied(alloc, disk, FORM)?;
+        let index = index_of(alloc, &Payloads::new(alloc))?;
+        Ok(RecordStore { journal, index })
+    }
+
     fn needs(&self, alloc: Global, graph: &Graph) -> Result<Needs, NoMemory> {
         let mut needs = Needs::new(alloc);
         for at in 0..graph.len() as u32 {
@@ -113,12 +119,6 @@ impl Records for RecordStore {
         let PreparedRecord { name, kept, ready } = prepared;
         self.journal.commit(disk, &ready)?;
         put(&mut self.index, name, kept);
-        Ok(())
-    }
-
-    fn reset<D: Disk>(&mut self, disk: &mut D) -> Result<(), DiskFailed> {
-        self.journal.reset(disk)?;
-        self.index.clear();
         Ok(())
     }
 

@@ -101,23 +101,6 @@ fn keep_first<D: Disk>(
     keep(alloc, store, disk, graph, 0, &artefact)
 }
 
-/// The same, and then leaves no record.
-fn keep_none<D: Disk>(
-    alloc: Global,
-    store: &mut NodeStore,
-    disk: &mut D,
-    graph: &Graph,
-) -> Result<(), StoreFault>
-    requires some { 0 < length graph.now }
-    requires usable { store.old.journal.broken ≡ false }
-    requires in_step { D.tells →
-        IsNodeStoreInStep store.old.journal store.old.held (D.moments disk.old).now }
-{
-    keep_first(alloc, store, disk, graph)?;
-    store.reset(disk)?;
-    Ok(())
-}
-
 /// The artefact of the file, of which one byte is given, or `-` where it has no record.
 fn letter(store: &NodeStore, name: &FileName) -> u8 {
     match store.artefact(name) {
@@ -235,6 +218,9 @@ fn has_sides(disk: &MemDisk, change: Change) -> bool {
         Change::Opens => a.len() == 66 && a.ends_with(b"y\0"),
         Change::Commits => a.len() == 66 && a.starts_with(&SIDE[..65]),
         Change::Compacts => a == SIDE.as_slice() && disk.reads(Side::B) == KEPT.as_slice(),
+        Change::Empties => {
+            a.len() == 19 && a.starts_with(&SIDE[..18]) && disk.reads(Side::B).is_empty()
+        }
         _ => true,
     }
 }
@@ -382,21 +368,22 @@ fn each_disk_call_of_a_compaction_may_fail(rt: HostRuntime) -> Result<(), Fail> 
     Ok(())
 }
 
-/// From the call after the commit on: the other side is cut, the live one is made dead, and the other is made.
-static FAILING_IN_RESET: &str = "yyyy--------\nyy----------";
+/// From the call after the commit on: 6 calls sync both sides and read how they begin; then B is cut, A made dead, and A is
+/// made. While A is made dead its first byte may be any.
+static FAILING_IN_EMPTYING: &str = "yyyyyyyyyy--------\nyyyyyyyy----------";
 
 #[test]
-fn each_disk_call_of_a_reset_may_fail(rt: HostRuntime) -> Result<(), Fail> {
-    assert!(rt; fails_all(rt.alloc(), Change::Resets, 18, FAILING_IN_RESET)?);
+fn each_disk_call_that_empties_a_disk_may_fail(rt: HostRuntime) -> Result<(), Fail> {
+    assert!(rt; fails_all(rt.alloc(), Change::Empties, 18, FAILING_IN_EMPTYING)?);
     Ok(())
 }
 
 /// From the call after the commit on.
-static RESETTING: &str = "yyyy---------\nyy-----------";
+static EMPTYING: &str = "yyyyyyyyyy---------\nyyyyyyyy-----------";
 
 #[test]
-fn a_stop_inside_a_reset_leaves_the_record_or_none(rt: HostRuntime) -> Result<(), Fail> {
-    assert!(rt; goes(rt.alloc(), Change::Resets, 18, RESETTING)?);
+fn a_stop_while_a_disk_is_emptied_leaves_the_record_or_none(rt: HostRuntime) -> Result<(), Fail> {
+    assert!(rt; goes(rt.alloc(), Change::Empties, 18, EMPTYING)?);
     Ok(())
 }
 
@@ -562,7 +549,7 @@ enum Change {
     Commits,
     CommitsBoth,
     Compacts,
-    Resets,
+    Empties,
 }
 
 fn make_change<D: Disk>(
@@ -583,7 +570,7 @@ fn make_change<D: Disk>(
         Change::Commits => keep_first(alloc, store, disk, graph),
         Change::CommitsBoth => keep_both(alloc, store, disk, graph),
         Change::Compacts => store.compact(alloc, disk),
-        Change::Resets => keep_none(alloc, store, disk, graph),
+        Change::Empties => Ok(()),
     }
 }
 
@@ -634,10 +621,40 @@ fn seen_on<D: Disk>(
     seen_after(alloc, &mut store, disk, by, graph)
 }
 
+/// What is seen in a store.
+fn seen_in(alloc: Global, store: &NodeStore, graph: &Graph) -> Result<[u8; 4], StoreFault>
+    requires { 1 < length graph.now }
+{
+    Ok(seen(alloc, store, graph)?)
+}
+
+/// Opens the store of a disk empty, and gives what is seen.
+fn seen_empty<D: Disk>(alloc: Global, disk: &mut D, graph: &Graph) -> Result<[u8; 4], StoreFault>
+    requires { 1 < length graph.now }
+{
+    let store = NodeStore::emptied(alloc, disk)?;
+    seen_in(alloc, &store, graph)
+}
+
+/// Adds a record of the first file, and empties the disk.
+fn seen_emptied<D: Disk>(
+    alloc: Global,
+    disk: &mut D,
+    graph: &Graph,
+) -> Result<[u8; 4], StoreFault>
+    requires { 1 < length graph.now }
+{
+    seen_on(alloc, disk, Change::Commits, graph)?;
+    seen_empty(alloc, disk, graph)
+}
+
 /// The same of files with the text `x`.
 fn run<D: Disk>(alloc: Global, disk: &mut D, by: Change) -> Result<[u8; 4], StoreFault> {
     let graph = both(alloc, b'x', b'x')?;
-    seen_on(alloc, disk, by, &graph)
+    match by {
+        Change::Empties => seen_emptied(alloc, disk, &graph),
+        _ => seen_on(alloc, disk, by, &graph),
+    }
 }
 
 /// The same of a disk of the example, over files with these texts.

@@ -238,8 +238,8 @@ fn each_disk_call_may_fail(rt: HostRuntime) -> Result<(), Fail> {
 
 /// Whether a store that was emptied, with a record before, is usable and has none.
 fn empties(alloc: Global, disk: &mut MemDisk) -> Result<bool, Fail> {
-    let mut store = with_x(alloc, disk)?;
-    store.reset(disk)?;
+    with_x(alloc, disk)?;
+    let store = RecordStore::emptied(alloc, disk)?;
     Ok(!store.is_broken() && !has(alloc, &store, b'x')?)
 }
 
@@ -248,7 +248,7 @@ fn empties_all(alloc: Global, disk: &mut MemDisk) -> Result<bool, Fail> {
 }
 
 #[test]
-fn a_reset_leaves_no_record(rt: HostRuntime) -> Result<(), Fail> {
+fn an_emptied_disk_has_no_record(rt: HostRuntime) -> Result<(), Fail> {
     let mut disk = disk(rt.alloc(), &[])?;
     assert!(rt; empties_all(rt.alloc(), &mut disk)?);
     Ok(())

@@ -1,11 +1,11 @@
 -- From the clauses of a store to the phases of a run, and what the phases say of each image.
-use Rattle.std.proofs.Common.{◌≡◌, ◌⊎◌, ℕ, Bool, true, false, List, [], ◌∷◌, ◌++◌, take, drop, refl, sym, ap, subst, ◌∙◌, append_assoc, inl, inr}
+use Rattle.std.proofs.Common.{◌≡◌, ◌⊎◌, ℕ, Bool, true, false, List, [], ◌∷◌, ◌++◌, take, drop, refl, sym, ap, subst, inl, inr}
 use Rattle.std.specs.List.{AllByRecursion}
 use Rattle.std.proofs.lemmas.List.{append-nil, take-append-drop}
 use Rattle.vr_outside.specs.declared.records.Record.{Record}
 use Rattle.vr_outside.specs.Disks.{DiskState, Image, IsImage, IsDurable, reads_of, Moments, all_of, EachImage, Shrinks, Goes, added_since, Follows, AtAnyMoment, IsEither, OpensWith}
 use Rattle.vr_outside.specs.Records.{IsAllOrLatest}
-use Rattle.vr_outside.specs.Commits.{HasFirst, most_committed, CommitsFirst, last_state, CommitsFirstIn}
+use Rattle.vr_outside.specs.Commits.{HasFirst, most_committed, CommitsFirst, CommitsFirstIn}
 use Rattle.vr_outside.specs.Phases.{IsSettled, IsOpening, IsBase, IsCommitting, HasPhases, unopened, opened, committed, HasBaseAndPrefix}
 use Rattle.vr_outside.proofs.MomentLaws.{added_is, last_is, joined_follows, goes_follows, all-append, all_weaker, each_inside}
 use Rattle.vr_outside.proofs.CommitLaws.{commits_in}
@@ -29,55 +29,58 @@ module _ (records_of : Image → List Record) where
   abbrev HasRead : DiskState → Image → Type 0
   HasRead first image = IsAllOrLatest (records_of (reads_of first)) (records_of image)
 
-  opening_is : (clean : Bool) (old middle new : Moments) → Goes old.now old middle → AtAnyMoment middle new (HasRead old.now) → IsOpening records_of clean old.now (added_since old new)
-  opening_is clean old middle new goes moments =
-      let follows : Follows old middle = goes_follows old.now old middle goes in
-      record {
-        syncing = added_since old middle;
-        settling = added_since middle new;
-        parts = added_then old middle new follows moments.follows;
-        fewer = subst (Shrinks old.now) (sym (added_is old middle goes.inside goes.added)) goes.shrinks;
-        settles = subst (λ (state : DiskState). AllByRecursion (EachImage (IsSettled records_of clean old.now)) (state ∷ added_since middle new)) (sym (last_is old middle follows))
-            (all_weaker (HasRead old.now) (IsSettled records_of clean old.now) (middle.now ∷ added_since middle new) (λ image kept. inl kept) moments.each);
-      }
+  abbrev HasReadOrNone : DiskState → Image → Type 0
+  HasReadOrNone first image = IsEither (records_of image) (records_of (reads_of first)) []
 
-  -- an opening that may have failed
+  read_or_none : (first : DiskState) (image : Image) → HasReadOrNone first image → IsSettled records_of true first image
+  read_or_none first image (inl same) = inl (inl same)
+  read_or_none first image (inr none) = inr (refl, none)
+
+  -- what each image has once both sides are synced, if that settles it
+  module _ (clean : Bool) (old new : Moments) (P : Image → Type 0) (settles : (image : Image) → P image → IsSettled records_of clean old.now image) where
+    opening_is : (middle : Moments) → Goes old.now old middle → AtAnyMoment middle new P → IsOpening records_of clean old.now (added_since old new)
+    opening_is middle goes moments =
+        let follows : Follows old middle = goes_follows old.now old middle goes in
+        record {
+          syncing = added_since old middle;
+          settling = added_since middle new;
+          parts = added_then old middle new follows moments.follows;
+          fewer = subst (Shrinks old.now) (sym (added_is old middle goes.inside goes.added)) goes.shrinks;
+          settles = subst (λ (state : DiskState). AllByRecursion (EachImage (IsSettled records_of clean old.now)) (state ∷ added_since middle new)) (sym (last_is old middle follows))
+              (all_weaker P (IsSettled records_of clean old.now) (middle.now ∷ added_since middle new) settles moments.each);
+        }
+
+    -- a call that may have failed
+    may_fail : (more : List Record) → OpensWith old new P → HasPhases records_of clean 0 more old.now (added_since old new)
+    may_fail more (inl goes) = unopened refl (subst (Shrinks old.now) (sym (added_is old new goes.inside goes.added)) goes.shrinks)
+    may_fail more (inr opens) = opened refl (opening_is opens.0 opens.1 opens.2)
+
+    -- one that answered that the store is open
+    is_open : OpensWith old new P → P (reads_of new.now) → IsDurable new.now → IsOpening records_of clean old.now (added_since old new)
+    is_open (inr opens) last durable = opening_is opens.0 opens.1 opens.2
+    is_open (inl goes) last durable =
+        let each : EachImage (IsSettled records_of clean old.now) new.now = λ image is. settles image (subst P (sym (durable image is)) last) in
+        record {
+          syncing = added_since old new;
+          settling = [];
+          parts = sym (append-nil (added_since old new));
+          fewer = subst (Shrinks old.now) (sym (added_is old new goes.inside goes.added)) goes.shrinks;
+          settles = (subst (EachImage (IsSettled records_of clean old.now)) (sym (last_is old new (goes_follows old.now old new goes))) each, tt);
+        }
+
+  -- an opening, whatever it answered, and one after which the store is open
   pub open_failed : (clean : Bool) (more : List Record) (old new : Moments) → OpensWith old new (HasRead old.now) → HasPhases records_of clean 0 more old.now (added_since old new)
-  open_failed clean more old new (inl goes) = unopened refl (subst (Shrinks old.now) (sym (added_is old new goes.inside goes.added)) goes.shrinks)
-  open_failed clean more old new (inr opens) = opened refl (opening_is clean old opens.0 new opens.1 opens.2)
+  open_failed clean more old new opens = may_fail clean old new (HasRead old.now) (λ image kept. inl kept) more opens
 
-  -- one that answered that the store is open
   pub open_done : (clean : Bool) (old new : Moments) → OpensWith old new (HasRead old.now) → HasRead old.now (reads_of new.now) → IsDurable new.now → IsOpening records_of clean old.now (added_since old new)
-  open_done clean old new (inr opens) kept durable = opening_is clean old opens.0 new opens.1 opens.2
-  open_done clean old new (inl goes) kept durable =
-      let each : EachImage (IsSettled records_of clean old.now) new.now = λ image is. inl (subst (HasRead old.now) (sym (durable image is)) kept) in
-      record {
-        syncing = added_since old new;
-        settling = [];
-        parts = sym (append-nil (added_since old new));
-        fewer = subst (Shrinks old.now) (sym (added_is old new goes.inside goes.added)) goes.shrinks;
-        settles = (subst (EachImage (IsSettled records_of clean old.now)) (sym (last_is old new (goes_follows old.now old new goes))) each, tt);
-      }
+  open_done clean old new opens kept durable = is_open clean old new (HasRead old.now) (λ image kept. inl kept) opens kept durable
 
-  settled_either : (first : DiskState) (before : List Record) → IsAllOrLatest (records_of (reads_of first)) before → (image : Image) → IsEither (records_of image) before [] → IsSettled records_of true first image
-  settled_either first before kept image (inl same) = inl (subst (IsAllOrLatest (records_of (reads_of first))) (sym same) kept)
-  settled_either first before kept image (inr none) = inr (refl, none)
+  -- the same of one that empties the disk
+  pub empty_failed : (more : List Record) (old new : Moments) → OpensWith old new (HasReadOrNone old.now) → HasPhases records_of true 0 more old.now (added_since old new)
+  empty_failed more old new opens = may_fail true old new (HasReadOrNone old.now) (read_or_none old.now) more opens
 
-  -- a reset after it, that may have failed
-  pub then_emptied : (old middle new : Moments) → Follows old middle → IsOpening records_of true old.now (added_since old middle) → HasRead old.now (reads_of middle.now)
-      → AtAnyMoment middle new (λ image. IsEither (records_of image) (records_of (reads_of middle.now)) []) → IsOpening records_of true old.now (added_since old new)
-  then_emptied old middle new follows opens kept moments = record {
-    syncing = opens.syncing;
-    settling = opens.settling ++ added_since middle new;
-    parts =
-        added_then old middle new follows moments.follows
-        ∙ ap (λ (states : List DiskState). states ++ added_since middle new) opens.parts
-        ∙ append_assoc opens.syncing opens.settling (added_since middle new);
-    fewer = opens.fewer;
-    settles = all-append (EachImage (IsSettled records_of true old.now)) (last_state old.now opens.syncing ∷ opens.settling) (added_since middle new) opens.settles
-        (all_weaker (λ image. IsEither (records_of image) (records_of (reads_of middle.now)) []) (IsSettled records_of true old.now) (added_since middle new)
-        (settled_either old.now (records_of (reads_of middle.now)) kept) moments.each.1);
-  }
+  pub empty_done : (old new : Moments) → OpensWith old new (HasReadOrNone old.now) → records_of (reads_of new.now) ≡ [] → IsDurable new.now → IsOpening records_of true old.now (added_since old new)
+  empty_done old new opens none durable = is_open true old new (HasReadOrNone old.now) (read_or_none old.now) opens (inr none) durable
 
   -- commits after it
   pub then_committed : (clean : Bool) (acknowledged : ℕ) (broken : Bool) (more base : List Record) (old middle new : Moments) → Follows old middle → IsOpening records_of clean old.now (added_since old middle)

@@ -68,8 +68,3 @@ with_record new latest_of name = if is_of name new then Some new else latest_of 
 abbrev pub after_commit : {T : Type 0} → Result T DiskFailed → Record → (FileName → Option Record) → FileName → Option Record
 after_commit (Ok value) new latest_of = with_record new latest_of
 after_commit (Err fault) new latest_of = latest_of
-
--- the latest records after a store was emptied
-abbrev pub after_reset : {T : Type 0} → Result T DiskFailed → (FileName → Option Record) → FileName → Option Record
-after_reset (Ok value) latest_of name = None
-after_reset (Err fault) latest_of name = latest_of name

@@ -32,7 +32,7 @@ pub fn laws_of_commits()
         CommitsFirst (length xs + acknowledged) broken before (xs ++ ys) records_of old new }
 {}
 
-/// The phases of a run, from what a store says of its opening, its reset and its commits.
+/// The phases of a run, from what a store says of its opening and its commits.
 pub fn laws_of_phases()
     // An opening, whatever it answered,
     ensures failed { (records_of : Image → List Record) (clean : Bool) (more : List Record)
@@ -46,12 +46,17 @@ pub fn laws_of_phases()
         IsAllOrLatest (records_of (reads_of old.now)) (records_of image)) →
         IsAllOrLatest (records_of (reads_of old.now)) (records_of (reads_of new.now)) →
         IsDurable new.now → IsOpening records_of clean old.now (added_since old new) }
-    // a reset after it, whatever it answered;
-    ensures emptied { (records_of : Image → List Record) (old middle new : Moments) →
-        Follows old middle → IsOpening records_of true old.now (added_since old middle) →
-        IsAllOrLatest (records_of (reads_of old.now)) (records_of (reads_of middle.now)) →
-        AtAnyMoment middle new
-        (λ image. IsEither (records_of image) (records_of (reads_of middle.now)) []) →
+    // one that empties the disk, whatever it answered,
+    ensures emptying { (records_of : Image → List Record) (more : List Record)
+        (old new : Moments) →
+        OpensWith old new (λ image.
+        IsEither (records_of image) (records_of (reads_of old.now)) []) →
+        HasPhases records_of true 0 more old.now (added_since old new) }
+    // and one after which the store is open;
+    ensures emptied { (records_of : Image → List Record) (old new : Moments) →
+        OpensWith old new (λ image.
+        IsEither (records_of image) (records_of (reads_of old.now)) []) →
+        records_of (reads_of new.now) ≡ [] → IsDurable new.now →
         IsOpening records_of true old.now (added_since old new) }
     // and commits after these.
     ensures committed { (records_of : Image → List Record) (clean : Bool) (acknowledged : ℕ)

@@ -1,10 +1,10 @@
 //! Records of compiled files on a disk, as those who build with them see the store.
-ghost use Rattle.std.specs.Prelude.{◌≡◌, ◌<◌, ◌≤◌, ◌++◌, [], ◌∷◌, List, Bool, false, Option, option_map, length, All, IfOk, IfSome, OnOk, is_err};
+ghost use Rattle.std.specs.Prelude.{◌≡◌, ◌<◌, ◌≤◌, ◌++◌, [], ◌∷◌, List, Bool, false, None, Option, option_map, length, All, IfOk, IfSome, OnOk, is_err};
 ghost use Rattle.vr_base.specs.View.{view};
 ghost use Rattle.vr_base.specs.declared.file.FileName.{FileName};
 ghost use Rattle.vr_outside.specs.Counts.{DiskCounts, StoreCounts};
 ghost use Rattle.vr_outside.specs.Disks.{DiskState, Image, reads_of, IsDurable, IsEither, AtAnyMoment, NeverLoses, OpensWith};
-ghost use Rattle.vr_outside.specs.Records.{latest, deps_at, IsRecorded, AreNeeds, HasRecordsOf, IsAllOrLatest, after_commit, after_reset};
+ghost use Rattle.vr_outside.specs.Records.{latest, deps_at, IsRecorded, AreNeeds, HasRecordsOf, IsAllOrLatest, after_commit};
 ghost use Rattle.vr_outside.specs.declared.records.Record.{Record};
 ghost use Rattle.vr_outside.specs.declared.records.StoreFault.TheVariants as fault;
 
@@ -112,6 +112,25 @@ pub trait Records: Sized {
         ensures cause { StoreCounts result (D.failed_disk_calls disk.old)
             (D.failed_disk_calls disk.new) };
 
+    /// Opens a disk without records, whatever it holds. It first syncs both sides, and takes up nothing of what they hold.
+    fn emptied<D: Disk>(alloc: Global, disk: &mut D) -> Result<Self, StoreFault>
+        // Once both sides are synced, a stop can leave the records of what reads gave at entry, or none.
+        ensures opens { D.tells →
+            let before = records_of (reads_of (D.moments disk.old).now) in
+            OpensWith (D.moments disk.old) (D.moments disk.new)
+            (λ image. IsEither (records_of image) before []) }
+        // Once no image has a record, none has one.
+        ensures loses { D.tells →
+            NeverLoses (D.moments disk.old) (D.moments disk.new)
+            (λ image. records_of image ≡ []) }
+        ensures none { D.tells →
+            OnOk result (records_of (reads_of (D.moments disk.new).now) ≡ []) }
+        ensures latest { IfOk result (λ store. (name : FileName) → latest_of store name ≡ None) }
+        ensures in_step { D.tells → IfOk result (λ store. in_step store (D.moments disk.new).now) }
+        ensures usable { IfOk result (λ store. broken store ≡ false) }
+        ensures cause { StoreCounts result (D.failed_disk_calls disk.old)
+            (D.failed_disk_calls disk.new) };
+
     /// For each file of a graph, whether its latest record has its present view.
     fn needs(&self, alloc: Global, graph: &Graph) -> Result<Needs, NoMemory>
         ensures { IfOk result (λ needs. AreNeeds (latest_of self.now) graph.now needs) };
@@ -166,28 +185,6 @@ pub trait Records: Sized {
             let before = records_of (reads_of (D.moments disk.old).now) in
             NeverLoses (D.moments disk.old) (D.moments disk.new)
             (λ image. records_of image ≡ before ++ record_of self.old prepared ∷ []) }
-        ensures broken { broken self.new ≡ is_err result }
-        ensures cause { DiskCounts result (D.failed_disk_calls disk.old)
-            (D.failed_disk_calls disk.new) };
-
-    /// Leaves no record. It takes no memory.
-    fn reset<D: Disk>(&mut self, disk: &mut D) -> Result<(), DiskFailed>
-        requires usable { broken self.old ≡ false }
-        requires in_step { D.tells → in_step self.old (D.moments disk.old).now }
-        ensures latest { (name : FileName) →
-            latest_of self.new name ≡ after_reset result (latest_of self.old) name }
-        ensures in_step { D.tells → OnOk result (in_step self.new (D.moments disk.new).now) }
-        ensures emptied { D.tells →
-            OnOk result (records_of (reads_of (D.moments disk.new).now) ≡ []) }
-        // At any moment, after a fault too, a stop can leave the records from before, or none.
-        ensures any_moment { D.tells →
-            let before = records_of (reads_of (D.moments disk.old).now) in
-            AtAnyMoment (D.moments disk.old) (D.moments disk.new)
-            (λ image. IsEither (records_of image) before []) }
-        // Once no image has a record, none has one.
-        ensures loses { D.tells →
-            NeverLoses (D.moments disk.old) (D.moments disk.new)
-            (λ image. records_of image ≡ []) }
         ensures broken { broken self.new ≡ is_err result }
         ensures cause { DiskCounts result (D.failed_disk_calls disk.old)
             (D.failed_disk_calls disk.new) };

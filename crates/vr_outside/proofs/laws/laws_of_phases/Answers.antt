@@ -1,5 +1,5 @@
 -- Answers to the goals of `laws_of_phases`.
-use Rattle.vr_outside.proofs.PhaseLaws.{open_failed, open_done, then_emptied, then_committed, phases_give}
+use Rattle.vr_outside.proofs.PhaseLaws.{open_failed, open_done, empty_failed, empty_done, then_committed, phases_give}
 use Rattle.vr_outside.proofs.laws.laws_of_phases.Goals as goal
 
 pub returns-clause-failed : goal.returns-clause-failed
@@ -9,7 +9,10 @@ pub returns-clause-opened : goal.returns-clause-opened
 returns-clause-opened c = open_done
 
 pub returns-clause-emptied : goal.returns-clause-emptied
-returns-clause-emptied c = then_emptied
+returns-clause-emptied c = empty_done
+
+pub returns-clause-emptying : goal.returns-clause-emptying
+returns-clause-emptying c = empty_failed
 
 pub returns-clause-committed : goal.returns-clause-committed
 returns-clause-committed c = then_committed

@@ -1,12 +1,8 @@
 use Rattle.std.proofs.Common.{ap, subst, sym, ◌∙◌}
-use Rattle.vr_outside.specs.Disks.{Moments, reads_of}
-use Rattle.vr_outside.proofs.MomentLaws.{loses_nothing}
 use Rattle.std.specs.Prelude.{◌≡◌}
 use Rattle.gate_journal.specs.Journals.{JournalState, SideContent}
 use Rattle.node_holdings.specs.Held.{HoldingState}
-use Rattle.node_store.specs.Stored.{IsNodeStoreInStep, latest_among, node_records_among}
-use Rattle.vr_outside.specs.Records.{latest_alone}
-use Rattle.node_carry.specs.Carrying.{compacted}
+use Rattle.node_store.specs.Stored.{IsNodeStoreInStep, latest_among}
 use Rattle.node_store.proofs.NodeMoments.{still_leaves}
 use Rattle.node_store.proofs.Compacting.{compaction_held, compaction_keeps, compaction_leaves, has_compacted, latest_still}
 use Rattle.node_store.proofs.store.NodeStore.replace_by.Goals as goal
