@@ -6,7 +6,7 @@ ghost use Rattle.vr_base.specs.declared.child.MaybeText.TheVariants.{Nothing};
 use crate::child::{Running, end_child, start_child};
 use crate::tickets::leave;
 use fault_causes::Cause;
-use libc::net::{POLLOUT, poll};
+use libc::net::{POLLHUP, POLLOUT, poll};
 use libc::types::pollfd;
 use limited_reading::IoFault;
 use std::alloc::Global;
@@ -20,6 +20,12 @@ use vr_outside::{Ended, Procs, StartFault, WaitFault, counted};
 
 /// The bytes that one read takes at most: what a pipe holds.
 const CHUNK: usize = 65_536;
+
+/// How long, in milliseconds, a child alone is waited for while its input is written, before all others are looked at too.
+const PATIENCE: i32 = 10;
+
+/// How many turns are for one child alone before all others are looked at too.
+const TURNS_ALONE: u64 = 16;
 
 /// Children of this process. It counts its failures, and tells nothing but its running tickets. A command whose first
 /// word is `@self` starts the program itself.
@@ -176,6 +182,7 @@ impl<R: Processes<Started = SystemProcess> + Files + AllocGlobal + Drop> ChildPr
             return Err(last_fault("ioctl"));
         }
         let mut rest = input;
+        let mut alone = 0;
         for _ in 0..u64::MAX {
             if rest.is_empty() {
                 return Ok(());
@@ -183,7 +190,7 @@ impl<R: Processes<Started = SystemProcess> + Files + AllocGlobal + Drop> ChildPr
             match stdin.write(rest) {
                 Ok(count) => rest = &rest[count..],
                 Err(error) if error.kind() == ErrorKind::WouldBlock => {
-                    self.turn(stdin.as_raw_fd())?;
+                    alone = self.turn_for_last(stdin.as_raw_fd(), alone)?;
                 }
                 Err(error) if error.kind() == ErrorKind::Interrupted => {}
                 Err(error) => return Err(IoFault::of("write", error)),
@@ -192,21 +199,43 @@ impl<R: Processes<Started = SystemProcess> + Files + AllocGlobal + Drop> ChildPr
         Err(IoFault::failed("write", "it has no end"))
     }
 
-    /// Waits until some output can be read on, or more can be written to this pipe, and reads each output that can. A
-    /// number below 0 is no pipe.
-    fn turn(&mut self, stdin: RawFd) -> Result<(), IoFault>
+    /// Waits until the last child takes more of its input or prints, and reads what it printed. It may wait for another
+    /// child, so where it does neither for a while, and after some turns for it alone, all children are looked at. Gives
+    /// how many turns for it alone there were since.
+    fn turn_for_last(&mut self, stdin: RawFd, alone: u64) -> Result<u64, IoFault>
         ensures tickets { self.new.tickets.items ≡ self.old.tickets.items }
         ensures starts { self.new.failed_starts ≡ self.old.failed_starts }
         ensures children { self.new.lost_children ≡ self.old.lost_children }
     {
-        ask(&mut self.asked, self.children.as_slice(), stdin)?;
-        if poll(self.asked.as_mut_slice(), -1) >= 0 {
+        if alone < TURNS_ALONE {
+            let last = self.children.len().saturating_sub(1);
+            let is_told = self.turn(last, stdin, PATIENCE)?;
+            if is_told {
+                return Ok(alone + 1);
+            }
+        }
+        let _is_told = self.turn(0, stdin, -1)?;
+        Ok(0)
+    }
+
+    /// Waits until some output of the children from a place on can be read on, or more can be written to this pipe, and
+    /// reads each output that can. Says whether there was one of these within so many milliseconds; a number below 0 is
+    /// no limit, and no pipe.
+    fn turn(&mut self, from: usize, stdin: RawFd, limit: i32) -> Result<bool, IoFault>
+        ensures tickets { self.new.tickets.items ≡ self.old.tickets.items }
+        ensures starts { self.new.failed_starts ≡ self.old.failed_starts }
+        ensures children { self.new.lost_children ≡ self.old.lost_children }
+    {
+        ask(&mut self.asked, self.children.as_slice(), from, stdin)?;
+        let told = poll(self.asked.as_mut_slice(), limit);
+        if told >= 0 {
             let buffer = self.buffer.as_mut_slice();
-            read_ready(self.children.as_mut_slice(), self.asked.as_slice(), buffer);
-            return Ok(());
+            let children = self.children.as_mut_slice();
+            read_ready(children, from, self.asked.as_slice(), buffer);
+            return Ok(told > 0);
         }
         if os::errno() == libc::EINTR {
-            return Ok(());
+            return Ok(true);
         }
         Err(last_fault("poll"))
     }
@@ -224,7 +253,7 @@ impl<R: Processes<Started = SystemProcess> + Files + AllocGlobal + Drop> ChildPr
             if let Some(at) = self.children.iter().position(|child| child.is_at_end()) {
                 return at;
             }
-            if let Err(fault) = self.turn(-1) {
+            if let Err(fault) = self.turn(0, -1, -1) {
                 self.children[0].give_up(fault);
                 return 0;
             }
@@ -240,10 +269,15 @@ fn last_fault(call: &'static str) -> IoFault {
     IoFault::Failed(Cause { call, error })
 }
 
-/// Writes down what the system is to be asked of the children, and of a pipe that is written.
-fn ask(asked: &mut Vec<pollfd>, children: &[Running], stdin: RawFd) -> Result<(), IoFault> {
+/// Writes down what the system is to be asked of the children from a place on, and of a pipe that is written.
+fn ask(
+    asked: &mut Vec<pollfd>,
+    children: &[Running],
+    from: usize,
+    stdin: RawFd,
+) -> Result<(), IoFault> {
     asked.clear();
-    for child in children {
+    for child in children.iter().skip(from) {
         asked.push(child.asked())?;
     }
     asked.push(pollfd {
@@ -254,10 +288,14 @@ fn ask(asked: &mut Vec<pollfd>, children: &[Running], stdin: RawFd) -> Result<()
     Ok(())
 }
 
-/// Reads once from each child of which the system has something to tell.
-fn read_ready(children: &mut [Running], asked: &[pollfd], buffer: &mut [u8]) {
-    for (child, asked) in children.iter_mut().zip(asked) {
+/// Reads from each child from a place on of which the system has something to tell: once, which takes all that a pipe
+/// holds, and once more where nobody can write to the pipe any longer, since then no read waits.
+fn read_ready(children: &mut [Running], from: usize, asked: &[pollfd], buffer: &mut [u8]) {
+    for (child, asked) in children.iter_mut().skip(from).zip(asked) {
         if asked.revents != 0 {
+            child.read_on(buffer);
+        }
+        if asked.revents & POLLHUP != 0 {
             child.read_on(buffer);
         }
     }

@@ -1,4 +1,4 @@
-use Rattle.std.proofs.Common.{rules, arith, ap, sym, ◌∙◌, ◌≡◌, ◌≤◌, length, List, ℕ}
+use Rattle.std.proofs.Common.{rules}
 use Rattle.child_procs.proofs.TicketLemmas.{passed_none}
 use Rattle.child_procs.proofs.tickets.leave.Goals as goal
 

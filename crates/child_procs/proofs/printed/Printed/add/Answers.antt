@@ -1,4 +1,4 @@
-use Rattle.std.proofs.Common.{rules, arith, ◌≡◌, ◌≤◌, ◌<◌, ◌-◌, ◌++◌, take, length, List, ℕ}
+use Rattle.std.proofs.Common.{rules, ◌≡◌, ◌≤◌, ◌<◌, ◌-◌, ◌++◌, take, length}
 use Rattle.vr_base.specs.declared.limits.TheConstants.{ARTEFACT_LIMIT}
 use Rattle.child_procs.proofs.PrintedLemmas.{grows_whole, grows_cut}
 use Rattle.child_procs.proofs.printed.Printed.add.Goals as goal
