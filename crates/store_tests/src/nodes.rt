@@ -637,11 +637,7 @@ fn seen_empty<D: Disk>(alloc: Global, disk: &mut D, graph: &Graph) -> Result<[u8
 }
 
 /// Adds a record of the first file, and empties the disk.
-fn seen_emptied<D: Disk>(
-    alloc: Global,
-    disk: &mut D,
-    graph: &Graph,
-) -> Result<[u8; 4], StoreFault>
+fn seen_emptied<D: Disk>(alloc: Global, disk: &mut D, graph: &Graph) -> Result<[u8; 4], StoreFault>
     requires { 1 < length graph.now }
 {
     seen_on(alloc, disk, Change::Commits, graph)?;
