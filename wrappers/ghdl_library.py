@@ -23,6 +23,8 @@ NUMBER = re.compile(rb" on \d+( body)?;\n")
 NAME = rb"(?:\\(?:[^\\\n]|\\\\)*\\|[^ \n]+)"
 NAMED = re.compile(rb"  (?:architecture " + NAME + rb" of |package body |[a-z]+ )(" + NAME + rb") at ")
 LIBRARY = re.compile(rb"[A-Za-z][A-Za-z0-9_]{0,63}")
+# What a byte is in a word, of which case counts for nothing; a blank where it is in none.
+IN_WORDS = bytes(ord(letter.lower()) if letter.isalnum() or letter == "_" else 32 for letter in map(chr, range(256)))
 # The folder of libraries of which there is nothing. It comes last of all folders with libraries, so it hides none.
 UNSEEN = b"unseen"
 # The standards, each after those that it contains, and what the names of library files have for them.
@@ -185,11 +187,11 @@ class Restored:
                 if name.startswith(b"\\"):
                     extended.setdefault(name, []).append(built)
                 else:
-                    plain.setdefault(name.decode("latin-1").lower(), []).append(built)
-        left, written = list(texts), set()
+                    plain.setdefault(name.translate(IN_WORDS), []).append(built)
+        left, written, made = list(texts), set(), {self.room.folder}
         while left:
             text = left.pop()
-            names = set(re.findall(r"\w+", text.decode("latin-1").lower())) & plain.keys()
+            names = set(text.translate(IN_WORDS).split()) & plain.keys()
             reached = [built for name in names for built in plain.pop(name)]
             for name in [name for name in extended if name in text]:
                 reached += extended.pop(name)
@@ -197,8 +199,10 @@ class Restored:
                 if built.offset not in written:
                     written.add(built.offset)
                     left.append(source := self.source(built))
-                    name = os.path.join(self.room.folder, built.name)
-                    os.makedirs(os.path.dirname(name), exist_ok=True)
+                    name = os.path.normpath(os.path.join(self.room.folder, built.name))
+                    if (folder := os.path.dirname(name)) not in made:
+                        os.makedirs(folder, exist_ok=True)
+                        made.add(folder)
                     write(name, source)
 
 
