@@ -1,5 +1,6 @@
 # Where there is no program of the present sources, the status is 126, or 127 without rt, and never one of the program's.
 . "$TOP/tests/support/launcher.sh"
+. "$TOP/tests/support/needs.sh"
 
 refuses() {
     try env PATH="${4:-$PATH}" "$launcher" -c "$show"
@@ -53,8 +54,8 @@ has "no flock" "$said" "the command flock is missing"
 nobody=
 if [ "$(id -u)" = 0 ]; then
     nobody="setpriv --reuid=65534 --regid=65534 --clear-groups"
-    $nobody true || { echo "as root, this needs setpriv"; exit 77; }
-    $nobody test -r "$main" || { echo "nobody cannot read here"; exit 77; }
+    needs setpriv
+    $nobody test -r "$main" || skip "nobody cannot read here"
 fi
 chmod a-w repo/out repo/out/*
 try $nobody "$launcher" -c "$show"

@@ -1,6 +1,7 @@
 # Two starts at once build once, and one that is stopped leaves the next to build.
 . "$TOP/tests/support/launcher.sh"
-command -v flock >/dev/null || { echo "flock is missing"; exit 77; }
+. "$TOP/tests/support/needs.sh"
+needs flock
 
 mkdir tools/wait
 "$launcher" -c "$show; exit 3" >one 2>&1 &

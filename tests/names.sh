@@ -2,8 +2,9 @@
 # Every name of this repository's specs that a public clause cites has an entry in docs/DEFINITIONS.md: it stands there in
 # bold, between backticks, in an item or below a heading that names a file of specs. Public are the exported functions and the
 # traits of the library crates. Prints the names that are missing. Ends with 0, with 1 where a name is missing, and with 77 where python3 is missing.
-command -v python3 >/dev/null 2>&1 || { echo "python3 is missing"; exit 77; }
 cd -- "${TOP:-$(dirname -- "$0")/..}" || exit 1
+. tests/support/needs.sh
+needs python3
 exec python3 - <<'END'
 import pathlib, re, sys
 

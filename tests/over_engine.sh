@@ -2,9 +2,8 @@
 # wrappers/over_engine over engines that are scripts of this test: whatever these print, change, cut or end with, a command's
 # answer counts alone and only whole; whatever ends the wrapper leaves nothing behind; and the program over it builds what it
 # builds without. No engine is needed.
-for command in python3 flock setsid; do
-    command -v $command >/dev/null || { echo "$command is missing"; exit 77; }
-done
+. "$TOP/tests/support/needs.sh"
+needs python3 flock setsid
 PYTHONPATH=$TOP/tests/support
 PYTHONDONTWRITEBYTECODE=1
 export PYTHONPATH PYTHONDONTWRITEBYTECODE

@@ -1,7 +1,8 @@
 #!/bin/sh
 # The program as the compiler and as the simulator of another run: what it answers to its standard input, and the results
 # that a simulator leaves before it prints anything.
-command -v python3 >/dev/null || { echo "python3 is missing"; exit 77; }
+. "$TOP/tests/support/needs.sh"
+needs python3
 PYTHONPATH=$TOP/tests/support exec python3 -B - <<'END'
 import os, struct, subprocess
 

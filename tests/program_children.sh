@@ -1,7 +1,8 @@
 #!/bin/sh
 # As many compilers run at once as -p says, in order and each after what it depends on; whichever ends first makes room for
 # the next; whatever their ends, the text is that of one at a time.
-command -v python3 >/dev/null || { echo "python3 is missing"; exit 77; }
+. "$TOP/tests/support/needs.sh"
+needs python3
 PYTHONPATH=$TOP/tests/support exec python3 -B - <<'END'
 import os, sys
 

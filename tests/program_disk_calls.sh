@@ -3,8 +3,8 @@
 # that is emptied, and one that is compacted as it is opened. What a file holds is on the device (`sync`, `datasync`) before the
 # next write says that it is; both files are synced and their kept pages dropped (`advise`) before anything is read of
 # them; and a new file is in its folder, and that in the one around it, before the first write.
-command -v python3 >/dev/null || { echo "python3 is missing"; exit 77; }
-strace --quiet=all -o /dev/null -e trace=none true 2>/dev/null || { echo "strace is missing, or may not trace"; exit 77; }
+. "$TOP/tests/support/needs.sh"
+needs python3 strace
 PYTHONPATH=$TOP/tests/support exec python3 -B - <<'END'
 import os, re
 

@@ -1,8 +1,8 @@
 #!/bin/sh
 # What is compiled again after edits of a project, run by run over one store: exactly the files without a current record. Each
 # file depends on all before it: by the lines of a vunit.csv, or by the pairs of a vunit.toml, whose compiler refuses some texts.
-command -v python3 >/dev/null || { echo "python3 is missing"; exit 77; }
-python3 -c 'import tomllib' 2>/dev/null || { echo "python3 has no tomllib"; exit 77; }
+. "$TOP/tests/support/needs.sh"
+needs python3 tomllib
 PYTHONPATH=$TOP/tests/support exec python3 -B - <<'END'
 import json, os
 

@@ -1,7 +1,8 @@
 #!/bin/sh
 # The export is one compact JSON text with sorted keys, of the files in compile order and of the tests that patterns
 # match. Its folder is made, a file that is there is replaced as a whole or not at all, and a device is written in place.
-command -v python3 >/dev/null || { echo "python3 is missing"; exit 77; }
+. "$TOP/tests/support/needs.sh"
+needs python3
 exec python3 - "$VUNIT_RUN" <<'EOF'
 import json, os, subprocess, sys
 

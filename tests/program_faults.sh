@@ -2,9 +2,8 @@
 # Each call that the program makes of the system for its sources, its store, its children and its output fails in turn. The
 # fault is named, with status 3 and nothing printed; what was recorded stays; what was under way is recorded; and the next
 # run compiles exactly the files without a current record.
-command -v python3 >/dev/null || { echo "python3 is missing"; exit 77; }
-python3 -c 'import tomllib' 2>/dev/null || { echo "python3 has no tomllib"; exit 77; }
-strace --quiet=all -o /dev/null -e trace=none true 2>/dev/null || { echo "strace is missing, or may not trace"; exit 77; }
+. "$TOP/tests/support/needs.sh"
+needs python3 tomllib strace
 PYTHONPATH=$TOP/tests/support exec python3 -B - <<'END'
 import os, re, shutil, subprocess, time
 

@@ -2,8 +2,8 @@
 # Histories by chance over one store each: runs after edits, with refused files, with and without -k, with one child or several,
 # over a clean store or not, and kills in between. Each run that isn't killed starts exactly the files without a current record,
 # each with the request of a clean build, and says so; whatever is on the disk are true records.
-command -v python3 >/dev/null || { echo "python3 is missing"; exit 77; }
-python3 -c 'import tomllib' 2>/dev/null || { echo "python3 has no tomllib"; exit 77; }
+. "$TOP/tests/support/needs.sh"
+needs python3 tomllib
 PYTHONPATH=$TOP/tests/support exec python3 -B - <<'END'
 import ctypes, os, random, subprocess, time
 

@@ -1,6 +1,7 @@
 #!/bin/sh
 # Project files and folders that are as large, as deep or as tangled as may be are read or refused in bounded time.
-command -v python3 >/dev/null || { echo "python3 is missing"; exit 77; }
+. "$TOP/tests/support/needs.sh"
+needs python3
 PYTHONPATH=$TOP/tests/support exec python3 -B - <<'END'
 import itertools, os, string, subprocess, time
 

@@ -2,8 +2,8 @@
 # A build that is killed at any moment keeps what it acknowledged: the next run starts exactly the files without a current
 # record, and the one after it nothing. What is on the disk is read by another reader of its form. While a build runs,
 # another start over the same folder fails, and harms nothing.
-command -v python3 >/dev/null || { echo "python3 is missing"; exit 77; }
-python3 -c 'import tomllib' 2>/dev/null || { echo "python3 has no tomllib"; exit 77; }
+. "$TOP/tests/support/needs.sh"
+needs python3 tomllib
 PYTHONPATH=$TOP/tests/support exec python3 -B - <<'END'
 import ctypes, json, os, shutil, subprocess, sys, time
 

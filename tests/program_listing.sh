@@ -1,7 +1,8 @@
 #!/bin/sh
 # The tests of a project are listed by their full names, filtered by patterns; a bench that is wrong is named before
 # anything is put; and neither the store nor a compiler is touched. Hostile benches take no long time.
-command -v python3 >/dev/null || { echo "python3 is missing"; exit 77; }
+. "$TOP/tests/support/needs.sh"
+needs python3
 exec python3 - "$VUNIT_RUN" <<'EOF'
 import os, shutil, subprocess, sys, time
 

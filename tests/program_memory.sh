@@ -1,7 +1,8 @@
 #!/bin/sh
 # The program in ever more room, from where it just starts to where a run ends well, in each mode: it ends well, or with status 4
 # and its line, and puts nothing. No report is left by halves, and the next run in ample room ends well over what is there.
-command -v python3 >/dev/null || { echo "python3 is missing"; exit 77; }
+. "$TOP/tests/support/needs.sh"
+needs python3
 PYTHONPATH=$TOP/tests/support exec python3 -B - <<'END'
 import json, os, resource, shutil, subprocess
 

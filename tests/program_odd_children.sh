@@ -1,6 +1,7 @@
 #!/bin/sh
 # Compilers that do what they shouldn't: each has its answer, and a time in which it comes.
-command -v python3 >/dev/null || { echo "python3 is missing"; exit 77; }
+. "$TOP/tests/support/needs.sh"
+needs python3
 PYTHONPATH=$TOP/tests/support exec python3 -B - <<'END'
 import os, shutil, time
 

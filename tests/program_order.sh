@@ -1,7 +1,8 @@
 #!/bin/sh
 # Of several things that are wrong with a project the first is named: lines before the number of files, that before any
 # file; file by file whether it is there, its own bytes and the bytes so far; and all files before any is scanned.
-command -v python3 >/dev/null || { echo "python3 is missing"; exit 77; }
+. "$TOP/tests/support/needs.sh"
+needs python3
 exec python3 - "$VUNIT_RUN" <<'EOF'
 import os, shutil, subprocess, sys
 

@@ -1,7 +1,8 @@
 #!/bin/sh
 # The program is killed alone while wrappers/ghdl_analyse compiles: GHDL, for which another command stands here, is ended, and
 # nothing of the wrapper is left.
-command -v python3 >/dev/null || { echo "python3 is missing"; exit 77; }
+. "$TOP/tests/support/needs.sh"
+needs python3
 PYTHONPATH=$TOP/tests/support exec python3 -B - <<'END'
 import os, subprocess, time
 

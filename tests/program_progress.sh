@@ -1,6 +1,7 @@
 #!/bin/sh
 # On a terminal, and there alone, standard error has a line that is written over while compilers run; nothing depends on it.
-command -v python3 >/dev/null || { echo "python3 is missing"; exit 77; }
+. "$TOP/tests/support/needs.sh"
+needs python3
 PYTHONPATH=$TOP/tests/support exec python3 -B - <<'END'
 import os, pty, subprocess, threading
 

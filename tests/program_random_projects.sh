@@ -1,7 +1,8 @@
 #!/bin/sh
 # Small projects by chance, compared with a plain program of the rules: what is refused, the warnings, the order of files,
 # the files that each compiler is handed, and what is compiled again after an edit.
-command -v python3 >/dev/null || { echo "python3 is missing"; exit 77; }
+. "$TOP/tests/support/needs.sh"
+needs python3
 PYTHONPATH=$TOP/tests/support exec python3 -B - <<'END'
 import re
 

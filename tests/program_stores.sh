@@ -1,8 +1,8 @@
 #!/bin/sh
 # A store that can't be opened or written is a fault of the disk with status 3: nothing is started where that shows at the
 # opening, and no record is lost. Whatever bytes a store has, they stand for some records, and no others are believed.
-command -v python3 >/dev/null || { echo "python3 is missing"; exit 77; }
-python3 -c 'import tomllib' 2>/dev/null || { echo "python3 has no tomllib"; exit 77; }
+. "$TOP/tests/support/needs.sh"
+needs python3 tomllib
 # (a small disk is mounted, which no other process sees)
 own=
 if [ "$(id -u)" -eq 0 ] && unshare -m true 2>/dev/null; then own="unshare -m"; fi
@@ -152,7 +152,7 @@ if may or not root:
             os.chmod(path, old)
         check_build(name + ", and mended")
 else:
-    print("nobody may not run the program, so leaves were not tried")
+    print("not tried: sides without leave, since nobody may not run the program")
 
 # Another process has the lock.
 restore()
@@ -269,6 +269,6 @@ if root and subprocess.run(["mount", "-t", "tmpfs", "-o", "size=256k", "none", "
     finally:
         subprocess.run(["umount", "-l", "small"])
 else:
-    print("no disk could be mounted, so a full one was not tried")
+    print("not tried: a full disk, since none could be mounted")
 end()
 END

@@ -1,8 +1,8 @@
 #!/bin/sh
 # Each call that the program makes of the system for its tests and their report fails in turn. The fault is named, with status
 # 3; nothing is printed, or where the report failed the text; no child is left; and the next run goes as if nothing had been.
-command -v python3 >/dev/null || { echo "python3 is missing"; exit 77; }
-strace --quiet=all -o /dev/null -e trace=none true 2>/dev/null || { echo "strace is missing, or may not trace"; exit 77; }
+. "$TOP/tests/support/needs.sh"
+needs python3 strace
 PYTHONPATH=$TOP/tests/support exec python3 -B - <<'END'
 import ctypes, json, os, re, shutil, sys
 

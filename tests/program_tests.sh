@@ -1,7 +1,8 @@
 #!/bin/sh
 # Runs of tests by the real program: which are started, in which order and with what, what becomes of each end and of each
 # text of results, what is printed and written, and what each fault of something outside leaves.
-command -v python3 >/dev/null || { echo "python3 is missing"; exit 77; }
+. "$TOP/tests/support/needs.sh"
+needs python3
 PYTHONPATH=$TOP/tests/support exec python3 -B - <<'END'
 import json, os, shutil, subprocess, sys
 import xml.etree.ElementTree as xml

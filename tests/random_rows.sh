@@ -1,7 +1,8 @@
 #!/bin/sh
 # The table of random projects that project_tests reads, and the phrases that its capitals stand for, are those
 # of the plain program that made them.
-command -v python3 >/dev/null || { echo "python3 is missing"; exit 77; }
+. "$TOP/tests/support/needs.sh"
+needs python3
 PYTHONPATH=$TOP/tests/support exec python3 -B - "$TOP/crates/project_tests/src/random_projects.rt" <<'END'
 import re, sys
 

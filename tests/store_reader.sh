@@ -1,6 +1,7 @@
 #!/bin/sh
 # The reader of the store agrees with the examples of docs/FORMATS.md, and with small stores that were written by hand.
-command -v python3 >/dev/null || { echo "python3 is missing"; exit 77; }
+. "$TOP/tests/support/needs.sh"
+needs python3 tomllib
 PYTHONPATH=$TOP/tests/support exec python3 -B - "$TOP/docs/FORMATS.md" <<'END'
 import os, re, struct, sys
 
@@ -137,10 +138,6 @@ check("a listed project", [entry[1:] for entry in graph_of(".")],
       [(b"p.vhd", (b"@self", b"child-analyse"), b"package p is\nend package p;\n", ()),
        (b"v.vhd", (b"@self", b"child-analyse"), b"package v is\nend package v;\n", (0,))])
 check("a listed project of which the first file is edited", stale_after(("p.vhd", "package p is\nend;\n")), ["p.vhd", "v.vhd"])
-try:
-    import tomllib
-except ImportError:
-    sys.exit(0)
 with open("vunit.toml", "w") as file:
     file.write('[[library]]\nname = "lib"\nfiles = ["u1.vhd", "p.vhd", "v.vhd"]\n'
                '[[library]]\nname = "tb_lib"\nfiles = ["u[23].vhd"]\noptions = ["-x"]\n')

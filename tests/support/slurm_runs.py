@@ -90,7 +90,7 @@ def lost_node(slurm):
 def ghdl_examples(slurm):
     """The examples of GHDL by links of its wrappers' names."""
     if not shutil.which("ghdl"):
-        print("ghdl is missing: its examples weren't run over Slurm")
+        print("not tried: ghdl is missing, so its examples weren't run over Slurm")
         return
     place = slurm_place(slurm, "ghdl")
     links = place.path("links")
@@ -105,7 +105,7 @@ def ghdl_examples(slurm):
     ran = subprocess.run(words, cwd=place.path("project"), env=place.environment, capture_output=True, timeout=100)
     assert ran.stdout == b"Re-compile not needed\n", f"ghdl_counter here: it is {ran}"
     os.mkdir(place.path("benches"))
-    ran = subprocess.run([sys.executable, os.path.join(TOP, "tests", "support", "ghdl_bench_examples.py")],
+    ran = subprocess.run([sys.executable, os.path.join(TOP, "tests", "support", "ghdl_examples.py")],
                          cwd=place.path("benches"), env=given, capture_output=True, timeout=200)
     assert ran.returncode == 0, f"benches: {ran.stdout.decode()}{ran.stderr.decode()}"
     place.seconds_until_nothing_is_left()
