@@ -65,13 +65,13 @@ def size(side):
 SYNCED = ["sync a", "advise a", "sync b", "advise b"]
 OPENED = ["make vunit_out (there)", "create a (there)", "open a", "lock a", "create b (there)", "open b", "lock b", *SYNCED]
 CLOSED = ["close a", "close b"]
-HEAD = 19  # a gate, the mark with its form, the generation, and the gate of the first payload
+HEAD = 19  # the first byte, the mark with its form, the generation, and the gate of the first payload
 
 
-def new_side(side):
-    """An empty side: what it held is cut off, it is shut, its head is written, and then it is opened."""
+def new_side(side, length=HEAD):
+    """A side, empty where no length is given: what it held is cut off, it is shut, what it is to hold is written, and then it is opened."""
     return [f"cut {side} to 0", f"sync {side}", f"write {side} 1 at 0", f"datasync {side}",
-            f"write {side} {HEAD - 1} at 1", f"datasync {side}", f"write {side} 1 at 0", f"datasync {side}"]
+            f"write {side} {length - 1} at 1", f"datasync {side}", f"write {side} 1 at 0", f"datasync {side}"]
 
 
 def added(side, before, after):
@@ -101,5 +101,37 @@ check("a store that is emptied", [*OPENED, f"read a {HEAD} at 0", "cut b to 0", 
                                   *new_side("a"), *added("a", HEAD, HEAD + second - first), *CLOSED], "--clean", text=BUILT)
 if size("a") != HEAD + second - first or size("b") != 0:
     fail("a store that is emptied", f"its sides have {size('a')} and {size('b')} bytes")
+
+# A long text that was edited twice leaves two records of it that count no more, with over a mebibyte and more than the third:
+# the next opening writes the other side anew, with the last record alone.
+LENGTH = 700_000
+
+
+def edit():
+    """Edits the text, of which the store has no like, and keeps its length."""
+    edit.count += 1
+    write("project", {"vunit.csv": "lib,a.vhd\n", "a.vhd": TEXT + f"-- {edit.count:06}\n" * (LENGTH // 10)})
+
+
+edit.count = 0
+project("project", {})
+edit()
+calls_of()
+record = size("a") - HEAD
+old, both = ["read a 19 at 0"], ["read a 19 at 0", "read b 19 at 0"]
+if not LENGTH < record < LENGTH + 1000:
+    fail("a long record", f"it has {record} bytes")
+for count in 1, 2:
+    edit()
+    there = HEAD + count * record
+    check(f"a long text that is edited, and {count} records before", [*OPENED, *old, f"read a {there} at 0", *added("a", there, there + record), *CLOSED], text=BUILT)
+check("a store that is compacted", [*OPENED, *old, f"read a {HEAD + 3 * record} at 0", *new_side("b", HEAD + record), *CLOSED], text="Re-compile not needed\n")
+check("a store that was compacted", [*OPENED, *both, f"read b {HEAD + record} at 0", *CLOSED], text="Re-compile not needed\n")
+for count in 1, 2:
+    edit()
+    calls_of()
+edit()
+check("a store that is compacted before one record more", [*OPENED, *both, f"read b {HEAD + 3 * record} at 0", *new_side("a", HEAD + record),
+                                                          *added("a", HEAD + record, HEAD + 2 * record), *CLOSED], text=BUILT)
 end()
 END
