@@ -1,5 +1,5 @@
 """What the tests share that have the program run benches with GHDL. They work in the present folder, which gets a TMPDIR of
-its own."""
+its own. WRAPPERS may name another folder of wrappers, as one with links of their names."""
 
 import json, os, shutil
 from xml.sax.saxutils import escape
@@ -9,7 +9,7 @@ from trial import fail, run, toml
 TOP = os.environ["TOP"]
 TMP = os.path.abspath("tmp")
 os.mkdir(TMP)
-os.environ.update(PATH=f"{TOP}/wrappers:{os.environ['PATH']}", TMPDIR=TMP)
+os.environ.update(PATH=os.pathsep.join([os.environ.get("WRAPPERS", f"{TOP}/wrappers"), os.environ["PATH"]]), TMPDIR=TMP)
 BY_GHDL = ["ghdl_bench"]
 SAID = {"p": "pass", "f": "fail", "s": "skip"}
 IN_REPORT = {"p": "/>", "f": '>\n    <failure message="Failed"/>\n  </testcase>', "s": ">\n    <skipped/>\n  </testcase>"}
