@@ -1,11 +1,12 @@
 #!/bin/sh
-# Project files and folders that are as large, as deep or as tangled as may be are read or refused in bounded time.
+# Project files and folders that are as large, as deep or as tangled as may be are read or refused in bounded time and memory.
 . "$TOP/tests/support/needs.sh"
 needs python3
 PYTHONPATH=$TOP/tests/support exec python3 -B - <<'END'
-import itertools, os, string, subprocess, time
+import itertools, os, string
 
-from trial import PROGRAM, end, expect, fail, project, run, toml, write
+from growth import FOR_A_BYTE, checked, grows, in_step, measured
+from trial import end, expect, fail, project, run, toml, write
 
 SECONDS = 30
 LONG = 4194304
@@ -40,8 +41,27 @@ for depth in 1000, LONG // 2 - 100:
 is_answered("tables in tables", "a = " + "{a=" * 800000 + "1" + "}" * 800000 + "\n" + LIBRARY)
 check("a comment as long as may be", 0, LISTED, ONE_LINE + " #" + "x" * (LONG - len(ONE_LINE) - 2))
 check("a string as long as may be", 0, LISTED, ONE_LINE + '\na = "' + "x" * (LONG - len(ONE_LINE) - 7) + '"')
-check("many keys", 0, LISTED, "".join(f"k{at} = {at}\n" for at in range(4000)) + LIBRARY)
 check("many external libraries", 0, LISTED, "external = " + str([f"l{at}" for at in range(30000)]).replace("'", '"') + "\n" + LIBRARY)
+
+# Arrays, inline tables and keys as deep as may be, and deeper; more of them takes no more time.
+for name, text_of in (("arrays", lambda depth: "a = " + "[" * depth + "]" * depth), ("inline tables", lambda depth: "a = " + "{a=" * depth + "1" + "}" * depth),
+                      ("parts of a key", lambda depth: "a." * (depth - 1) + "a = 1"), ("parts of a table's name", lambda depth: "[" + "a." * (depth - 1) + "a]")):
+    check(f"80 {name}", 0, LISTED, text_of(80) + "\n" + LIBRARY)
+    check(f"81 {name}", 1, NOT_TOML, text_of(81) + "\n" + LIBRARY)
+    each = len(text_of(3)) - len(text_of(2))
+    grows(name, lambda size: ({"a.vhd": "", "vunit.toml": text_of((size - len(LIBRARY) - 8) // each) + "\n" + LIBRARY}, 1, NOT_TOML, ""), (LONG // 4, LONG), "-f")
+
+
+# As many keys as there is room for: in a table, in tables of their own, and in an inline table.
+def keys_in(size, beginning, form, ending=""):
+    room = (size - len(beginning + ending + LIBRARY)) // len(form % 0)
+    return {"a.vhd": "", "vunit.toml": beginning + "".join(form % at for at in range(room)) + ending + LIBRARY}, 0, LISTED, ""
+
+
+for name, parts in (("keys", ["", "%06x=1\n"]), ("tables", ["", "[%06x]\n"]), ("keys of an inline table", ["a={", "%06x=1,", "b=1}\n"]),
+                    ("keys of two parts", ["", "a.%06x=1\n"]), ("tables of one name", ["", "[[a]]#%06x\n"])):
+    grows(name, lambda size: keys_in(size, *parts), (LONG // 4, LONG), "-f")
+project("project", {"a.vhd": ""})
 
 # Stars: 1,024 in one pattern, with letters between them, and as parts.
 names = {f"{'a' * 200}{at}.vhd": "" for at in range(50)}
@@ -71,14 +91,21 @@ for count in 3000, 6000:
     check(f"{count} libraries, and one twice", 1, "vunit_run: library l0 stands twice\n", libraries + '[[library]]\nname="l0"\nfiles=["*"]\n')
 
 # As many names as are listed, and one more; names that begin with a dot don't count, nor does what the program made.
-project("project", {"a.vhd": "", "vunit.toml": LIBRARY, ".hidden": "", "vunit_out/x": ""})
-os.mkdir("project/src")
-for at in range(65534):
-    os.close(os.open(f"project/src/{at}", os.O_CREAT | os.O_WRONLY))
-expect("65,536 names", "project", 0, LISTED, "-f", seconds=SECONDS)
-check("1,024 stars over so many names", 0, LISTED, toml({"lib": ["*" * 1024 + ".vhd"]}))
+# Stars take as many times longer over so many names as there are more of them than in another project.
+COUNTS = {"fewer": 16384, "project": 65536}
+for folder, count in COUNTS.items():
+    project(folder, {"a.vhd": "", "vunit.toml": "", ".hidden": "", "vunit_out/x": ""})
+    os.mkdir(f"{folder}/src")
+    for at in range(count - 2):
+        os.close(os.open(f"{folder}/src/{at:05}", os.O_CREAT | os.O_WRONLY))
 tangled = "**/" * 100 + "*1" * 300
-check("stars over so many names", 1, f"vunit_run: nothing matches {tangled}\n", toml({"lib": [tangled]}))
+for name, pattern, wanted in (("names", "a.vhd", (0, LISTED, "")), ("1,024 stars over so many names", "*" * 1024 + ".vhd", (0, LISTED, "")),
+                              ("stars over so many names", tangled, (1, f"vunit_run: nothing matches {tangled}\n", ""))):
+    for folder in COUNTS:
+        write(folder, {"vunit.toml": toml({"lib": [pattern]})})
+    in_step(name, *(lambda folder=folder, count=count: checked(f"{name}: {count}", wanted, count * len("src/00000"), "-f", folder=folder)
+                    for folder, count in COUNTS.items()))
+write("project", {"vunit.toml": LIBRARY})
 write("project", {"b.vhd": ""})
 expect("65,537 names", "project", 5, "vunit_run: over limit: names 65536\n", "-f", seconds=SECONDS)
 check("65,537 names come before what is wrong with the file", 5, "vunit_run: over limit: names 65536\n", "[[library")
@@ -111,22 +138,10 @@ def names_that_meet(size):
     return b"".join(itertools.islice(units, size // 37))
 
 
-def measured(name, text, said, *words):
-    """The seconds of processor time and the bytes of memory of a run over one text."""
-    write("project", {"a.vhd": text})
-    with subprocess.Popen([PROGRAM, *words], cwd="project", stdout=subprocess.PIPE) as ran:
-        answer = ran.stdout.read()
-        status, used = os.wait4(ran.pid, 0)[1:]
-        ran.returncode = os.waitstatus_to_exitcode(status)
-    if (ran.returncode, answer) != (0, said.encode()):
-        fail(name, f"it ends with {ran.returncode} and {answer}")
-    return used.ru_utime + used.ru_stime, used.ru_maxrss * 1024
-
-
-project("project", {"vunit.toml": LIBRARY})
-seconds, memory = measured("names of units that meet", names_that_meet(LONG), LISTED, "-f")
-if seconds > 5 or memory > 100 * LONG:
-    fail("names of units that meet", f"4 MB take {seconds:.2f} seconds and {memory} bytes")
+project("project", {"vunit.toml": LIBRARY, "a.vhd": names_that_meet(LONG)})
+ran, seconds = measured(["-f"], FOR_A_BYTE * LONG)
+if ran != (0, LISTED.encode(), b"") or seconds > 5:
+    fail("names of units that meet", f"4 MB take {seconds:.2f} seconds: {ran}")
 
 
 def with_long_name(name, count):
@@ -135,27 +150,13 @@ def with_long_name(name, count):
     return f"entity {name} is generic (runner_cfg : string); end;architecture a of {name} is begin {calls}end;"
 
 
-def listed_in(name, text, said, *words):
-    """How many seconds a list of tests takes, in at most 100 bytes of memory for each byte of the text and of what is said."""
-    project("project", {"a.vhd": text, "vunit.toml": LIBRARY})
-    kilobytes = (len(text) + len(said)) * 100 // 1024 + 8192
-    limited = ["sh", "-c", f'ulimit -v {kilobytes}; exec "$0" "$@"']
-    began = time.monotonic()
-    ran = run("project", "-l", *words, seconds=SECONDS, before=limited)
-    took = time.monotonic() - began
-    if ran != (0, said.encode(), b""):
-        fail(name, f"it is {ran[0]} after {took:.2f} seconds, with {ran[1][-200:]} and {ran[2]}")
-    return took
-
-
 # A bench whose name is as long as all of its calls: no full name is made to be compared.
 for shape, name_of in ("a long name", lambda size: "a" * size), ("a long extended name", lambda size: "\\" + "a." * (size // 2) + "\\"):
-    small, large = (with_long_name(name_of(size // 2), size // 24) for size in (150_000, 600_000))
-    times = [min(listed_in(f"{shape} of {len(text)} bytes", text, NO_TESTS, "q") for _ in range(3)) for text in (small, large)]
-    if times[1] > 5 * times[0] + 0.1:
-        fail(shape, f"four times the text takes {times}")
+    grows(shape, lambda size: ({"a.vhd": with_long_name(name_of(size // 2), size // 24), "vunit.toml": LIBRARY}, 0, NO_TESTS, ""), (150_000, 600_000), "-l", "q")
 long_name = "a" * 20_000
 lines = "".join(f"lib.{long_name}.{at:05}\n" for at in range(1000))
-listed_in("all names of a bench with a long one", with_long_name(long_name, 1000), lines + "Listed 1000 tests\n")
+text, said = with_long_name(long_name, 1000), lines + "Listed 1000 tests\n"
+project("project", {"a.vhd": text, "vunit.toml": LIBRARY})
+checked("all names of a bench with a long one", (0, said, ""), len(text) + len(said), "-l")
 end()
 END
