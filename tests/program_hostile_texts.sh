@@ -83,15 +83,18 @@ grows("uses of one name that isn't there", lambda size: referring(used(size, "n"
 grows("mentions of one name", lambda size: referring("library l;package q is constant c:t:=" + "l.p+" * size + "1;end;"), (175000, 700000), "-f")
 
 
-def benches(count):
-    """So many benches, whose entities are in one file and their architectures in another."""
+def benches(count, is_listed=True):
+    """So many benches, whose entities are in one file and their architectures in another, and the list of their tests or an empty one."""
     names = [f"t{at:05}" for at in range(count)]
     texts = {"vunit.toml": LIBRARY, "b.vhd": "".join(f"entity {name} is generic(runner_cfg:string);end;" for name in names),
              "a.vhd": "".join(f"architecture a of {name} is begin end;" for name in reversed(names))}
-    return texts, 0, "".join(f"lib.{name}.all\n" for name in names) + f"Listed {count} tests\n", ""
+    selected = names if is_listed else []
+    return texts, 0, "".join(f"lib.{name}.all\n" for name in selected) + f"Listed {len(selected)} tests\n", ""
 
 
 grows("benches over two files", benches, (16384, 65536), "-l")
+grows("1,024 stars over their names", benches, (16384, 65536), "-l", "*" * 1024)
+grows("stars and digits over their names", lambda count: benches(count, False), (16384, 65536), "-l", "*1" * 500)
 project("project", benches(65537)[0])
 expect("a bench more", "project", 5, "vunit_run: over limit: tests 65536\n", "-l")
 end()
