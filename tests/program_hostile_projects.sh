@@ -44,12 +44,15 @@ check("a string as long as may be", 0, LISTED, ONE_LINE + '\na = "' + "x" * (LON
 check("many external libraries", 0, LISTED, "external = " + str([f"l{at}" for at in range(30000)]).replace("'", '"') + "\n" + LIBRARY)
 
 # Arrays, inline tables and keys as deep as may be, and deeper; more of them takes no more time.
-for name, text_of in (("arrays", lambda depth: "a = " + "[" * depth + "]" * depth), ("inline tables", lambda depth: "a = " + "{a=" * depth + "1" + "}" * depth),
-                      ("parts of a key", lambda depth: "a." * (depth - 1) + "a = 1"), ("parts of a table's name", lambda depth: "[" + "a." * (depth - 1) + "a]")):
+for name, text_of in (("arrays", lambda depth: "a = " + "[" * depth + "]" * depth),
+                      ("inline tables", lambda depth: "a = " + "{a=" * depth + "1" + "}" * depth),
+                      ("parts of a key", lambda depth: "a." * (depth - 1) + "a = 1"),
+                      ("parts of a table's name", lambda depth: "[" + "a." * (depth - 1) + "a]")):
     check(f"80 {name}", 0, LISTED, text_of(80) + "\n" + LIBRARY)
     check(f"81 {name}", 1, NOT_TOML, text_of(81) + "\n" + LIBRARY)
     each = len(text_of(3)) - len(text_of(2))
-    grows(name, lambda size: ({"a.vhd": "", "vunit.toml": text_of((size - len(LIBRARY) - 8) // each) + "\n" + LIBRARY}, 1, NOT_TOML, ""), (LONG // 4, LONG), "-f")
+    deep = lambda size: text_of((size - len(LIBRARY) - 8) // each) + "\n" + LIBRARY
+    grows(name, lambda size: ({"a.vhd": "", "vunit.toml": deep(size)}, 1, NOT_TOML, ""), (LONG // 4, LONG), "-f")
 
 
 # As many keys as there is room for: in a table, in tables of their own, and in an inline table.

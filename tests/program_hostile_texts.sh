@@ -26,7 +26,8 @@ def refused(text, said, at):
     return {"vunit.toml": LIBRARY, "a.vhd": text}, 1, "vunit_run: " + said, f"a.vhd:1:{at + 1}: {said}"
 
 
-# Two quotes within a string are one of its bytes: an even number of quotes are one whole string, which begins no unit; of an odd number the last one opens a string.
+# Two quotes within a string are one of its bytes. So an even number of quotes are one whole string, which begins no unit; of an
+# odd number the last one opens a string.
 grows("an even number of quotes", lambda size: refused('"' * size, "no design unit", 0), (LONG // 4, LONG), "-f")
 grows("an odd number of quotes", lambda size: refused('"' * size, "unclosed string", size - 1), (LONG // 4 - 1, LONG - 1), "-f")
 
@@ -40,16 +41,21 @@ grows("nested generates, of which one has no end", lambda size: refused(nested(s
 
 # A byte of value 0 is no blank, and begins no unit; within a unit it is passed over.
 grows("bytes of value 0", lambda size: refused("\0" * size, "no design unit", 0), (LONG // 4, LONG), "-f")
-begin, finish = "package p is ", " end;"
-within = begin + "\0" * (LONG - len(begin + finish)) + finish
-grows("bytes of value 0 within a unit", lambda size: accepted(begin + "\0" * (size - len(begin + finish)) + finish), (LONG // 4, LONG), "-f")
-project("project", {"vunit.toml": LIBRARY, "a.vhd": within})
+
+
+def filled(size, with_text):
+    """A package in one line, of at most so many bytes, that is filled with a text."""
+    begin, finish = "package p is ", " end;"
+    return begin + with_text * ((size - len(begin + finish)) // len(with_text)) + finish
+
+
+grows("bytes of value 0 within a unit", lambda size: accepted(filled(size, "\0")), (LONG // 4, LONG), "-f")
+project("project", accepted(filled(LONG, "\0"))[0])
 expect("a unit of bytes of value 0", "project", 0, build_text([(b"lib", b"a.vhd")]), "--compile")
 expect("a unit of bytes of value 0, once more", "project", 0, build_text([]), "--compile")
 
 # One line.
-constant = 'constant c : string := "a";'
-line = lambda size: begin + constant * ((size - len(begin + finish) - 4) // len(constant)) + finish
+line = lambda size: filled(size - 4, 'constant c : string := "a";')
 grows("one line of declarations", lambda size: accepted(line(size)), (LONG // 4, LONG), "-f")
 grows("one line with a word behind its unit", lambda size: refused(line(size) + " foo", "no design unit", len(line(size)) + 1), (LONG // 4, LONG), "-f")
 grows("one word", lambda size: refused("a" * size, "no design unit", 0), (LONG // 4, LONG), "-f")
