@@ -13,7 +13,7 @@ use Rattle.run_spec.specs.Recorded.{recorded_at}
 
 -- what a build over a store works on, by the latest record of each name
 abbrev pub work_of : (FileName → Option Record) → List Entry → ℕ → Bool → Work
-work_of latest_of graph slots keep_going = record { graph = graph; recorded = recorded_at latest_of graph; slots = slots; keep_going = keep_going }
+work_of latest_of graph slots keep_going = record { graph = graph; current = λ position built. recorded_at latest_of graph position; slots = slots; keep_going = keep_going }
 
 -- the record of a file that was made
 abbrev pub record_at : List Entry → ℕ → List ℕ → Record

@@ -1,10 +1,9 @@
-//! The slots of a build: which file is started next while many children run.
+//! The slots of a build: which file is checked or started next while many children run.
 #![tactic(auto)]
 
-mod counting;
-mod ready;
+mod lists;
 mod slots;
-#[cfg(test)]
-mod tests;
+mod step;
 
 pub use slots::Slots;
+pub use step::BuildStep;
