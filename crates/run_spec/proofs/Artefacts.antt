@@ -1,18 +1,17 @@
 -- The artefacts of a build as its children end: each stays, follows from those before it, and comes by the good end of a child
 -- once all below it are there.
-use Rattle.std.proofs.Common.{◌≡◌, ℕ, suc, zero, ◌<◌, ◌≤◌, ◌==◌, Bool, true, false, ◌&&◌, ◌||◌, cond, List, [], ◌∷◌, ◌++◌, length, get_or, Option, Some, None, refl, sym, ap, ap₂, subst, ◌∙◌, arith, inl, inr, is_some, All}
-use Rattle.std.specs.Prelude.{slice_get}
-use Rattle.std.specs.List.{list_all}
+use Rattle.std.proofs.Common.{◌≡◌, ℕ, ◌<◌, ◌≤◌, ◌==◌, Bool, true, false, ◌&&◌, ◌||◌, cond, List, [], ◌∷◌, ◌++◌, length, map, get_or, Option, Some, None, refl, sym, ap, ap₂, subst, ◌∙◌, arith, inl, inr, is_some, All}
 use Rattle.std.specs.Option.{option_map_or}
-use Rattle.std.proofs.lemmas.Bool.{cases_Bool, cases_lt, cond-true, cond-false, true≢false, false≢true}
+use Rattle.std.proofs.lemmas.Bool.{cases_Bool, cases_lt, cond-true, cond-false, false≢true}
 use Rattle.std.proofs.lemmas.Option.{none-some, slice_get_cases}
+use Rattle.std.proofs.lemmas.List.{map-append}
 use Rattle.vr_base.specs.declared.graph.Entry.{Entry}
-use Rattle.vr_base.specs.declared.graph.BuiltFile.{BuiltFile}
 use Rattle.vr_base.specs.Graphs.{IsGraph, IsEntryAt}
 use Rattle.vr_outside.specs.Records.{deps_at}
 use Rattle.run_spec.specs.Folds.{upto}
 use Rattle.run_spec.specs.Moves.{EndedChild, IsStepwise}
-use Rattle.run_spec.specs.ChildJournal.{Work, output_at, or_else, has_all, built_at, next_artefact, artefact_by, job_of}
+use Rattle.run_spec.specs.ChildJournal.{Work, End, child_of_end, artefact_so_far, output_at, or_else, has_all, built_at, next_artefact, artefact_by, job_of}
+use Rattle.run_spec.proofs.Journal.{output_at-push_other}
 use Rattle.run_spec.proofs.FoldLaws.{upto_both, upto_at, upto_longer, upto_past}
 use Rattle.run_spec.proofs.BuiltLists.{Keeps, has_all_more, built_more, has_all_same, built_same}
 
@@ -150,6 +149,20 @@ module _ (work : Work) (ordered : (position : ℕ) → All (λ dep. dep < positi
     after_deps = λ ended position lt made. artefact_deps ended position made;
     by_end = λ ended end position lt all. artefact_one ended end position lt all;
   }
+
+-- the same of ends with their requests and exits
+pub so_far_stays : (work : Work) (ends more : List End) (position : ℕ) (artefact : List ℕ) → artefact_so_far work ends position ≡ Some artefact → artefact_so_far work (ends ++ more) position ≡ Some artefact
+so_far_stays work ends more position artefact is =
+    ap (λ ended. artefact_by work ended position) (map-append child_of_end ends more) ∙ artefact_stays work (map child_of_end ends) (map child_of_end more) position artefact is
+
+output_other : (ended : List EndedChild) (end : EndedChild) (at : ℕ) → (end.position ≡ at → ⊥) → output_at ended at ≡ output_at (ended ++ end ∷ []) at
+output_other ended end at other = sym (output_at-push_other ended end at other)
+
+pub so_far_below : (work : Work) → IsGraph work.graph → (ends : List End) (end : End) (position : ℕ) → position < end.position → artefact_so_far work (ends ++ end ∷ []) position ≡ artefact_so_far work ends position
+so_far_below work is ends end position lt =
+    ap (λ ended. artefact_by work ended position) (map-append child_of_end ends (end ∷ []))
+    ∙ sym (same_below work (deps_before work.graph is) (map child_of_end ends) (map child_of_end ends ++ child_of_end end ∷ []) end.position
+    (λ k low. output_other (map child_of_end ends) (child_of_end end) k (λ e. omega (arith, e, low))) position lt)
 
 pub stepwise : (work : Work) → IsGraph work.graph → IsStepwise (job_of work)
 stepwise work is = stepwise_ordered work (deps_before work.graph is)

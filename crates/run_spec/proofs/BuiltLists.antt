@@ -1,10 +1,8 @@
 -- What files have and what is built of them, where more of them have artefacts.
-use Rattle.std.proofs.Common.{◌≡◌, ℕ, suc, zero, ◌<◌, Bool, true, false, ◌&&◌, List, [], ◌∷◌, length, Option, Some, None, refl, sym, ap, ap₂, ◌∙◌, arith, is_some, All, slice_get}
-use Rattle.std.specs.List.{list_all, filter_map, cons_option}
-use Rattle.std.proofs.lemmas.Bool.{and_parts, and_from, both_ways, false≢true}
-use Rattle.std.proofs.lemmas.List.Elements.{All-head, All-tail}
+use Rattle.std.proofs.Common.{◌≡◌, ℕ, suc, zero, true, ◌&&◌, List, [], ◌∷◌, Option, Some, None, refl, ap, ap₂, ◌∙◌, arith, is_some, All, slice_get}
+use Rattle.std.specs.List.{cons_option}
+use Rattle.std.proofs.lemmas.Bool.{and_parts, and_from, false≢true}
 use Rattle.vr_base.specs.declared.graph.Entry.{Entry}
-use Rattle.vr_base.specs.declared.graph.BuiltFile.{BuiltFile}
 use Rattle.run_spec.specs.ChildJournal.{built_file, has_all, built_at}
 
 -- each file keeps the artefact that it has

@@ -1,9 +1,8 @@
 -- What children make that were asked over the artefacts so far is what the settled build makes; and where the build is over, all of it.
-use Rattle.std.proofs.Common.{◌≡◌, ℕ, suc, zero, ◌<◌, ◌≤◌, ◌==◌, Bool, true, false, ◌&&◌, ◌||◌, cond, List, [], ◌∷◌, ◌++◌, length, map, get_or, Option, Some, None, refl, sym, ap, ap₂, subst, ◌∙◌, arith, inl, inr, is_some, All}
-use Rattle.std.specs.Prelude.{slice_get}
+use Rattle.std.proofs.Common.{◌≡◌, ℕ, suc, ◌<◌, ◌≤◌, ◌==◌, Bool, true, false, ◌&&◌, ◌||◌, cond, List, [], ◌∷◌, ◌++◌, length, map, get_or, Option, Some, None, refl, sym, ap, ap₂, subst, ◌∙◌, arith, inl, inr, is_some, All}
 use Rattle.std.specs.Option.{option_map}
-use Rattle.std.proofs.lemmas.Bool.{cases_Bool, cases_lt, cond-true, cond-false, and_parts, and_left, eq-eqb, eqb-true, or_cases, or_left, or_right, false≢true, true≢false}
-use Rattle.std.proofs.lemmas.Option.{none-some, same_Some}
+use Rattle.std.proofs.lemmas.Bool.{cases_Bool, cases_lt, cond-true, cond-false, and_parts, and_left, eqb-true, or_cases, false≢true}
+use Rattle.std.proofs.lemmas.Option.{none-some}
 use Rattle.std.proofs.lemmas.List.{map-append}
 use Rattle.vr_base.specs.declared.graph.Entry.{Entry}
 use Rattle.vr_base.specs.declared.graph.BuiltFile.{BuiltFile}
@@ -11,10 +10,9 @@ use Rattle.vr_base.specs.declared.child.Request.{Request}
 use Rattle.vr_base.specs.declared.child.Exit.{Exit}
 use Rattle.vr_outside.specs.Records.{deps_at}
 use Rattle.run_spec.specs.Folds.{upto}
-use Rattle.run_spec.specs.Moves.{EndedChild}
-use Rattle.run_spec.specs.ChildJournal.{Work, End, child_of_end, exit_at, output_at, or_else, has_all, built_at, next_artefact, artefact_by, artefact_so_far}
-use Rattle.run_spec.specs.Settled.{Settled, Blocked, Fresh, Compiled, Refused, settled_artefact, request_over, settled_by_exit, settled_by, next_settled, settle, artefact_settled, is_asked, settled_request, IsAnswered, has_ended, IsOver, none_current, IsTrueOver}
-use Rattle.run_spec.proofs.FoldLaws.{by_all_below, upto_at, upto_longer, upto_past, upto_both}
+use Rattle.run_spec.specs.ChildJournal.{Work, End, child_of_end, exit_at, output_at, or_else, has_all, built_at, artefact_by, artefact_so_far}
+use Rattle.run_spec.specs.Settled.{Settled, Blocked, Compiled, Refused, settled_artefact, request_over, settled_by_exit, settled_by, next_settled, settle, artefact_settled, is_asked, request_unless, IsAsked, IsAnswered, has_ended, IsOver, none_current, IsTrueOver}
+use Rattle.run_spec.proofs.FoldLaws.{by_all_below, upto_at, upto_longer, upto_past}
 use Rattle.run_spec.proofs.BuiltLists.{Keeps, same_where, has_all_at, has_all_same, built_same, has_all_more, built_more}
 use Rattle.run_spec.proofs.Artefacts.{next_parts, artefact_at, artefact_free, artefact_stays, none_past}
 
@@ -37,6 +35,22 @@ module _ (answer : Request → Exit) (graph : List Entry) (current : ℕ → Lis
       ∙ ap₂ (λ (all : Bool) (settled : Settled). cond all settled Blocked) (has_all_same f g deps same)
       (ap (λ built. settled_by (current at built) (option_map answer (request_over graph at built))) (built_same graph f g deps same))
 
+-- what a compiler is asked for isn't blocked or fresh
+asked_by_exit : (exit : Exit) → is_asked (settled_by_exit exit) ≡ true
+asked_by_exit exit = elim (cases_Bool (exit.code == 0)) [
+  | inl good ↦ ap is_asked (cond-true (exit.code == 0) (Compiled exit.output) (Refused exit.code exit.output) good)
+  | inr bad ↦ ap is_asked (cond-false (exit.code == 0) (Compiled exit.output) (Refused exit.code exit.output) bad)
+]
+
+-- what is said of the exits of all children of a file is so of the first
+first_found : (xs : List End) (at : ℕ) (exit : Exit) (o : Option Exit) → All (λ end. end.position ≡ at → o ≡ Some end.exit) xs → exit_at xs at ≡ Some exit → o ≡ Some exit
+unfolding exit_at
+first_found [] at exit o all is = absurd (none-some exit is)
+first_found (end ∷ xs) at exit o all is = elim (cases_Bool (end.position == at)) [
+  | inl here ↦ all 0 end (omega arith) (eqb-true end.position at here) ∙ sym (cond-true (end.position == at) (Some end.exit) (exit_at xs at) here) ∙ is
+  | inr other ↦ first_found xs at exit o (λ k d l. all (suc k) d (omega arith)) (sym (cond-false (end.position == at) (Some end.exit) (exit_at xs at) other) ∙ is)
+]
+
 -- ## Ends that are answered
 
 module _ (answer : Request → Exit) (work : Work) (ends : List End) where
@@ -49,7 +63,7 @@ module _ (answer : Request → Exit) (work : Work) (ends : List End) where
 
   -- the exit of a child is that answer
   pub exit_is : (end : End) → IsAnswered answer work ends end → exit_over end.position ≡ Some end.exit
-  exit_is end is = ap (option_map answer) is.asked ∙ ap (λ (exit : Exit). Some exit) (sym is.answered)
+  exit_is end is = ap (option_map answer) is.is.asked ∙ ap (λ (exit : Exit). Some exit) (sym is.answered)
 
   pub printed_is : (xs : List End) → All (IsAnswered answer work ends) xs → (at : ℕ) (artefact : List ℕ) → output_at (map child_of_end xs) at ≡ Some artefact → settled_artefact (settled_by None (exit_over at)) ≡ Some artefact
   unfolding output_at
@@ -106,8 +120,12 @@ module _ (answer : Request → Exit) (work : Work) (ends : List End) where
     exits : (at : ℕ) → All (λ end. end.position ≡ at → exit_over at ≡ Some end.exit) ends
     exits at k d l e = ap exit_over (sym e) ∙ exit_is (get_or ends k d) (answered k d l)
 
+    -- so is that of the first child of a file
+    pub first_exit : (at : ℕ) (exit : Exit) → exit_at ends at ≡ Some exit → exit_over at ≡ Some exit
+    first_exit at exit is = first_found ends at exit (exit_over at) (exits at) is
+
     prints_good : (exit : Exit) (at : ℕ) (xs : List End) → All (λ end. end.position ≡ at → end.exit ≡ exit) xs → (exit.code == 0) ≡ true → has_ended xs at ≡ true → output_at (map child_of_end xs) at ≡ Some exit.output
-    unfolding has_ended output_at
+    unfolding exit_at output_at
     prints_good exit at [] all good has = absurd (false≢true has)
     prints_good exit at (end ∷ xs) all good has = elim (cases_Bool (end.position == at)) [
       | inl here ↦
@@ -116,7 +134,7 @@ module _ (answer : Request → Exit) (work : Work) (ends : List End) where
           cond-true (end.position == at && end.exit.code == 0) (Some end.exit.output) (output_at (map child_of_end xs) at) test ∙ ap (λ (e : Exit). Some e.output) same
       | inr other ↦
           cond-false (end.position == at && end.exit.code == 0) (Some end.exit.output) (output_at (map child_of_end xs) at) (and_left (end.position == at) (end.exit.code == 0) other)
-          ∙ prints_good exit at xs (λ k d l. all (suc k) d (omega arith)) good (sym (ap (λ b. b || has_ended xs at) other) ∙ has)
+          ∙ prints_good exit at xs (λ k d l. all (suc k) d (omega arith)) good (sym (ap is_some (cond-false (end.position == at) (Some end.exit) (exit_at xs at) other)) ∙ has)
     ]
 
     some_is : (o : Option (List ℕ)) → is_some o ≡ true → (x : List ℕ) × (o ≡ Some x)
@@ -154,6 +172,21 @@ module _ (answer : Request → Exit) (work : Work) (ends : List End) where
     same_both None None h k = refl
     same_both None (Some x) h k = k x refl
 
+    -- whose child has ended: all below it were made, and no record was current
+    pub ended_parts : (xs : List End) → All (IsAnswered answer work ends) xs → (at : ℕ) → has_ended xs at ≡ true → (has_all (artefact_so_far work ends) (deps_at work.graph at) ≡ true) × (current_over at ≡ None) × (is_some (exit_over at) ≡ true)
+    unfolding exit_at
+    ended_parts [] all at has = absurd (false≢true has)
+    ended_parts (end ∷ xs) all at has = elim (cases_Bool (end.position == at)) [
+      | inl here ↦
+          let e : end.position ≡ at = eqb-true end.position at here in
+          let it : IsAnswered answer work ends end = all 0 end (omega arith) in (
+            subst (λ k. has_all (artefact_so_far work ends) (deps_at work.graph k) ≡ true) e it.is.over_all,
+            subst (λ k. current_over k ≡ None) e it.is.stale,
+            subst (λ k. is_some (exit_over k) ≡ true) e (ap is_some (exit_is end it)),
+          )
+      | inr later ↦ ended_parts xs (λ k d l. all (suc k) d (omega arith)) at (sym (ap is_some (cond-false (end.position == at) (Some end.exit) (exit_at xs at) later)) ∙ has)
+    ]
+
     module _ (over : IsOver work ends) where
       over_here : (at : ℕ) → at < length work.graph → has_all (artefact_so_far work ends) (deps_at work.graph at) ≡ true → (is_some (or_else (current_over at) (output_at (map child_of_end ends) at)) || has_ended ends at) ≡ true
       over_here at lt all = subst (λ o. (is_some o || has_ended ends at) ≡ true) (artefact_free work ordered (map child_of_end ends) at lt all) (over at lt all)
@@ -180,34 +213,13 @@ module _ (answer : Request → Exit) (work : Work) (ends : List End) where
       pub settle_is : (at : ℕ) → at < length work.graph → settle answer work.graph work.current at ≡ cond (has_all (artefact_so_far work ends) (deps_at work.graph at)) (settled_by (current_over at) (exit_over at)) Blocked
       settle_is at lt = settled_here at lt (λ j d l. sym (whole (get_or (deps_at work.graph at) j d)))
 
-      -- whose child has ended: all below it were made, and no record was current
-      ended_parts : (xs : List End) → All (IsAnswered answer work ends) xs → (at : ℕ) → has_ended xs at ≡ true → (has_all (artefact_so_far work ends) (deps_at work.graph at) ≡ true) × (current_over at ≡ None) × (is_some (exit_over at) ≡ true)
-      unfolding has_ended
-      ended_parts [] all at has = absurd (false≢true has)
-      ended_parts (end ∷ xs) all at has = elim (or_cases (end.position == at) (has_ended xs at) has) [
-        | inl here ↦
-            let e : end.position ≡ at = eqb-true end.position at here in
-            let it : IsAnswered answer work ends end = all 0 end (omega arith) in (
-              subst (λ k. has_all (artefact_so_far work ends) (deps_at work.graph k) ≡ true) e it.over_all,
-              subst (λ k. current_over k ≡ None) e it.stale,
-              subst (λ k. is_some (exit_over k) ≡ true) e (ap is_some (exit_is end it)),
-            )
-        | inr later ↦ ended_parts xs (λ k d l. all (suc k) d (omega arith)) at later
-      ]
-
       printed_ended : (xs : List End) (at : ℕ) → is_some (output_at (map child_of_end xs) at) ≡ true → has_ended xs at ≡ true
-      unfolding has_ended output_at
+      unfolding exit_at output_at
       printed_ended [] at some = absurd (false≢true some)
       printed_ended (end ∷ xs) at some = elim (cases_Bool (end.position == at)) [
-        | inl here ↦ or_left (end.position == at) (has_ended xs at) here
-        | inr other ↦ or_right (end.position == at) (has_ended xs at) (printed_ended xs at
-            (sym (ap is_some (cond-false (end.position == at && end.exit.code == 0) (Some end.exit.output) (output_at (map child_of_end xs) at) (and_left (end.position == at) (end.exit.code == 0) other))) ∙ some))
-      ]
-
-      asked_by_exit : (exit : Exit) → is_asked (settled_by_exit exit) ≡ true
-      asked_by_exit exit = elim (cases_Bool (exit.code == 0)) [
-        | inl good ↦ ap is_asked (cond-true (exit.code == 0) (Compiled exit.output) (Refused exit.code exit.output) good)
-        | inr bad ↦ ap is_asked (cond-false (exit.code == 0) (Compiled exit.output) (Refused exit.code exit.output) bad)
+        | inl here ↦ ap is_some (cond-true (end.position == at) (Some end.exit) (exit_at xs at) here)
+        | inr other ↦ ap is_some (cond-false (end.position == at) (Some end.exit) (exit_at xs at) other) ∙ printed_ended xs at
+            (sym (ap is_some (cond-false (end.position == at && end.exit.code == 0) (Some end.exit.output) (output_at (map child_of_end xs) at) (and_left (end.position == at) (end.exit.code == 0) other))) ∙ some)
       ]
 
       asked_where : (all : Bool) (o : Option (List ℕ)) (exit : Option Exit) → all ≡ true → o ≡ None → is_some exit ≡ true → is_asked (cond all (settled_by o exit) Blocked) ≡ true
@@ -241,19 +253,46 @@ module _ (answer : Request → Exit) (work : Work) (ends : List End) where
           (λ has. let it = ended_parts ends answered at has in ap is_asked (settle_is at lt) ∙ asked_where all (current_over at) (exit_over at) it.0 it.1 it.2)
           (λ asked. let it = asked_parts all (current_over at) (exit_over at) (sym (ap is_asked (settle_is at lt)) ∙ asked) in over_ended at (current_over at) it.1 (over_here at lt it.0))
 
--- an end stays answered as more children end
-pub is_answered_more : (answer : Request → Exit) (work : Work) (ends more : List End) (end : End) → IsAnswered answer work ends end → IsAnswered answer work (ends ++ more) end
-is_answered_more answer work ends more end is =
+-- what was asked stays so as more children end
+pub asked_more : (work : Work) (ends more : List End) (position : ℕ) (request : Request) → IsAsked work ends position request → IsAsked work (ends ++ more) position request
+asked_more work ends more position request is =
     let f : ℕ → Option (List ℕ) = artefact_so_far work ends in
     let g : ℕ → Option (List ℕ) = artefact_so_far work (ends ++ more) in
     let keeps : Keeps f g = λ at artefact had. ap (λ ended. artefact_by work ended at) (map-append child_of_end ends more) ∙ artefact_stays work (map child_of_end ends) (map child_of_end more) at artefact had in
-    let built : built_at work.graph g (deps_at work.graph end.position) ≡ built_at work.graph f (deps_at work.graph end.position) = built_more work.graph f g keeps (deps_at work.graph end.position) is.over_all in
+    let built : built_at work.graph g (deps_at work.graph position) ≡ built_at work.graph f (deps_at work.graph position) = built_more work.graph f g keeps (deps_at work.graph position) is.over_all in
     record {
-      over_all = has_all_more f g keeps (deps_at work.graph end.position) is.over_all;
-      asked = ap (request_over work.graph end.position) built ∙ is.asked;
-      stale = ap (work.current end.position) built ∙ is.stale;
-      answered = is.answered;
+      over_all = has_all_more f g keeps (deps_at work.graph position) is.over_all;
+      asked = ap (request_over work.graph position) built ∙ is.asked;
+      stale = ap (work.current position) built ∙ is.stale;
     }
+
+pub is_answered_more : (answer : Request → Exit) (work : Work) (ends more : List End) (end : End) → IsAnswered answer work ends end → IsAnswered answer work (ends ++ more) end
+is_answered_more answer work ends more end is = record { is = asked_more work ends more end.position end.request is.is; answered = is.answered }
+
+-- where each end is answered, what becomes of the file in the settled build is what the compiler answers,
+module _ (answer : Request → Exit) (work : Work) (ends : List End) (ordered : (position : ℕ) → All (λ dep. dep < position) (deps_at work.graph position)) (answered : All (IsAnswered answer work ends) ends) where
+  settled_deps : (position : ℕ) (request : Request) → IsAsked work ends position request → All (λ dep. artefact_settled answer work.graph work.current dep ≡ artefact_so_far work ends dep) (deps_at work.graph position)
+  settled_deps position request is =
+      let deps : List ℕ = deps_at work.graph position in
+      let f : ℕ → Option (List ℕ) = artefact_so_far work ends in
+      let g : ℕ → Option (List ℕ) = artefact_settled answer work.graph work.current in
+      λ j d l. same_where (f (get_or deps j d)) (g (get_or deps j d)) (settles answer work ends ordered answered (get_or deps j d)) (has_all_at f deps is.over_all j d l)
+
+  pub asked_settle : (position : ℕ) (request : Request) → position < length work.graph → IsAsked work ends position request → settle answer work.graph work.current position ≡ settled_by_exit (answer request)
+  asked_settle position request lt is =
+      settled_here answer work ends ordered answered position lt (settled_deps position request is)
+      ∙ cond-true (has_all (artefact_so_far work ends) (deps_at work.graph position)) (settled_by (current_over answer work ends position) (exit_over answer work ends position)) Blocked is.over_all
+      ∙ ap₂ settled_by is.stale (ap (option_map answer) is.asked)
+
+  -- and it is asked there for the same
+  pub asked_settled : (position : ℕ) (request : Request) → position < length work.graph → IsAsked work ends position request → request_unless answer work.graph work.current position ≡ Some request
+  asked_settled position request lt is =
+      let deps : List ℕ = deps_at work.graph position in
+      let f : ℕ → Option (List ℕ) = artefact_so_far work ends in
+      let g : ℕ → Option (List ℕ) = artefact_settled answer work.graph work.current in
+      cond-true (is_asked (settle answer work.graph work.current position)) (request_over work.graph position (built_at work.graph g deps)) None
+      (ap is_asked (asked_settle position request lt is) ∙ asked_by_exit (answer request))
+      ∙ ap (request_over work.graph position) (built_same work.graph g f deps (settled_deps position request is)) ∙ is.asked
 
 -- ## Records that are true
 
@@ -264,7 +303,7 @@ true_one true (Some x) exit is = sym (is x refl)
 
 -- where what is current is true over what is built without any record, the settled build makes the same
 pub true_same : (answer : Request → Exit) (graph : List Entry) (current : ℕ → List BuiltFile → Option (List ℕ)) → ((position : ℕ) → All (λ dep. dep < position) (deps_at graph position))
-    → ((k : ℕ) → IsTrueOver answer graph current k (built_at graph (artefact_settled answer graph none_current) (deps_at graph k))) → (k : ℕ) → artefact_settled answer graph current k ≡ artefact_settled answer graph none_current k
+    → ((k : ℕ) → k < length graph → IsTrueOver answer graph current k (built_at graph (artefact_settled answer graph none_current) (deps_at graph k))) → (k : ℕ) → artefact_settled answer graph current k ≡ artefact_settled answer graph none_current k
 true_same answer graph current ordered is =
     let f : ℕ → Option (List ℕ) = artefact_settled answer graph current in
     let g : ℕ → Option (List ℕ) = artefact_settled answer graph none_current in
@@ -275,7 +314,7 @@ true_same answer graph current ordered is =
           let same : All (λ dep. f dep ≡ g dep) deps = λ j d l. before (get_or deps j d) (ordered k j d l) in
           ap settled_artefact (settle_at answer graph current ordered k lt)
           ∙ ap₂ (λ (all : Bool) (built : List BuiltFile). settled_artefact (cond all (settled_by (current k built) (option_map answer (request_over graph k built))) Blocked)) (has_all_same f g deps same) (built_same graph f g deps same)
-          ∙ true_one (has_all g deps) (current k (built_at graph g deps)) (option_map answer (request_over graph k (built_at graph g deps))) (is k)
+          ∙ true_one (has_all g deps) (current k (built_at graph g deps)) (option_map answer (request_over graph k (built_at graph g deps))) (is k lt)
           ∙ sym (ap settled_artefact (settle_at answer graph none_current ordered k lt))
       | inr le ↦ ap settled_artefact (settled_past answer graph current k le) ∙ sym (ap settled_artefact (settled_past answer graph none_current k le))
     ])

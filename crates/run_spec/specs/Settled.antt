@@ -1,15 +1,16 @@
 -- The settled build: what becomes of each file of a build that is done and that no refusal halted, whatever the order of ends.
-use Rattle.std.specs.Prelude.{◌≡◌, ℕ, ◌<◌, Bool, true, false, ◌||◌, ◌==◌, if◌then◌else◌, List, [], ◌∷◌, length, map, slice_get, Option, Some, None, is_some}
-use Rattle.std.specs.Option.{option_map, option_and_then}
-use Rattle.std.specs.List.{list_any, filter_map}
+use Rattle.std.specs.Prelude.{◌≡◌, ℕ, ◌<◌, Bool, true, false, ◌||◌, ◌==◌, if◌then◌else◌, List, length, slice_get, Option, Some, None, is_some}
+use Rattle.std.specs.Option.{option_map}
+use Rattle.std.specs.List.{filter_map}
 use Rattle.vr_base.specs.declared.graph.Entry.{Entry}
 use Rattle.vr_base.specs.declared.graph.BuiltFile.{BuiltFile}
 use Rattle.vr_base.specs.declared.child.Request.{Request}
 use Rattle.vr_base.specs.declared.child.Exit.{Exit}
 use Rattle.vr_base.specs.Jobs.{compile_request}
+use Rattle.vr_base.specs.PresentGraph.{below}
 use Rattle.vr_outside.specs.Records.{deps_at}
 use Rattle.run_spec.specs.Folds.{upto}
-use Rattle.run_spec.specs.ChildJournal.{Work, End, has_all, built_at, artefact_so_far, request_at}
+use Rattle.run_spec.specs.ChildJournal.{Work, End, exit_at, has_all, built_at, artefact_so_far}
 
 -- What becomes of a file: a file below it was refused or has no artefact, its record is current, or its compiler gave an artefact or
 -- refused it.
@@ -60,20 +61,30 @@ is_asked (Fresh artefact) = false
 is_asked (Compiled artefact) = true
 is_asked (Refused code output) = true
 
--- what the compiler of the file at a position is asked in the settled build, over what is settled below it
-abbrev pub settled_request : (Request → Exit) → List Entry → (ℕ → List BuiltFile → Option (List ℕ)) → ℕ → Option Request
-settled_request answer graph current position = request_over graph position (built_at graph (artefact_settled answer graph current) (deps_at graph position))
+-- what the settled build asks of the compiler for the file at a position, over what is settled below it; nothing where the file is
+-- fresh or blocked
+abbrev pub request_unless : (Request → Exit) → List Entry → (ℕ → List BuiltFile → Option (List ℕ)) → ℕ → Option Request
+request_unless answer graph current position =
+    if is_asked (settle answer graph current position) then request_over graph position (built_at graph (artefact_settled answer graph current) (deps_at graph position)) else None
 
--- A child was asked for its file over all that this depends on, where no record was current over that, and its exit is the answer.
+-- what the settled build asks of compilers, in compile order
+abbrev pub stale_requests : (Request → Exit) → List Entry → (ℕ → List BuiltFile → Option (List ℕ)) → List Request
+stale_requests answer graph current = filter_map (request_unless answer graph current) (below (length graph))
+
+-- The compiler of a file was asked this over all that the file depends on, where no record was current over that.
+pub record IsAsked (work : Work) (ends : List End) (position : ℕ) (request : Request) : Type 0 where
+  pub over_all : has_all (artefact_so_far work ends) (deps_at work.graph position) ≡ true
+  pub asked : request_over work.graph position (built_at work.graph (artefact_so_far work ends) (deps_at work.graph position)) ≡ Some request
+  pub stale : work.current position (built_at work.graph (artefact_so_far work ends) (deps_at work.graph position)) ≡ None
+
+-- a child was asked so for its file, and its exit is the answer
 pub record IsAnswered (answer : Request → Exit) (work : Work) (ends : List End) (end : End) : Type 0 where
-  pub over_all : has_all (artefact_so_far work ends) (deps_at work.graph end.position) ≡ true
-  pub asked : request_over work.graph end.position (built_at work.graph (artefact_so_far work ends) (deps_at work.graph end.position)) ≡ Some end.request
-  pub stale : work.current end.position (built_at work.graph (artefact_so_far work ends) (deps_at work.graph end.position)) ≡ None
+  pub is : IsAsked work ends end.position end.request
   pub answered : end.exit ≡ answer end.request
 
 -- a child of the file at a position has ended
-unfoldable pub has_ended : List End → ℕ → Bool
-has_ended ends position = list_any (λ end. end.position == position) ends
+abbrev pub has_ended : List End → ℕ → Bool
+has_ended ends position = is_some (exit_at ends position)
 
 -- each file all of whose dependencies have an artefact has one too, or a child of it has ended: what a build is that is done and that no
 -- refusal halted
