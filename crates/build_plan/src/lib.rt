@@ -3,4 +3,4 @@
 
 mod plans;
 
-pub use plans::{BuildPlan, Need, Needs};
+pub use plans::{BuildPlan, Need, Needs, plan};

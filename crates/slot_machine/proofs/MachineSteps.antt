@@ -20,7 +20,7 @@ use Rattle.child_steps.specs.declared.step.Step.TheVariants.{Start, Wait, Finish
 use Rattle.child_steps.proofs.PlainSteps.{step_starts, step_waits, step_ends, no_running, over_none}
 use Rattle.slot_machine.specs.declared.slots.Slots.{Slots}
 use Rattle.slot_machine.specs.declared.step.BuildStep.TheVariants.{Check, Run}
-use Rattle.slot_machine.specs.Machines.{is_checked, is_noted, files_of, check_of, candidate_of, next_of, to_come, count_in, IsMachineOf}
+use Rattle.slot_machine.specs.Machines.{is_checked, is_noted, is_stopped_in, files_of, check_of, candidate_of, next_of, to_come, count_in, IsMachineOf}
 use Rattle.slot_machine.proofs.Tests.{by_all_below, list_all_more, list_all_same, first_same, none_passes, set_test}
 use Rattle.slot_machine.proofs.Sets.{no_more_in, one_less_in, one_more_in}
 use Rattle.slot_machine.proofs.NextSteps.{IsCheck, check_is, IsStart, start_is, run_parts, wait_runs, end_runs}
@@ -107,6 +107,14 @@ module _ (machine : Slots) (job : Job) (core : Core) (step : IsMachineOf machine
   no_due h on k lt =
       sym (listed_ready k lt)
       ∙ none_passes (is_listed machine.later) 0 (files_of machine) (sym (cond-false machine.is_stopped None (first_from (is_listed machine.later) 0 (files_of machine)) on) ∙ h) k (omega arith) (omega (arith, lt, step.count))
+
+  -- where no check is due a file that wasn't checked wasn't started, and isn't made
+  pub unchecked_idle : (is : Step) → is_stopped_in machine ≡ false → next_of machine ≡ Run is → (at : ℕ) → at < files_of machine → is_checked machine at ≡ false → (is_taken core at ≡ false) × (is_made_so_far job core at ≡ false)
+  unfolding is_stopped_in
+  unchecked_idle is on h at lt new =
+      let low : at < job.count = omega (arith, lt, step.count) in
+      let none = no_due (run_parts machine is h).0 on in
+      (step.untaken at low new, sym (noted_is_made none at low) ∙ step.made at low ∙ ap (λ b. b && is_made_so_far job core at) new)
 
   halted_both : (h s : Bool) → s ≡ true → (h || s) ≡ true
   halted_both true s is = refl
@@ -343,6 +351,7 @@ check_made c m true is = or_true (c && m) ∙ sym (ap (λ b. (c || true) && b) (
     or_true : (x : Bool) → (x || true) ≡ true
     or_true true = refl
     or_true false = refl
+
     or_and : (x : Bool) → ((x || true) && true) ≡ true
     or_and true = refl
     or_and false = refl
@@ -375,6 +384,7 @@ check_ready c t n true is = or_true (c && (not t && not n)) ∙ sym (ap₂ (λ (
     or_true : (x : Bool) → (x || true) ≡ true
     or_true true = refl
     or_true false = refl
+
     or_and : (x : Bool) → ((x || true) && true) ≡ true
     or_and true = refl
     or_and false = refl

@@ -60,9 +60,9 @@ none_passes p from zero h k a b = absurd (omega arith)
 none_passes p from (suc n) h k a b = elim (cases_Bool (p from)) [
   | inl does ↦ absurd (none-some from (sym h ∙ cond-true (p from) (Some from) (first_from p (suc from) n) does))
   | inr fails ↦ elim (cases_eq k from) [
-      | inl e ↦ ap p e ∙ fails
-      | inr ne ↦ none_passes p (suc from) n (sym (cond-false (p from) (Some from) (first_from p (suc from) n) fails) ∙ h) k (omega (arith, ne)) (omega arith)
-    ]
+    | inl e ↦ ap p e ∙ fails
+    | inr ne ↦ none_passes p (suc from) n (sym (cond-false (p from) (Some from) (first_from p (suc from) n) fails) ∙ h) k (omega (arith, ne)) (omega arith)
+  ]
 ]
 
 -- the next position of a set is the first that passes

@@ -35,6 +35,10 @@ is_checked machine at = slice_index_or machine.checked.items at false
 unfoldable pub is_noted : Slots → ℕ → Bool
 is_noted machine at = slice_index_or machine.made.items at false
 
+-- the machine was stopped: it checks and starts nothing more
+unfoldable pub is_stopped_in : Slots → Bool
+is_stopped_in machine = machine.is_stopped
+
 -- how many files a machine has
 unfoldable pub files_of : Slots → ℕ
 files_of machine = length machine.made.items

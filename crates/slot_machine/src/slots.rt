@@ -52,8 +52,9 @@ impl Slots {
     ghost use Rattle.child_steps.specs.Steps.{step_at, step_of, without_ticket, with_end};
     ghost use Rattle.child_steps.specs.declared.step.Step.{Step};
     ghost use Rattle.child_steps.specs.declared.step.Step.TheVariants.{Start, Wait, Finished};
+    ghost use Rattle.build_plan.specs.Plans.{is_later, need_at};
     ghost use Rattle.slot_machine.specs.declared.step.BuildStep.TheVariants.{Check, Run};
-    ghost use Rattle.slot_machine.specs.Machines.{IsJobOf, IsMachineOf, is_checked, check_of, candidate_of, next_of, tickets_of, files_of, to_come};
+    ghost use Rattle.slot_machine.specs.Machines.{IsJobOf, IsMachineOf, is_checked, is_stopped_in, check_of, candidate_of, next_of, tickets_of, files_of, to_come};
 
     /// The machine for a build of a graph by a plan, with 1 to 64 slots, that goes on after a refusal or not. Nothing has
     /// happened yet.
@@ -68,6 +69,9 @@ impl Slots {
         requires limit { (1 ≤ limit) × (limit ≤ SLOT_LIMIT) }
         ensures files { IfOk result (λ machine. files_of machine ≡ length graph.now) }
         ensures tickets { IfOk result (λ machine. tickets_of machine ≡ []) }
+        ensures checked { IfOk result (λ machine. (at : ℕ) → at < length graph.now →
+            is_checked machine at ≡ not (is_later (need_at plan.now.needs at))) }
+        ensures stopped { IfOk result (λ machine. is_stopped_in machine ≡ false) }
         ensures in_step { IfOk result (λ machine. (job : Job) →
             IsJobOf job graph.now plan.now.needs limit keep_going →
             IsMachineOf machine job empty_core) }
@@ -168,6 +172,15 @@ impl Slots {
         ensures free { (job : Job) (core : Core) → IsMachineOf self.now job core →
             (at : ℕ) → result ≡ Check at → (is_taken core at ≡ false) ×
             (list_all (is_made_so_far job core) (job.deps at) ≡ true) }
+        // and where it is none, what wasn't checked isn't made and wasn't started;
+        ensures unchecked { (job : Job) (core : Core) → IsMachineOf self.now job core →
+            is_stopped_in self.now ≡ false → (step : Step) → result ≡ Run step → (at : ℕ) →
+            at < files_of self.now → is_checked self.now at ≡ false →
+            (is_taken core at ≡ false) × (is_made_so_far job core at ≡ false) }
+        // whatever was checked has all that it depends on made, and whatever runs was checked;
+        ensures ready { (job : Job) (core : Core) → IsMachineOf self.now job core → (at : ℕ) →
+            at < files_of self.now → is_checked self.now at ≡ true →
+            list_all (is_made_so_far job core) (job.deps at) ≡ true }
         // a check and a start are of files of the graph,
         ensures checks { (at : ℕ) → result ≡ Check at → at < files_of self.now }
         ensures starts { (at : ℕ) → result ≡ Run (Start at) → at < files_of self.now }
@@ -185,6 +198,9 @@ impl Slots {
         requires { next_of self.old ≡ Check at }
         ensures in_step { (job : Job) (core : Core) → IsMachineOf self.old job core →
             fresh ≡ is_made_so_far job core at → IsMachineOf self.new job core }
+        ensures checked { (k : ℕ) →
+            is_checked self.new k ≡ (is_checked self.old k || at == k) }
+        ensures stopped { is_stopped_in self.new ≡ is_stopped_in self.old }
         ensures files { files_of self.new ≡ files_of self.old }
         ensures tickets { tickets_of self.new ≡ tickets_of self.old }
         ensures nearer { to_come self.new < to_come self.old }
@@ -215,6 +231,8 @@ impl Slots {
             is_checked self.new result ≡ true }
         ensures in_step { (job : Job) (core : Core) → IsMachineOf self.old job core →
             IsMachineOf self.new job (without_ticket ticket core) }
+        ensures same { (k : ℕ) → is_checked self.new k ≡ is_checked self.old k }
+        ensures stopped { is_stopped_in self.new ≡ is_stopped_in self.old }
         ensures files { files_of self.new ≡ files_of self.old }
         ensures tickets { tickets_of self.new ≡ without ticket (tickets_of self.old) }
         ensures nearer { to_come self.new < to_come self.old }
@@ -230,6 +248,8 @@ impl Slots {
         ensures in_step { (job : Job) (core : Core) (output : List ℕ) →
             IsMachineOf self.old job core → is_checked self.old at ≡ true →
             IsMachineOf self.new job (with_end job core at true output) }
+        ensures checked { (k : ℕ) → is_checked self.new k ≡ is_checked self.old k }
+        ensures stopped { is_stopped_in self.new ≡ is_stopped_in self.old }
         ensures files { files_of self.new ≡ files_of self.old }
         ensures tickets { tickets_of self.new ≡ tickets_of self.old }
         ensures nearer { to_come self.new ≤ to_come self.old }
@@ -242,6 +262,8 @@ impl Slots {
         ensures in_step { (job : Job) (core : Core) (at : ℕ) (output : List ℕ) →
             IsMachineOf self.old job core →
             IsMachineOf self.new job (with_end job core at false output) }
+        ensures checked { (k : ℕ) → is_checked self.new k ≡ is_checked self.old k }
+        ensures stopped { is_stopped_in self.new ≡ is_stopped_in self.old }
         ensures files { files_of self.new ≡ files_of self.old }
         ensures tickets { tickets_of self.new ≡ tickets_of self.old }
         ensures nearer { to_come self.new ≤ to_come self.old }
@@ -255,6 +277,7 @@ impl Slots {
     pub fn stop(&mut self)
         ensures in_step { (job : Job) (core : Core) → IsMachineOf self.old job core →
             IsMachineOf self.new job (after_move job core Halts) }
+        ensures checked { (k : ℕ) → is_checked self.new k ≡ is_checked self.old k }
         ensures files { files_of self.new ≡ files_of self.old }
         ensures tickets { tickets_of self.new ≡ tickets_of self.old }
         ensures no_check { (at : ℕ) → next_of self.new ≢ Check at }
@@ -274,6 +297,8 @@ impl Slots {
             IsLawfulMove job core (Starts at ticket) }
         ensures in_step { (job : Job) (core : Core) → IsMachineOf self.old job core →
             IsMachineOf self.new job (after_move job core (Starts at ticket)) }
+        ensures checked { (k : ℕ) → is_checked self.new k ≡ is_checked self.old k }
+        ensures stopped { is_stopped_in self.new ≡ is_stopped_in self.old }
         ensures files { files_of self.new ≡ files_of self.old }
         ensures tickets { tickets_of self.new ≡ tickets_of self.old ++ ticket ∷ [] }
         ensures nearer { to_come self.new < to_come self.old }
@@ -299,6 +324,8 @@ impl Slots {
         ensures in_step { (job : Job) (core : Core) (output : List ℕ) →
             IsMachineOf self.old job core →
             IsMachineOf self.new job (after_move job core (Ends ticket ok output)) }
+        ensures checked { (k : ℕ) → is_checked self.new k ≡ is_checked self.old k }
+        ensures stopped { is_stopped_in self.new ≡ is_stopped_in self.old }
         ensures files { files_of self.new ≡ files_of self.old }
         ensures tickets { tickets_of self.new ≡ without ticket (tickets_of self.old) }
         ensures nearer { to_come self.new < to_come self.old }
@@ -324,6 +351,7 @@ impl Slots {
             next_of self.old ≡ Run Wait → IsGreedyMove job core (Loses ticket) }
         ensures in_step { (job : Job) (core : Core) → IsMachineOf self.old job core →
             IsMachineOf self.new job (after_move job core (Loses ticket)) }
+        ensures checked { (k : ℕ) → is_checked self.new k ≡ is_checked self.old k }
         ensures files { files_of self.new ≡ files_of self.old }
         ensures tickets { tickets_of self.new ≡ without ticket (tickets_of self.old) }
         ensures no_check { (at : ℕ) → next_of self.new ≢ Check at }

@@ -3,7 +3,7 @@ use Rattle.std.proofs.Common.{◌≡◌, ℕ, ◌+◌, ◌<◌, ◌≤◌, ◌==
 use Rattle.std.proofs.lemmas.List.{length-set}
 use Rattle.ready_files.specs.Waits.{AreWaitingFiles}
 use Rattle.run_spec.specs.Moves.{Job, Core}
-use Rattle.slot_machine.specs.Machines.{files_of, tickets_of, is_checked, is_noted, count_in, IsMachineOf}
+use Rattle.slot_machine.specs.Machines.{is_stopped_in, files_of, tickets_of, is_checked, is_noted, count_in, IsMachineOf}
 use Rattle.slot_machine.proofs.Tests.{set_test}
 use Rattle.slot_machine.proofs.Sets.{more_by, no_more_in, one_more_in}
 use Rattle.slot_machine.proofs.NextSteps.{IsCheck, check_is}
@@ -92,3 +92,19 @@ returns-else-fresh-clause-nearer c =
     let check : IsCheck c.args.self.now c.args.at = check_is c.args.self.now c.args.at c.requires in
     nearer_check c.args.self.now _ (c.take.ensures.fewer check.listed)
     (one_more_in c.args.self.now.ready c.insert.new.self c.args.at (length c.args.self.now.made.items) check.within c.insert.ensures.others) (omega arith) (omega arith)
+
+pub returns-then-fresh-clause-checked : goal.returns-then-fresh-clause-checked
+unfolding files_of is_checked
+returns-then-fresh-clause-checked c = λ k. set_test c.args.self.now.checked.items c.args.at k (omega (arith, (check_is c.args.self.now c.args.at c.requires).within, c.args.self.now.as_many_checked))
+
+pub returns-then-fresh-clause-stopped : goal.returns-then-fresh-clause-stopped
+unfolding is_stopped_in
+returns-then-fresh-clause-stopped c = refl
+
+pub returns-else-fresh-clause-checked : goal.returns-else-fresh-clause-checked
+unfolding files_of is_checked
+returns-else-fresh-clause-checked c = λ k. set_test c.args.self.now.checked.items c.args.at k (omega (arith, (check_is c.args.self.now c.args.at c.requires).within, c.args.self.now.as_many_checked))
+
+pub returns-else-fresh-clause-stopped : goal.returns-else-fresh-clause-stopped
+unfolding is_stopped_in
+returns-else-fresh-clause-stopped c = refl

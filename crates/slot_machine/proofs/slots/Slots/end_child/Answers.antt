@@ -4,7 +4,7 @@ use Rattle.std.specs.Prelude.{All, Contains}
 use Rattle.std.specs.List.{remove}
 use Rattle.std.proofs.lemmas.List.Edits.{length-remove}
 use Rattle.run_spec.specs.Moves.{position_of, without_child}
-use Rattle.slot_machine.specs.Machines.{files_of, tickets_of, is_checked}
+use Rattle.slot_machine.specs.Machines.{is_stopped_in, files_of, tickets_of, is_checked}
 use Rattle.child_steps.specs.Steps.{running_child, without_ticket}
 use Rattle.child_steps.specs.declared.child.Child.{Child}
 use Rattle.child_steps.proofs.ChildLists.{IsFirst, first_position, first_without, first_ticket}
@@ -59,3 +59,11 @@ unfolding files_of
 returns-clause-nearer c =
     nearer_end c.args.self.now _ (omega arith) (omega arith)
     (ap (λ (xs : List Child). length xs + 1) c.remove-child.ensures.items ∙ length-remove c.args.self.now.children.items c.index_of-at.result (first c).0) (omega arith)
+
+pub returns-clause-same : goal.returns-clause-same
+unfolding is_checked
+returns-clause-same c = λ k. refl
+
+pub returns-clause-stopped : goal.returns-clause-stopped
+unfolding is_stopped_in
+returns-clause-stopped c = refl

@@ -1,7 +1,7 @@
 -- What remains to be proved of `make`.
 use Rattle.std.proofs.Common.{arith, refl, sym, ap, ◌∙◌, ◌≡◌, Bool, true, List, length}
 use Rattle.std.proofs.lemmas.List.{length-set}
-use Rattle.slot_machine.specs.Machines.{files_of, tickets_of, count_in}
+use Rattle.slot_machine.specs.Machines.{is_stopped_in, is_checked, files_of, tickets_of, count_in}
 use Rattle.slot_machine.proofs.Sets.{no_more_in}
 use Rattle.slot_machine.proofs.MachineSteps.{in_step_made, nearer_by}
 use Rattle.slot_machine.proofs.slots.Slots.make.Goals as goal
@@ -28,3 +28,11 @@ returns-clause-nearer c =
     let same : length c.note_made.new.made.items ≡ length c.args.self.now.made.items = ap (λ (xs : List Bool). length xs) c.note_made.ensures.made ∙ length-set c.args.self.now.made.items c.args.at true in
     nearer_by c.args.self.now _ (omega (arith, c.note_made.ensures.waits))
     (omega (arith, no_more_in c.args.self.now.ready c.note_made.new.ready c.args.at (length c.args.self.now.made.items) c.requires c.note_made.ensures.ready, ap (count_in c.note_made.new.ready) same)) (omega arith) (omega arith)
+
+pub returns-clause-checked : goal.returns-clause-checked
+unfolding is_checked
+returns-clause-checked c = λ k. refl
+
+pub returns-clause-stopped : goal.returns-clause-stopped
+unfolding is_stopped_in
+returns-clause-stopped c = refl

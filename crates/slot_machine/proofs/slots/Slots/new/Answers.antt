@@ -4,7 +4,7 @@ use Rattle.build_plan.specs.declared.plans.Need.{Need}
 use Rattle.build_plan.specs.Plans.{is_fresh, is_stale, is_later, need_at}
 use Rattle.position_set.specs.Positions.{has}
 use Rattle.slot_machine.specs.Counts.{AreCountedTo}
-use Rattle.slot_machine.specs.Machines.{files_of, tickets_of}
+use Rattle.slot_machine.specs.Machines.{is_checked, is_stopped_in, files_of, tickets_of}
 use Rattle.child_steps.specs.declared.child.Child.{Child}
 use Rattle.slot_machine.proofs.NewMachine.{counted_first, in_step_new}
 use Rattle.slot_machine.proofs.slots.Slots.new.Goals as goal
@@ -40,3 +40,11 @@ returns-clause-in_step c job of_job =
     (λ at lt. c.in_ok-made.ensures.fresh at (omega (arith, lt, count)) ∙ ap (λ (xs : List Need). is_fresh (need_at xs at)) needs)
     (λ at lt. c.stale_files-ready.ensures.stale at (omega (arith, lt, count)) ∙ ap (λ (xs : List Need). is_stale (need_at xs at)) needs)
     (subst₂ (λ (checked made : List Bool). AreCountedTo c.args.graph.now checked made c.count_files.new.later (length c.args.graph.now)) c.as_slice.ensures.value c.as_slice-2.ensures.value c.in_ok-count_files.ensures) of_job
+
+pub returns-clause-checked : goal.returns-clause-checked
+unfolding is_checked
+returns-clause-checked c = λ at lt. c.in_ok-checked.ensures.checked at (omega (arith, lt, ap (λ (xs : List Need). length xs) c.as_slice-needs.ensures, c.requires.needs)) ∙ ap (λ (xs : List Need). not (is_later (need_at xs at))) c.as_slice-needs.ensures
+
+pub returns-clause-stopped : goal.returns-clause-stopped
+unfolding is_stopped_in
+returns-clause-stopped c = refl

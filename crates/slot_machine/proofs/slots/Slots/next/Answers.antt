@@ -4,7 +4,7 @@ use Rattle.std.proofs.lemmas.List.{length-map}
 use Rattle.child_steps.proofs.ChildLists.{no_children}
 use Rattle.slot_machine.specs.Machines.{tickets_of}
 use Rattle.slot_machine.proofs.NextSteps.{check_is, start_is, wait_runs, end_runs}
-use Rattle.slot_machine.proofs.MachineSteps.{check_free, run_in_step, finished_is}
+use Rattle.slot_machine.proofs.MachineSteps.{check_free, run_in_step, finished_is, unchecked_idle}
 use Rattle.slot_machine.proofs.slots.Slots.next.Goals as goal
 
 pub returns-clause-in_step : goal.returns-clause-in_step
@@ -29,3 +29,9 @@ returns-clause-idle c h = no_children c.args.self.now.children.items (end_runs c
 
 pub returns-clause-finished : goal.returns-clause-finished
 returns-clause-finished c h job core step = finished_is c.args.self.now job core step (sym c.step.ensures ∙ h)
+
+pub returns-clause-unchecked : goal.returns-clause-unchecked
+returns-clause-unchecked c job core step on is h at lt new = unchecked_idle c.args.self.now job core step is on (sym c.step.ensures ∙ h) at lt new
+
+pub returns-clause-ready : goal.returns-clause-ready
+returns-clause-ready c job core step at lt is = step.free at (omega (arith, lt, step.count)) is

@@ -1,6 +1,6 @@
 -- What remains to be proved of `refuse`.
 use Rattle.std.proofs.Common.{arith, refl, ◌∙◌, ◌||◌, sym, ap, true, false}
-use Rattle.slot_machine.specs.Machines.{files_of, tickets_of}
+use Rattle.slot_machine.specs.Machines.{is_checked, is_stopped_in, files_of, tickets_of}
 use Rattle.slot_machine.proofs.MachineSteps.{in_step_refused, halt_refused, no_halt, nearer_by}
 use Rattle.slot_machine.proofs.slots.Slots.refuse.Goals as goal
 
@@ -23,3 +23,11 @@ returns-else-not-self-clause-in_step c job core at output step =
 pub returns-then-not-self-clause-nearer : goal.returns-then-not-self-clause-nearer
 unfolding files_of
 returns-then-not-self-clause-nearer c = nearer_by c.args.self.now _ (omega arith) (omega arith) (omega arith) (omega arith)
+
+pub returns-then-not-self-clause-checked : goal.returns-then-not-self-clause-checked
+unfolding is_checked
+returns-then-not-self-clause-checked c = λ k. refl
+
+pub returns-then-not-self-clause-stopped : goal.returns-then-not-self-clause-stopped
+unfolding is_stopped_in
+returns-then-not-self-clause-stopped c = refl

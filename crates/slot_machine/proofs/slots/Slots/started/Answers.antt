@@ -4,7 +4,7 @@ use Rattle.std.specs.Prelude.{All}
 use Rattle.std.proofs.lemmas.List.{map-append, length-append}
 use Rattle.std.proofs.lemmas.List.Elements.{All-push}
 use Rattle.child_steps.specs.declared.child.Child.{Child}
-use Rattle.slot_machine.specs.Machines.{files_of, tickets_of}
+use Rattle.slot_machine.specs.Machines.{is_stopped_in, is_checked, files_of, tickets_of}
 use Rattle.slot_machine.proofs.NextSteps.{IsStart, start_is}
 use Rattle.slot_machine.proofs.Sets.{less_by, one_less_in}
 use Rattle.slot_machine.proofs.MachineSteps.{in_step_started, lawful_start, start_checked, nearer_start}
@@ -57,3 +57,11 @@ returns-clause-nearer c =
     nearer_start c.args.self.now _ (omega arith)
     (one_less_in c.args.self.now.ready c.remove.new.self c.args.at (files_of c.args.self.now) start.within (less_by c.args.self.now.ready c.remove.new.self c.args.at c.remove.ensures.is c.remove.ensures.others) start.ready)
     (ap (λ (xs : List Child). length xs) c.push_reserved.ensures.items ∙ length-append c.args.self.now.children.items ((record { ticket = c.args.ticket; position = c.args.at }) ∷ [])) (omega arith)
+
+pub returns-clause-checked : goal.returns-clause-checked
+unfolding is_checked
+returns-clause-checked c = λ k. refl
+
+pub returns-clause-stopped : goal.returns-clause-stopped
+unfolding is_stopped_in
+returns-clause-stopped c = refl

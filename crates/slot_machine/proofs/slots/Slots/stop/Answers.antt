@@ -1,7 +1,7 @@
 -- What remains to be proved of `stop`.
 use Rattle.std.proofs.Common.{arith, refl, sym, true, false, ◌≡◌, ◌||◌}
 use Rattle.run_spec.specs.Moves.{Halts, after_move}
-use Rattle.slot_machine.specs.Machines.{files_of, tickets_of}
+use Rattle.slot_machine.specs.Machines.{is_checked, files_of, tickets_of}
 use Rattle.slot_machine.proofs.NextSteps.{start_is, no_check, no_start, on_from}
 use Rattle.slot_machine.proofs.MachineSteps.{in_step_as, nearer_by, nearer_stop, stopped_last, or_true}
 use Rattle.slot_machine.proofs.slots.Slots.stop.Goals as goal
@@ -33,3 +33,7 @@ pub returns-clause-ends : goal.returns-clause-ends
 unfolding files_of
 returns-clause-ends c at is =
     nearer_stop c.args.self.now _ (omega arith) (omega arith) (omega arith) refl (on_from c.args.self.now.is_halted c.args.self.now.is_stopped (start_is c.args.self.now at is).goes_on)
+
+pub returns-clause-checked : goal.returns-clause-checked
+unfolding is_checked
+returns-clause-checked c = λ k. refl
