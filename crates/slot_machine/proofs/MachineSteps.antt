@@ -1,29 +1,27 @@
 -- A machine stays in step with a job and with what has happened in it.
-use Rattle.std.proofs.Common.{◌≡◌, ◌≢◌, ℕ, zero, suc, ◌+◌, ◌<◌, ◌≤◌, ◌==◌, nat_lt, Bool, true, false, not, ◌&&◌, ◌||◌, cond, List, [], ◌∷◌, ◌++◌, length, map, get_or, Option, Some, None, refl, sym, ap, ap₂, subst, ◌∙◌, arith, inl, inr}
-use Rattle.std.specs.Prelude.{All, IsTrue, is_none}
+use Rattle.std.proofs.Common.{◌≡◌, ℕ, ◌+◌, ◌<◌, ◌≤◌, ◌==◌, nat_lt, Bool, true, false, not, ◌&&◌, ◌||◌, cond, List, [], ◌∷◌, ◌++◌, length, map, get_or, Some, None, refl, sym, ap, ap₂, subst, ◌∙◌, arith, inl, inr}
+use Rattle.std.specs.Prelude.{All}
 use Rattle.std.specs.List.{list_any, list_all}
 use Rattle.std.proofs.Math.ListN.{set}
-use Rattle.std.proofs.lemmas.Bool.{cases_eq, cases_Bool, cond-true, cond-false, and_parts, and_from, eq-eqb, ne_eqb, eqb-true, or_left, true≢false, false≢true}
-use Rattle.std.proofs.lemmas.List.{get_or-set_other, length-set, length-map, map-append}
+use Rattle.std.proofs.lemmas.Bool.{cases_Bool, cond-true, cond-false, and_parts, eqb-true, or_left, true≢false, false≢true}
+use Rattle.std.proofs.lemmas.List.{length-set, length-map, map-append}
 use Rattle.std.proofs.lemmas.List.Folds.{list_any-append}
 use Rattle.std.proofs.lemmas.List.Elements.{All-push}
-use Rattle.std.proofs.lemmas.Grind.{get_or-set_at}
 use Rattle.position_set.specs.Positions.{has}
 use Rattle.ready_files.specs.Counts.{is_ready}
 use Rattle.ready_files.specs.Waits.{AreWaitingFiles, is_listed, wait_count}
 use Rattle.ready_files.proofs.WaitSteps.{listed_is}
 use Rattle.run_spec.specs.Moves.{Job, Core, RunningChild, EndedChild, IsStepwise, Starts, is_taken, is_made_so_far, is_startable, first_from, next_start, start_now, after_move, IsFinished}
-use Rattle.child_steps.specs.Steps.{step_of, step_at, running_child, with_end, without_ticket}
+use Rattle.child_steps.specs.Steps.{step_of, step_at, running_child, with_end}
 use Rattle.child_steps.specs.declared.child.Child.{Child}
 use Rattle.child_steps.specs.declared.step.Step.{Step}
 use Rattle.child_steps.specs.declared.step.Step.TheVariants.{Start, Wait, Finished}
 use Rattle.child_steps.proofs.PlainSteps.{step_starts, step_waits, step_ends, no_running, over_none}
 use Rattle.slot_machine.specs.declared.slots.Slots.{Slots}
-use Rattle.slot_machine.specs.declared.step.BuildStep.TheVariants.{Check, Run}
+use Rattle.slot_machine.specs.declared.step.BuildStep.TheVariants.{Run}
 use Rattle.slot_machine.specs.Machines.{is_checked, is_noted, is_stopped_in, files_of, check_of, candidate_of, next_of, to_come, count_in, IsMachineOf}
 use Rattle.slot_machine.proofs.Tests.{by_all_below, list_all_more, list_all_same, first_same, none_passes, set_test}
-use Rattle.slot_machine.proofs.Sets.{no_more_in, one_less_in, one_more_in}
-use Rattle.slot_machine.proofs.NextSteps.{IsCheck, check_is, IsStart, start_is, run_parts, wait_runs, end_runs}
+use Rattle.slot_machine.proofs.NextSteps.{IsCheck, IsStart, run_parts, end_runs}
 
 -- what a file depends on are files
 pub deps_below : (job : Job) → IsStepwise job → (k : ℕ) → k < job.count → All (λ dep. dep < job.count) (job.deps k)

@@ -1,8 +1,8 @@
 -- A new machine is in step with a build of which nothing has happened.
-use Rattle.std.proofs.Common.{◌≡◌, ◌≢◌, ℕ, suc, ◌+◌, ◌<◌, ◌≤◌, nat_lt, Bool, true, false, not, ◌&&◌, ◌||◌, cond, List, [], ◌∷◌, length, map, get_or, take, refl, sym, ap, ap₂, subst, ◌∙◌, arith, inl, inr}
+use Rattle.std.proofs.Common.{◌≡◌, ◌≢◌, ℕ, ◌+◌, ◌<◌, nat_lt, Bool, true, false, not, ◌&&◌, ◌||◌, cond, List, [], length, map, get_or, take, refl, sym, ap, ap₂, subst, ◌∙◌, arith, inl, inr}
 use Rattle.std.specs.Prelude.{All, Option}
 use Rattle.std.specs.Option.{option_map_or}
-use Rattle.std.proofs.lemmas.Bool.{cases_lt, cases_Bool, cond-true, cond-false, lt-ltb, le-ltb, true≢false, false≢true}
+use Rattle.std.proofs.lemmas.Bool.{cases_lt, cond-true, cond-false, lt-ltb, le-ltb, true≢false, false≢true}
 use Rattle.std.proofs.lemmas.Option.{slice_get_cases}
 use Rattle.std.proofs.lemmas.List.Elements.{All-nil}
 use Rattle.vr_base.specs.declared.graph.Entry.{Entry}
@@ -14,7 +14,7 @@ use Rattle.ready_files.specs.Waits.{AreWaitingFiles}
 use Rattle.ready_files.specs.declared.files.ReadyFiles.{ReadyFiles}
 use Rattle.ready_files.proofs.WaitSteps.{waits_same, waits_as}
 use Rattle.ready_files.proofs.Times.{count_more}
-use Rattle.run_spec.specs.Moves.{Job, empty_core, is_made_so_far}
+use Rattle.run_spec.specs.Moves.{Job, empty_core}
 use Rattle.build_plan.specs.declared.plans.Need.{Need}
 use Rattle.build_plan.specs.declared.plans.Need.TheVariants.{Fresh, Stale, Later}
 use Rattle.build_plan.specs.Plans.{is_fresh, is_stale, is_later, need_at}

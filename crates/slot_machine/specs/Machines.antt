@@ -1,5 +1,5 @@
 -- What a machine is one of: a job of a build, and what has happened in it so far.
-use Rattle.std.specs.Prelude.{◌≡◌, ℕ, ◌+◌, ◌*◌, ◌<◌, nat_lt, Bool, true, false, not, ◌&&◌, ◌||◌, ◌==◌, if◌then◌else◌, All, List, [], ◌∷◌, ◌++◌, length, map, count_by, slice_index_or, Option, Some, None}
+use Rattle.std.specs.Prelude.{◌≡◌, ℕ, ◌+◌, ◌*◌, ◌<◌, nat_lt, Bool, true, false, not, ◌&&◌, ◌||◌, ◌==◌, if◌then◌else◌, All, List, [], length, map, count_by, slice_index_or, Option, Some, None}
 use Rattle.std.specs.List.{list_all}
 use Rattle.vr_base.specs.declared.graph.Entry.{Entry}
 use Rattle.vr_base.specs.PresentGraph.{below}
@@ -9,7 +9,7 @@ use Rattle.position_set.specs.declared.set.PositionSet.{PositionSet}
 use Rattle.ready_files.specs.Waits.{AreWaitingFiles, is_listed, wait_count}
 use Rattle.run_spec.specs.Moves.{Job, Core, IsStepwise, is_taken, is_made_so_far, first_from}
 use Rattle.build_plan.specs.declared.plans.Need.{Need}
-use Rattle.build_plan.specs.Plans.{is_fresh, is_stale, is_later, need_at}
+use Rattle.build_plan.specs.Plans.{is_fresh, is_later, need_at}
 use Rattle.child_steps.specs.Steps.{step_of, running_child}
 use Rattle.child_steps.specs.declared.step.Step.{Step}
 use Rattle.slot_machine.specs.declared.step.BuildStep.{BuildStep}

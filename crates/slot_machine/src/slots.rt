@@ -324,6 +324,8 @@ impl Slots {
         ensures in_step { (job : Job) (core : Core) (output : List ℕ) →
             IsMachineOf self.old job core →
             IsMachineOf self.new job (after_move job core (Ends ticket ok output)) }
+        ensures here { (job : Job) (core : Core) → IsMachineOf self.old job core →
+            is_checked self.old result ≡ true }
         ensures checked { (k : ℕ) → is_checked self.new k ≡ is_checked self.old k }
         ensures stopped { is_stopped_in self.new ≡ is_stopped_in self.old }
         ensures files { files_of self.new ≡ files_of self.old }

@@ -1,10 +1,10 @@
 -- What remains to be proved of `needs_of`.
-use Rattle.std.proofs.Common.{◌≡◌, ◌++◌, [], ◌∷◌, arith, sym, subst, ◌∙◌, ap, List, length, ◌+◌}
+use Rattle.std.proofs.Common.{sym, subst, ◌∙◌, ap, List, ◌+◌}
 use Rattle.std.specs.List.{list_all}
 use Rattle.vr_outside.specs.Records.{deps_at}
 use Rattle.build_plan.specs.declared.plans.Need.{Need}
 use Rattle.build_plan.specs.Plans.{is_fresh, need_at, has_fresh, is_recorded_at, ArePlannedTo}
-use Rattle.build_plan.proofs.Planned.{planned_more, planned_all}
+use Rattle.build_plan.proofs.Planned.{planned_more}
 use Rattle.build_plan.proofs.plans.needs_of.Goals as goal
 
 pub loop-at-preserved : goal.loop-at-preserved

@@ -1,5 +1,5 @@
 -- What remains to be proved of `count_unmade`.
-use Rattle.std.proofs.Common.{arith, refl, sym, ◌∙◌, ◌≡◌, true, false, get_or}
+use Rattle.std.proofs.Common.{arith, true, false}
 use Rattle.slot_machine.proofs.NewMachine.{undone_first, undone_step}
 use Rattle.slot_machine.proofs.lists.count_unmade.Goals.{then-not-made-dep, else-not-made-dep}
 use Rattle.slot_machine.proofs.lists.count_unmade.Goals as goal

@@ -1,5 +1,5 @@
 -- What the loop of `fresh_files` keeps: the files so far are told.
-use Rattle.std.proofs.Common.{◌≡◌, ℕ, ◌<◌, false, not, length, get_or}
+use Rattle.std.proofs.Common.{◌≡◌, ℕ, ◌<◌, false, length, get_or}
 use Rattle.build_plan.specs.Plans.{is_fresh, need_at}
 use Rattle.slot_machine.proofs.lists.fresh_files.Given as goal
 

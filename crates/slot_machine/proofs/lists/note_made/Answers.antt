@@ -1,8 +1,7 @@
 -- What remains to be proved of `note_made`.
-use Rattle.std.proofs.Common.{◌≡◌, ℕ, ◌∙◌, ◌||◌, ◌==◌, Bool, true, false, not, List, get_or, refl, sym, ap, subst}
+use Rattle.std.proofs.Common.{◌∙◌, true, false, get_or, sym}
 use Rattle.std.proofs.Math.ListN.{set}
 use Rattle.std.proofs.lemmas.List.{get_or_default}
-use Rattle.ready_files.specs.Waits.{AreWaitingFiles}
 use Rattle.slot_machine.proofs.Tests.{set_again, set_test}
 use Rattle.slot_machine.proofs.lists.note_made.Goals as goal
 

@@ -1,9 +1,7 @@
 -- What remains to be proved of `checked`.
-use Rattle.std.proofs.Common.{◌≡◌, ℕ, ◌+◌, ◌<◌, ◌≤◌, ◌==◌, ◌&&◌, ◌||◌, Bool, true, false, not, List, length, get_or, arith, refl, sym, ap, ◌∙◌}
+use Rattle.std.proofs.Common.{◌≡◌, ◌==◌, ◌||◌, Bool, true, false, not, List, length, get_or, arith, refl, sym, ap, ◌∙◌}
 use Rattle.std.proofs.lemmas.List.{length-set}
-use Rattle.ready_files.specs.Waits.{AreWaitingFiles}
-use Rattle.run_spec.specs.Moves.{Job, Core}
-use Rattle.slot_machine.specs.Machines.{is_stopped_in, files_of, tickets_of, is_checked, is_noted, count_in, IsMachineOf}
+use Rattle.slot_machine.specs.Machines.{is_stopped_in, files_of, tickets_of, is_checked, is_noted, count_in}
 use Rattle.slot_machine.proofs.Tests.{set_test}
 use Rattle.slot_machine.proofs.Sets.{more_by, no_more_in, one_more_in}
 use Rattle.slot_machine.proofs.NextSteps.{IsCheck, check_is}

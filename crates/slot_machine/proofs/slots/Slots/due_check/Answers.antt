@@ -1,5 +1,5 @@
 -- What remains to be proved of `due_check`.
-use Rattle.std.proofs.Common.{arith, sym, ap, ◌∙◌, ℕ}
+use Rattle.std.proofs.Common.{arith, sym, ◌∙◌}
 use Rattle.std.proofs.lemmas.Bool.{cond-true, cond-false}
 use Rattle.ready_files.specs.Waits.{is_listed}
 use Rattle.ready_files.proofs.WaitSteps.{unlisted_past}

@@ -1,7 +1,6 @@
 -- What remains to be proved of `end_child`.
 use Rattle.std.proofs.Common.{arith, refl, sym, ap, subst, ◌∙◌, ◌+◌, ◌<◌, Some, List, length, map, true, ◌≡◌}
 use Rattle.std.specs.Prelude.{All, Contains}
-use Rattle.std.specs.List.{remove}
 use Rattle.std.proofs.lemmas.List.Edits.{length-remove}
 use Rattle.run_spec.specs.Moves.{position_of, without_child}
 use Rattle.slot_machine.specs.Machines.{is_stopped_in, files_of, tickets_of, is_checked}

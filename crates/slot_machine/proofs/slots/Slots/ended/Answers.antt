@@ -28,3 +28,9 @@ returns-then-ok-clause-lawful c job core output step = lawful_end core c.args.ti
 
 pub returns-else-ok-clause-lawful : goal.returns-else-ok-clause-lawful
 returns-else-ok-clause-lawful c job core output step = lawful_end core c.args.ticket c.end_child-at.result (c.end_child-at.ensures.position job core step)
+
+pub returns-then-ok-clause-here : goal.returns-then-ok-clause-here
+returns-then-ok-clause-here c job core step = sym (c.end_child-at.ensures.same c.end_child-at.result) ∙ c.end_child-at.ensures.checked job core step
+
+pub returns-else-ok-clause-here : goal.returns-else-ok-clause-here
+returns-else-ok-clause-here c job core step = sym (c.end_child-at.ensures.same c.end_child-at.result) ∙ c.end_child-at.ensures.checked job core step

@@ -1,5 +1,5 @@
 -- What remains to be proved of `make`.
-use Rattle.std.proofs.Common.{arith, refl, sym, ap, ◌∙◌, ◌≡◌, Bool, true, List, length}
+use Rattle.std.proofs.Common.{arith, refl, ap, ◌∙◌, ◌≡◌, Bool, true, List, length}
 use Rattle.std.proofs.lemmas.List.{length-set}
 use Rattle.slot_machine.specs.Machines.{is_stopped_in, is_checked, files_of, tickets_of, count_in}
 use Rattle.slot_machine.proofs.Sets.{no_more_in}

@@ -1,8 +1,7 @@
 -- What remains to be proved of `new`.
-use Rattle.std.proofs.Common.{arith, refl, sym, ap, subst, subst₂, ◌∙◌, ◌≡◌, ◌<◌, ℕ, Bool, true, false, not, List, length, map, get_or}
+use Rattle.std.proofs.Common.{arith, refl, sym, ap, subst₂, ◌∙◌, ◌≡◌, Bool, true, false, not, List, length, map}
 use Rattle.build_plan.specs.declared.plans.Need.{Need}
 use Rattle.build_plan.specs.Plans.{is_fresh, is_stale, is_later, need_at}
-use Rattle.position_set.specs.Positions.{has}
 use Rattle.slot_machine.specs.Counts.{AreCountedTo}
 use Rattle.slot_machine.specs.Machines.{is_checked, is_stopped_in, files_of, tickets_of}
 use Rattle.child_steps.specs.declared.child.Child.{Child}

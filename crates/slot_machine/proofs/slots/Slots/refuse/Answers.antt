@@ -1,5 +1,5 @@
 -- What remains to be proved of `refuse`.
-use Rattle.std.proofs.Common.{arith, refl, ◌∙◌, ◌||◌, sym, ap, true, false}
+use Rattle.std.proofs.Common.{arith, refl, ◌∙◌}
 use Rattle.slot_machine.specs.Machines.{is_checked, is_stopped_in, files_of, tickets_of}
 use Rattle.slot_machine.proofs.MachineSteps.{in_step_refused, halt_refused, no_halt, nearer_by}
 use Rattle.slot_machine.proofs.slots.Slots.refuse.Goals as goal

@@ -1,5 +1,5 @@
 -- What remains to be proved of `started`.
-use Rattle.std.proofs.Common.{arith, refl, sym, ap, subst, ◌∙◌, ◌≡◌, ◌<◌, Bool, List, [], ◌∷◌, length, map}
+use Rattle.std.proofs.Common.{arith, refl, sym, ap, subst, ◌∙◌, ◌<◌, List, [], ◌∷◌, length, map}
 use Rattle.std.specs.Prelude.{All}
 use Rattle.std.proofs.lemmas.List.{map-append, length-append}
 use Rattle.std.proofs.lemmas.List.Elements.{All-push}

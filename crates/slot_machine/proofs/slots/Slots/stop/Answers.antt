@@ -1,5 +1,5 @@
 -- What remains to be proved of `stop`.
-use Rattle.std.proofs.Common.{arith, refl, sym, true, false, ◌≡◌, ◌||◌}
+use Rattle.std.proofs.Common.{arith, refl, sym}
 use Rattle.run_spec.specs.Moves.{Halts, after_move}
 use Rattle.slot_machine.specs.Machines.{is_checked, files_of, tickets_of}
 use Rattle.slot_machine.proofs.NextSteps.{start_is, no_check, no_start, on_from}
