@@ -1,5 +1,5 @@
 -- The lemmas.
-pub mod Tests
+pub mod Passing
 pub mod Sets
 pub mod NextSteps
 pub mod MachineSteps

@@ -20,7 +20,7 @@ use Rattle.child_steps.proofs.PlainSteps.{step_starts, step_waits, step_ends, no
 use Rattle.slot_machine.specs.declared.slots.Slots.{Slots}
 use Rattle.slot_machine.specs.declared.step.BuildStep.TheVariants.{Run}
 use Rattle.slot_machine.specs.Machines.{is_checked, is_noted, is_stopped_in, files_of, check_of, candidate_of, next_of, to_come, count_in, IsMachineOf}
-use Rattle.slot_machine.proofs.Tests.{by_all_below, list_all_more, list_all_same, first_same, none_passes, set_test}
+use Rattle.slot_machine.proofs.Passing.{by_all_below, list_all_more, list_all_same, first_same, none_passes, set_test}
 use Rattle.slot_machine.proofs.NextSteps.{IsCheck, IsStart, run_parts, end_runs}
 
 -- what a file depends on are files

@@ -12,7 +12,7 @@ use Rattle.child_steps.proofs.PlainSteps.{step_starts, step_waits, step_ends}
 use Rattle.slot_machine.specs.declared.slots.Slots.{Slots}
 use Rattle.slot_machine.specs.declared.step.BuildStep.TheVariants.{Check, Run}
 use Rattle.slot_machine.specs.Machines.{check_before, check_of, candidate_of, next_of, files_of}
-use Rattle.slot_machine.proofs.Tests.{first_is}
+use Rattle.slot_machine.proofs.Passing.{first_is}
 
 runs_when : (o : Option ℕ) (own step : Step) → check_before o own ≡ Run step → (o ≡ None) × (own ≡ step)
 runs_when None own step h = (refl, let same : own ≡ step = cc in same)

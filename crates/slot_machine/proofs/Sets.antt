@@ -7,7 +7,7 @@ use Rattle.vr_base.specs.PresentGraph.{below}
 use Rattle.position_set.specs.Positions.{has}
 use Rattle.position_set.specs.declared.set.PositionSet.{PositionSet}
 use Rattle.slot_machine.specs.Machines.{count_in}
-use Rattle.slot_machine.proofs.Tests.{or_no, or_yes}
+use Rattle.slot_machine.proofs.Passing.{or_no, or_yes}
 
 count_next : (p : ℕ → Bool) (n : ℕ) → count_by p (below (suc n)) ≡ count_by p (below n) + cond (p n) 1 0
 unfolding below

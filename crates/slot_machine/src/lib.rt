@@ -4,6 +4,8 @@
 mod lists;
 mod slots;
 mod step;
+#[cfg(test)]
+mod tests;
 
 pub use slots::Slots;
 pub use step::BuildStep;

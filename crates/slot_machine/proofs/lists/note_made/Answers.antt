@@ -2,7 +2,7 @@
 use Rattle.std.proofs.Common.{◌∙◌, true, false, get_or, sym}
 use Rattle.std.proofs.Math.ListN.{set}
 use Rattle.std.proofs.lemmas.List.{get_or_default}
-use Rattle.slot_machine.proofs.Tests.{set_again, set_test}
+use Rattle.slot_machine.proofs.Passing.{set_again, set_test}
 use Rattle.slot_machine.proofs.lists.note_made.Goals as goal
 
 pub returns-then-index-clause-made : goal.returns-then-index-clause-made

@@ -3,7 +3,7 @@ use Rattle.std.proofs.Common.{sym, ◌∙◌}
 use Rattle.std.proofs.lemmas.Bool.{cond-true, cond-false}
 use Rattle.position_set.specs.Positions.{has}
 use Rattle.slot_machine.specs.Machines.{candidate_of, files_of}
-use Rattle.slot_machine.proofs.Tests.{next_first}
+use Rattle.slot_machine.proofs.Passing.{next_first}
 use Rattle.slot_machine.proofs.slots.Slots.candidate.Goals as goal
 
 pub returns-then-is_free : goal.returns-then-is_free

@@ -2,7 +2,7 @@
 use Rattle.std.proofs.Common.{◌≡◌, ◌==◌, ◌||◌, Bool, true, false, not, List, length, get_or, arith, refl, sym, ap, ◌∙◌}
 use Rattle.std.proofs.lemmas.List.{length-set}
 use Rattle.slot_machine.specs.Machines.{is_stopped_in, files_of, tickets_of, is_checked, is_noted, count_in}
-use Rattle.slot_machine.proofs.Tests.{set_test}
+use Rattle.slot_machine.proofs.Passing.{set_test}
 use Rattle.slot_machine.proofs.Sets.{more_by, no_more_in, one_more_in}
 use Rattle.slot_machine.proofs.NextSteps.{IsCheck, check_is}
 use Rattle.slot_machine.proofs.MachineSteps.{in_step_checked, waits_less, and_true, no_end, nearer_check}

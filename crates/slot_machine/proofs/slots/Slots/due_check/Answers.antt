@@ -4,7 +4,7 @@ use Rattle.std.proofs.lemmas.Bool.{cond-true, cond-false}
 use Rattle.ready_files.specs.Waits.{is_listed}
 use Rattle.ready_files.proofs.WaitSteps.{unlisted_past}
 use Rattle.slot_machine.specs.Machines.{check_of, files_of}
-use Rattle.slot_machine.proofs.Tests.{next_first}
+use Rattle.slot_machine.proofs.Passing.{next_first}
 use Rattle.slot_machine.proofs.slots.Slots.due_check.Goals as goal
 
 pub returns-then-self : goal.returns-then-self

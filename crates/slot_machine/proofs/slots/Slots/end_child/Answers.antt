@@ -8,7 +8,7 @@ use Rattle.child_steps.specs.Steps.{running_child, without_ticket}
 use Rattle.child_steps.specs.declared.child.Child.{Child}
 use Rattle.child_steps.proofs.ChildLists.{IsFirst, first_position, first_without, first_ticket}
 use Rattle.slot_machine.proofs.MachineSteps.{in_step_as, nearer_end}
-use Rattle.slot_machine.proofs.Tests.{all_removed}
+use Rattle.slot_machine.proofs.Passing.{all_removed}
 use Rattle.slot_machine.proofs.slots.Slots.end_child.Goals as goal
 
 first : (c : goal.After-self-1) → IsFirst c.args.self.now.children.items c.args.ticket c.remove-child.result c.index_of-at.result
