@@ -1,20 +1,18 @@
 -- What is left to be taken after some files were.
-use Rattle.std.specs.Prelude.{◌≡◌, ℕ, ◌<◌, Bool, not, false, List, [], length, slice_index_or}
+use Rattle.std.specs.Prelude.{◌≡◌, ℕ, ◌<◌, nat_lt, Bool, not, false, if◌then◌else◌, List, [], length, slice_index_or}
 use Rattle.order_spec.specs.BuildOrder.{deps_in, has_taken}
-use Rattle.build_order.specs.Counts.{occurrences, untaken_deps}
-use Rattle.build_order.specs.declared.untaken.Untaken.{Untaken}
+use Rattle.ready_files.specs.Waits.{AreWaitingFiles}
+use Rattle.ready_files.specs.declared.files.ReadyFiles.{ReadyFiles}
 
 -- of each file whether it wasn't taken
 pub record AreWaiting (waiting : List Bool) (count : ℕ) (taken : List ℕ) : Type 0 where
   pub as_many : length waiting ≡ count
   pub each : (file : ℕ) → file < count → slice_index_or waiting file false ≡ not (has_taken taken file)
 
--- the lists are those of the files of a project of which some were taken
-pub record IsUntaken (left : Untaken) (edges : List (List ℕ)) (taken : List ℕ) : Type 0 where
-  pub waiting : AreWaiting left.waiting.items (length edges) taken
-  pub missing : (file : ℕ) → file < length edges → slice_index_or left.missing.items file 0 ≡ untaken_deps edges taken file
-  pub users : (dep file : ℕ) → dep < length edges → file < length edges → occurrences file (slice_index_or left.users.items dep []) ≡ occurrences dep (deps_in edges file)
+-- each file that wasn't taken waits until all that it depends on was
+abbrev pub IsUntaken : ReadyFiles → List (List ℕ) → List ℕ → Type 0
+IsUntaken left edges taken = AreWaitingFiles left (length edges) (deps_in edges) (λ file. not (has_taken taken file)) (has_taken taken)
 
--- how many files there are
-unfoldable pub untaken_files : Untaken → ℕ
-untaken_files left = length left.waiting.items
+-- nothing was taken, and what the files below a position depend on is noted
+abbrev pub IsUntakenTo : ReadyFiles → List (List ℕ) → ℕ → Type 0
+IsUntakenTo left edges end = AreWaitingFiles left (length edges) (λ file. if nat_lt file end then deps_in edges file else []) (λ file. not (has_taken [] file)) (has_taken [])

@@ -1,7 +1,6 @@
 //! The order in which files are compiled, by what they depend on, or the cycle that leaves them without one.
 #![tactic(auto)]
 
-mod counting;
 mod cycle;
 mod edges;
 mod ordering;

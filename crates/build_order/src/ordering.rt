@@ -5,26 +5,27 @@ ghost use Rattle.order_spec.specs.BuildOrder.{AreEdges, GivesOrder, file_order, 
 ghost use Rattle.build_order.specs.Untakens.{IsUntaken};
 
 use crate::cycle::cycle_of;
-use crate::untaken::Untaken;
+use crate::untaken::{next_free, none_taken, take, untaken};
+use ready_files::ReadyFiles;
 use std::alloc::Global;
 use vr_base::{Edges, NoMemory, Order, OrderFault};
 
 /// Takes the first file that can be taken, if there is one.
-fn take_next(left: &mut Untaken, order: &mut Order) -> Result<(), NoMemory>
+fn take_next(left: &mut ReadyFiles, order: &mut Order) -> Result<(), NoMemory>
     ensures { OnOk result ((edges : List (List ℕ)) → IsUntaken left.old edges order.old →
         (order.new ≡ with_taken order.old (first_free edges order.old)) ×
         IsUntaken left.new edges order.new) }
 {
-    let Some(at) = left.next() else {
+    let Some(at) = next_free(left) else {
         return Ok(());
     };
-    left.take(at);
+    take(left, at);
     order.push(at)?;
     Ok(())
 }
 
 /// Takes all files that can be taken, in their order.
-fn take_files(alloc: Global, left: &mut Untaken, edges: &Edges) -> Result<Order, NoMemory>
+fn take_files(alloc: Global, left: &mut ReadyFiles, edges: &Edges) -> Result<Order, NoMemory>
     requires { IsUntaken left.old edges.now [] }
     ensures order { IfOk result (λ order. order ≡ all_taken edges.now) }
     ensures left { IfOk result (λ order. IsUntaken left.new edges.now order) }
@@ -44,11 +45,11 @@ pub fn order(alloc: Global, edges: &Edges) -> Result<Order, OrderFault>
     ensures exact { GivesOrder (file_order edges.now) result }
     ensures sorted { IfOk result (IsBuildOrder edges.now) }
 {
-    let mut left = Untaken::new(alloc, edges)?;
+    let mut left = none_taken(alloc, edges)?;
     let order = take_files(alloc, &mut left, edges)?;
     if order.len() == edges.len() {
         return Ok(order);
     }
-    let files = cycle_of(alloc, edges, left.waiting())?;
+    let files = cycle_of(alloc, edges, untaken(&left))?;
     Err(OrderFault::Cycle { files })
 }

@@ -1,86 +1,64 @@
-//! What is left to be taken, and which file is taken next.
+//! What is left to be taken of the files of a project, and which file is taken next.
 
-ghost use Rattle.std.specs.Prelude.{◌≡◌, ℕ, List, ◌≤◌, length};
-ghost use Rattle.vr_base.specs.declared.limits.TheConstants.{FILE_LIMIT};
-ghost use Rattle.position_set.specs.Positions.{has};
-ghost use Rattle.build_order.specs.Counts.{HasReady};
+ghost use Rattle.std.specs.Prelude.{◌≡◌, ℕ, List, [], ◌∷◌, ◌++◌, ◌<◌, ◌≤◌, false, length, IfOk, OnOk};
+ghost use Rattle.std.specs.Option.{IfSome};
+ghost use Rattle.ready_files.specs.Waits.{file_count};
+ghost use Rattle.order_spec.specs.BuildOrder.{AreEdges, first_free, has_taken};
+ghost use Rattle.build_order.specs.Untakens.{AreWaiting, IsUntaken, IsUntakenTo};
 
-use crate::counting::{dep_counts, lower, ready_files, take_out, users_of};
-use position_set::PositionSet;
+use ready_files::ReadyFiles;
 use std::alloc::Global;
 use vr_base::{Edges, FILE_LIMIT, NoMemory, Positions};
 
-/// The files of a project of which some were taken. All calls together take time in proportion to files and edges, and
-/// one word of 64 files more for each file that is taken.
-#[derive(Drop)]
-pub(crate) struct Untaken {
-    /// The files that weren't taken.
-    waiting: Vec<bool>,
-    /// Of each file how many of what it depends on weren't taken.
-    missing: Vec<usize>,
-    /// Of each file the files that depend on it.
-    users: Vec<Positions>,
-    /// The files that can be taken.
-    ready: PositionSet,
-    ghost few: { length waiting.items ≤ FILE_LIMIT },
-    ghost as_many_missing: { length missing.items ≡ length waiting.items },
-    ghost as_many_users: { length users.items ≡ length waiting.items },
-    ghost exact: { HasReady (has ready) waiting.items missing.items },
+/// Notes what the files depend on.
+fn add_files(left: &mut ReadyFiles, edges: &[Positions]) -> Result<(), NoMemory>
+    requires few { length edges.now ≤ FILE_LIMIT }
+    requires edges { AreEdges edges.now }
+    requires left { IsUntakenTo left.old edges.now 0 }
+    ensures { OnOk result (IsUntaken left.new edges.now []) }
+{
+    for file in 0..edges.len() {
+        let deps = edges[file].as_slice();
+        left.depends(file as u32, deps, deps.len())?;
+    }
+    Ok(())
 }
 
-impl Untaken {
-    ghost use Rattle.std.specs.Prelude.{◌≡◌, ℕ, List, [], ◌∷◌, ◌++◌, ◌<◌, false, length, IfOk};
-    ghost use Rattle.std.specs.Option.{IfSome};
-    ghost use Rattle.order_spec.specs.BuildOrder.{AreEdges, first_free, has_taken};
-    ghost use Rattle.build_order.specs.Untakens.{IsUntaken, AreWaiting, untaken_files};
+/// Nothing was taken yet.
+pub(crate) fn none_taken(alloc: Global, edges: &Edges) -> Result<ReadyFiles, NoMemory>
+    requires { AreEdges edges.now }
+    ensures { IfOk result (λ left. IsUntaken left edges.now []) }
+{
+    let edges = edges.as_slice();
+    let waiting = vec![in alloc; true; edges.len()]?;
+    let mut left = ReadyFiles::new(alloc, waiting)?;
+    add_files(&mut left, edges)?;
+    Ok(left)
+}
 
-    /// Nothing was taken yet.
-    pub(crate) fn new(alloc: Global, edges: &Edges) -> Result<Untaken, NoMemory>
-        requires { AreEdges edges.now }
-        ensures { IfOk result (λ left. IsUntaken left edges.now []) }
-    {
-        let edges = edges.as_slice();
-        let waiting = vec![in alloc; true; edges.len()]?;
-        let missing = dep_counts(alloc, edges)?;
-        let users = users_of(alloc, edges)?;
-        let ready = ready_files(waiting.as_slice(), missing.as_slice());
-        Ok(Untaken {
-            waiting,
-            missing,
-            users,
-            ready,
-        })
-    }
+/// The first file that can be taken.
+pub(crate) fn next_free(left: &ReadyFiles) -> Option<u32>
+    ensures within { IfSome result (λ at. at < file_count left.now) }
+    ensures first { (edges : List (List ℕ)) (taken : List ℕ) → IsUntaken left.now edges taken →
+        result ≡ first_free edges taken }
+{
+    left.next()
+}
 
-    /// The first file that can be taken.
-    pub(crate) fn next(&self) -> Option<u32>
-        ensures within { IfSome result (λ at. at < untaken_files self.now) }
-        ensures first { (edges : List (List ℕ)) (taken : List ℕ) → IsUntaken self.now edges taken →
-            result ≡ first_free edges taken }
-    {
-        self.ready.next_from(0)
-    }
+/// A file that wasn't taken is taken.
+pub(crate) fn take(left: &mut ReadyFiles, at: u32)
+    requires { at < file_count left.old }
+    ensures { (edges : List (List ℕ)) (taken : List ℕ) → IsUntaken left.old edges taken →
+        has_taken taken at ≡ false → IsUntaken left.new edges (taken ++ at ∷ []) }
+{
+    left.take(at);
+    left.done(at);
+}
 
-    /// A file that wasn't taken is taken.
-    pub(crate) fn take(&mut self, at: u32)
-        requires { at < untaken_files self.old }
-        ensures { (edges : List (List ℕ)) (taken : List ℕ) → IsUntaken self.old edges taken →
-            has_taken taken at ≡ false → IsUntaken self.new edges (taken ++ at ∷ []) }
-    {
-        take_out(&mut self.waiting, &mut self.ready, at);
-        lower(
-            self.users[at as usize].as_slice(),
-            self.waiting.as_slice(),
-            &mut self.missing,
-            &mut self.ready,
-        );
-    }
-
-    /// Of each file whether it wasn't taken.
-    pub(crate) fn waiting(&self) -> &[bool]
-        ensures { (edges : List (List ℕ)) (taken : List ℕ) → IsUntaken self.now edges taken →
-            AreWaiting result.now (length edges) taken }
-    {
-        self.waiting.as_slice()
-    }
+/// Of each file whether it wasn't taken.
+pub(crate) fn untaken(left: &ReadyFiles) -> &[bool]
+    ensures { (edges : List (List ℕ)) (taken : List ℕ) → IsUntaken left.now edges taken →
+        AreWaiting result.now (length edges) taken }
+{
+    left.waiting()
 }

@@ -1,8 +1,6 @@
-//! What a build has to do: which files of a graph are stale over the records of a store.
+//! What a build has to do: which files of a graph are fresh or stale over the records of a store, and which are checked later.
 #![tactic(auto)]
 
 mod plans;
-#[cfg(test)]
-mod tests;
 
-pub use plans::{BuildPlan, plan};
+pub use plans::{BuildPlan, Need, Needs, plan};

@@ -28,8 +28,8 @@ halted_not core = ap (λ (b : Bool). record { taken = core.taken; running = core
 pub halted_after : (job : Job) (halts : Bool) (core : Core) (move : Move) → after_move job (halted_if halts core) move ≡ halted_if halts (after_move job core move)
 unfolding after_move
 halted_after job halts core (Starts position ticket) = refl
-halted_after job halts core (Ends ticket ok) =
-    ap (λ (b : Bool). record (after_move job core (Ends ticket ok)) { halted = b }) (or_swap core.halted halts (not job.keep_going && not ok))
+halted_after job halts core (Ends ticket ok output) =
+    ap (λ (b : Bool). record (after_move job core (Ends ticket ok output)) { halted = b }) (or_swap core.halted halts (not job.keep_going && not ok))
 halted_after job halts core (Loses ticket) = refl
 halted_after job halts core Halts = refl
 

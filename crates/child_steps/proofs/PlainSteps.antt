@@ -1,10 +1,10 @@
 -- What a step says, and what the moves of an end are, apart from any machine.
-use Rattle.std.proofs.Common.{◌≡◌, ◌≢◌, ℕ, ◌<◌, ◌≤◌, ◌==◌, nat_lt, Bool, true, false, not, ◌&&◌, ◌||◌, cond, List, [], ◌∷◌, ◌++◌, length, Some, None, refl, sym, ap, ◌∙◌, arith, inl, inr}
+use Rattle.std.proofs.Common.{◌≡◌, ℕ, ◌≤◌, ◌==◌, nat_lt, Bool, true, false, not, ◌&&◌, ◌||◌, cond, List, [], ◌∷◌, ◌++◌, length, Some, None, refl, sym, ap, ◌∙◌, arith, inl, inr}
 use Rattle.std.specs.Prelude.{Option, IsTrue, is_none}
 use Rattle.std.specs.List.{list_any}
-use Rattle.std.proofs.lemmas.Bool.{cases_Bool, cond-true, cond-false, lt-ltb, or_left, or_right, ne_eqb}
+use Rattle.std.proofs.lemmas.Bool.{cases_Bool, cond-false, lt-ltb, or_left, or_right}
 use Rattle.std.proofs.lemmas.List.Folds.{list_any-append}
-use Rattle.run_spec.specs.Moves.{Job, Core, RunningChild, EndedChild, Ends, is_made_so_far, after_move, without_child, position_of, ended_child, is_running}
+use Rattle.run_spec.specs.Moves.{Job, Core, RunningChild, EndedChild, Ends, has_ended_well, after_move, without_child, position_of, ended_child, is_running}
 use Rattle.child_steps.specs.Steps.{step_of, with_end, without_ticket}
 use Rattle.child_steps.specs.declared.step.Step.TheVariants.{Start, Wait, Finished}
 
@@ -30,10 +30,10 @@ pub step_wait : (o : Option ℕ) (idle : Bool) → o ≡ None → idle ≡ false
 step_wait o idle none is = sym (ap (λ p. step_of p idle) none ∙ ap (λ b. step_of None b) is)
 
 -- an end is that of the run at the position of its ticket
-pub ends_as : (job : Job) (core : Core) (ticket at : ℕ) (ok : Bool) → position_of ticket core.running ≡ Some at → with_end job (without_ticket ticket core) at ok ≡ after_move job core (Ends ticket ok)
+pub ends_as : (job : Job) (core : Core) (ticket at : ℕ) (ok : Bool) (output : List ℕ) → position_of ticket core.running ≡ Some at → with_end job (without_ticket ticket core) at ok output ≡ after_move job core (Ends ticket ok output)
 unfolding after_move
-ends_as job core ticket at ok is =
-    ap (λ (o : Option ℕ). record { taken = core.taken; running = without_child ticket core.running; ended = core.ended ++ ended_child o ok; halted = core.halted || (not job.keep_going && not ok) }) (sym is)
+ends_as job core ticket at ok output is =
+    ap (λ (o : Option ℕ). record { taken = core.taken; running = without_child ticket core.running; ended = core.ended ++ ended_child o ok output; halted = core.halted || (not job.keep_going && not ok) }) (sym is)
 
 pub no_running : (children : List RunningChild) → length children ≡ 0 → children ≡ []
 no_running [] none = refl
@@ -60,15 +60,15 @@ running_has (child ∷ children) ticket at h = elim (cases_Bool (child.ticket ==
 pub lawful_end : (core : Core) (ticket at : ℕ) → position_of ticket core.running ≡ Some at → IsTrue (is_running core ticket)
 lawful_end core ticket at h = running_has core.running ticket at h
 
-or_both : (n x y ok : Bool) → (n || (x || ((y && ok) || false))) ≡ ((n || x) || (y && ok))
-or_both true x y ok = refl
-or_both false true y ok = refl
-or_both false false true true = refl
-or_both false false true false = refl
-or_both false false false ok = refl
+well_one : (x y ok : Bool) → (x || ((y && ok) || false)) ≡ (x || (y && ok))
+well_one true y ok = refl
+well_one false true true = refl
+well_one false true false = refl
+well_one false false ok = refl
 
--- what is made after an end
-pub made_after_end : (job : Job) (core : Core) (at : ℕ) (ok : Bool) (k : ℕ) → is_made_so_far job (with_end job core at ok) k ≡ (is_made_so_far job core k || ((at == k) && ok))
-made_after_end job core at ok k =
-    ap (λ b. not (job.is_due k) || b) (list_any-append (λ (end : EndedChild). (end.position == k) && end.ok) core.ended ((record { position = at; ok = ok }) ∷ []))
-    ∙ or_both (not (job.is_due k)) (list_any (λ (end : EndedChild). (end.position == k) && end.ok) core.ended) (at == k) ok
+-- whose children have ended well after one more end
+pub well_after_end : (ended : List EndedChild) (end : EndedChild) (k : ℕ) → has_ended_well (ended ++ end ∷ []) k ≡ (has_ended_well ended k || (end.position == k && end.ok))
+unfolding has_ended_well
+well_after_end ended end k =
+    list_any-append (λ (e : EndedChild). (e.position == k) && e.ok) ended (end ∷ [])
+    ∙ well_one (list_any (λ (e : EndedChild). (e.position == k) && e.ok) ended) (end.position == k) end.ok

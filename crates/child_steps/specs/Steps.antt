@@ -1,5 +1,5 @@
 -- The steps of a job, and its children as moves speak of them.
-use Rattle.std.specs.Prelude.{◌≡◌, ℕ, Bool, true, false, not, ◌&&◌, ◌||◌, ◌==◌, if◌then◌else◌, List, [], ◌∷◌, ◌++◌, length, Option, Some, None}
+use Rattle.std.specs.Prelude.{ℕ, Bool, not, ◌&&◌, ◌||◌, ◌==◌, if◌then◌else◌, List, [], ◌∷◌, ◌++◌, length, Option, Some, None}
 use Rattle.run_spec.specs.Moves.{Job, Core, RunningChild, start_now, without_child}
 use Rattle.child_steps.specs.declared.child.Child.{Child}
 use Rattle.child_steps.specs.declared.step.Step.{Step}
@@ -23,9 +23,9 @@ abbrev pub without_ticket : ℕ → Core → Core
 without_ticket ticket core = record { taken = core.taken; running = without_child ticket core.running; ended = core.ended; halted = core.halted }
 
 -- what has happened, and a child of the file, or of the run, at a position has ended
-abbrev pub with_end : Job → Core → ℕ → Bool → Core
-with_end job core position ok =
-    record { taken = core.taken; running = core.running; ended = core.ended ++ (record { position = position; ok = ok }) ∷ []; halted = core.halted || (not job.keep_going && not ok) }
+abbrev pub with_end : Job → Core → ℕ → Bool → List ℕ → Core
+with_end job core position ok output =
+    record { taken = core.taken; running = core.running; ended = core.ended ++ (record { position = position; ok = ok; output = output }) ∷ []; halted = core.halted || (not job.keep_going && not ok) }
 
 -- what has happened, but nothing more is started where something else halts it
 abbrev pub halted_if : Bool → Core → Core

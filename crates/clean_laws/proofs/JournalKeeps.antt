@@ -1,31 +1,25 @@
 -- What stays so in a journal: what was taken runs or has ended, and a build is halted by a refusal.
-use Rattle.std.proofs.Common.{◌≡◌, ℕ, zero, suc, ◌<◌, Bool, true, false, not, ◌||◌, ◌&&◌, eqb, List, [], ◌∷◌, ◌++◌, Option, Some, None, refl, sym, ap, subst, ◌∙◌, arith, inl, inr}
-use Rattle.std.specs.Prelude.{All, slice_get, is_some, is_none, unwrap_or}
+use Rattle.std.proofs.Common.{◌≡◌, ℕ, Bool, true, false, not, ◌||◌, eqb, List, [], ◌∷◌, ◌++◌, Option, Some, None, refl, sym, ap, subst, ◌∙◌, inl, inr}
+use Rattle.std.specs.Prelude.{All, unwrap_or}
 use Rattle.std.specs.Option.{option_map}
 use Rattle.std.specs.List.{list_all, list_any}
-use Rattle.std.proofs.lemmas.Bool.{cases_Bool, cases_lt, eq-eqb, eqb-true, cond-true, cond-false, and_left, and_parts, and_from, and_cases, or_cases, or_parts, or_left, or_right, not-false, both_ways}
+use Rattle.std.proofs.lemmas.Bool.{cases_Bool, eq-eqb, and_parts, and_from, and_cases, or_cases, or_parts, or_left, or_right, not-false}
 use Rattle.std.proofs.lemmas.List.Elements.{All-nil, All-head, All-tail, All-push, All-weaker}
 use Rattle.std.proofs.lemmas.List.Folds.{list_any-append}
-use Rattle.std.proofs.lemmas.Option.{none-some, same_Some}
+use Rattle.std.proofs.lemmas.Option.{none-some}
 use Rattle.vr_base.specs.declared.child.Request.{Request}
 use Rattle.vr_base.specs.declared.child.Exit.{Exit}
 use Rattle.vr_base.specs.declared.child.Event.{Event}
 use Rattle.vr_base.specs.declared.child.Event.TheVariants.{Started, Ended, Gone}
-use Rattle.vr_base.specs.Graphs.{IsGraph}
-use Rattle.run_spec.specs.Moves.{is_startable}
-use Rattle.run_spec.specs.ChildJournal.{Work, Run, End, Book, empty_book, exit_at, output_at, artefact_so_far, deps_of, job_of, core_of, next_position, run_of, others_of, end_of, after, after_all, book_of, Answered, Lawful, is_gone}
-use Rattle.run_spec.proofs.Journal.{startable_is}
+use Rattle.run_spec.specs.ChildJournal.{Work, Run, End, Book, empty_book, exit_at, next_position, run_of, others_of, end_of, after, after_all, book_of, Answered, Lawful, is_gone}
+use Rattle.run_spec.specs.Settled.{has_ended}
 use Rattle.run_spec.proofs.Steps.{Steps, run_found, All-others, steps_of}
-use Rattle.clean_laws.proofs.JournalBooks.{found_deps_before, not_recorded}
 
 abbrev pub was_taken : Book → ℕ → Bool
 was_taken book position = list_any (λ other. eqb other position) book.taken
 
 abbrev pub runs_at : List Run → ℕ → Bool
 runs_at runs position = list_any (λ run. eqb run.position position) runs
-
-abbrev pub has_ended : List End → ℕ → Bool
-has_ended ends position = is_some (exit_at ends position)
 
 -- a child ended with another code than 0
 abbrev pub is_refusal : End → Bool
@@ -198,77 +192,3 @@ any_found p P (x ∷ xs) h all =
       | inl here ↦ (x, here, All-head P x xs all)
       | inr rest ↦ any_found p P xs rest (All-tail P x xs all)
     ]
-
--- what is recorded is made
-pub recorded_made : (setting : Work) (ends : List End) (position : ℕ) (artefact : List ℕ) → setting.recorded position ≡ Some artefact → is_some (artefact_so_far setting ends position) ≡ true
-unfolding artefact_so_far
-recorded_made setting ends position artefact e = rw e refl
-
--- the first end at a position gives the artefact where its code is 0
-pub exit_output : (ends : List End) (position : ℕ) (exit : Exit) → exit_at ends position ≡ Some exit → eqb exit.code 0 ≡ true → output_at ends position ≡ Some exit.output
-unfolding exit_at output_at
-exit_output [] position exit h z = absurd (none-some exit h)
-exit_output (end ∷ ends) position exit h z =
-    elim (cases_Bool (eqb end.position position)) [
-      | inl t ↦
-          let same : end.exit ≡ exit = same_Some end.exit exit (sym (cond-true (eqb end.position position) (Some end.exit) (exit_at ends position) t) ∙ h) in
-          let code : eqb end.exit.code 0 ≡ true = ap (λ (e : Exit). eqb e.code 0) same ∙ z in
-          cond-true (eqb end.position position && eqb end.exit.code 0) (Some end.exit.output) (output_at ends position) (and_from _ _ t code) ∙ ap (λ (e : Exit). Some e.output) same
-      | inr f ↦
-          cond-false (eqb end.position position && eqb end.exit.code 0) (Some end.exit.output) (output_at ends position) (and_left _ _ f)
-          ∙ exit_output ends position exit (sym (cond-false (eqb end.position position) (Some end.exit) (exit_at ends position) f) ∙ h) z
-    ]
-
--- and so is what ended with code 0
-pub ended_made : (setting : Work) (ends : List End) (position : ℕ) (exit : Exit) → setting.recorded position ≡ None → exit_at ends position ≡ Some exit → eqb exit.code 0 ≡ true →
-    is_some (artefact_so_far setting ends position) ≡ true
-unfolding artefact_so_far
-ended_made setting ends position exit none e z = rw (none, exit_output ends position exit e z) refl
-
--- a file that wasn't taken has no end, and no artefact where none is recorded
-output_none : (book : Book) (ends : List End) (position : ℕ) → All (λ end. was_taken book end.position ≡ true) ends → was_taken book position ≡ false → output_at ends position ≡ None
-unfolding output_at
-output_none book [] position all fresh = refl
-output_none book (end ∷ ends) position all fresh =
-    elim (cases_Bool (eqb end.position position && eqb end.exit.code 0)) [
-      | inl t ↦
-          let same : end.position ≡ position = eqb-true end.position position (and_parts _ _ t).0 in
-          absurd (both_ways (was_taken book position) fresh (subst (λ (k : ℕ). was_taken book k ≡ true) same (All-head (λ e. was_taken book e.position ≡ true) end ends all)))
-      | inr f ↦ cond-false _ _ _ f ∙ output_none book ends position (All-tail (λ e. was_taken book e.position ≡ true) end ends all) fresh
-    ]
-
-pub none_of_untaken : (setting : Work) (book : Book) (position : ℕ) → All (λ end. was_taken book end.position ≡ true) book.ends → was_taken book position ≡ false → setting.recorded position ≡ None →
-    artefact_so_far setting book.ends position ≡ None
-unfolding artefact_so_far
-none_of_untaken setting book position ends fresh none = rw (none, output_none book book.ends position ends fresh) refl
-
-module _ (setting : Work) (graph : IsGraph setting.graph) (book : Book) where
-  -- a file that was not taken and has no artefact may be started where all earlier ones are made
-  pub is_open : (position : ℕ) → ((k : ℕ) → k < position → is_some (artefact_so_far setting book.ends k) ≡ true) → was_taken book position ≡ false → artefact_so_far setting book.ends position ≡ None →
-      is_startable (job_of setting) (core_of book) position ≡ true
-  is_open position before fresh none =
-      let deps : list_all (λ dep. is_some (artefact_so_far setting book.ends dep)) (deps_of (slice_get setting.graph position)) ≡ true =
-      list_all-from_All (λ dep. is_some (artefact_so_far setting book.ends dep)) (deps_of (slice_get setting.graph position))
-      (All-weaker (λ dep. dep < position) (λ dep. is_some (artefact_so_far setting book.ends dep) ≡ true) before (deps_of (slice_get setting.graph position)) (found_deps_before setting.graph graph position)) in
-      startable_is setting book position ∙ and_from _ _ (and_from _ _ (ap not fresh) (ap is_none none)) deps
-
-  -- where none of the first files may be started and all taken ones are made, all are made
-  pub all_made : (count : ℕ) → ((k : ℕ) → k < count → is_startable (job_of setting) (core_of book) k ≡ false) →
-      ((k : ℕ) → k < count → was_taken book k ≡ true → setting.recorded k ≡ None → is_some (artefact_so_far setting book.ends k) ≡ true) →
-      (k : ℕ) → k < count → is_some (artefact_so_far setting book.ends k) ≡ true
-  all_made zero closed taken k lt = absurd (omega arith)
-  all_made (suc n) closed taken k lt =
-      elim (cases_lt k n) [
-        | inl low ↦ all_made n (λ j l. closed j (omega arith)) (λ j l. taken j (omega arith)) k low
-        | inr last ↦
-            let same : n ≡ k = omega arith in
-            subst (λ (j : ℕ). is_some (artefact_so_far setting book.ends j) ≡ true) same
-            (here (artefact_so_far setting book.ends n) refl (all_made n (λ j l. closed j (omega arith)) (λ j l. taken j (omega arith))))
-      ] where
-        here : (artefact : Option (List ℕ)) → artefact_so_far setting book.ends n ≡ artefact → ((j : ℕ) → j < n → is_some (artefact_so_far setting book.ends j) ≡ true) → is_some (artefact_so_far setting book.ends n) ≡ true
-        here (Some artefact) e before = ap is_some e
-        here None e before =
-            elim (cases_Bool (was_taken book n)) [
-              | inl t ↦ taken n (omega arith) t (not_recorded setting book.ends n e)
-              | inr f ↦ absurd (both_ways _ (closed n (omega arith)) (is_open n before f e))
-            ]

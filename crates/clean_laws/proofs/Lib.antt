@@ -1,11 +1,12 @@
 -- The lemmas.
 pub mod CleanPlaces
+pub mod CleanSettled
 pub mod CleanViews
 pub mod TrueRecords
 pub mod JournalBooks
 pub mod JournalKeeps
-pub mod JournalMarks
 pub mod JournalStarted
-pub mod JournalOutcomes
+pub mod JournalAnswers
+pub mod JournalSettled
 pub mod CleanCommits
 pub mod EndsOnce

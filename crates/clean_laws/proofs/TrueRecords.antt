@@ -20,7 +20,7 @@ use Rattle.vr_outside.specs.declared.records.Record.{Record}
 use Rattle.vr_outside.specs.Records.{last_entry, is_of, latest, is_replaced, latest_alone}
 use Rattle.run_spec.specs.CleanBuild.{Result, Made, Refused, Blocked, built_of, built_below, result_of, is_free, next_result, clean_build, RecordsClean}
 use Rattle.run_spec.specs.Faithful.{IsTrueRecord}
-use Rattle.run_spec.specs.Recorded.{recorded_at}
+use Rattle.run_spec.specs.Recorded.{current_by_view}
 use Rattle.run_spec.proofs.SameViews.{same_names}
 use Rattle.run_spec.proofs.RecordedArtefacts.{record_of_recorded}
 use Rattle.source_view.proofs.ViewLaws.{viewed_of}
@@ -101,8 +101,8 @@ module _ (answer : Request → Exit) (graph : List Entry) (valid : IsGraph graph
 -- where the latest records are true, what is recorded of each file is what a clean build makes
 pub records_clean : (answer : Request → Exit) (latest_of : FileName → Option Record) (graph : List Entry) → IsGraph graph
     → ((name : FileName) (kept : Record) → latest_of name ≡ Some kept → IsTrueRecord answer kept)
-    → RecordsClean answer graph (recorded_at latest_of graph)
-records_clean answer latest_of graph valid holds position artefact entry recorded found =
+    → RecordsClean answer graph (current_by_view latest_of graph)
+records_clean answer latest_of graph valid holds position artefact entry found recorded =
     let of_record = record_of_recorded latest_of graph position artefact recorded in
     let is : latest_of of_record.0.entry.name ≡ Some (record { view = view graph position; artefact = artefact }) =
     of_record.0.is ∙ ap (λ (bytes : List ℕ). Some (record { view = view graph position; artefact = bytes })) of_record.1 in

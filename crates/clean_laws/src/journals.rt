@@ -8,14 +8,16 @@ ghost use Rattle.vr_base.specs.declared.child.Exit.{Exit};
 ghost use Rattle.vr_base.specs.declared.child.Event.{Event};
 ghost use Rattle.vr_base.specs.declared.child.Event.TheVariants.{Started};
 ghost use Rattle.vr_base.specs.Graphs.{IsGraph};
-ghost use Rattle.run_spec.specs.ChildJournal.{Work, Lawful, Answered, IsWhole, artefact_after, book_of, built_file, next_position};
+ghost use Rattle.run_spec.specs.ChildJournal.{Work, Lawful, Answered, IsWhole, artefact_after, artefact_so_far, book_of, next_position};
 ghost use Rattle.run_spec.specs.Commits.{commits};
 ghost use Rattle.run_spec.specs.Faithful.{IsTrueRecord};
 ghost use Rattle.run_spec.specs.JournalParts.{compile_part, test_part};
-ghost use Rattle.run_spec.specs.CleanBuild.{Made, built_of, clean_build, clean_request, request_unless, RecordsClean};
+ghost use Rattle.run_spec.specs.CleanBuild.{Made, clean_build, clean_request, RecordsClean};
+ghost use Rattle.run_spec.specs.Settled.{artefact_settled, request_unless};
 ghost use Rattle.run_spec.specs.Marks.{marks_of, steady_marks, is_refused, NoRefusalHalts};
 
-/// What lawful journals of builds ask for and make, where what is recorded is what a clean build makes.
+/// What lawful journals of builds ask for and make, by what the settled build does; and where what is recorded is what a
+/// clean build makes, by that.
 pub fn laws_of_journals()
     // All events of a lawful journal are compilers', none is a test's,
     ensures compiles { (setting : Work) (events : List Event) →
@@ -27,74 +29,79 @@ pub fn laws_of_journals()
     // and there is none where the graph has no file.
     ensures no_file { (setting : Work) (events : List Event) →
         setting.graph ≡ [] → Lawful setting events → events ≡ [] }
-    // Nor is there one where something is recorded of each file.
+    // Nor is there one where each file has an artefact before any child has ended.
     ensures fresh { (setting : Work) →
-        ((position : ℕ) → position < length setting.graph → setting.recorded position ≡ None → ⊥) →
+        ((position : ℕ) → position < length setting.graph →
+        artefact_so_far setting [] position ≡ None → ⊥) →
         (events : List Event) → Lawful setting events → events ≡ [] }
     // Each prefix of a lawful journal is lawful.
     ensures prefix { (setting : Work) (before rest : List Event) →
         Lawful setting (before ++ rest) → Lawful setting before }
-    // Each start asks for its file what a clean build asks for it,
+    // Each start asks for its file what the settled build asks for it,
     ensures asked { (answer : Request → Exit) (setting : Work) → IsGraph setting.graph →
-        RecordsClean answer setting.graph setting.recorded →
         (before rest : List Event) (ticket : ℕ) (request : Request) →
         Lawful setting (before ++ Started ticket request ∷ rest) →
         Answered answer (before ++ Started ticket request ∷ rest) →
         (position : ℕ)
         × (next_position setting (book_of setting before) ≡ Some position)
-        × (clean_request answer setting.graph position ≡ Some request) }
-    // of which nothing is recorded,
+        × (request_unless answer setting.graph setting.current position ≡ Some request) }
+    // so that it asks for each file that was started,
     ensures stale { (answer : Request → Exit) (setting : Work) → IsGraph setting.graph →
-        RecordsClean answer setting.graph setting.recorded →
         (events : List Event) → Lawful setting events → Answered answer events →
         (position : ℕ) → Contains (book_of setting events).taken position → (request : Request)
-        × (request_unless answer setting.graph setting.recorded position ≡ Some request) }
+        × (request_unless answer setting.graph setting.current position ≡ Some request) }
     // and no file is started twice.
     ensures once { (answer : Request → Exit) (setting : Work)
         (events : List Event) → Lawful setting events → Answered answer events →
         AllPairs (λ position other. position ≢ other) (book_of setting events).taken }
-    // Whatever a build has by now of a file is what a clean build makes of it.
+    // Whatever a build has by now of a file is what the settled build makes of it.
     ensures made { (answer : Request → Exit) (setting : Work) → IsGraph setting.graph →
-        RecordsClean answer setting.graph setting.recorded →
         (events : List Event) → Lawful setting events → Answered answer events →
+        (position : ℕ) (artefact : List ℕ) →
+        artefact_after setting events position ≡ Some artefact →
+        artefact_settled answer setting.graph setting.current position ≡ Some artefact }
+    // Where what is recorded is what a clean build makes, each request is a clean build's,
+    ensures clean_asked { (answer : Request → Exit) (setting : Work) → IsGraph setting.graph →
+        RecordsClean answer setting.graph setting.current → (position : ℕ) (request : Request) →
+        request_unless answer setting.graph setting.current position ≡ Some request →
+        clean_request answer setting.graph position ≡ Some request }
+    // what the settled build makes of a file is what a clean build makes of it,
+    ensures clean_made { (answer : Request → Exit) (setting : Work) → IsGraph setting.graph →
+        RecordsClean answer setting.graph setting.current →
         (position : ℕ) (entry : Entry) (artefact : List ℕ) →
         slice_get setting.graph position ≡ Some entry →
-        artefact_after setting events position ≡ Some artefact →
+        artefact_settled answer setting.graph setting.current position ≡ Some artefact →
         slice_get (clean_build answer setting.graph) position
         ≡ Some (Made (record { name = entry.name; artefact = artefact })) }
-    // What is committed of it are true records.
+    // and what is committed of it are true records.
     ensures commits { (answer : Request → Exit) (setting : Work) → IsGraph setting.graph →
-        RecordsClean answer setting.graph setting.recorded →
+        RecordsClean answer setting.graph setting.current →
         (events : List Event) → Lawful setting events → Answered answer events →
         All (IsTrueRecord answer) (commits setting events) }
 {}
 
 /// What a build that ended by itself started, made and marked, where no refusal halted it: whatever the order of ends,
-/// what a clean build says.
+/// what the settled build says.
 pub fn laws_of_whole_builds()
-    // The started files are those of which nothing is recorded and that a clean build doesn't block,
+    // The started files are those that the settled build asks for,
     ensures started { (answer : Request → Exit) (setting : Work) → IsGraph setting.graph →
-        RecordsClean answer setting.graph setting.recorded →
         (events : List Event) → IsWhole setting events → Answered answer events →
         NoRefusalHalts setting events → (position : ℕ) →
         Contains (book_of setting events).taken position ↔ ((request : Request)
-        × (request_unless answer setting.graph setting.recorded position ≡ Some request)) }
-    // the files that are made are those that a clean build makes, with their artefacts,
+        × (request_unless answer setting.graph setting.current position ≡ Some request)) }
+    // the files that are made are those that the settled build makes, with their artefacts,
     ensures built { (answer : Request → Exit) (setting : Work) → IsGraph setting.graph →
-        RecordsClean answer setting.graph setting.recorded →
         (events : List Event) → IsWhole setting events → Answered answer events →
-        NoRefusalHalts setting events → (at : ℕ) →
-        built_file (slice_get setting.graph at) (artefact_after setting events at)
-        ≡ built_of (slice_get (clean_build answer setting.graph) at) }
-    // and its marks are those that a clean build says.
+        NoRefusalHalts setting events → (position : ℕ) →
+        artefact_after setting events position
+        ≡ artefact_settled answer setting.graph setting.current position }
+    // and its marks are those that the settled build says.
     ensures steady { (answer : Request → Exit) (setting : Work) → IsGraph setting.graph →
-        RecordsClean answer setting.graph setting.recorded →
         (events : List Event) → IsWhole setting events → Answered answer events →
         NoRefusalHalts setting events →
-        marks_of setting events ≡ steady_marks answer setting.graph setting.recorded }
+        marks_of setting events ≡ steady_marks answer setting.graph setting.current }
     // Where no file was refused, all files are made.
     ensures all_made { (answer : Request → Exit) (setting : Work) → IsGraph setting.graph →
-        RecordsClean answer setting.graph setting.recorded →
         (events : List Event) → IsWhole setting events → Answered answer events →
         list_any is_refused (marks_of setting events) ≡ false →
         (position : ℕ) → position < length setting.graph →

@@ -13,7 +13,7 @@ ghost use Rattle.vr_outside.specs.Records.{latest, latest_alone};
 ghost use Rattle.source_view.specs.Parts.{IsPart};
 ghost use Rattle.run_spec.specs.CleanBuild.{Made, clean_build, RecordsClean};
 ghost use Rattle.run_spec.specs.Faithful.{IsTrueRecord};
-ghost use Rattle.run_spec.specs.Recorded.{recorded_at};
+ghost use Rattle.run_spec.specs.Recorded.{current_by_view};
 
 /// What a clean build gives of a closed part of a graph, and how it bears on the records of compiled files.
 pub fn laws_of_clean_builds()
@@ -29,7 +29,7 @@ pub fn laws_of_clean_builds()
         IsGraph graph →
         ((name : FileName) (kept : Record) → latest_of name ≡ Some kept →
         IsTrueRecord answer kept) →
-        RecordsClean answer graph (recorded_at latest_of graph) }
+        RecordsClean answer graph (current_by_view latest_of graph) }
     // What a clean build makes of a file is a true record of its view.
     ensures true_record { (answer : Request → Exit) (graph : List Entry) → IsGraph graph →
         (at : ℕ) (entry : Entry) (artefact : List ℕ) → slice_get graph at ≡ Some entry →

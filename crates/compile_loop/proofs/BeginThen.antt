@@ -1,64 +1,134 @@
 -- A build before its first event: its job and its marks.
-use Rattle.std.proofs.Common.{◌≡◌, ℕ, ◌<◌, Bool, List, [], length, get_or, map, Option, Some, None, refl, sym, ap, ◌∙◌, arith}
-use Rattle.std.specs.Prelude.{slice_get, is_none}
+use Rattle.std.proofs.Common.{◌≡◌, ℕ, ◌<◌, ◌≤◌, Bool, true, false, not, ◌&&◌, zero, suc, cond, List, [], ◌∷◌, length, get_or, map, Option, Some, None, refl, sym, ap, ◌∙◌, is_some, arith}
+use Rattle.std.specs.Prelude.{All}
+use Rattle.std.specs.List.{list_all}
+use Rattle.std.proofs.lemmas.Bool.{and_parts}
+use Rattle.std.proofs.lemmas.List.Elements.{All-head, All-tail}
 use Rattle.std.proofs.lemmas.List.{length-map, get_or-map, take_all}
-use Rattle.std.proofs.lemmas.Option.{slice_get-get_or}
 use Rattle.vr_base.specs.declared.file.FileName.{FileName}
 use Rattle.vr_base.specs.declared.graph.Entry.{Entry}
+use Rattle.vr_base.specs.declared.child.Exit.{Exit}
+use Rattle.vr_base.specs.Graphs.{IsGraph}
+use Rattle.vr_base.specs.PresentGraph.{below}
 use Rattle.run_spec.specs.declared.marks.Mark.{Mark}
 use Rattle.vr_base.proofs.Below.{map-below_is}
 use Rattle.vr_outside.specs.declared.records.Record.{Record}
-use Rattle.vr_outside.specs.declared.records.Need.{Need}
-use Rattle.vr_outside.specs.declared.records.Need.TheVariants.{Fresh, Stale}
-use Rattle.vr_outside.specs.Records.{AreNeeds}
-use Rattle.run_spec.specs.ChildJournal.{Work, job_of, exit_at, output_at, or_else, artefact_so_far, after_all}
-use Rattle.run_spec.specs.Marks.{mark_of, mark_at, marks_of}
+use Rattle.vr_outside.specs.declared.records.Need as records
+use Rattle.vr_outside.specs.declared.records.Need.TheVariants as recorded
+use Rattle.vr_outside.specs.Records.{AreNeeds, deps_at}
+use Rattle.build_plan.specs.declared.plans.Need.{Need}
+use Rattle.build_plan.specs.declared.plans.Need.TheVariants.{Fresh, Stale, Later}
+use Rattle.build_plan.specs.Plans.{is_fresh, is_later, need_at, recorded_need, is_recorded_at, ArePlanned}
+use Rattle.run_spec.specs.ChildJournal.{Work, job_of, or_else, has_all, output_at, exit_at, artefact_by, artefact_so_far}
+use Rattle.run_spec.specs.Marks.{mark_of, mark_at}
 use Rattle.run_spec.specs.Recorded.{recorded_at}
 use Rattle.run_spec.specs.Commits.{work_of}
-use Rattle.run_spec.proofs.RecordedArtefacts.{recorded_of_record, none_at_stale}
-use Rattle.slot_machine.specs.Counts.{is_stale}
-use Rattle.slot_machine.specs.Machines.{IsJobOf}
-use Rattle.compile_loop.specs.Marks.{first_mark}
-use Rattle.compile_loop.proofs.UnderWayThen.{deps_same}
+use Rattle.run_spec.proofs.Artefacts.{deps_before, artefact_free, stepwise}
+use Rattle.run_spec.proofs.RecordedArtefacts.{recorded_of_record, none_recorded}
+use Rattle.slot_machine.specs.declared.slots.Slots.{Slots}
+use Rattle.slot_machine.specs.Machines.{IsJobOf, is_checked}
+use Rattle.compile_loop.specs.Marks.{waiting_mark, first_mark, known_mark, known_marks}
+
+stale_fresh : recorded.Stale ≡ recorded.Fresh → ⊥
+stale_fresh h = cc
+
+-- the store's answer for a file says whether it has a record of its present view
+pub recorded_same : (latest_of : FileName → Option Record) (graph : List Entry) (needs : List records.Need) → AreNeeds latest_of graph needs → (at : ℕ) → at < length graph → is_recorded_at needs at ≡ is_some (recorded_at latest_of graph at)
+recorded_same latest_of graph needs are at lt = by_need (get_or needs at recorded.Stale) refl
+  where
+    by_need : (need : records.Need) → get_or needs at recorded.Stale ≡ need → recorded_need need ≡ is_some (recorded_at latest_of graph at)
+    by_need recorded.Fresh is = sym (ap is_some (recorded_of_record latest_of graph at ((are.fresh at recorded.Stale lt).0 is)))
+    by_need recorded.Stale is =
+        sym (ap is_some ((none_recorded latest_of graph at).1 (λ kept. stale_fresh (sym is ∙ (are.fresh at recorded.Stale lt).1 kept))))
+
+nothing_ended : (at : ℕ) → output_at [] at ≡ None
+unfolding output_at
+nothing_ended at = refl
+
+no_exit_yet : (at : ℕ) → exit_at [] at ≡ None
+unfolding exit_at
+no_exit_yet at = refl
 
 or_nothing : (kept : Option (List ℕ)) → or_else kept None ≡ kept
 or_nothing None = refl
 or_nothing (Some artefact) = refl
 
-module _ (latest_of : FileName → Option Record) (graph : List Entry) (needs : List Need) (are : AreNeeds latest_of graph needs) (slots : ℕ) (keep_going : Bool) where
+fresh_isn't_later : (need : Need) → is_fresh need ≡ true → is_later need ≡ false
+fresh_isn't_later Fresh h = refl
+fresh_isn't_later Stale h = let nothing : ⊥ = cc in absurd nothing
+fresh_isn't_later Later h = let nothing : ⊥ = cc in absurd nothing
+
+is_true : (b : Bool) → not b ≡ false → b ≡ true
+is_true true h = refl
+is_true false h = let nothing : ⊥ = cc in absurd nothing
+
+-- what follows from a test for each number below an end
+list_all_then : (p q : ℕ → Bool) (end : ℕ) → ((x : ℕ) → x < end → p x ≡ true → q x ≡ true) → (xs : List ℕ) → All (λ x. x < end) xs → list_all p xs ≡ true → list_all q xs ≡ true
+list_all_then p q end then [] below h = refl
+list_all_then p q end then (x ∷ xs) below h =
+    let parts = and_parts (p x) (list_all p xs) h in
+    ap (λ (b : Bool). b && list_all q xs) (then x (All-head (λ y. y < end) x xs below) parts.0) ∙ list_all_then p q end then xs (All-tail (λ y. y < end) x xs below) parts.1
+
+module _ (latest_of : FileName → Option Record) (graph : List Entry) (is : IsGraph graph) (recorded_needs : List records.Need) (are : AreNeeds latest_of graph recorded_needs) (needs : List Need)
+    (plan : ArePlanned graph (is_recorded_at recorded_needs) needs) (slots : ℕ) (keep_going : Bool) where
   abbrev s : Work
   s = work_of latest_of graph slots keep_going
 
-  -- what is recorded of a file, by its need
-  recorded_by : (at : ℕ) → at < length graph → (need : Need) → get_or needs at Fresh ≡ need → is_none (recorded_at latest_of graph at) ≡ is_stale need
-  recorded_by at lt Fresh is = ap is_none (recorded_of_record latest_of graph at ((are.fresh at Fresh lt).0 is))
-  recorded_by at lt Stale is =
-      ap is_none ((none_at_stale latest_of graph at needs are lt).0 (slice_get-get_or needs at Fresh (omega (arith, lt, are.each)) ∙ ap (λ (need : Need). Some need) is))
+  ordered : (position : ℕ) → All (λ dep. dep < position) (deps_at graph position)
+  ordered = deps_before graph is
+
+  -- what is fresh has an artefact from the start, where this holds of all that comes before
+  free_to : (end : ℕ) → ((k : ℕ) → k < end → k < length graph → is_fresh (need_at needs k) ≡ true → is_some (artefact_by s [] k) ≡ true) → (at : ℕ) → at ≤ end → at < length graph → is_later (need_at needs at) ≡ false →
+      has_all (artefact_by s []) (deps_at graph at) ≡ true
+  unfolding has_all
+  free_to end before at le lt sure =
+      list_all_then (λ dep. is_fresh (need_at needs dep)) (λ dep. is_some (artefact_by s [] dep)) at (λ dep less fresh. before dep (omega (arith, less, le)) (omega (arith, less, lt)) fresh) (deps_at graph at) (ordered at)
+      (is_true (list_all (λ dep. is_fresh (need_at needs dep)) (deps_at graph at)) (sym (plan.later at lt) ∙ sure))
+
+  made_free : (at : ℕ) → at < length graph → has_all (artefact_by s []) (deps_at graph at) ≡ true → is_later (need_at needs at) ≡ false → is_some (artefact_by s [] at) ≡ is_fresh (need_at needs at)
+  made_free at lt all sure =
+      ap is_some (artefact_free s ordered [] at lt all ∙ ap (or_else (recorded_at latest_of graph at)) (nothing_ended at) ∙ or_nothing (recorded_at latest_of graph at))
+      ∙ sym (recorded_same latest_of graph recorded_needs are at lt) ∙ sym (plan.fresh at lt sure)
+
+  made_to : (end : ℕ) (k : ℕ) → k < end → k < length graph → is_fresh (need_at needs k) ≡ true → is_some (artefact_by s [] k) ≡ true
+  made_to zero k less lt h = absurd (omega (arith, less))
+  made_to (suc end) k less lt h =
+      let sure : is_later (need_at needs k) ≡ false = fresh_isn't_later (need_at needs k) h in
+      made_free k lt (free_to end (made_to end) k (omega (arith, less)) lt sure) sure ∙ h
+
+  free_of : (at : ℕ) → at < length graph → is_later (need_at needs at) ≡ false → has_all (artefact_by s []) (deps_at graph at) ≡ true
+  free_of at lt sure = free_to at (made_to at) at (omega arith) lt sure
 
   pub is_job : IsJobOf (job_of s) graph needs slots keep_going
-  unfolding artefact_so_far output_at
+  unfolding has_all
   is_job = record {
+    stepwise = stepwise s is;
     count = refl;
-    deps = λ at lt. sym (deps_same (slice_get graph at));
-    is_due = λ at lt. ap is_none (or_nothing (recorded_at latest_of graph at)) ∙ recorded_by at lt (get_or needs at Fresh) refl;
+    deps = λ at lt. refl;
     slots = refl;
     keep_going = refl;
+    free = λ at lt sure. free_of at lt sure;
+    made = λ at lt sure. made_free at lt (free_of at lt sure) sure;
   }
 
-  mark_by : (need : Need) (kept : Option (List ℕ)) → is_none kept ≡ is_stale need → first_mark keep_going need ≡ mark_of keep_going None kept
-  mark_by Fresh (Some artefact) is = refl
-  mark_by Fresh None is = let nothing : ⊥ = cc in absurd nothing
-  mark_by Stale (Some artefact) is = let nothing : ⊥ = cc in absurd nothing
-  mark_by Stale None is = refl
+  mark_by : (need : Need) (kept : Option (List ℕ)) → (is_later need ≡ false → is_some kept ≡ is_fresh need) → first_mark keep_going need ≡ cond (not (is_later need)) (mark_of keep_going None kept) (waiting_mark keep_going)
+  mark_by Later kept same = refl
+  mark_by Fresh (Some artefact) same = refl
+  mark_by Fresh None same = let h = same refl in let nothing : ⊥ = cc in absurd nothing
+  mark_by Stale (Some artefact) same = let h = same refl in let nothing : ⊥ = cc in absurd nothing
+  mark_by Stale None same = by keep_going where
+    by : (b : Bool) → waiting_mark b ≡ mark_of b None None
+    by true = refl
+    by false = refl
 
   -- a fresh file is fresh, and another one waits
-  pub first_marks_are : map (first_mark keep_going) needs ≡ marks_of s []
-  unfolding artefact_so_far output_at exit_at after_all
-  first_marks_are =
-      let count : length (map (first_mark keep_going) needs) ≡ length graph = length-map needs (first_mark keep_going) ∙ are.each in
-      sym (map-below_is (mark_at s []) (map (first_mark keep_going) needs) (length graph) (omega (arith, count)) each ∙ take_all (length graph) (map (first_mark keep_going) needs) (omega (arith, count))) where
-        each : (k : ℕ) (d : Mark) → k < length graph → get_or (map (first_mark keep_going) needs) k d ≡ mark_at s [] k
+  pub first_marks_are : (machine : Slots) → ((at : ℕ) → at < length graph → is_checked machine at ≡ not (is_later (need_at needs at))) → map (first_mark keep_going) needs ≡ known_marks s [] machine
+  first_marks_are machine checked =
+      let count : length (map (first_mark keep_going) needs) ≡ length graph = length-map needs (first_mark keep_going) ∙ plan.as_many in
+      sym (map-below_is (known_mark s [] machine) (map (first_mark keep_going) needs) (length graph) (omega (arith, count)) each ∙ take_all (length graph) (map (first_mark keep_going) needs) (omega (arith, count))) where
+        each : (k : ℕ) (d : Mark) → k < length graph → get_or (map (first_mark keep_going) needs) k d ≡ known_mark s [] machine k
         each k d lt =
-            get_or-map (first_mark keep_going) needs k Fresh d (omega (arith, lt, are.each))
-            ∙ mark_by (get_or needs k Fresh) (recorded_at latest_of graph k) (recorded_by k lt (get_or needs k Fresh) refl)
-            ∙ ap (mark_of keep_going None) (sym (or_nothing (recorded_at latest_of graph k)))
+            get_or-map (first_mark keep_going) needs k Later d (omega (arith, lt, plan.as_many))
+            ∙ mark_by (need_at needs k) (artefact_so_far s [] k) (λ sure. made_free k lt (free_of k lt sure) sure)
+            ∙ ap (λ (e : Option Exit). cond (not (is_later (need_at needs k))) (mark_of keep_going e (artefact_so_far s [] k)) (waiting_mark keep_going)) (sym (no_exit_yet k))
+            ∙ ap (λ (b : Bool). cond b (mark_at s [] k) (waiting_mark keep_going)) (sym (checked k lt))

@@ -1,6 +1,8 @@
 -- The end of a child that is taken: refused, compiled and not committed, or compiled and to be committed.
 use Rattle.std.proofs.Common.{◌≡◌, ℕ, ◌+◌, ◌<◌, Bool, true, false, not, eqb, List, [], ◌∷◌, ◌++◌, length, take, Option, Some, None, Err, refl, sym, ap, subst, ◌∙◌, arith}
 use Rattle.std.specs.Prelude.{is_some}
+use Rattle.std.specs.List.{list_all}
+use Rattle.vr_outside.specs.Records.{deps_at}
 use Rattle.std.proofs.Math.ListN.{set}
 use Rattle.std.proofs.lemmas.Bool.{and_parts, not-true, cond-true, cond-false}
 use Rattle.std.proofs.lemmas.List.{append-nil}
@@ -14,11 +16,11 @@ use Rattle.run_spec.specs.declared.marks.Mark.TheVariants.{Compiled, Refused}
 use Rattle.vr_outside.specs.declared.records.Record.{Record}
 use Rattle.vr_outside.specs.Disks.{Image, Moments}
 use Rattle.vr_outside.proofs.CommitLaws.{one_if}
-use Rattle.run_spec.specs.Moves.{Job, Core, Ends, start_now, is_running, position_of, after_move}
+use Rattle.run_spec.specs.Moves.{Job, Core, Ends, is_made_so_far, start_now, is_running, position_of, after_move}
 use Rattle.run_spec.specs.ChildJournal.{Work, job_of, core_of, book_of}
 use Rattle.run_spec.specs.Commits.{record_at, commit_of, commits}
 use Rattle.slot_machine.specs.declared.slots.Slots.{Slots}
-use Rattle.slot_machine.specs.Machines.{IsMachineOf}
+use Rattle.slot_machine.specs.Machines.{IsMachineOf, is_checked, is_stopped_in}
 use Rattle.compile_loop.specs.declared.faults.BuildFault.{BuildFault}
 use Rattle.compile_loop.specs.declared.faults.BuildFault.TheVariants.{NoMemory, StartFailed, ChildLost, DiskFailed}
 use Rattle.compile_loop.specs.Commits.{latest_after, HoldsFirst}
@@ -70,7 +72,9 @@ module _ (told : Type 0) (records_of : Image → List Record) (graph : List Entr
   with_mark mark = record { machine = machine'; marks = set state.marks at mark; noted = state.noted; latest_of = state.latest_of; broken = state.broken }
 
   module _ (there : position_of ticket core.running ≡ Some at) (runs : is_running core ticket ≡ true) (greedy : start_now (job_of s) (halted_if (is_some state.noted) core) ≡ None)
-      (step : IsMachineOf machine' (job_of s) (after_move (job_of s) (halted_if (is_some state.noted) core) (Ends ticket (eqb exit.code 0)))) where
+      (step : IsMachineOf machine' (job_of s) (after_move (job_of s) (halted_if (is_some state.noted) core) (Ends ticket (eqb exit.code 0) exit.output)))
+      (here : is_checked state.machine at ≡ true) (checked : (k : ℕ) → is_checked machine' k ≡ is_checked state.machine k) (stopped : is_stopped_in machine' ≡ is_stopped_in state.machine)
+      (ready : (k : ℕ) → k < length graph → is_checked state.machine k ≡ true → list_all (is_made_so_far (job_of s) core) (deps_at graph k) ≡ true) where
     in_step : IsMachineOf machine' (job_of s) (halted_if (is_some state.noted) (core_of (book_of s (events ++ ended ∷ []))))
     in_step = machine_ended graph from events acknowledged state is ticket at exit there inside machine' step
 
@@ -83,7 +87,7 @@ module _ (told : Type 0) (records_of : Image → List Record) (graph : List Entr
         record {
           acknowledged = acknowledged;
           under_way = ended_under_way graph from events acknowledged state is ticket at exit there inside runs greedy (Refused exit.code exit.output)
-              (sym (cond-false (eqb exit.code 0) Compiled (Refused exit.code exit.output) code)) acknowledged machine' state.noted state.latest_of state.broken (λ n. (n, is.usable n)) in_step
+              (sym (cond-false (eqb exit.code 0) Compiled (Refused exit.code exit.output) code)) acknowledged machine' state.noted state.latest_of state.broken here checked ready (λ n. stopped ∙ is.goes_on n) (λ n. (n, is.usable n)) in_step
               (acknowledges_left s events all from.latest_of state.latest_of acknowledged is.committed ended [] all tt none (λ on. (on, refl)))
               (first_kept s events acknowledged state.broken state.noted ended is.comes_first);
           images = λ t. subst (λ (l : List Record). HoldsFirst acknowledged state.broken l records_of from.moments moments) (sym (none ∙ append-nil (commits s events))) (holds t);
@@ -103,7 +107,7 @@ module _ (told : Type 0) (records_of : Image → List Record) (graph : List Entr
       takes_uncommitted off = record {
         acknowledged = acknowledged;
         under_way = ended_under_way graph from events acknowledged state is ticket at exit there inside runs greedy Compiled compiled_is
-            acknowledged machine' state.noted state.latest_of state.broken (λ n. (n, is.usable n)) in_step
+            acknowledged machine' state.noted state.latest_of state.broken here checked ready (λ n. stopped ∙ is.goes_on n) (λ n. (n, is.usable n)) in_step
             (acknowledges_left s events all from.latest_of state.latest_of acknowledged is.committed ended (one ∷ []) all tt commits_one_more (λ on. no_both (sym off ∙ on)))
             (first_kept s events acknowledged state.broken state.noted ended is.comes_first);
         images = λ t. subst (λ (l : List Record). HoldsFirst acknowledged state.broken l records_of from.moments moments) (sym commits_one_more)
@@ -112,16 +116,17 @@ module _ (told : Type 0) (records_of : Image → List Record) (graph : List Entr
 
       pub takes_commit : all ≡ true → (ok : Bool) (machine'' : Slots) (noted' : Option BuildFault) (later : FileName → Option Record) (broken' : Bool) (last : Moments) →
           (noted' ≡ None → (state.noted ≡ None) × (broken' ≡ false)) → (is_all_committed noted' broken' ≡ true → ok ≡ true) →
+          ((k : ℕ) → is_checked machine'' k ≡ is_checked machine' k) → (noted' ≡ None → is_stopped_in machine'' ≡ false) →
           ((job : Job) (c : Core) → IsMachineOf machine' job (halted_if (is_some state.noted) c) → IsMachineOf machine'' job (halted_if (is_some noted') c)) →
           ((name : FileName) → later name ≡ latest_after (take (one_if ok) (one ∷ [])) state.latest_of name) → (told → HoldsFirst (one_if ok) broken' (one ∷ []) records_of moments last) →
           ComesFirst noted' s (events ++ ended ∷ []) (acknowledged + one_if ok) broken' → TakesEnd told records_of graph from (events ++ ended ∷ []) (record { machine = machine''; marks = set state.marks at Compiled; noted = noted'; latest_of = later; broken = broken' }) last
-      takes_commit on ok machine'' noted' later broken' last none still halts latest images comes =
+      takes_commit on ok machine'' noted' later broken' last none still same on_still halts latest images comes =
           let usable : state.broken ≡ false = usable_where_all state.noted state.broken on in
           let count : acknowledged ≡ length (commits s events) = all_few s events all from.latest_of state.latest_of acknowledged is.committed on in
           record {
             acknowledged = acknowledged + one_if ok;
             under_way = ended_under_way graph from events acknowledged state is ticket at exit there inside runs greedy Compiled compiled_is
-                (acknowledged + one_if ok) machine'' noted' later broken' none (halts (job_of s) (core_of (book_of s (events ++ ended ∷ []))) in_step)
+                (acknowledged + one_if ok) machine'' noted' later broken' here (λ k. same k ∙ checked k) ready on_still none (halts (job_of s) (core_of (book_of s (events ++ ended ∷ []))) in_step)
                 (acknowledges_one s events all from.latest_of state.latest_of acknowledged is.committed ended one ok (is_all_committed noted' broken') later on tt commits_one_more latest still) comes;
             images = λ t. subst (λ (l : List Record). HoldsFirst (acknowledged + one_if ok) broken' l records_of from.moments last) (sym commits_one_more)
                 (holds_one acknowledged ok broken' (commits s events) one records_of from.moments moments last count

@@ -11,6 +11,8 @@ use Rattle.vr_base.specs.declared.child.Event.TheVariants.{Started, Ended, Gone}
 use Rattle.run_spec.specs.Moves.{Core, empty_core, Move, Loses, IsLawfulMove, LawfulMoves, IsGreedyMove, GreedyMoves, after_move, position_of}
 use Rattle.run_spec.specs.ChildJournal.{Work, Run, Book, empty_book, job_of, core_of, child_of_run, run_of, end_of, after, after_all, book_of, move_of, moves_after, moves_of, IsRequested, AreRequested, Greedy, is_gone}
 use Rattle.run_spec.proofs.Journal.{after_all-append, core_after, core_after_all, moves-append, LawfulMoves-append, GreedyMoves-append, AreRequested-append}
+use Rattle.run_spec.proofs.Artefacts.{stepwise}
+use Rattle.vr_base.specs.Graphs.{IsGraph}
 use Rattle.slot_machine.specs.declared.slots.Slots.{Slots}
 use Rattle.slot_machine.specs.Machines.{IsMachineOf}
 use Rattle.child_steps.specs.Steps.{halted_if}
@@ -62,8 +64,8 @@ module _ (s : Work) (events : List Event) where
       (lost_halts (job_of s) halts other (core_of book) ticket ∙ ap (halted_if other) (sym (core_after s book (Gone ticket)) ∙ ap core_of (sym (book_then (Gone ticket))))) is
 
   -- the children are orderly
-  pub orderly : LawfulMoves (job_of s) empty_core (moves_of s events) → AreOrderly (job_of s) (core_of book)
-  orderly lawful = subst (AreOrderly (job_of s)) (sym (core_after_all s empty_book events)) (orderly_after (job_of s) empty_core (orderly_at_first (job_of s)) (moves_of s events) lawful)
+  pub orderly : IsGraph s.graph → LawfulMoves (job_of s) empty_core (moves_of s events) → AreOrderly (job_of s) (core_of book)
+  orderly graph lawful = subst (AreOrderly (job_of s)) (sym (core_after_all s empty_book events)) (orderly_after (job_of s) (stepwise s graph) empty_core (orderly_at_first (job_of s)) (moves_of s events) lawful)
 
 -- a running child is found, with its file's position
 pub run_at : (ticket position : ℕ) (runs : List Run) → position_of ticket (map child_of_run runs) ≡ Some position → (run : Run) × (run_of ticket runs ≡ Some run) × (run.position ≡ position)

@@ -1,14 +1,14 @@
 -- What the store lends of files that are made, once all is committed.
-use Rattle.std.proofs.Common.{◌≡◌, ℕ, suc, ◌<◌, ◌≤◌, Bool, true, List, [], ◌∷◌, ◌++◌, length, get_or, take, Option, Some, None, refl, sym, ap, subst, ◌∙◌, arith}
+use Rattle.std.proofs.Common.{◌≡◌, ℕ, suc, ◌<◌, ◌≤◌, Bool, true, List, [], ◌∷◌, ◌++◌, length, get_or, map, take, Option, Some, None, refl, sym, ap, subst, ◌∙◌, arith, inl, inr}
 use Rattle.std.specs.Prelude.{All, slice_get, is_some}
-use Rattle.std.specs.Option.{option_map, option_and_then}
+use Rattle.std.specs.Option.{option_map, option_and_then, option_map_or}
 use Rattle.std.specs.List.{filter_map, flat_map, list_all}
 use Rattle.std.proofs.lemmas.List.{take_all}
 use Rattle.std.proofs.lemmas.Map.Keys.{sorted_from_strictly_increasing}
 use Rattle.std.proofs.lemmas.Map.Views.{length-le_from_below}
-use Rattle.std.proofs.lemmas.Bool.{and_parts, false≢true}
+use Rattle.std.proofs.lemmas.Bool.{cases_lt, and_parts, false≢true}
 use Rattle.std.proofs.lemmas.List.Elements.{All-nil, All-cons, All-head, All-tail}
-use Rattle.std.proofs.lemmas.Option.{slice_get-get_or, slice_get_within, get_or_from_slice_get}
+use Rattle.std.proofs.lemmas.Option.{none-some, slice_get-get_or, slice_get_within, get_or_from_slice_get}
 use Rattle.vr_base.specs.declared.file.FileName.{FileName}
 use Rattle.vr_base.specs.declared.graph.Entry.{Entry}
 use Rattle.vr_base.specs.declared.graph.BuiltFile.{BuiltFile}
@@ -21,13 +21,14 @@ use Rattle.job_codec.specs.Written.{Written}
 use Rattle.job_codec.specs.Written as job
 use Rattle.job_codec.proofs.WrittenInput.{compile_input-is}
 use Rattle.vr_outside.specs.declared.records.Record.{Record}
-use Rattle.vr_outside.specs.Records.{IsRecorded}
-use Rattle.run_spec.specs.ChildJournal.{End, deps_of, built_file, artefact_so_far, request_at}
+use Rattle.vr_outside.specs.Records.{IsRecorded, deps_at}
+use Rattle.run_spec.specs.ChildJournal.{End, child_of_end, built_file, built_at, artefact_so_far, request_at}
+use Rattle.run_spec.proofs.Artefacts.{next_parts, artefact_at, none_past}
 use Rattle.clean_laws.proofs.CleanPlaces.{filter_map-cons, filter_map-same}
 use Rattle.run_spec.specs.Commits.{record_at, commits_of}
 use Rattle.compile_loop.specs.Commits.{latest_after}
 use Rattle.compile_loop.specs.Requests.{lent_file, lent_at, lent_request}
-use Rattle.compile_loop.specs.UnderWay.{Origin, work_from, HasRecords}
+use Rattle.compile_loop.specs.UnderWay.{Origin, work_from, artefact_kept, HasRecords}
 
 -- the file at a position, with its form
 pub entry_is : (graph : List Entry) (position : ℕ) (entry : Entry) → IsGraph graph → slice_get graph position ≡ Some entry → IsEntryAt graph position entry
@@ -54,13 +55,20 @@ lent_same graph latest_of made position entry artefact at is latest =
     ap (λ (o : Option Entry). built_file o (made position)) at ∙ ap (built_file (Some entry)) is
     ∙ sym (ap (option_and_then (lent_file latest_of)) at ∙ ap (option_map (λ (kept : Record). record { name = entry.name; artefact = kept.artefact })) latest)
 
-module _ (graph : List Entry) (from : Origin) (ends : List End) (latest_of : FileName → Option Record) (has : HasRecords graph from ends) (knows : (name : FileName) → latest_of name ≡ latest_after (commits_of graph ends) from.latest_of name) where
+module _ (graph : List Entry) (from : Origin) (ends : List End) (latest_of : FileName → Option Record) (ordered : (position : ℕ) → All (λ dep. dep < position) (deps_at graph position)) (has : HasRecords graph from ends) (knows : (name : FileName) → latest_of name ≡ latest_after (commits_of graph ends) from.latest_of name) where
   abbrev made : ℕ → Option (List ℕ)
   made = artefact_so_far (work_from graph from) ends
 
+  -- what is made is so by a record or by a child
+  made_kept : (position : ℕ) (artefact : List ℕ) → made position ≡ Some artefact → artefact_kept graph from ends position ≡ Some artefact
+  made_kept position artefact is = elim (cases_lt position (length graph)) [
+    | inl lt ↦ (next_parts (work_from graph from) (map child_of_end ends) made position artefact (sym (artefact_at (work_from graph from) ordered (map child_of_end ends) position lt) ∙ is)).1
+    | inr le ↦ absurd (none-some artefact (sym (none_past (work_from graph from) (map child_of_end ends) position le) ∙ is))
+  ]
+
   -- the store knows the record of a made file
   pub knows_made : (position : ℕ) (entry : Entry) (artefact : List ℕ) → slice_get graph position ≡ Some entry → made position ≡ Some artefact → latest_of entry.name ≡ Some (record_at graph position artefact)
-  knows_made position entry artefact at is = knows entry.name ∙ has position entry artefact at is
+  knows_made position entry artefact at is = knows entry.name ∙ has position entry artefact at (made_kept position artefact is)
 
   pub made_recorded : (position : ℕ) → position < length graph → is_some (made position) ≡ true → IsRecorded latest_of graph position
   made_recorded position lt is =
@@ -76,12 +84,12 @@ module _ (graph : List Entry) (from : Origin) (ends : List End) (latest_of : Fil
       lent_same graph latest_of made position entry.0 artefact.0 entry.1 artefact.1 (knows_made position entry.0 artefact.0 entry.1 artefact.1)
 
   -- what a compiler is asked over lent artefacts is what it is to be asked
-  pub request_is : IsGraph graph → (position : ℕ) → position < length graph → All (λ dep. is_some (made dep) ≡ true) (deps_of (slice_get graph position)) →
+  pub request_is : IsGraph graph → (position : ℕ) → position < length graph → All (λ dep. is_some (made dep) ≡ true) (deps_at graph position) →
       lent_request latest_of graph position ≡ request_at (work_from graph from) ends position
-  unfolding request_at
+  unfolding request_at built_at
   request_is is position lt all =
       let entry = item_at graph position lt in
-      let there : All (λ dep. is_some (made dep) ≡ true) entry.0.deps = subst (λ (o : Option Entry). All (λ dep. is_some (made dep) ≡ true) (deps_of o)) entry.1 all in
+      let there : All (λ dep. is_some (made dep) ≡ true) entry.0.deps = subst (λ (o : Option Entry). All (λ dep. is_some (made dep) ≡ true) (option_map_or (λ (e : Entry). e.deps) o [])) entry.1 all in
       let before : All (λ dep. dep < position) entry.0.deps = (entry_is graph position entry.0 is entry.1).before in
       let same : filter_map (lent_at latest_of graph) entry.0.deps ≡ filter_map (λ dep. built_file (slice_get graph dep) (made dep)) entry.0.deps =
       filter_map-same (lent_at latest_of graph) (λ dep. built_file (slice_get graph dep) (made dep)) entry.0.deps 0

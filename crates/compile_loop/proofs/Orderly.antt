@@ -1,13 +1,13 @@
 -- What lawful moves keep true of the children: those that run were started once, aren't made, and all that they depend
 -- on is made.
-use Rattle.std.proofs.Common.{◌≡◌, ℕ, ◌<◌, Bool, true, false, not, ◌||◌, ◌&&◌, eqb, ltb, List, [], ◌∷◌, ◌++◌, length, Option, Some, None, refl, sym, ap, subst, ◌∙◌, arith, inl, inr}
+use Rattle.std.proofs.Common.{◌≡◌, ℕ, ◌<◌, Bool, true, false, not, ◌||◌, ◌&&◌, eqb, ltb, List, [], ◌∷◌, ◌++◌, length, get_or, Option, Some, None, refl, sym, ap, subst, ◌∙◌, arith, inl, inr}
 use Rattle.std.specs.Prelude.{All}
 use Rattle.std.specs.List.{list_all, list_any}
-use Rattle.std.proofs.lemmas.Bool.{cases_Bool, eqb-true, eq-eqb, ne_eqb, cond-true, cond-false, and_parts, not-true, or_left, or_right, or_cases}
+use Rattle.std.proofs.lemmas.Bool.{cases_Bool, eqb-true, eq-eqb, ne_eqb, cond-true, cond-false, and_parts, not-true, or_left, or_right}
 use Rattle.std.proofs.lemmas.List.Elements.{All-nil, All-head, All-tail, All-cons, All-push, All-weaker}
 use Rattle.std.proofs.lemmas.List.Folds.{list_any-append}
 use Rattle.std.proofs.lemmas.Option.{none-some, same_Some}
-use Rattle.run_spec.specs.Moves.{Job, Core, RunningChild, EndedChild, empty_core, Move, Starts, Ends, Loses, Halts, is_taken, is_made_so_far, is_startable, next_start, start_now, position_of, without_child, ended_child, after_move, after_moves, IsLawfulMove, LawfulMoves}
+use Rattle.run_spec.specs.Moves.{Job, Core, RunningChild, EndedChild, empty_core, Move, Starts, Ends, Loses, Halts, IsStepwise, is_taken, is_made_so_far, is_startable, next_start, start_now, position_of, without_child, ended_child, after_move, after_moves, IsLawfulMove, LawfulMoves}
 use Rattle.clean_laws.proofs.JournalBooks.{first_at}
 
 -- an end of a child of the file at a position
@@ -20,6 +20,7 @@ AreApart [] = Unit {0}
 AreApart (child ∷ children) = All (λ other. other.position ≡ child.position → ⊥) children × AreApart children
 
 pub record AreOrderly (job : Job) (core : Core) : Type 0 where
+  pub within : All (λ child. child.position < job.count) core.running
   pub taken : All (λ child. is_taken core child.position ≡ true) core.running
   pub ends_taken : All (λ end. is_taken core end.position ≡ true) core.ended
   pub apart : AreApart core.running
@@ -38,7 +39,7 @@ not_both : true ≡ false → ⊥
 not_both h = cc
 
 -- a file that wasn't taken has no end
-none_ended : (core : Core) (position : ℕ) → is_taken core position ≡ false → (ends : List EndedChild) → All (λ end. is_taken core end.position ≡ true) ends → list_any (is_end_of position) ends ≡ false
+pub none_ended : (core : Core) (position : ℕ) → is_taken core position ≡ false → (ends : List EndedChild) → All (λ end. is_taken core end.position ≡ true) ends → list_any (is_end_of position) ends ≡ false
 none_ended core position untaken [] all = refl
 none_ended core position untaken (end ∷ ends) all =
     elim (cases_Bool (eqb end.position position)) [
@@ -155,39 +156,35 @@ both_weaker P Q R (child ∷ children) from p q =
 abbrev with_ended : Core → EndedChild → List RunningChild → Core
 with_ended core end running = record { taken = core.taken; running = running; ended = core.ended ++ end ∷ []; halted = core.halted }
 
-made_then : (job : Job) (core : Core) (end : EndedChild) (position : ℕ) →
-    is_made_so_far job (with_ended core end []) position ≡ (not (job.is_due position) || (list_any (λ e. eqb e.position position && e.ok) core.ended || ((eqb end.position position && end.ok) || false)))
-made_then job core end position = ap (λ (b : Bool). not (job.is_due position) || b) (list_any-append (λ e. eqb e.position position && e.ok) core.ended (end ∷ []))
+or_other : (made good ok : Bool) → good ≡ false → (made || (good && ok)) ≡ made
+or_other true good ok other = refl
+or_other false good ok other = ap (λ (b : Bool). b && ok) other
 
--- what is made stays made
-pub still_made : (job : Job) (core : Core) (end : EndedChild) (position : ℕ) → is_made_so_far job core position ≡ true → is_made_so_far job (with_ended core end []) position ≡ true
-still_made job core end position is =
-    made_then job core end position ∙
-    elim (or_cases (not (job.is_due position)) (list_any (λ e. eqb e.position position && e.ok) core.ended) is) [
-      | inl fresh ↦ or_left _ _ fresh
-      | inr ended ↦ or_right (not (job.is_due position)) _ (or_left _ _ ended)
-    ]
+module _ (job : Job) (wise : IsStepwise job) (core : Core) (end : EndedChild) where
+  -- what is made stays made
+  pub still_made : (position : ℕ) → position < job.count → is_made_so_far job core position ≡ true → is_made_so_far job (with_ended core end []) position ≡ true
+  still_made position lt is = wise.by_end core.ended end position lt (wise.after_deps core.ended position lt is) ∙ or_left (is_made_so_far job core position) (eqb end.position position && end.ok) is
 
--- another file's end makes nothing of a file
-made_elsewhere : (job : Job) (core : Core) (end : EndedChild) (position : ℕ) → (end.position ≡ position → ⊥) → is_made_so_far job (with_ended core end []) position ≡ is_made_so_far job core position
-made_elsewhere job core end position other =
-    let none : (eqb end.position position && end.ok) ≡ false = ap (λ (b : Bool). b && end.ok) (ne_eqb end.position position other) in
-    made_then job core end position ∙ ap (λ (b : Bool). not (job.is_due position) || (list_any (λ e. eqb e.position position && e.ok) core.ended || (b || false))) none
-    ∙ ap (λ (b : Bool). not (job.is_due position) || b) (or_none (list_any (λ e. eqb e.position position && e.ok) core.ended))
+  -- another file's end makes nothing of a file that has all that it depends on
+  made_elsewhere : (position : ℕ) → position < job.count → list_all (is_made_so_far job core) (job.deps position) ≡ true → (end.position ≡ position → ⊥) → is_made_so_far job (with_ended core end []) position ≡ is_made_so_far job core position
+  made_elsewhere position lt all other =
+      wise.by_end core.ended end position lt all ∙ or_other (is_made_so_far job core position) (eqb end.position position) end.ok (ne_eqb end.position position other)
 
-all_made_still : (job : Job) (core : Core) (end : EndedChild) (deps : List ℕ) → list_all (is_made_so_far job core) deps ≡ true → list_all (is_made_so_far job (with_ended core end [])) deps ≡ true
-all_made_still job core end [] all = refl
-all_made_still job core end (dep ∷ deps) all =
-    let parts = and_parts (is_made_so_far job core dep) (list_all (is_made_so_far job core) deps) all in
-    and_both (is_made_so_far job (with_ended core end []) dep) (list_all (is_made_so_far job (with_ended core end [])) deps) (still_made job core end dep parts.0) (all_made_still job core end deps parts.1)
+  all_made_still : (deps : List ℕ) → All (λ dep. dep < job.count) deps → list_all (is_made_so_far job core) deps ≡ true → list_all (is_made_so_far job (with_ended core end [])) deps ≡ true
+  all_made_still [] low all = refl
+  all_made_still (dep ∷ deps) low all =
+      let parts = and_parts (is_made_so_far job core dep) (list_all (is_made_so_far job core) deps) all in
+      and_both (is_made_so_far job (with_ended core end []) dep) (list_all (is_made_so_far job (with_ended core end [])) deps)
+      (still_made dep (All-head (λ d. d < job.count) dep deps low) parts.0) (all_made_still deps (All-tail (λ d. d < job.count) dep deps low) parts.1)
 
-module _ (job : Job) (core : Core) (is : AreOrderly job core) where
-  started_orderly : (position ticket : ℕ) → is_startable job core position ≡ true → AreOrderly job (after_move job core (Starts position ticket))
+module _ (job : Job) (wise : IsStepwise job) (core : Core) (is : AreOrderly job core) where
+  started_orderly : (position ticket : ℕ) → position < job.count → is_startable job core position ≡ true → AreOrderly job (after_move job core (Starts position ticket))
   unfolding after_move
-  started_orderly position ticket start =
+  started_orderly position ticket lt start =
       let parts = startable_parts job core position start in
       let child : RunningChild = record { ticket = ticket; position = position } in
       record {
+        within = All-push (λ c. c.position < job.count) core.running child is.within lt;
         taken = All-push (λ c. list_any (λ other. eqb other c.position) (core.taken ++ position ∷ []) ≡ true) core.running child
             (All-weaker (λ c. is_taken core c.position ≡ true) (λ c. list_any (λ other. eqb other c.position) (core.taken ++ position ∷ []) ≡ true) (λ c t. still_taken core.taken (position ∷ []) c.position t) core.running is.taken)
             (now_taken core.taken position);
@@ -200,6 +197,7 @@ module _ (job : Job) (core : Core) (is : AreOrderly job core) where
 
   lost_orderly : (ticket : ℕ) (halted : Bool) → AreOrderly job (record { taken = core.taken; running = without_child ticket core.running; ended = core.ended; halted = halted })
   lost_orderly ticket halted = record {
+    within = All-without (λ c. c.position < job.count) ticket core.running is.within;
     taken = All-without (λ c. is_taken core c.position ≡ true) ticket core.running is.taken;
     ends_taken = is.ends_taken;
     apart = apart_without ticket core.running is.apart;
@@ -208,45 +206,49 @@ module _ (job : Job) (core : Core) (is : AreOrderly job core) where
     ready = All-without (λ c. list_all (is_made_so_far job core) (job.deps c.position) ≡ true) ticket core.running is.ready;
   }
 
-  ended_orderly : (ticket position : ℕ) (ok halted : Bool) → position_of ticket core.running ≡ Some position →
-      AreOrderly job (record { taken = core.taken; running = without_child ticket core.running; ended = core.ended ++ (record { position = position; ok = ok }) ∷ []; halted = halted })
-  ended_orderly ticket position ok halted at =
-      let end : EndedChild = record { position = position; ok = ok } in
+  ended_orderly : (ticket position : ℕ) (ok : Bool) (output : List ℕ) (halted : Bool) → position_of ticket core.running ≡ Some position →
+      AreOrderly job (record { taken = core.taken; running = without_child ticket core.running; ended = core.ended ++ (record { position = position; ok = ok; output = output }) ∷ []; halted = halted })
+  ended_orderly ticket position ok output halted at =
+      let end : EndedChild = record { position = position; ok = ok; output = output } in
       let left : List RunningChild = without_child ticket core.running in
       let elsewhere = others_elsewhere ticket position core.running is.apart at in
       let found = found_child (λ c. is_taken core c.position ≡ true) ticket position core.running at is.taken in
       let taken : is_taken core position ≡ true = subst (λ (p : ℕ). is_taken core p ≡ true) found.1 found.2 in
       let lost = lost_orderly ticket halted in
       record {
+        within = lost.within;
         taken = lost.taken;
         ends_taken = All-push (λ e. is_taken core e.position ≡ true) core.ended end is.ends_taken taken;
         apart = lost.apart;
-        unmade = both_weaker (λ c. is_made_so_far job core c.position ≡ false) (λ c. c.position ≡ position → ⊥) (λ c. is_made_so_far job (with_ended core end []) c.position ≡ false) left
-            (λ c none other. made_elsewhere job core end c.position (λ same. other (sym same)) ∙ none) lost.unmade elsewhere;
+        unmade = λ k d lt.
+            let c : RunningChild = get_or left k d in
+            made_elsewhere job wise core end c.position (lost.within k d lt) (lost.ready k d lt) (λ same. elsewhere k d lt (sym same)) ∙ lost.unmade k d lt;
         unended = both_weaker (λ c. list_any (is_end_of c.position) core.ended ≡ false) (λ c. c.position ≡ position → ⊥) (λ c. list_any (is_end_of c.position) (core.ended ++ end ∷ []) ≡ false) left
             (λ c none other.
             list_any-append (is_end_of c.position) core.ended (end ∷ []) ∙ ap (λ (b : Bool). b || (eqb position c.position || false)) none ∙ ap (λ (b : Bool). b || false) (ne_eqb position c.position (λ same. other (sym same))))
             lost.unended elsewhere;
-        ready = All-weaker (λ c. list_all (is_made_so_far job core) (job.deps c.position) ≡ true) (λ c. list_all (is_made_so_far job (with_ended core end [])) (job.deps c.position) ≡ true)
-            (λ c all. all_made_still job core end (job.deps c.position) all) left lost.ready;
+        ready = λ k d lt.
+            let c : RunningChild = get_or left k d in
+            all_made_still job wise core end (job.deps c.position) (λ j e l. omega (arith, wise.before c.position (lost.within k d lt) j e l, lost.within k d lt)) (lost.ready k d lt);
       }
 
   halted_orderly : (halted : Bool) → AreOrderly job (record { taken = core.taken; running = core.running; ended = core.ended; halted = halted })
-  halted_orderly halted = record { taken = is.taken; ends_taken = is.ends_taken; apart = is.apart; unmade = is.unmade; unended = is.unended; ready = is.ready }
+  halted_orderly halted = record { within = is.within; taken = is.taken; ends_taken = is.ends_taken; apart = is.apart; unmade = is.unmade; unended = is.unended; ready = is.ready }
 
   -- a lawful move keeps it
   orderly_then : (move : Move) → IsLawfulMove job core move → AreOrderly job (after_move job core move)
   unfolding after_move
-  orderly_then (Starts position ticket) lawful = started_orderly position ticket (started_now job core position lawful).1
-  orderly_then (Ends ticket ok) lawful =
+  orderly_then (Starts position ticket) lawful = let now = started_now job core position lawful in started_orderly position ticket now.0 now.1
+  orderly_then (Ends ticket ok output) lawful =
       let there = position_there ticket core.running lawful in
       subst (λ (ends : List EndedChild). AreOrderly job (record { taken = core.taken; running = without_child ticket core.running; ended = core.ended ++ ends; halted = core.halted || (not job.keep_going && not ok) }))
-      (sym (ap (λ (p : Option ℕ). ended_child p ok) there.1)) (ended_orderly ticket there.0 ok (core.halted || (not job.keep_going && not ok)) there.1)
+      (sym (ap (λ (p : Option ℕ). ended_child p ok output) there.1)) (ended_orderly ticket there.0 ok output (core.halted || (not job.keep_going && not ok)) there.1)
   orderly_then (Loses ticket) lawful = lost_orderly ticket true
   orderly_then Halts lawful = halted_orderly true
 
 pub orderly_at_first : (job : Job) → AreOrderly job empty_core
 orderly_at_first job = record {
+  within = All-nil (λ child. child.position < job.count);
   taken = All-nil (λ child. is_taken empty_core child.position ≡ true);
   ends_taken = All-nil (λ end. is_taken empty_core end.position ≡ true);
   apart = tt;
@@ -256,7 +258,7 @@ orderly_at_first job = record {
 }
 
 -- lawful moves keep it
-pub orderly_after : (job : Job) (core : Core) → AreOrderly job core → (moves : List Move) → LawfulMoves job core moves → AreOrderly job (after_moves job core moves)
+pub orderly_after : (job : Job) → IsStepwise job → (core : Core) → AreOrderly job core → (moves : List Move) → LawfulMoves job core moves → AreOrderly job (after_moves job core moves)
 unfolding after_moves LawfulMoves
-orderly_after job core is [] lawful = is
-orderly_after job core is (move ∷ moves) lawful = orderly_after job (after_move job core move) (orderly_then job core is move lawful.0) moves lawful.1
+orderly_after job wise core is [] lawful = is
+orderly_after job wise core is (move ∷ moves) lawful = orderly_after job wise (after_move job core move) (orderly_then job wise core is move lawful.0) moves lawful.1

@@ -1,11 +1,11 @@
 -- A build that is under way, and one event more.
-use Rattle.std.proofs.Common.{◌≡◌, ℕ, ◌<◌, ◌≤◌, Bool, true, false, not, eqb, List, map, [], ◌∷◌, ◌++◌, length, get_or, Option, Some, None, Err, refl, sym, ap, subst, ◌∙◌, arith, inl, inr}
-use Rattle.std.specs.Prelude.{All, slice_get, is_some, unwrap_or}
-use Rattle.std.specs.Option.{option_and_then, option_map_or}
+use Rattle.std.proofs.Common.{◌≡◌, ℕ, ◌<◌, ◌≤◌, Bool, true, false, not, ◌||◌, eqb, cond, List, map, [], ◌∷◌, ◌++◌, length, get_or, Option, Some, None, Err, refl, sym, ap, subst, ◌∙◌, arith, inl, inr}
+use Rattle.std.specs.Prelude.{All, is_some, unwrap_or}
+use Rattle.std.specs.Option.{option_and_then}
 use Rattle.std.specs.Bool.{OnTrue}
 use Rattle.std.specs.List.{list_all, list_any}
 use Rattle.std.proofs.Math.ListN.{set}
-use Rattle.std.proofs.lemmas.Bool.{cases_Bool}
+use Rattle.std.proofs.lemmas.Bool.{cases_Bool, cond-true, cond-false}
 use Rattle.std.proofs.lemmas.List.{append-nil, length-map}
 use Rattle.std.proofs.lemmas.List.Elements.{All-weaker}
 use Rattle.vr_base.specs.declared.file.FileName.{FileName}
@@ -22,28 +22,33 @@ use Rattle.vr_outside.specs.declared.procs.WaitFault.{WaitFault}
 use Rattle.vr_outside.specs.declared.procs.WaitFault.TheVariants as wait
 use Rattle.vr_outside.specs.Children.{end_event}
 use Rattle.vr_outside.specs.Records.{IsRecorded, deps_at}
-use Rattle.run_spec.specs.Moves.{Job, Core, Starts, Ends, Loses, is_made_so_far, start_now, is_running, position_of, IsLawfulMove, after_move}
-use Rattle.run_spec.specs.ChildJournal.{Work, Run, End, Book, job_of, core_of, child_of_end, next_position, request_at, run_of, deps_of, exit_at, artefact_so_far, book_of, move_of}
-use Rattle.run_spec.specs.Marks.{mark_at, marks_of}
+use Rattle.run_spec.specs.Moves.{Job, Core, Starts, Ends, Loses, is_taken, is_made_so_far, start_now, is_running, position_of, IsLawfulMove, after_move}
+use Rattle.run_spec.specs.ChildJournal.{Work, Run, End, Book, job_of, core_of, child_of_end, next_position, request_at, run_of, exit_at, or_else, has_all, artefact_so_far, book_of, move_of}
+use Rattle.run_spec.proofs.Artefacts.{deps_before, artefact_free}
 use Rattle.run_spec.specs.Commits.{commit_of, commits_of, commits}
-use Rattle.run_spec.proofs.Journal.{made_so_far}
+use Rattle.run_spec.specs.Marks.{mark_of, mark_at, marks_of}
+use Rattle.run_spec.specs.Recorded.{recorded_at}
+use Rattle.run_spec.specs.declared.marks.Mark.TheVariants.{Fresh}
+use Rattle.run_spec.proofs.Journal.{made_so_far, no_output}
 use Rattle.run_spec.proofs.Steps.{now_parts}
 use Rattle.slot_machine.specs.declared.slots.Slots.{Slots}
 use Rattle.child_steps.specs.declared.step.Step.TheVariants.{Start}
-use Rattle.slot_machine.specs.Machines.{IsMachineOf}
+use Rattle.slot_machine.specs.Machines.{IsMachineOf, is_checked, is_stopped_in}
 use Rattle.child_steps.specs.Steps.{step_of, step_at}
 use Rattle.compile_loop.specs.declared.faults.BuildFault.{BuildFault}
 use Rattle.compile_loop.specs.declared.faults.BuildFault.TheVariants.{NoMemory, StartFailed, ChildLost, DiskFailed}
 use Rattle.compile_loop.specs.Commits.{latest_after, Acknowledges}
 use Rattle.compile_loop.specs.Faults.{noted_with, is_all_committed, is_of_disk, ComesFirst}
 use Rattle.compile_loop.specs.Requests.{lent_request}
-use Rattle.compile_loop.specs.UnderWay.{Origin, BuildState, with_machine, work_from, HasRecords, IsUnderWay}
+use Rattle.compile_loop.specs.UnderWay.{Origin, BuildState, with_machine, work_from, artefact_kept, HasRecords, IsUnderWay}
+use Rattle.compile_loop.specs.Marks.{waiting_mark, known_mark, known_marks}
 use Rattle.child_steps.specs.Steps.{halted_if}
-use Rattle.compile_loop.proofs.Orderly.{AreOrderly, is_end_of, found_child, startable_parts, started_now}
+use Rattle.compile_loop.proofs.Orderly.{AreOrderly, is_end_of, none_ended, found_child, startable_parts, started_now}
 use Rattle.child_steps.proofs.Halting.{halted_not, start_while}
 use Rattle.compile_loop.proofs.EventsThen.{moves_then, greedy_then, requests_then, none_lost_then, machine_then, machine_lost, orderly, run_at, ends_then, ends_started, ends_gone}
-use Rattle.compile_loop.proofs.Lent.{entry_is, item_at, All-from_test, made_recorded, request_is}
-use Rattle.compile_loop.proofs.MarksThen.{mark_of_exit, marks_then}
+use Rattle.clean_laws.proofs.JournalSettled.{map-below_same}
+use Rattle.compile_loop.proofs.Lent.{item_at, All-from_test, made_recorded, request_is}
+use Rattle.compile_loop.proofs.MarksThen.{mark_of_exit, marks_then, marks_same, mark_checked, marks_fresh, marks_stale}
 use Rattle.compile_loop.proofs.RecordsThen.{commits_then, records_then}
 use Rattle.compile_loop.proofs.Acknowledging.{knows_all, all_few, acknowledges_left}
 use Rattle.compile_loop.proofs.FirstFaults.{first_of_none, first_lost}
@@ -98,11 +103,6 @@ pub started_at : (job : Job) (core : Core) (position : ℕ) → Start position �
 unfolding step_at
 started_at job core position is = from_step position (start_now job core) (eqb (length core.running) 0) is
 
--- the files that a file depends on
-pub deps_same : (here : Option Entry) → option_map_or (λ entry. entry.deps) here [] ≡ deps_of here
-deps_same None = refl
-deps_same (Some entry) = refl
-
 module _ (graph : List Entry) (from : Origin) (events : List Event) (acknowledged : ℕ) (state : BuildState) (is : IsUnderWay graph from events acknowledged state) where
   abbrev s : Work
   s = work_from graph from
@@ -118,27 +118,24 @@ module _ (graph : List Entry) (from : Origin) (events : List Event) (acknowledge
 
   -- each file has a mark
   pub marks_count : length state.marks ≡ length graph
-  marks_count = ap length is.marked ∙ length-map (below (length graph)) (mark_at s book.ends) ∙ length-below (length graph)
+  marks_count = ap length is.marked ∙ length-map (below (length graph)) (known_mark s book.ends state.machine) ∙ length-below (length graph)
+
+  abbrev ordered : (position : ℕ) → All (λ dep. dep < position) (deps_at graph position)
+  ordered = deps_before graph is.is_graph
 
   knows : all ≡ true → (name : FileName) → state.latest_of name ≡ latest_after (commits_of graph book.ends) from.latest_of name
   knows on = knows_all s events all from.latest_of state.latest_of acknowledged is.committed on
 
   -- of all that a file depends on there is an artefact where all of it is made
-  made_deps : (position : ℕ) → list_all (is_made_so_far (job_of s) core) (deps_of (slice_get graph position)) ≡ true → All (λ dep. is_some (artefact_so_far s book.ends dep) ≡ true) (deps_of (slice_get graph position))
+  made_deps : (position : ℕ) → list_all (is_made_so_far (job_of s) core) (deps_at graph position) ≡ true → All (λ dep. is_some (artefact_so_far s book.ends dep) ≡ true) (deps_at graph position)
   made_deps position made =
       All-weaker (λ dep. is_made_so_far (job_of s) core dep ≡ true) (λ dep. is_some (artefact_so_far s book.ends dep) ≡ true)
-      (λ dep h. sym (made_so_far s book dep) ∙ h) (deps_of (slice_get graph position)) (All-from_test (is_made_so_far (job_of s) core) (deps_of (slice_get graph position)) made)
+      (λ dep h. sym (made_so_far s book dep) ∙ h) (deps_at graph position) (All-from_test (is_made_so_far (job_of s) core) (deps_at graph position) made)
 
   -- and a record of its present view
-  recorded_deps : all ≡ true → (position : ℕ) → position < length graph → list_all (is_made_so_far (job_of s) core) (deps_of (slice_get graph position)) ≡ true → All (IsRecorded state.latest_of graph) (deps_at graph position)
-  recorded_deps on position lt made =
-      let entry = item_at graph position lt in
-      let deps : deps_at graph position ≡ deps_of (slice_get graph position) = deps_same (slice_get graph position) in
-      let is_entry : deps_of (slice_get graph position) ≡ entry.0.deps = ap deps_of entry.1 in
-      let before : All (λ dep. dep < position) entry.0.deps = (entry_is graph position entry.0 is.is_graph entry.1).before in
-      let there : All (λ dep. is_some (artefact_so_far s book.ends dep) ≡ true) entry.0.deps = subst (All (λ dep. is_some (artefact_so_far s book.ends dep) ≡ true)) is_entry (made_deps position made) in
-      subst (All (IsRecorded state.latest_of graph)) (sym (deps ∙ is_entry))
-      (λ k d l. made_recorded graph from book.ends state.latest_of is.recorded (knows on) (get_or entry.0.deps k d) (omega (arith, before k d l, lt)) (there k d l))
+  pub recorded_deps : all ≡ true → (position : ℕ) → position < length graph → list_all (is_made_so_far (job_of s) core) (deps_at graph position) ≡ true → All (IsRecorded state.latest_of graph) (deps_at graph position)
+  recorded_deps on position lt made k d l =
+      made_recorded graph from book.ends state.latest_of ordered is.recorded (knows on) (get_or (deps_at graph position) k d) (omega (arith, ordered position k d l, lt)) (made_deps position made k d l)
 
   -- a file is to be started
   module _ (at : ℕ) (start : start_now (job_of s) (halted_if (is_some state.noted) core) ≡ Some at) where
@@ -151,7 +148,7 @@ module _ (graph : List Entry) (from : Origin) (events : List Event) (acknowledge
     all_here : all ≡ true
     all_here = all_while state.noted state.broken nothing_noted is.usable
 
-    deps_made : list_all (is_made_so_far (job_of s) core) (deps_of (slice_get graph at)) ≡ true
+    deps_made : list_all (is_made_so_far (job_of s) core) (deps_at graph at) ≡ true
     deps_made = (startable_parts (job_of s) core at (started_now (job_of s) core at start_here).1).2
 
     inside : at < length graph
@@ -173,7 +170,7 @@ module _ (graph : List Entry) (from : Origin) (events : List Event) (acknowledge
       requested : option_and_then (request_at s book.ends) (next_position s book) ≡ Some request
       requested =
           ap (option_and_then (request_at s book.ends)) next_is
-          ∙ sym (request_is graph from book.ends state.latest_of is.recorded (knows all_here) is.is_graph at inside (made_deps at deps_made)) ∙ asked
+          ∙ sym (request_is graph from book.ends state.latest_of ordered is.recorded (knows all_here) is.is_graph at inside (made_deps at deps_made)) ∙ asked
 
       ends_same : (book_of s (events ++ event ∷ [])).ends ≡ book.ends
       ends_same = ends_started s events ticket request
@@ -185,9 +182,9 @@ module _ (graph : List Entry) (from : Origin) (events : List Event) (acknowledge
       in_time = omega (arith, all_few s events all from.latest_of state.latest_of acknowledged is.committed all_here)
 
       -- after its start
-      pub started_under_way : (machine' : Slots) → IsMachineOf machine' (job_of s) (after_move (job_of s) (halted_if (is_some state.noted) core) (Starts at ticket)) →
+      pub started_under_way : (machine' : Slots) → ((k : ℕ) → is_checked machine' k ≡ is_checked state.machine k) → is_stopped_in machine' ≡ is_stopped_in state.machine → IsMachineOf machine' (job_of s) (after_move (job_of s) (halted_if (is_some state.noted) core) (Starts at ticket)) →
           IsUnderWay graph from (events ++ event ∷ []) acknowledged (with_machine machine' state.noted state)
-      started_under_way machine' step = record {
+      started_under_way machine' checked stopped step = record {
         is_graph = is.is_graph;
         moves = moves_then s events event is.moves (subst (IsLawfulMove (job_of s) core) move_is start_here);
         requests = requests_then s events event is.requests requested;
@@ -195,16 +192,76 @@ module _ (graph : List Entry) (from : Origin) (events : List Event) (acknowledge
         none_lost = λ none. none_lost_then s events event (is.none_lost none) refl;
         usable = is.usable;
         in_step = machine_then s events machine' (is_some state.noted) event (Starts at ticket) move_is step;
-        marked = is.marked ∙ ap (λ (ends : List End). map (mark_at s ends) (below (length graph))) (sym ends_same);
+        goes_on = λ none. stopped ∙ is.goes_on none;
+        marked = is.marked ∙ marks_same s book.ends state.machine machine' checked ∙ ap (λ (ends : List End). known_marks s ends machine') (sym ends_same);
         recorded = subst (HasRecords graph from) (sym ends_same) is.recorded;
         committed = acknowledges_left s events all from.latest_of state.latest_of acknowledged is.committed event [] all in_time (commits_started ∙ sym (append-nil (commits s events))) (λ on. (on, refl));
         comes_first = first_of_none s (events ++ event ∷ []) acknowledged state.broken state.noted nothing_noted;
       }
 
+  -- a file is checked that wasn't started and has all that it depends on
+  module _ (at : ℕ) (inside : at < length graph) (untaken : is_taken core at ≡ false) (made : list_all (is_made_so_far (job_of s) core) (deps_at graph at) ≡ true) where
+    no_end_here : list_any (is_end_of at) core.ended ≡ false
+    no_end_here = none_ended core at untaken core.ended (orderly s events is.is_graph is.moves).ends_taken
+
+    -- it is made where a record of it is current
+    pub check_made : is_made_so_far (job_of s) core at ≡ is_some (recorded_at from.latest_of graph at)
+    unfolding has_all
+    check_made =
+        ap is_some (artefact_free s ordered (map child_of_end book.ends) at inside made ∙ ap (or_else (recorded_at from.latest_of graph at)) (no_output book.ends at (no_exit at book.ends no_end_here)))
+        ∙ some_or (recorded_at from.latest_of graph at)
+      where
+        some_or : (o : Option (List ℕ)) → is_some (or_else o None) ≡ is_some o
+        some_or None = refl
+        some_or (Some x) = refl
+
+    pub checked_under_way : (machine' : Slots) (fresh : Bool) (marks' : List Mark) → fresh ≡ is_some (recorded_at from.latest_of graph at) → is_checked state.machine at ≡ false → ((k : ℕ) → is_checked machine' k ≡ (is_checked state.machine k || eqb at k))
+        → is_stopped_in machine' ≡ is_stopped_in state.machine → marks' ≡ cond fresh (set state.marks at Fresh) state.marks → IsMachineOf machine' (job_of s) (halted_if (is_some state.noted) core)
+        → IsUnderWay graph from events acknowledged (record { machine = machine'; marks = marks'; noted = state.noted; latest_of = state.latest_of; broken = state.broken })
+    checked_under_way machine' fresh marks' says new checked stopped changed step = record {
+      is_graph = is.is_graph;
+      moves = is.moves;
+      requests = is.requests;
+      greedy = is.greedy;
+      none_lost = is.none_lost;
+      usable = is.usable;
+      in_step = step;
+      goes_on = λ none. stopped ∙ is.goes_on none;
+      marked = changed ∙ marked_by fresh refl;
+      recorded = is.recorded;
+      committed = is.committed;
+      comes_first = is.comes_first;
+    } where
+      mark_here : (f : Bool) → fresh ≡ f → mark_at s book.ends at ≡ cond f Fresh (waiting_mark s.keep_going)
+      mark_here f e = mark_checked s book.ends at f (no_exit at book.ends no_end_here) (sym e ∙ says ∙ sym check_made)
+
+      marked_by : (f : Bool) → fresh ≡ f → cond f (set state.marks at Fresh) state.marks ≡ known_marks s book.ends machine'
+      marked_by true e = ap (λ (l : List Mark). set l at Fresh) is.marked ∙ marks_fresh s book.ends state.machine machine' at inside new checked (mark_here true e)
+      marked_by false e = is.marked ∙ marks_stale s book.ends state.machine machine' at inside new checked (mark_here false e)
+
+  waits : (keep_going : Bool) → waiting_mark keep_going ≡ mark_of keep_going None None
+  waits true = refl
+  waits false = refl
+
+  -- what it knows is what became of each file, where one that wasn't checked neither runs nor is made
+  pub marks_over : ((at : ℕ) → at < length graph → is_checked state.machine at ≡ false → (is_taken core at ≡ false) × (is_made_so_far (job_of s) core at ≡ false)) → state.marks ≡ marks_of s events
+  marks_over idle = is.marked ∙ map-below_same (known_mark s book.ends state.machine) (mark_at s book.ends) (length graph) each
+    where
+      each : (k : ℕ) → k < length graph → known_mark s book.ends state.machine k ≡ mark_at s book.ends k
+      each k lt = elim (cases_Bool (is_checked state.machine k)) [
+        | inl old ↦ cond-true (is_checked state.machine k) (mark_at s book.ends k) (waiting_mark s.keep_going) old
+        | inr new ↦
+            let left = idle k lt new in
+            let exit : exit_at book.ends k ≡ None = no_exit k book.ends (none_ended core k left.0 core.ended (orderly s events is.is_graph is.moves).ends_taken) in
+            let none : artefact_so_far s book.ends k ≡ None = no_some (artefact_so_far s book.ends k) (sym (made_so_far s book k) ∙ left.1) in
+            cond-false (is_checked state.machine k) (mark_at s book.ends k) (waiting_mark s.keep_going) new ∙ waits s.keep_going
+            ∙ ap (mark_of s.keep_going None) (sym none) ∙ ap (λ (o : Option Exit). mark_of s.keep_going o (artefact_so_far s book.ends k)) (sym exit)
+      ]
+
   -- a fault halts it
-  pub halted_under_way : (machine' : Slots) (fault : BuildFault) → IsMachineOf machine' (job_of s) (halted_if true core) → (is_all_committed (Some fault) state.broken ≡ true → all ≡ true) → ComesFirst (Some fault) s events acknowledged state.broken →
+  pub halted_under_way : (machine' : Slots) (fault : BuildFault) → ((k : ℕ) → is_checked machine' k ≡ is_checked state.machine k) → IsMachineOf machine' (job_of s) (halted_if true core) → (is_all_committed (Some fault) state.broken ≡ true → all ≡ true) → ComesFirst (Some fault) s events acknowledged state.broken →
       IsUnderWay graph from events acknowledged (with_machine machine' (Some fault) state)
-  halted_under_way machine' fault step still first = record {
+  halted_under_way machine' fault checked step still first = record {
     is_graph = is.is_graph;
     moves = is.moves;
     requests = is.requests;
@@ -212,7 +269,8 @@ module _ (graph : List Entry) (from : Origin) (events : List Event) (acknowledge
     none_lost = not_noted fault;
     usable = not_noted fault;
     in_step = step;
-    marked = is.marked;
+    goes_on = not_noted fault;
+    marked = is.marked ∙ marks_same s book.ends state.machine machine' checked;
     recorded = is.recorded;
     committed = record {
       few = is.committed.few;
@@ -227,9 +285,9 @@ module _ (graph : List Entry) (from : Origin) (events : List Event) (acknowledge
     weaker_all false h = tt
 
   -- the end of a child is lost
-  pub lost_under_way : (ticket : ℕ) (machine' : Slots) (fault : BuildFault) → is_of_disk fault ≡ false → is_running core ticket ≡ true → IsMachineOf machine' (job_of s) (after_move (job_of s) (halted_if (is_some state.noted) core) (Loses ticket)) →
+  pub lost_under_way : (ticket : ℕ) (machine' : Slots) (fault : BuildFault) → ((k : ℕ) → is_checked machine' k ≡ is_checked state.machine k) → is_of_disk fault ≡ false → is_running core ticket ≡ true → IsMachineOf machine' (job_of s) (after_move (job_of s) (halted_if (is_some state.noted) core) (Loses ticket)) →
       IsUnderWay graph from (events ++ Gone ticket ∷ []) acknowledged (with_machine machine' (Some (noted_with state.noted fault)) state)
-  lost_under_way ticket machine' why kind runs step =
+  lost_under_way ticket machine' why checked kind runs step =
       let fault : BuildFault = noted_with state.noted why in
       let still : is_all_committed (Some fault) state.broken ≡ true → all ≡ true = still_all state.noted why state.broken in
       let same : (book_of s (events ++ Gone ticket ∷ [])).ends ≡ book.ends = ends_gone s events ticket in
@@ -241,7 +299,8 @@ module _ (graph : List Entry) (from : Origin) (events : List Event) (acknowledge
         none_lost = not_noted fault;
         usable = not_noted fault;
         in_step = machine_lost s events machine' (is_some state.noted) true ticket step;
-        marked = is.marked ∙ ap (λ (ends : List End). map (mark_at s ends) (below (length graph))) (sym same);
+        goes_on = not_noted fault;
+        marked = is.marked ∙ marks_same s book.ends state.machine machine' checked ∙ ap (λ (ends : List End). known_marks s ends machine') (sym same);
         recorded = subst (HasRecords graph from) (sym same) is.recorded;
         committed = acknowledges_left s events all from.latest_of state.latest_of acknowledged is.committed (Gone ticket) [] (is_all_committed (Some fault) state.broken) tt (ap (commits_of graph) same ∙ sym (append-nil (commits s events))) (λ on. (still on, refl));
         comes_first = first_lost s events acknowledged state.broken ticket state.noted why kind (λ none. (is.none_lost none, all_at_first none)) is.comes_first;
@@ -265,12 +324,22 @@ module _ (graph : List Entry) (from : Origin) (events : List Event) (acknowledge
     run = run_at ticket at book.runs there
 
     children : AreOrderly (job_of s) core
-    children = orderly s events is.moves
+    children = orderly s events is.is_graph is.moves
 
     unmade : artefact_so_far s book.ends at ≡ None
     unmade =
         let found = found_child (λ c. is_made_so_far (job_of s) core c.position ≡ false) ticket at core.running there children.unmade in
         no_some (artefact_so_far s book.ends at) (sym (made_so_far s book at) ∙ subst (λ (p : ℕ). is_made_so_far (job_of s) core p ≡ false) found.1 found.2)
+
+    free : has_all (artefact_so_far s book.ends) (deps_at graph at) ≡ true
+    unfolding has_all
+    free =
+        let found = found_child (λ c. list_all (is_made_so_far (job_of s) core) ((job_of s).deps c.position) ≡ true) ticket at core.running there children.ready in
+        subst (λ (p : ℕ). list_all (is_made_so_far (job_of s) core) (deps_at graph p) ≡ true) found.1 found.2
+
+    -- nor is a record of it current, or anything printed
+    unkept : artefact_kept graph from book.ends at ≡ None
+    unkept = sym (artefact_free s ordered (map child_of_end book.ends) at inside free) ∙ unmade
 
     unended : exit_at book.ends at ≡ None
     unended =
@@ -279,9 +348,8 @@ module _ (graph : List Entry) (from : Origin) (events : List Event) (acknowledge
 
     -- all that its file depends on is recorded
     pub end_recorded : all ≡ true → All (IsRecorded state.latest_of graph) (deps_at graph at)
-    end_recorded on =
-        let found = found_child (λ c. list_all (is_made_so_far (job_of s) core) ((job_of s).deps c.position) ≡ true) ticket at core.running there children.ready in
-        recorded_deps on at inside (subst (λ (p : ℕ). list_all (is_made_so_far (job_of s) core) (deps_of (slice_get graph p)) ≡ true) found.1 found.2)
+    unfolding has_all
+    end_recorded on = recorded_deps on at inside free
 
     abbrev end : End
     end = record { position = at; request = run.0.request; exit = exit }
@@ -292,28 +360,34 @@ module _ (graph : List Entry) (from : Origin) (events : List Event) (acknowledge
     pub commits_ended : commits s (events ++ ended ∷ []) ≡ commits s events ++ commit_of graph at exit
     commits_ended = ap (commits_of graph) ends_are ∙ commits_then graph book.ends end
 
-    marks_ended : (mark : Mark) → mark ≡ mark_of_exit exit → set state.marks at mark ≡ marks_of s (events ++ ended ∷ [])
-    marks_ended mark mark_is =
-        ap (λ (l : List Mark). set l at mark) is.marked ∙ marks_then s book.ends at run.0.request exit unmade unended (length graph) inside mark mark_is
-        ∙ ap (λ (ends : List End). map (mark_at s ends) (below (length graph))) (sym ends_are)
+    marks_ended : (machine' : Slots) → is_checked state.machine at ≡ true → ((k : ℕ) → is_checked machine' k ≡ is_checked state.machine k)
+        → ((k : ℕ) → k < length graph → is_checked state.machine k ≡ true → list_all (is_made_so_far (job_of s) core) (deps_at graph k) ≡ true)
+        → (mark : Mark) → mark ≡ mark_of_exit exit → set state.marks at mark ≡ known_marks s (book_of s (events ++ ended ∷ [])).ends machine'
+    unfolding has_all
+    marks_ended machine' here checked ready mark mark_is =
+        ap (λ (l : List Mark). set l at mark) is.marked
+        ∙ marks_then s is.is_graph book.ends at run.0.request exit inside free unmade unended state.machine machine' here checked ready mark mark_is
+        ∙ ap (λ (ends : List End). known_marks s ends machine') (sym ends_are)
 
     records_ended : HasRecords graph from (book_of s (events ++ ended ∷ [])).ends
     records_ended =
         let entry = item_at graph at inside in
-        subst (HasRecords graph from) (sym ends_are) (records_then graph from is.is_graph book.ends is.recorded at entry.0 entry.1 run.0.request exit unmade)
+        subst (HasRecords graph from) (sym ends_are) (records_then graph from is.is_graph book.ends is.recorded at entry.0 entry.1 run.0.request exit unkept)
 
     -- its machine is that of what has happened
-    pub machine_ended : (machine' : Slots) → IsMachineOf machine' (job_of s) (after_move (job_of s) (halted_if (is_some state.noted) core) (Ends ticket (eqb exit.code 0))) →
+    pub machine_ended : (machine' : Slots) → IsMachineOf machine' (job_of s) (after_move (job_of s) (halted_if (is_some state.noted) core) (Ends ticket (eqb exit.code 0) exit.output)) →
         IsMachineOf machine' (job_of s) (halted_if (is_some state.noted) (core_of (book_of s (events ++ ended ∷ []))))
-    machine_ended machine' step = machine_then s events machine' (is_some state.noted) ended (Ends ticket (eqb exit.code 0)) refl step
+    machine_ended machine' step = machine_then s events machine' (is_some state.noted) ended (Ends ticket (eqb exit.code 0) exit.output) refl step
 
     -- after its end
     pub ended_under_way : (runs : is_running core ticket ≡ true) (greedy : start_now (job_of s) (halted_if (is_some state.noted) core) ≡ None) (mark : Mark) → mark ≡ mark_of_exit exit →
-        (acknowledged' : ℕ) (machine' : Slots) (noted' : Option BuildFault) (later : FileName → Option Record) (broken' : Bool) → (noted' ≡ None → (state.noted ≡ None) × (broken' ≡ false)) →
+        (acknowledged' : ℕ) (machine' : Slots) (noted' : Option BuildFault) (later : FileName → Option Record) (broken' : Bool) → is_checked state.machine at ≡ true → ((k : ℕ) → is_checked machine' k ≡ is_checked state.machine k) →
+        ((k : ℕ) → k < length graph → is_checked state.machine k ≡ true → list_all (is_made_so_far (job_of s) core) (deps_at graph k) ≡ true) → (noted' ≡ None → is_stopped_in machine' ≡ false) →
+        (noted' ≡ None → (state.noted ≡ None) × (broken' ≡ false)) →
         IsMachineOf machine' (job_of s) (halted_if (is_some noted') (core_of (book_of s (events ++ ended ∷ [])))) →
         Acknowledges s (events ++ ended ∷ []) (is_all_committed noted' broken') from.latest_of later acknowledged' → ComesFirst noted' s (events ++ ended ∷ []) acknowledged' broken' →
         IsUnderWay graph from (events ++ ended ∷ []) acknowledged' (record { machine = machine'; marks = set state.marks at mark; noted = noted'; latest_of = later; broken = broken' })
-    ended_under_way runs greedy mark mark_is acknowledged' machine' noted' later broken' none step committed first = record {
+    ended_under_way runs greedy mark mark_is acknowledged' machine' noted' later broken' here checked ready on none step committed first = record {
       is_graph = is.is_graph;
       moves = moves_then s events ended is.moves runs;
       requests = requests_then s events ended is.requests tt;
@@ -321,7 +395,8 @@ module _ (graph : List Entry) (from : Origin) (events : List Event) (acknowledge
       none_lost = λ n. none_lost_then s events ended (is.none_lost (none n).0) refl;
       usable = λ n. (none n).1;
       in_step = step;
-      marked = marks_ended mark mark_is;
+      goes_on = on;
+      marked = marks_ended machine' here checked ready mark mark_is;
       recorded = records_ended;
       committed = committed;
       comes_first = first;

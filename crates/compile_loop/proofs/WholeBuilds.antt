@@ -25,13 +25,15 @@ use Rattle.vr_outside.specs.Children.{started_with}
 use Rattle.vr_outside.specs.Disks.{Image, Moments, IsDurable, reads_of}
 use Rattle.vr_outside.specs.Commits.{CommitsFirst}
 use Rattle.vr_outside.proofs.CommitLaws.{commits_nothing}
-use Rattle.run_spec.specs.Moves.{Core, empty_core, LawfulMoves, GreedyMoves, IsFinished}
-use Rattle.run_spec.specs.ChildJournal.{Work, Run, job_of, core_of, after_all, book_of, moves_after, AreRequested, EachAfter, Lawful, exit_at, artefact_after, built_file}
+use Rattle.run_spec.specs.Moves.{Core, empty_core, is_taken, is_made_so_far, LawfulMoves, GreedyMoves, IsFinished}
+use Rattle.run_spec.specs.ChildJournal.{Work, Run, End, artefact_so_far, job_of, core_of, after_all, book_of, moves_after, AreRequested, EachAfter, Lawful, exit_at, artefact_after, built_file}
 use Rattle.run_spec.specs.Marks.{mark_of, mark_at, marks_of}
 use Rattle.run_spec.specs.Commits.{record_at, commits}
 use Rattle.run_spec.proofs.Waiting.{waits_none}
 use Rattle.slot_machine.specs.declared.slots.Slots.{Slots}
-use Rattle.slot_machine.specs.Machines.{IsMachineOf}
+use Rattle.slot_machine.specs.Machines.{IsMachineOf, is_checked, is_stopped_in}
+use Rattle.run_spec.proofs.Artefacts.{deps_before}
+use Rattle.compile_loop.specs.Marks.{waiting_mark, known_mark, known_marks}
 use Rattle.compile_loop.specs.declared.faults.BuildFault.{BuildFault}
 use Rattle.compile_loop.specs.declared.faults.BuildFault.TheVariants.{NoMemory}
 use Rattle.compile_loop.specs.Commits.{Acknowledges, HoldsFirst}
@@ -44,7 +46,7 @@ use Rattle.compile_loop.proofs.Acknowledging.{knows_all}
 use Rattle.child_steps.proofs.Halting.{halted_not}
 use Rattle.compile_loop.proofs.Lent.{some_there, item_at, All-from_test, knows_made, made_recorded, lent_same}
 use Rattle.compile_loop.proofs.RecordsThen.{records_at_first}
-use Rattle.compile_loop.proofs.UnderWayThen.{all_while}
+use Rattle.compile_loop.proofs.UnderWayThen.{all_while, marks_over}
 
 zero_committed : (all : Bool) → OnTrue all (◌≡◌ {A = ℕ} 0 0)
 zero_committed true = refl
@@ -55,10 +57,10 @@ on_false true a = tt
 on_false false a = a
 
 -- nothing has happened yet
-pub first_under_way : (graph : List Entry) (from : Origin) (machine : Slots) (marks : List Mark) (broken : Bool) → IsGraph graph → IsMachineOf machine (job_of (work_from graph from)) empty_core → marks ≡ marks_of (work_from graph from) [] →
+pub first_under_way : (graph : List Entry) (from : Origin) (machine : Slots) (marks : List Mark) (broken : Bool) → IsGraph graph → IsMachineOf machine (job_of (work_from graph from)) empty_core → is_stopped_in machine ≡ false → marks ≡ known_marks (work_from graph from) [] machine →
     broken ≡ false → IsUnderWay graph from [] 0 (record { machine = machine; marks = marks; noted = None; latest_of = from.latest_of; broken = broken })
 unfolding after_all moves_after LawfulMoves GreedyMoves AreRequested
-first_under_way graph from machine marks broken is step marked usable = record {
+first_under_way graph from machine marks broken is step on marked usable = record {
   is_graph = is;
   moves = tt;
   requests = tt;
@@ -66,6 +68,7 @@ first_under_way graph from machine marks broken is step marked usable = record {
   none_lost = λ n. refl;
   usable = λ n. usable;
   in_step = step;
+  goes_on = λ n. on;
   marked = marked;
   recorded = records_at_first graph from;
   committed = record {
@@ -137,7 +140,7 @@ module _ (tells told : Type 0) (answer : Request → Exit) (records_of : Image �
   knows_files : is_all_committed state.noted state.broken ≡ true → (position : ℕ) (entry : Entry) (artefact : List ℕ) → slice_get graph position ≡ Some entry → artefact_after s goes.events position ≡ Some artefact →
       state.latest_of entry.name ≡ Some (record_at graph position artefact)
   knows_files on position entry artefact at is =
-      knows_made graph from (book_of s goes.events).ends state.latest_of goes.under_way.recorded (knows_all s goes.events (is_all_committed state.noted state.broken) from.latest_of state.latest_of goes.acknowledged goes.under_way.committed on) position entry artefact at is
+      knows_made graph from (book_of s goes.events).ends state.latest_of (deps_before graph goes.under_way.is_graph) goes.under_way.recorded (knows_all s goes.events (is_all_committed state.noted state.broken) from.latest_of state.latest_of goes.acknowledged goes.under_way.committed on) position entry artefact at is
 
   lawful_of : tells → Lawful s goes.events
   lawful_of t = record { moves = goes.under_way.moves; requests = goes.under_way.requests; tickets = (goes.journal t).tickets }
@@ -169,9 +172,10 @@ module _ (tells told : Type 0) (answer : Request → Exit) (records_of : Image �
       subst (λ (o : Option BuildFault). BuildRan tells told answer records_of s at_first at_last (record { ended = false; fault = o; broken = state.broken }) Says) is (ran_halted Says)
 
   -- it has ended by itself
-  pub ran_done : state.noted ≡ None → IsFinished (job_of s) (halted_if (is_some state.noted) (core_of (book_of s goes.events))) → (said : List Mark) → said ≡ state.marks →
+  pub ran_done : state.noted ≡ None → IsFinished (job_of s) (halted_if (is_some state.noted) (core_of (book_of s goes.events))) → ((at : ℕ) → at < length graph → is_checked state.machine at ≡ false → (is_taken (core_of (book_of s goes.events)) at ≡ false) × (is_made_so_far (job_of s) (core_of (book_of s goes.events)) at ≡ false))
+      → (said : List Mark) → said ≡ state.marks →
       BuildRan tells told answer records_of s at_first at_last (record { ended = true; fault = None; broken = state.broken }) (λ events. said ≡ marks_of s events)
-  ran_done none finished said same =
+  ran_done none finished idle said same =
       let core : Core = core_of (book_of s goes.events) in
       let over : IsFinished (job_of s) core = subst (IsFinished (job_of s)) (ap (λ (o : Option BuildFault). halted_if (is_some o) core) none ∙ halted_not core) finished in
       let still : is_all_committed state.noted state.broken ≡ is_all_committed None state.broken = ap (λ (o : Option BuildFault). is_all_committed o state.broken) none in
@@ -186,7 +190,7 @@ module _ (tells told : Type 0) (answer : Request → Exit) (records_of : Image �
         lawful = lawful_of;
         answered = λ t. (goes.journal t).answered;
         whole = λ t. record { lawful = lawful_of t; greedy = goes.under_way.greedy none; finished = over; none_lost = goes.under_way.none_lost none };
-        says = same ∙ goes.under_way.marked;
+        says = same ∙ marks_over graph from goes.events goes.acknowledged state goes.under_way idle;
         acknowledged = goes.acknowledged;
         committed = subst (λ (all : Bool). Acknowledges s goes.events all from.latest_of state.latest_of goes.acknowledged) still goes.under_way.committed;
         comes_first = tt;
@@ -210,15 +214,34 @@ marked_has keep_going (Some exit) None made = absurd (false≢true made)
 marked_has true None None made = absurd (false≢true made)
 marked_has false None None made = absurd (false≢true made)
 
+-- the mark of a file among marks of all files
+mark_of_list : (marks : ℕ → Mark) (count position : ℕ) (mark : Mark) → slice_get (map marks (below count)) position ≡ Some mark → (position < count) × (marks position ≡ mark)
+mark_of_list marks count position mark at =
+    let inside : position < count = subst (λ (n : ℕ). position < n) (length-map (below count) marks ∙ length-below count) (slice_get_within (map marks (below count)) position mark at) in
+    let here : slice_get (below count) position ≡ Some position =
+    slice_get-get_or (below count) position 0 (subst (λ (n : ℕ). position < n) (sym (length-below count)) inside) ∙ ap (λ (p : ℕ). Some p) (get_or-below count position 0 inside) in
+    (inside, same_Some (marks position) mark (sym (slice_get-map marks (below count) position ∙ ap (option_map marks) here) ∙ at))
+
 -- the mark of a file, and its artefact where it is made
-pub mark_is : (s : Work) (events : List Event) (position : ℕ) (mark : Mark) → slice_get (marks_of s events) position ≡ Some mark → is_made mark ≡ true → (position < length s.graph) × (is_some (artefact_after s events position) ≡ true)
+mark_is : (s : Work) (events : List Event) (position : ℕ) (mark : Mark) → slice_get (marks_of s events) position ≡ Some mark → is_made mark ≡ true → (position < length s.graph) × (is_some (artefact_after s events position) ≡ true)
 mark_is s events position mark at made =
-    let marks : ℕ → Mark = mark_at s (book_of s events).ends in
-    let inside : position < length s.graph = subst (λ (n : ℕ). position < n) (length-map (below (length s.graph)) marks ∙ length-below (length s.graph)) (slice_get_within (map marks (below (length s.graph))) position mark at) in
-    let here : slice_get (below (length s.graph)) position ≡ Some position =
-    slice_get-get_or (below (length s.graph)) position 0 (subst (λ (n : ℕ). position < n) (sym (length-below (length s.graph))) inside) ∙ ap (λ (p : ℕ). Some p) (get_or-below (length s.graph) position 0 inside) in
-    let same : marks position ≡ mark = same_Some (marks position) mark (sym (slice_get-map marks (below (length s.graph)) position ∙ ap (option_map marks) here) ∙ at) in
-    (inside, marked_has s.keep_going (exit_at (book_of s events).ends position) (artefact_after s events position) (ap is_made same ∙ made))
+    let there = mark_of_list (mark_at s (book_of s events).ends) (length s.graph) position mark at in
+    (there.0, marked_has s.keep_going (exit_at (book_of s events).ends position) (artefact_after s events position) (ap is_made there.1 ∙ made))
+
+waits_unmade : (keep_going : Bool) → is_made (waiting_mark keep_going) ≡ false
+waits_unmade true = refl
+waits_unmade false = refl
+
+-- a file that is known to be fresh or compiled has an artefact
+known_has : (s : Work) (ends : List End) (machine : Slots) (position : ℕ) → is_made (known_mark s ends machine position) ≡ true → is_some (artefact_so_far s ends position) ≡ true
+known_has s ends machine position made = elim (cases_Bool (is_checked machine position)) [
+  | inl old ↦
+      marked_has s.keep_going (exit_at ends position) (artefact_so_far s ends position)
+      (ap is_made (sym (cond-true (is_checked machine position) (mark_at s ends position) (waiting_mark s.keep_going) old)) ∙ made)
+  | inr new ↦
+      absurd
+      (false≢true (sym (waits_unmade s.keep_going) ∙ ap is_made (sym (cond-false (is_checked machine position) (mark_at s ends position) (waiting_mark s.keep_going) new)) ∙ made))
+]
 
 -- each file that is fresh or compiled has a record of its present view
 pub marks_recorded : (graph : List Entry) (from : Origin) (events : List Event) (acknowledged : ℕ) (state : BuildState) → IsUnderWay graph from events acknowledged state → state.noted ≡ None →
@@ -226,8 +249,10 @@ pub marks_recorded : (graph : List Entry) (from : Origin) (events : List Event) 
 marks_recorded graph from events acknowledged state is none position mark at made =
     let s : Work = work_from graph from in
     let on : is_all_committed state.noted state.broken ≡ true = all_while state.noted state.broken none is.usable in
-    let there = mark_is s events position mark (ap (λ (l : List Mark). slice_get l position) (sym is.marked) ∙ at) made in
-    made_recorded graph from (book_of s events).ends state.latest_of is.recorded (knows_all s events (is_all_committed state.noted state.broken) from.latest_of state.latest_of acknowledged is.committed on) position there.0 there.1
+    let ends : List End = (book_of s events).ends in
+    let there = mark_of_list (known_mark s ends state.machine) (length graph) position mark (ap (λ (l : List Mark). slice_get l position) (sym is.marked) ∙ at) in
+    made_recorded graph from ends state.latest_of (deps_before graph is.is_graph) is.recorded (knows_all s events (is_all_committed state.noted state.broken) from.latest_of state.latest_of acknowledged is.committed on) position there.0
+    (known_has s ends state.machine position (ap is_made there.1 ∙ made))
 
 module _ (tells told : Type 0) (answer : Request → Exit) (records_of : Image → List Record) (s : Work) (old new : BuildObjects) where
   -- what a build says is of what it did, where it has ended by itself

@@ -1,5 +1,5 @@
 -- A build that is under way: what has happened in it, its machine and its marks.
-use Rattle.std.specs.Prelude.{◌≡◌, ℕ, Bool, false, ◌||◌, List, [], ◌++◌, All, Option, Some, None, is_some, slice_get}
+use Rattle.std.specs.Prelude.{◌≡◌, ℕ, Bool, false, List, [], ◌++◌, map, All, Option, Some, None, is_some, slice_get}
 use Rattle.std.specs.List.{list_any}
 use Rattle.vr_base.specs.declared.file.FileName.{FileName}
 use Rattle.vr_base.specs.declared.graph.Entry.{Entry}
@@ -11,16 +11,17 @@ use Rattle.vr_base.specs.Graphs.{IsGraph}
 use Rattle.vr_outside.specs.declared.records.Record.{Record}
 use Rattle.vr_outside.specs.Children.{started_with}
 use Rattle.vr_outside.specs.Disks.{Image, Moments}
-use Rattle.run_spec.specs.Moves.{Core, empty_core, LawfulMoves}
-use Rattle.run_spec.specs.ChildJournal.{Work, Run, End, core_of, book_of, empty_book, job_of, moves_of, AreRequested, EachAfter, HasFreshTicket, Answered, Greedy, artefact_so_far, is_gone}
-use Rattle.run_spec.specs.Marks.{marks_of}
+use Rattle.run_spec.specs.Moves.{empty_core, LawfulMoves}
+use Rattle.run_spec.specs.ChildJournal.{Work, Run, End, core_of, book_of, empty_book, job_of, moves_of, AreRequested, EachAfter, HasFreshTicket, Answered, Greedy, child_of_end, or_else, output_at, is_gone}
+use Rattle.run_spec.specs.Recorded.{recorded_at}
 use Rattle.slot_machine.specs.declared.slots.Slots.{Slots}
-use Rattle.slot_machine.specs.Machines.{IsMachineOf}
+use Rattle.slot_machine.specs.Machines.{IsMachineOf, is_stopped_in}
 use Rattle.child_steps.specs.Steps.{halted_if}
 use Rattle.compile_loop.specs.declared.faults.BuildFault.{BuildFault}
 use Rattle.run_spec.specs.Commits.{work_of, record_at, commits, commits_of}
 use Rattle.compile_loop.specs.Commits.{latest_after, Acknowledges, HoldsFirst}
 use Rattle.compile_loop.specs.Faults.{is_all_committed, ComesFirst}
+use Rattle.compile_loop.specs.Marks.{known_marks}
 
 -- What a build began with: the latest records, how many children run at once, whether it goes on after a refusal, the
 -- events that the journal had, and the moments of the disk.
@@ -52,15 +53,19 @@ pub record Told : Type 0 where
 abbrev pub work_from : List Entry → Origin → Work
 work_from graph from = work_of from.latest_of graph from.slots from.keep_going
 
--- The artefact that a file has after these ends is that of the latest record of its name, once all that is to be
+-- what a file's record gives, or else what its child printed
+abbrev pub artefact_kept : List Entry → Origin → List End → ℕ → Option (List ℕ)
+artefact_kept graph from ends position = or_else (recorded_at from.latest_of graph position) (output_at (map child_of_end ends) position)
+
+-- The artefact that a file has by its record or by its child is that of the latest record of its name, once all that is to be
 -- committed is.
 abbrev pub HasRecords : List Entry → Origin → List End → Type 0
 HasRecords graph from ends =
-    (position : ℕ) (entry : Entry) (artefact : List ℕ) → slice_get graph position ≡ Some entry → artefact_so_far (work_from graph from) ends position ≡ Some artefact →
+    (position : ℕ) (entry : Entry) (artefact : List ℕ) → slice_get graph position ≡ Some entry → artefact_kept graph from ends position ≡ Some artefact →
     latest_after (commits_of graph ends) from.latest_of entry.name ≡ Some (record_at graph position artefact)
 
--- What holds after these events, whatever objects tell: they are lawful moves with their requests, the machine and the
--- marks are those of what has happened, the first so many commits are acknowledged, the fault that is noted came first,
+-- What holds after these events, whatever objects tell: they are lawful moves with their requests, the machine is that of
+-- what has happened and the marks are what is known of it, the first so many commits are acknowledged, the fault that is noted came first,
 -- and while none is noted no end was waited for too early and none is lost.
 pub record IsUnderWay (graph : List Entry) (from : Origin) (events : List Event) (acknowledged : ℕ) (state : BuildState) : Type 0 where
   pub is_graph : IsGraph graph
@@ -70,7 +75,8 @@ pub record IsUnderWay (graph : List Entry) (from : Origin) (events : List Event)
   pub none_lost : state.noted ≡ None → list_any is_gone events ≡ false
   pub usable : state.noted ≡ None → state.broken ≡ false
   pub in_step : IsMachineOf state.machine (job_of (work_from graph from)) (halted_if (is_some state.noted) (core_of (book_of (work_from graph from) events)))
-  pub marked : state.marks ≡ marks_of (work_from graph from) events
+  pub goes_on : state.noted ≡ None → is_stopped_in state.machine ≡ false
+  pub marked : state.marks ≡ known_marks (work_from graph from) (book_of (work_from graph from) events).ends state.machine
   pub recorded : HasRecords graph from (book_of (work_from graph from) events).ends
   pub committed : Acknowledges (work_from graph from) events (is_all_committed state.noted state.broken) from.latest_of state.latest_of acknowledged
   pub comes_first : ComesFirst state.noted (work_from graph from) events acknowledged state.broken

@@ -9,14 +9,17 @@ ghost use Rattle.vr_base.specs.PresentGraph.{below};
 ghost use Rattle.run_spec.specs.declared.marks.Mark.{Mark};
 ghost use Rattle.vr_outside.specs.Records.{AreNeeds, IsRecorded};
 ghost use Rattle.run_spec.specs.Moves.{Job, empty_core};
-ghost use Rattle.slot_machine.specs.Machines.{IsJobOf, IsMachineOf, tickets_of, files_of};
+ghost use Rattle.build_plan.specs.Plans.{is_recorded_at};
+ghost use Rattle.slot_machine.specs.Machines.{IsJobOf, IsMachineOf, is_stopped_in, tickets_of, files_of};
 ghost use Rattle.run_spec.specs.Marks.{marks_of};
 ghost use Rattle.run_spec.specs.ChildJournal.{job_of};
 ghost use Rattle.run_spec.specs.Commits.{work_of};
+ghost use Rattle.compile_loop.specs.Marks.{known_marks};
 ghost use Rattle.compile_loop.specs.Faults.{CountsBy, fault_of};
 ghost use Rattle.compile_loop.specs.Requests.{lent_at};
 ghost use Rattle.compile_loop.specs.Ran.{BuildRan, SaysEnd, is_made};
 
+use crate::checks::check_one;
 use crate::ends::end_one;
 use crate::faults::BuildFault;
 use crate::marks::{are_made, first_marks};
@@ -25,10 +28,10 @@ use crate::starts::start_one;
 use build_plan::plan;
 use child_steps::Step;
 use run_spec::{Mark, MarkList};
-use slot_machine::Slots;
+use slot_machine::{BuildStep, Slots};
 use std::alloc::Global;
 use vr_base::{Built, FILE_LIMIT, Graph, Items, NoMemory, SLOT_LIMIT};
-use vr_outside::{Disk, Procs, Records};
+use vr_outside::{Disk, Needs, Procs, Records};
 
 /// How a build ended that no fault ended.
 #[derive(Drop)]
@@ -44,6 +47,8 @@ pub struct BuildEnd {
 struct Begun {
     slots: Slots,
     marks: Vec<Mark>,
+    /// Whether the store has a record of the present view of each file.
+    recorded: Needs,
 }
 
 /// The machine of a build and the marks of its files, where nothing has happened yet.
@@ -61,17 +66,24 @@ fn begin<K: Records>(
     ensures in_step { let setting = work_of (K.latest_of store.now) graph.now limit keep_going in
         IfOk result (λ begun. IsMachineOf begun.slots (job_of setting) empty_core) }
     ensures marked { let setting = work_of (K.latest_of store.now) graph.now limit keep_going in
-        IfOk result (λ begun. begun.marks.items ≡ marks_of setting []) }
+        IfOk result (λ begun. begun.marks.items ≡ known_marks setting [] begun.slots) }
+    ensures stopped { IfOk result (λ begun. is_stopped_in begun.slots ≡ false) }
+    ensures recorded { IfOk result (λ begun.
+        AreNeeds (K.latest_of store.now) graph.now begun.recorded) }
 {
     prove!(graph.len() <= FILE_LIMIT as u64);
     let plan = plan(alloc, graph, store)?;
     let slots = Slots::new(alloc, graph, &plan, limit, keep_going)?;
     let marks = first_marks(alloc, plan.needs.as_slice(), keep_going)?;
-    Ok(Begun { slots, marks })
+    Ok(Begun {
+        slots,
+        marks,
+        recorded: plan.recorded,
+    })
 }
 
-/// Builds the graph over a store of records, and gives one mark for each file: a file whose record is current is fresh,
-/// and the others are compiled, each once all that it depends on is made. At most `limit` children run at once, from 1 to
+/// Builds the graph over a store of records, and gives one mark for each file: a file whose record is current over
+/// what it depends on is fresh, and the others are compiled, each once all that it depends on is made. At most `limit` children run at once, from 1 to
 /// 64. What a compiler gives is committed before the next start. After a refusal nothing more is started, but with
 /// `keep_going` all that doesn't depend on a refused file. After a fault nothing more is started, and what the children
 /// give that still run is committed where it can be; the first fault is answered, but out of memory in the place of any
@@ -129,6 +141,7 @@ pub fn build_marks<K: Records, D: Disk, P: Procs>(
         Begun {
             mut slots,
             mut marks,
+            recorded,
         },
     ) = begin(alloc, graph, store, limit, keep_going)
     else {
@@ -137,11 +150,14 @@ pub fn build_marks<K: Records, D: Disk, P: Procs>(
     let mut noted = None;
     loop {
         match slots.next() {
-            Step::Start(at) => start_one(alloc, graph, at, store, &mut slots, &mut noted, procs),
-            Step::Wait => end_one(
+            BuildStep::Check(at) => check_one(at, recorded.as_slice(), &mut slots, &mut marks),
+            BuildStep::Run(Step::Start(at)) => {
+                start_one(alloc, graph, at, store, &mut slots, &mut noted, procs)
+            }
+            BuildStep::Run(Step::Wait) => end_one(
                 alloc, graph, &mut slots, &mut marks, &mut noted, store, disk, procs,
             ),
-            Step::Finished => break,
+            BuildStep::Run(Step::Finished) => break,
         }
     }
     match noted {

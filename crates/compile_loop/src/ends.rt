@@ -13,6 +13,7 @@ ghost use Rattle.vr_outside.specs.Counts.{ChildCounts};
 ghost use Rattle.run_spec.specs.Moves.{Job, Core, is_running};
 ghost use Rattle.vr_outside.specs.Disks.{Moments};
 ghost use Rattle.child_steps.specs.declared.step.Step.TheVariants.{Wait};
+ghost use Rattle.slot_machine.specs.declared.step.BuildStep.TheVariants.{Run};
 ghost use Rattle.slot_machine.specs.Machines.{IsMachineOf, next_of, tickets_of, files_of, to_come};
 ghost use Rattle.run_spec.specs.Commits.{commits};
 ghost use Rattle.compile_loop.specs.Commits.{HoldsFirst};
@@ -88,7 +89,7 @@ fn take_exit<K: Records, D: Disk>(
     disk: &mut D,
 )
     requires runs { Contains (tickets_of slots.old) ticket }
-    requires step { next_of slots.old ≡ Wait }
+    requires step { next_of slots.old ≡ Run Wait }
     requires size { FitsExit exit }
     requires files { files_of slots.old ≡ length graph.now }
     requires going { IsGoing graph.now
@@ -174,7 +175,7 @@ pub(crate) fn end_one<K: Records, D: Disk, P: Procs>(
 )
     requires running { P.running procs.old ≡ tickets_of slots.old }
     requires some { 0 < length (tickets_of slots.old) }
-    requires step { next_of slots.old ≡ Wait }
+    requires step { next_of slots.old ≡ Run Wait }
     requires files { files_of slots.old ≡ length graph.now }
     requires going { IsGoing graph.now
         (record {

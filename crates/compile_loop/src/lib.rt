@@ -3,6 +3,7 @@
 #![tactic(auto)]
 
 mod builds;
+mod checks;
 mod commits;
 mod ends;
 mod faults;

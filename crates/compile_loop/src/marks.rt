@@ -3,25 +3,30 @@
 ghost use Rattle.std.specs.Prelude.{◌≡◌, map, length, IfOk};
 ghost use Rattle.std.specs.List.{list_all};
 ghost use Rattle.compile_loop.specs.Ran.{is_made};
-ghost use Rattle.compile_loop.specs.Marks.{first_mark};
+ghost use Rattle.compile_loop.specs.Marks.{waiting_mark, first_mark};
 
+use build_plan::Need;
 use run_spec::Mark;
 use std::alloc::Global;
 use vr_base::NoMemory;
-use vr_outside::Need;
+
+fn waiting_mark(keep_going: bool) -> Mark
+    ensures { result ≡ waiting_mark keep_going }
+{
+    if keep_going {
+        Mark::Skipped
+    } else {
+        Mark::Left
+    }
+}
 
 fn first_mark(need: Need, keep_going: bool) -> Mark
     ensures { result ≡ first_mark keep_going need }
 {
     match need {
         Need::Fresh => Mark::Fresh,
-        Need::Stale => {
-            if keep_going {
-                Mark::Skipped
-            } else {
-                Mark::Left
-            }
-        }
+        Need::Stale => waiting_mark(keep_going),
+        Need::Later => waiting_mark(keep_going),
     }
 }
 

@@ -12,7 +12,8 @@ ghost use Rattle.vr_outside.specs.Children.{IsFresh, without};
 ghost use Rattle.vr_outside.specs.Records.{IsRecorded, deps_at};
 ghost use Rattle.run_spec.specs.Moves.{Job, Core};
 ghost use Rattle.child_steps.specs.declared.step.Step.TheVariants.{Start};
-ghost use Rattle.slot_machine.specs.Machines.{IsMachineOf, next_of, tickets_of, files_of, to_come};
+ghost use Rattle.slot_machine.specs.declared.step.BuildStep.TheVariants.{Run};
+ghost use Rattle.slot_machine.specs.Machines.{IsMachineOf, is_checked, next_of, tickets_of, files_of, to_come};
 ghost use Rattle.compile_loop.specs.Requests.{lent_request};
 ghost use Rattle.compile_loop.specs.Faults.{FaultCounts, CountsBy, CountsStart, noted_with};
 ghost use Rattle.compile_loop.specs.UnderWay.{Origin, BuildState, with_machine, work_from, IsUnderWay, IsJournalled, GoesOn};
@@ -32,10 +33,11 @@ pub(crate) fn halt(slots: &mut Slots, noted: &mut Option<BuildFault>, fault: Bui
     ensures in_step { (job : Job) (core : Core) (halts : Bool) →
         IsMachineOf slots.old job (halted_if halts core) →
         IsMachineOf slots.new job (halted_if (is_some noted.new) core) }
+    ensures checked { (k : ℕ) → is_checked slots.new k ≡ is_checked slots.old k }
     ensures files { files_of slots.new ≡ files_of slots.old }
     ensures tickets { tickets_of slots.new ≡ tickets_of slots.old }
     ensures nearer { to_come slots.new ≤ to_come slots.old }
-    ensures ends { (at : ℕ) → next_of slots.old ≡ Start at →
+    ensures ends { (at : ℕ) → next_of slots.old ≡ Run (Start at) →
         to_come slots.new < to_come slots.old }
 {
     note(noted, fault);
@@ -84,7 +86,7 @@ pub(crate) fn start_one<K: Records, P: Procs>(
 )
     requires position { at < length graph.now }
     requires recorded { All (IsRecorded (K.latest_of store.now) graph.now) (deps_at graph.now at) }
-    requires step { next_of slots.old ≡ Start at }
+    requires step { next_of slots.old ≡ Run (Start at) }
     requires running { P.running procs.old ≡ tickets_of slots.old }
     requires unnoted { noted.old ≡ None }
     ensures running { P.running procs.new ≡ tickets_of slots.new }

@@ -23,7 +23,8 @@ use Rattle.run_spec.specs.Faithful.{IsTrueRecord, IsFaithful, IsFaithfulDisk}
 use Rattle.history_spec.specs.Histories.{Sources, Order, World, ProgramRun, HistoryStep, Edited, Ran, Stopped, empty_image, IsReadable, IsBuildRun, IsIdleRun, RunStep, IsHistory, work_over, latest_over}
 use Rattle.run_spec.proofs.Prefixes.{lawful_prefix, lawful_none}
 use Rattle.clean_laws.proofs.CleanCommits.{commits_true}
-use Rattle.clean_laws.proofs.JournalStarted.{asked}
+use Rattle.clean_laws.proofs.CleanSettled.{request_clean}
+use Rattle.clean_laws.proofs.JournalSettled.{asked}
 use Rattle.clean_laws.proofs.TrueRecords.{records_clean, All-latest, All-latest_alone}
 use Rattle.history_laws.specs.Rights.{IsRightRun, IsRightStep, AllRight}
 use Rattle.history_laws.proofs.Moments.{at_moment, on_left}
@@ -66,14 +67,14 @@ module _ (world : World) where
   latest_true records all false name kept is = All-latest True name records kept all is
 
   -- what a run goes by is what a clean build makes
-  pub run_clean : (order : Order) (first : DiskState) → IsGraph order.graph → IsReadable first → Faithful first → RecordsClean world.answer order.graph (work_over world.records_of order first).recorded
+  pub run_clean : (order : Order) (first : DiskState) → IsGraph order.graph → IsReadable first → Faithful first → RecordsClean world.answer order.graph (work_over world.records_of order first).current
   run_clean order first graph readable faithful =
       records_clean world.answer (latest_over world.records_of order.clean first) order.graph graph (latest_true (world.records_of (reads_of first)) (faithful (reads_of first) readable) order.clean)
 
   pub build_right : (order : Order) (run : ProgramRun) (first : DiskState) → IsReadable first → Faithful first → IsBuildRun world order run first → IsRightRun world order run first
   build_right order run first readable faithful build =
       let setting : Work = work_over world.records_of order first in
-      let clean : RecordsClean world.answer order.graph setting.recorded = run_clean order first build.graph readable faithful in
+      let clean : RecordsClean world.answer order.graph setting.current = run_clean order first build.graph readable faithful in
       let all : All True (commits setting run.events) = commits_true world.answer setting build.graph clean run.events build.lawful build.answered in
       record {
         faithful = all_weaker (HasBaseAndPrefix world.records_of order.clean (commits setting run.events) first) (IsFaithful world.answer world.records_of) (first ∷ run.later)
@@ -81,7 +82,8 @@ module _ (world : World) where
             (phases_give world.records_of order.clean (commits setting run.events) first readable build.acknowledged run.later build.phases);
         lawful = λ before rest e. lawful_prefix setting before rest (subst (Lawful setting) e build.lawful);
         asked = λ before rest ticket request e.
-            asked world.answer setting build.graph clean before rest ticket request (subst (Lawful setting) e build.lawful) (subst (Answered world.answer) e build.answered);
+            let is = asked world.answer setting build.graph before rest ticket request (subst (Lawful setting) e build.lawful) (subst (Answered world.answer) e build.answered) in
+            (is.0, is.1, request_clean world.answer order.graph build.graph setting.current clean is.0 request is.2);
       }
 
   idle_right : (order : Order) (run : ProgramRun) (first : DiskState) → Faithful first → IsIdleRun run → IsRightRun world order run first

@@ -1,13 +1,19 @@
 -- A run starts no file that has an acknowledged record at its present view, and leaves that record.
-use Rattle.std.proofs.Common.{◌<◌, ℕ, ◌≡◌, ◌⊎◌, Bool, true, false, eqb, cond, List, [], ◌∷◌, Option, Some, None, sym, ap, subst, ◌∙◌, inl, inr, arith, length}
-use Rattle.std.specs.Prelude.{Contains, slice_get}
+use Rattle.std.proofs.Common.{◌<◌, ℕ, ◌≡◌, ◌⊎◌, Bool, true, false, eqb, cond, List, [], ◌∷◌, get_or, zero, suc, refl, is_some, Option, Some, None, sym, ap, subst, ◌∙◌, inl, inr, arith, length}
+use Rattle.std.specs.Prelude.{All, Contains, slice_get}
+use Rattle.std.specs.Option.{option_map}
 use Rattle.std.specs.List.{AllByRecursion, list_any}
-use Rattle.std.proofs.lemmas.Bool.{cases_Bool, both_ways}
+use Rattle.std.proofs.lemmas.Bool.{cases_Bool, cases_lt, cond-false, false≢true, both_ways}
 use Rattle.std.proofs.lemmas.List.Elements.{All-contains}
 use Rattle.std.proofs.lemmas.Option.{none-some, slice_get_cases}
 use Rattle.vr_base.specs.declared.file.FileName.{FileName}
 use Rattle.vr_base.specs.declared.graph.Entry.{Entry}
+use Rattle.vr_base.specs.declared.graph.BuiltFile.{BuiltFile}
+use Rattle.vr_base.specs.declared.child.Request.{Request}
+use Rattle.vr_base.specs.declared.child.Exit.{Exit}
 use Rattle.vr_base.specs.declared.child.Event.{Event}
+use Rattle.vr_base.specs.Graphs.{IsGraph}
+use Rattle.vr_outside.specs.Records.{deps_at}
 use Rattle.vr_outside.specs.declared.records.Record.{Record}
 use Rattle.vr_outside.specs.Disks.{DiskState, Image, IsImage, reads_of}
 use Rattle.vr_outside.specs.Records.{latest, is_of, IsAllOrLatest}
@@ -15,15 +21,19 @@ use Rattle.vr_outside.specs.Commits.{last_state}
 use Rattle.vr_outside.specs.Phases.{HasBaseAndPrefix}
 use Rattle.vr_outside.proofs.MomentLaws.{all_last, all_weaker}
 use Rattle.vr_outside.proofs.PhaseLaws.{phases_give}
-use Rattle.run_spec.specs.ChildJournal.{Work, Book, after_all, book_of}
+use Rattle.run_spec.specs.ChildJournal.{Work, Book, after_all, book_of, has_all, built_at, or_else, output_at, artefact_so_far}
 use Rattle.run_spec.specs.Commits.{record_at, commits}
 use Rattle.run_spec.specs.Recorded.{recorded_at}
 use Rattle.history_spec.specs.Histories.{Sources, Order, World, ProgramRun, HistoryStep, Edited, Ran, Stopped, IsReadable, IsBuildRun, RunStep, IsHistory, work_over, latest_over}
 use Rattle.run_spec.proofs.LatestRecords.{latest_before_none, none_of_prefix}
+use Rattle.run_spec.specs.Settled.{Settled, Blocked, settled_artefact, settled_by, request_over, next_settled, settle, artefact_settled, is_asked, request_unless}
+use Rattle.run_spec.proofs.Artefacts.{deps_before, artefact_free}
+use Rattle.run_spec.proofs.SettledBuild.{settled_past, settle_at}
 use Rattle.run_spec.proofs.RecordedArtefacts.{recorded_of_record}
 use Rattle.clean_laws.proofs.EndsOnce.{no_end}
-use Rattle.clean_laws.proofs.JournalKeeps.{was_taken, orderly_book}
-use Rattle.clean_laws.proofs.JournalStarted.{held, nothing_due, started_unrecorded}
+use Rattle.clean_laws.proofs.JournalKeeps.{was_taken, orderly_book, list_all-from_All}
+use Rattle.clean_laws.proofs.JournalStarted.{held, nothing_due}
+use Rattle.clean_laws.proofs.JournalSettled.{started_stale}
 use Rattle.clean_laws.proofs.TrueRecords.{latest-latest_alone}
 use Rattle.history_laws.specs.Spares.{IsAcknowledged, HasFileAt, SparesFile, LeavesRecord, AllSpare}
 use Rattle.history_laws.proofs.CommittedNames.{none_committed}
@@ -42,9 +52,58 @@ unheld taken k none =
       | inr other ↦ other
     ]
 
-nothing_taken : (setting : Work) (k : ℕ) → Contains (book_of setting []).taken k → ⊥
+-- nothing is taken before the first event
+pub nothing_taken : (setting : Work) (k : ℕ) → Contains (book_of setting []).taken k → ⊥
 unfolding after_all
 nothing_taken setting k contains = absurd (omega (arith, contains.1))
+
+-- what is asked of a compiler is what no record is current over
+uncurrent : (all : Bool) (kept : Option (List ℕ)) (exit : Option Exit) → is_asked (cond all (settled_by kept exit) Blocked) ≡ true → kept ≡ None
+uncurrent true None exit h = refl
+uncurrent true (Some artefact) exit h = absurd (false≢true h)
+uncurrent false kept exit h = absurd (false≢true h)
+
+-- no record is current of a file that the settled build asks its compiler for
+pub unrecorded : (answer : Request → Exit) (work : Work) → IsGraph work.graph → (at : ℕ) (request : Request) → request_unless answer work.graph work.current at ≡ Some request → (built : List BuiltFile) × (work.current at built ≡ None)
+unrecorded answer work graph at request h =
+    let so_far : ℕ → Settled = settle answer work.graph work.current in
+    let over : Option Request = request_over work.graph at (built_at work.graph (artefact_settled answer work.graph work.current) (deps_at work.graph at)) in
+    elim (cases_Bool (is_asked (so_far at))) [
+      | inl asked ↦
+          elim (cases_lt at (length work.graph)) [
+            | inl lt ↦
+                let built : List BuiltFile = built_at work.graph (λ dep. settled_artefact (so_far dep)) (deps_at work.graph at) in
+                let is : so_far at ≡ next_settled answer work.graph work.current so_far at = settle_at answer work.graph work.current (deps_before work.graph graph) at lt in
+                (built, uncurrent (has_all (λ dep. settled_artefact (so_far dep)) (deps_at work.graph at)) (work.current at built) (option_map answer (request_over work.graph at built)) (ap is_asked (sym is) ∙ asked))
+            | inr past ↦ absurd (false≢true (ap is_asked (sym (settled_past answer work.graph work.current at past)) ∙ asked))
+          ]
+      | inr none ↦ absurd (none-some request (sym (cond-false (is_asked (so_far at)) over None none) ∙ h))
+    ]
+
+-- where a record of each file is current, each has an artefact from the start
+module _ (work : Work) (graph : IsGraph work.graph) (current : (at : ℕ) → at < length work.graph → (built : List BuiltFile) → work.current at built ≡ None → ⊥) where
+  some_else : (kept printed : Option (List ℕ)) → (kept ≡ None → ⊥) → or_else kept printed ≡ None → ⊥
+  some_else None printed there h = there refl
+  some_else (Some artefact) printed there h = none-some artefact (sym h)
+
+  some_of : (o : Option (List ℕ)) → (o ≡ None → ⊥) → is_some o ≡ true
+  some_of None there = absurd (there refl)
+  some_of (Some artefact) there = refl
+
+  all_to : (end : ℕ) (at : ℕ) → at < end → at < length work.graph → artefact_so_far work [] at ≡ None → ⊥
+  unfolding has_all
+  all_to zero at less lt none = absurd (omega (arith, less))
+  all_to (suc end) at less lt none =
+      let deps : List ℕ = deps_at work.graph at in
+      let before : All (λ dep. dep < at) deps = deps_before work.graph graph at in
+      let all : has_all (artefact_so_far work []) deps ≡ true =
+      list_all-from_All (λ dep. is_some (artefact_so_far work [] dep)) deps
+      (λ k d l. some_of (artefact_so_far work [] (get_or deps k d)) (all_to end (get_or deps k d) (omega (arith, before k d l, less)) (omega (arith, before k d l, lt)))) in
+      some_else (work.current at (built_at work.graph (artefact_so_far work []) deps)) (output_at [] at) (current at lt (built_at work.graph (artefact_so_far work []) deps))
+      (sym (artefact_free work (deps_before work.graph graph) [] at lt all) ∙ none)
+
+  pub all_there : (at : ℕ) → at < length work.graph → artefact_so_far work [] at ≡ None → ⊥
+  all_there at lt = all_to (suc at) at (omega arith) lt
 
 module _ (world : World) (name : FileName) (kept : Record) where
   -- what a run goes by has the acknowledged record, unless all is built anew
@@ -64,8 +123,8 @@ module _ (world : World) (name : FileName) (kept : Record) where
           artefact = kept.artefact;
           is = ap (latest_over world.records_of order.clean first) file.is_name ∙ knows ∙ ap (λ (v : List Entry). Some (record { view = v; artefact = kept.artefact })) (sym file.is_view);
         }) in
-        let none = All-contains (λ position. setting.recorded position ≡ None) (book_of setting run.events).taken file.position (started_unrecorded world.answer setting run.events build.lawful build.answered) contains in
-        none-some kept.artefact (sym none ∙ recorded)
+        let asked = started_stale world.answer setting build.graph run.events build.lawful build.answered file.position contains in
+        none-some kept.artefact (sym (unrecorded world.answer setting build.graph file.position asked.0 asked.1).1 ∙ recorded)
 
     -- of such a file nothing is committed
     pub uncommitted : latest_over world.records_of order.clean first name ≡ Some kept → HasFileAt order name kept.view → list_any (is_of name) (commits setting run.events) ≡ false
@@ -130,7 +189,7 @@ module _ (world : World) (name : FileName) (kept : Record) where
 pub nothing_started : (world : World) (order : Order) (run : ProgramRun) (first : DiskState) → IsReadable first → RunStep world (Some order) run first → order.clean ≡ false →
     ((position : ℕ) (entry : Entry) → slice_get order.graph position ≡ Some entry → (artefact : List ℕ) × IsAcknowledged world entry.name (record_at order.graph position artefact) first) → run.events ≡ []
 nothing_started world order run first readable (inl idle) over each = idle.events
-nothing_started world order run first readable (inr build) over each = nothing_due (work_over world.records_of order first) recorded run.events build.lawful where
+nothing_started world order run first readable (inr build) over each = nothing_due (work_over world.records_of order first) (all_there (work_over world.records_of order first) build.graph (λ at lt built. recorded at lt)) run.events build.lawful where
   recorded : (position : ℕ) → position < length order.graph → recorded_at (latest_over world.records_of order.clean first) order.graph position ≡ None → ⊥
   recorded position lt none =
       elim (slice_get_cases order.graph position).1 [

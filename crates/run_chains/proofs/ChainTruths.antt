@@ -1,11 +1,13 @@
 -- What follows of one run, and then of the next.
-use Rattle.std.proofs.Common.{◌≡◌, ℕ, ◌<◌, Bool, true, false, List, [], ◌∷◌, ◌++◌, length, Option, Some, None, refl, sym, ap, subst, ◌∙◌, inl, inr}
-use Rattle.std.specs.Prelude.{◌↔◌, is_some, unwrap_or, Contains}
-use Rattle.std.proofs.lemmas.Bool.{cases_Bool, false≢true}
+use Rattle.std.proofs.Common.{◌≡◌, ℕ, ◌<◌, Bool, true, false, eqb, List, [], ◌∷◌, ◌++◌, length, map, Option, Some, None, refl, sym, ap, subst, ◌∙◌, inl, inr}
+use Rattle.std.specs.Prelude.{◌↔◌, All, is_some, unwrap_or, Contains}
+use Rattle.std.proofs.lemmas.Bool.{cases_Bool, both_ways, eqb-true, false≢true}
 use Rattle.std.proofs.lemmas.List.{append-nil}
-use Rattle.std.proofs.lemmas.List.Elements.{All-contains}
+use Rattle.std.proofs.lemmas.List.Elements.{All-head, All-tail}
 use Rattle.std.proofs.lemmas.Option.{none-some}
 use Rattle.vr_base.specs.declared.file.FileName.{FileName}
+use Rattle.vr_base.specs.declared.graph.BuiltFile.{BuiltFile}
+use Rattle.vr_outside.specs.Records.{deps_at}
 use Rattle.vr_base.specs.declared.child.Request.{Request}
 use Rattle.vr_base.specs.declared.child.Exit.{Exit}
 use Rattle.vr_base.specs.declared.child.Event.{Event}
@@ -13,18 +15,25 @@ use Rattle.outcomes.specs.declared.outcome.Outcome.{Outcome}
 use Rattle.vr_outside.specs.declared.records.Record.{Record}
 use Rattle.vr_outside.specs.Disks.{DiskState, reads_of, settled_disk}
 use Rattle.vr_outside.specs.Commits.{last_state}
-use Rattle.run_spec.specs.ChildJournal.{Work, Lawful, Answered, EachAfter, book_of, artefact_after}
+use Rattle.run_spec.specs.Folds.{upto}
+use Rattle.run_spec.specs.Moves.{EndedChild}
+use Rattle.run_spec.specs.ChildJournal.{Work, Book, End, Lawful, Answered, EachAfter, book_of, child_of_end, exit_at, output_at, or_else, built_at, next_artefact, artefact_by, artefact_so_far, artefact_after}
 use Rattle.run_spec.specs.Faithful.{IsFaithfulDisk}
 use Rattle.history_spec.specs.Histories.{Sources, Order, ProgramRun, HistoryStep, Ran, Stopped, empty_image, IsReadable, IsMoment, IsLeft, RunStep, IsHistory, work_over, latest_over}
 use Rattle.run_spec.specs.JournalParts.{compile_part, test_part}
 use Rattle.run_spec.specs.Recorded.{recorded_at}
 use Rattle.run_spec.proofs.Parts.{all_compiled}
+use Rattle.run_spec.proofs.FoldLaws.{upto_at}
+use Rattle.run_spec.proofs.Artefacts.{next_parts}
+use Rattle.run_spec.proofs.Journal.{no_output}
 use Rattle.run_spec.proofs.RecordedArtefacts.{recorded_of_record}
-use Rattle.clean_laws.proofs.JournalKeeps.{was_taken, orderly_book, none_of_untaken}
-use Rattle.clean_laws.proofs.JournalStarted.{held, nothing_due, started_unrecorded}
+use Rattle.clean_laws.proofs.JournalKeeps.{was_taken, orderly_book}
+use Rattle.clean_laws.proofs.JournalStarted.{held, nothing_due}
+use Rattle.clean_laws.proofs.JournalSettled.{started_stale}
 use Rattle.history_laws.specs.Rights.{AllRight}
 use Rattle.history_laws.specs.Spares.{IsAcknowledged, SparesFile, AllSpare}
 use Rattle.history_laws.proofs.RightRuns.{all_right, all_right_from_empty}
+use Rattle.history_laws.proofs.SparedRuns.{nothing_taken, unrecorded, all_there}
 use Rattle.history_laws.proofs.StoppedRuns.{stopped_spares}
 use Rattle.scan_spec.specs.Scans.{Finding}
 use Rattle.tested_histories.specs.Histories.{TestedStep, HasTested, TestsStep, IsTestedHistory}
@@ -38,13 +47,44 @@ use Rattle.vunit_top.specs.Said.{HasBuilt, no_order, order_of, order_in, plan_in
 use Rattle.vunit_top.proofs.RunTruths.{built_ended, none_in_empty_image}
 use Rattle.run_chains.specs.Chains.{Deeds, run_by, tested_by, RanTwice, RanAfterStop}
 
+-- no child of a file has ended that was never started
+no_exit_of : (book : Book) (k : ℕ) → was_taken book k ≡ false → (ends : List End) → All (λ end. was_taken book end.position ≡ true) ends → exit_at ends k ≡ None
+unfolding exit_at
+no_exit_of book k fresh [] all = refl
+no_exit_of book k fresh (end ∷ ends) all =
+    elim (cases_Bool (eqb end.position k)) [
+      | inl t ↦ absurd (both_ways (was_taken book k) fresh (subst (λ (j : ℕ). was_taken book j ≡ true) (eqb-true end.position k t) (All-head (λ e. was_taken book e.position ≡ true) end ends all)))
+      | inr f ↦ rw f (no_exit_of book k fresh ends (All-tail (λ e. was_taken book e.position ≡ true) end ends all))
+    ]
+
+some_is : (o : Option (List ℕ)) → is_some o ≡ true → (x : List ℕ) × (o ≡ Some x)
+some_is None h = absurd (false≢true h)
+some_is (Some x) h = (x, refl)
+
+-- nor has it an artefact, where no record of it is current
+unmade : (work : Work) (book : Book) → All (λ end. was_taken book end.position ≡ true) book.ends → (at : ℕ) → at < length work.graph → was_taken book at ≡ false → ((built : List BuiltFile) → work.current at built ≡ None) →
+    is_some (artefact_so_far work book.ends at) ≡ true → ⊥
+unfolding artefact_by
+unmade work book ends at lt fresh none made =
+    let ended : List EndedChild = map child_of_end book.ends in
+    let before : ℕ → Option (List ℕ) = upto (next_artefact work ended) None at in
+    let built : List BuiltFile = built_at work.graph before (deps_at work.graph at) in
+    let artefact = some_is (artefact_so_far work book.ends at) made in
+    let given = next_parts work ended before at artefact.0 (sym (upto_at (next_artefact work ended) None (length work.graph) at lt) ∙ artefact.1) in
+    none-some artefact.0
+    (sym (ap (λ (o : Option (List ℕ)). or_else o (output_at ended at)) (none built) ∙ no_output book.ends at (no_exit_of book at fresh book.ends ends)) ∙ given.1)
+
 module _ (scan : List ℕ → Finding) (answer : Request → Exit) (run : ProgramRun) (first : DiskState) where
   -- where something is recorded of each file, a run starts nothing
   nothing_started : (order : Option Order) → RunStep (world_of scan answer) order run first
-      → ((position : ℕ) → position < length (unwrap_or order no_order).graph → (work_over records_in_image (unwrap_or order no_order) first).recorded position ≡ None → ⊥) → run.events ≡ []
+      → ((position : ℕ) → position < length (unwrap_or order no_order).graph → recorded_at (latest_over records_in_image (unwrap_or order no_order).clean first) (unwrap_or order no_order).graph position ≡ None → ⊥) → run.events ≡ []
   nothing_started None step each = step.events
   nothing_started (Some order) (inl idle) each = idle.events
-  nothing_started (Some order) (inr build) each = nothing_due (work_over records_in_image order first) each run.events build.lawful
+  nothing_started (Some order) (inr build) each = nothing_due (work_over records_in_image order first) (all_there (work_over records_in_image order first) build.graph (λ at lt built. each at lt)) run.events build.lawful
+
+  idle_takes : (order : Order) → run.events ≡ [] → (position : ℕ) → Contains (book_of (work_over records_in_image order first) run.events).taken position → ⊥
+  idle_takes order none position contains =
+      nothing_taken (work_over records_in_image order first) position (subst (λ (events : List Event). Contains (book_of (work_over records_in_image order first) events).taken position) none contains)
 
   -- the events of a run are its compilers' answers
   answered_in : (order : Option Order) → RunStep (world_of scan answer) order run first → Answered answer run.events
@@ -53,18 +93,27 @@ module _ (scan : List ℕ → Finding) (answer : Request → Exit) (run : Progra
   answered_in (Some order) (inl idle) = subst (Answered answer) (sym idle.events) tt
   answered_in (Some order) (inr build) = build.answered
 
+  -- a started file has no current record
+  not_recorded : (order : Option Order) → RunStep (world_of scan answer) order run first → (position : ℕ) → Contains (book_of (work_over records_in_image (unwrap_or order no_order) first) run.events).taken position →
+      recorded_at (latest_over records_in_image (unwrap_or order no_order).clean first) (unwrap_or order no_order).graph position ≡ None
+  not_recorded None step position contains = absurd (idle_takes no_order step.events position contains)
+  not_recorded (Some order) (inl idle) position contains = absurd (idle_takes order idle.events position contains)
+  not_recorded (Some order) (inr build) position contains =
+      let asked = started_stale answer (work_over records_in_image order first) build.graph run.events build.lawful build.answered position contains in
+      (unrecorded answer (work_over records_in_image order first) build.graph position asked.0 asked.1).1
+
   -- a run that is done has started exactly the files that nothing was recorded of
   exact_starts : (r : Reading) (last : DiskState) → RunsAs scan answer r run first last → IsFaithfulDisk answer records_in_image first → HasBuilt run.outcome → (position : ℕ) → position < length (order_in r).graph →
-      Contains (book_of (work_over records_in_image (order_in r) first) run.events).taken position ↔ ((work_over records_in_image (order_in r) first).recorded position ≡ None)
+      Contains (book_of (work_over records_in_image (order_in r) first) run.events).taken position ↔ (recorded_at (latest_over records_in_image (order_in r).clean first) (order_in r).graph position ≡ None)
   exact_starts r last did faithful done position inside =
       let setting : Work = work_over records_in_image (order_in r) first in
       let lawful : Lawful setting run.events = (did.whole (built_ended run.outcome done)).lawful in
       let answered : Answered answer run.events = answered_in (order_of r) did.step in
       let made : is_some (artefact_after setting run.events position) ≡ true = did.made faithful done position inside in (
-        λ contains. All-contains (λ p. setting.recorded p ≡ None) (book_of setting run.events).taken position (started_unrecorded answer setting run.events lawful answered) contains,
+        λ contains. not_recorded (order_of r) did.step position contains,
         λ none. elim (cases_Bool (was_taken (book_of setting run.events) position)) [
           | inl taken ↦ held (book_of setting run.events).taken position taken
-          | inr fresh ↦ absurd (false≢true (sym (ap is_some (none_of_untaken setting (book_of setting run.events) position (orderly_book answer setting run.events lawful answered).ends fresh none)) ∙ made))
+          | inr fresh ↦ absurd (unmade setting (book_of setting run.events) (orderly_book answer setting run.events lawful answered).ends position inside fresh (λ built. none) made)
         ],
       )
 
@@ -98,7 +147,7 @@ module _ (scan : List ℕ → Finding) (answer : Request → Exit) (words : List
 
   -- after a run that is done each file has a current record
   each_recorded : (first middle : DiskState) → IsReadable middle → First first middle → IsFaithfulDisk answer records_in_image first → (order_in r).clean ≡ false → HasBuilt one → (position : ℕ) → position < length (order_in r).graph
-      → (work_over records_in_image (order_in r) middle).recorded position ≡ None → ⊥
+      → recorded_at (latest_over records_in_image (order_in r).clean middle) (order_in r).graph position ≡ None → ⊥
   each_recorded first middle readable did faithful kept_store done position inside none =
       let kept = did.recorded (built_ended one done) position inside (did.made faithful done position inside) (reads_of middle) readable in
       none-some kept.artefact (sym (subst (λ (clean : Bool). recorded_at (latest_over records_in_image clean middle) (order_in r).graph position ≡ None) kept_store none) ∙ recorded_of_record (latest_over records_in_image false middle) (order_in r).graph position kept)

@@ -10,7 +10,8 @@ use Rattle.vr_outside.specs.Disks.{DiskState}
 use Rattle.vr_outside.specs.Commits.{last_state}
 use Rattle.run_spec.specs.ChildJournal.{book_of}
 use Rattle.run_spec.specs.Faithful.{IsFaithfulDisk}
-use Rattle.history_spec.specs.Histories.{Sources, ProgramRun, Ran, Stopped, IsHistory, work_over}
+use Rattle.history_spec.specs.Histories.{Sources, ProgramRun, Ran, Stopped, IsHistory, work_over, latest_over}
+use Rattle.run_spec.specs.Recorded.{recorded_at}
 use Rattle.run_spec.specs.JournalParts.{compile_part, test_part}
 use Rattle.history_laws.specs.Spares.{IsAcknowledged, SparesFile}
 use Rattle.scan_spec.specs.Scans.{Finding}
@@ -80,4 +81,4 @@ pub record RanAfterStop (scan : List ℕ → Finding) (answer : Request → Exit
   pub spares : (name : FileName) (kept : Record) → IsAcknowledged (world_of scan answer) name kept stopped.moment →
       SparesFile (world_of scan answer) (order_of (reading scan words sources)) name kept.view (run_by words outcomes.second after) old.disk
   pub exact : IsFaithfulDisk answer records_in_image stopped.first → HasBuilt outcomes.second → (position : ℕ) → position < length (order_in (reading scan words sources)).graph →
-      Contains (book_of (work_over records_in_image (order_in (reading scan words sources)) old.disk) (compile_part after.events)).taken position ↔ ((work_over records_in_image (order_in (reading scan words sources)) old.disk).recorded position ≡ None)
+      Contains (book_of (work_over records_in_image (order_in (reading scan words sources)) old.disk) (compile_part after.events)).taken position ↔ (recorded_at (latest_over records_in_image (order_in (reading scan words sources)).clean old.disk) (order_in (reading scan words sources)).graph position ≡ None)

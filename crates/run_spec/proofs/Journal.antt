@@ -1,16 +1,16 @@
 -- A build's journal, part after part: what has happened, its moves and its requests.
-use Rattle.std.proofs.Common.{◌≡◌, ℕ, Bool, ◌||◌, ◌&&◌, not, eqb, List, map, Option, Some, None, cond, inl, inr, sym, subst, ◌∙◌, [], ◌∷◌, ◌++◌, length, refl, ap}
-use Rattle.std.specs.Prelude.{slice_get, is_some, is_none}
+use Rattle.std.proofs.Common.{◌≡◌, ℕ, ◌||◌, ◌&&◌, not, eqb, List, map, Option, Some, None, cond, inl, inr, sym, subst, ◌∙◌, [], ◌∷◌, ◌++◌, length, refl, ap}
+use Rattle.std.specs.Prelude.{is_some, is_none}
 use Rattle.std.specs.List.{list_any, list_all}
-use Rattle.std.proofs.Math.Path.{fun_ext}
 use Rattle.std.proofs.lemmas.List.{drop_at, map_push, map-append, append-nil, append_assoc}
 use Rattle.std.proofs.lemmas.Bool.{eq-eqb, ne_eqb, cond-true, cond-false, cases_Bool}
 use Rattle.vr_base.specs.declared.child.Request.{Request}
 use Rattle.vr_base.specs.declared.child.Exit.{Exit}
 use Rattle.vr_base.specs.declared.child.Event.{Event}
 use Rattle.vr_base.specs.declared.child.Event.TheVariants.{Started, Ended, Gone}
-use Rattle.run_spec.specs.Moves.{Job, RunningChild, Core, empty_core, Move, is_made_so_far, is_startable, position_of, without_child, ended_child, after_move, after_moves, LawfulMoves, GreedyMoves}
-use Rattle.run_spec.specs.ChildJournal.{Work, Run, End, Book, empty_book, exit_at, output_at, artefact_so_far, deps_of, job_of, child_of_run, child_of_end, core_of, next_position, run_of, others_of, end_of, after, after_all, book_of, move_of, moves_after, moves_of, AreRequested, EachAfter, HasFreshTicket, HoldsAnswer, Answered, Lawful, Greedy, since, starts_of}
+use Rattle.vr_outside.specs.Records.{deps_at}
+use Rattle.run_spec.specs.Moves.{Job, RunningChild, EndedChild, Core, empty_core, Move, is_made_so_far, is_startable, position_of, without_child, ended_child, after_move, after_moves, LawfulMoves, GreedyMoves}
+use Rattle.run_spec.specs.ChildJournal.{Work, Run, End, Book, empty_book, exit_at, output_at, artefact_so_far, job_of, child_of_run, child_of_end, core_of, next_position, run_of, others_of, end_of, after, after_all, book_of, move_of, moves_after, moves_of, AreRequested, EachAfter, HasFreshTicket, HoldsAnswer, Answered, Lawful, Greedy, since, starts_of}
 
 pub after_all-append : (s : Work) (b : Book) (xs ys : List Event) → after_all s b (xs ++ ys) ≡ after_all s (after_all s b xs) ys
 unfolding after_all
@@ -26,7 +26,7 @@ running_without ticket (run ∷ runs) =
       | inr f ↦ rw f (ap (λ (children : List RunningChild). child_of_run run ∷ children) (running_without ticket runs))
     ]
 
-ended_is : (ticket : ℕ) (runs : List Run) (exit : Exit) → map child_of_end (end_of (run_of ticket runs) exit) ≡ ended_child (position_of ticket (map child_of_run runs)) (eqb exit.code 0)
+ended_is : (ticket : ℕ) (runs : List Run) (exit : Exit) → map child_of_end (end_of (run_of ticket runs) exit) ≡ ended_child (position_of ticket (map child_of_run runs)) (eqb exit.code 0) exit.output
 ended_is ticket [] exit = refl
 ended_is ticket (run ∷ runs) exit =
     elim (cases_Bool (eqb run.ticket ticket)) [
@@ -47,30 +47,15 @@ core_after_all s b [] = refl
 core_after_all s b (x ∷ xs) = core_after_all s (after s b x) xs ∙ ap (λ (core : Core). after_moves (job_of s) core (moves_after s (after s b x) xs)) (core_after s b x)
 
 -- a file is made where it has an artefact
-good_end : (ends : List End) (k : ℕ) → list_any (λ end. eqb end.position k && end.ok) (map child_of_end ends) ≡ is_some (output_at ends k)
-unfolding output_at
-good_end [] k = refl
-good_end (end ∷ ends) k =
-    elim (cases_Bool (eqb end.position k && eqb end.exit.code 0)) [
-      | inl t ↦ rw t refl
-      | inr f ↦ rw f (good_end ends k)
-    ]
-
 pub made_so_far : (s : Work) (b : Book) (k : ℕ) → is_made_so_far (job_of s) (core_of b) k ≡ is_some (artefact_so_far s b.ends k)
-unfolding artefact_so_far output_at
-made_so_far s b k = from (s.recorded k) refl where
-  from : (recorded : Option (List ℕ)) → s.recorded k ≡ recorded → is_made_so_far (job_of s) (core_of b) k ≡ is_some (artefact_so_far s b.ends k)
-  from (Some artefact) e = rw e refl
-  from None e = rw e (good_end b.ends k)
+made_so_far s b k = refl
 
 -- a file may be started where it wasn't, has no artefact, and all that it depends on has one
 pub startable_is : (s : Work) (b : Book) (k : ℕ) →
     is_startable (job_of s) (core_of b) k ≡
-    (not (list_any (λ other. eqb other k) b.taken) && is_none (artefact_so_far s b.ends k) && list_all (λ dep. is_some (artefact_so_far s b.ends dep)) (deps_of (slice_get s.graph k)))
+    (not (list_any (λ other. eqb other k) b.taken) && is_none (artefact_so_far s b.ends k) && list_all (λ dep. is_some (artefact_so_far s b.ends dep)) (deps_at s.graph k))
 unfolding is_startable
-startable_is s b k =
-    let same : is_made_so_far (job_of s) (core_of b) ≡ (λ position. is_some (artefact_so_far s b.ends position)) = fun_ext (made_so_far s b) in
-    ap (λ (made : ℕ → Bool). not (list_any (λ other. eqb other k) b.taken) && not (made k) && list_all made (deps_of (slice_get s.graph k))) same
+startable_is s b k = refl
 
 -- two parts
 pub moves-append : (s : Work) (b : Book) (xs ys : List Event) → moves_after s b (xs ++ ys) ≡ moves_after s b xs ++ moves_after s (after_all s b xs) ys
@@ -158,24 +143,24 @@ exit_at-push_other [] i k r e h = cond-false (eqb i k) (Some e) None (ne_eqb i k
 exit_at-push_other (end ∷ ends) i k r e h = ap (cond (eqb end.position k) (Some end.exit)) (exit_at-push_other ends i k r e h)
 
 -- what was printed, with one more end
-pub output_at-pushed : (ends : List End) (end : End) (k : ℕ) → output_at ends k ≡ None → output_at (ends ++ end ∷ []) k ≡ cond (eqb end.position k && eqb end.exit.code 0) (Some end.exit.output) None
+pub output_at-pushed : (ended : List EndedChild) (end : EndedChild) (k : ℕ) → output_at ended k ≡ None → output_at (ended ++ end ∷ []) k ≡ cond (eqb end.position k && end.ok) (Some end.output) None
 unfolding output_at
 output_at-pushed [] end k h = refl
-output_at-pushed (first ∷ ends) end k h =
-    elim (cases_Bool (eqb first.position k && eqb first.exit.code 0)) [
-      | inl t ↦ absurd (no_exit first.exit.output (sym (cond-true (eqb first.position k && eqb first.exit.code 0) (Some first.exit.output) (output_at ends k) t) ∙ h))
+output_at-pushed (first ∷ ended) end k h =
+    elim (cases_Bool (eqb first.position k && first.ok)) [
+      | inl t ↦ absurd (no_exit first.output (sym (cond-true (eqb first.position k && first.ok) (Some first.output) (output_at ended k) t) ∙ h))
       | inr f ↦
-          cond-false (eqb first.position k && eqb first.exit.code 0) (Some first.exit.output) (output_at (ends ++ end ∷ []) k) f
-          ∙ output_at-pushed ends end k (sym (cond-false (eqb first.position k && eqb first.exit.code 0) (Some first.exit.output) (output_at ends k) f) ∙ h)
+          cond-false (eqb first.position k && first.ok) (Some first.output) (output_at (ended ++ end ∷ []) k) f
+          ∙ output_at-pushed ended end k (sym (cond-false (eqb first.position k && first.ok) (Some first.output) (output_at ended k) f) ∙ h)
     ]
 
-pub output_at-push_other : (ends : List End) (end : End) (k : ℕ) → (end.position ≡ k → ⊥) → output_at (ends ++ end ∷ []) k ≡ output_at ends k
+pub output_at-push_other : (ended : List EndedChild) (end : EndedChild) (k : ℕ) → (end.position ≡ k → ⊥) → output_at (ended ++ end ∷ []) k ≡ output_at ended k
 unfolding output_at
 output_at-push_other [] end k h = rw (ne_eqb end.position k h) refl
-output_at-push_other (first ∷ ends) end k h = ap (cond (eqb first.position k && eqb first.exit.code 0) (Some first.exit.output)) (output_at-push_other ends end k h)
+output_at-push_other (first ∷ ended) end k h = ap (cond (eqb first.position k && first.ok) (Some first.output)) (output_at-push_other ended end k h)
 
 -- no end, nothing printed
-pub no_output : (ends : List End) (k : ℕ) → exit_at ends k ≡ None → output_at ends k ≡ None
+pub no_output : (ends : List End) (k : ℕ) → exit_at ends k ≡ None → output_at (map child_of_end ends) k ≡ None
 unfolding exit_at output_at
 no_output [] k h = refl
 no_output (end ∷ ends) k h =

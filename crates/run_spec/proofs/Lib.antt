@@ -1,5 +1,9 @@
 -- The lemmas.
 pub mod Places
+pub mod FoldLaws
+pub mod BuiltLists
+pub mod Artefacts
+pub mod SettledBuild
 pub mod Journal
 pub mod Steps
 pub mod Parts

@@ -2,7 +2,6 @@
 use Rattle.std.proofs.Common.{◌≡◌, ℕ, Bool, false, not, eqb, List, Option, Some, None, inl, inr, sym, ◌∙◌, [], ◌∷◌, length, refl, ap}
 use Rattle.std.specs.Prelude.{slice_get, filter}
 use Rattle.std.specs.Option.{option_map, option_and_then}
-use Rattle.std.specs.List.{filter_map}
 use Rattle.std.proofs.lemmas.Bool.{cond-true, cond-false, cases_Bool, false≢true}
 use Rattle.std.proofs.lemmas.Option.{none-some}
 use Rattle.vr_base.specs.declared.graph.Entry.{Entry}
@@ -12,7 +11,7 @@ use Rattle.vr_base.specs.declared.child.Event.TheVariants.{Started, Ended, Gone}
 use Rattle.vr_base.specs.Jobs.{compile_request}
 use Rattle.vr_outside.specs.Children.{started_with}
 use Rattle.run_spec.specs.Moves.{first_from, next_start, is_startable, LawfulMoves}
-use Rattle.run_spec.specs.ChildJournal.{Work, End, Book, empty_book, artefact_so_far, built_file, job_of, core_of, next_position, request_at, after, moves_after, AreRequested, Lawful}
+use Rattle.run_spec.specs.ChildJournal.{Work, End, Book, empty_book, artefact_so_far, built_at, job_of, core_of, next_position, request_at, after, moves_after, AreRequested, Lawful}
 use Rattle.run_spec.specs.JournalParts.{is_test, is_test_event, compile_part, test_part}
 
 -- without a file nothing can be started
@@ -30,7 +29,7 @@ no_event s (Gone t ∷ events) e lawful = absurd (false≢true lawful.moves.0)
 
 -- a compiler is started without a path for results
 plain_from : (s : Work) (ends : List End) (entry : Option Entry) (r : Request) →
-    option_map (λ entry. compile_request entry (filter_map (λ dep. built_file (slice_get s.graph dep) (artefact_so_far s ends dep)) entry.deps)) entry ≡ Some r → is_test (Some r) ≡ false
+    option_map (λ entry. compile_request entry (built_at s.graph (artefact_so_far s ends) entry.deps)) entry ≡ Some r → is_test (Some r) ≡ false
 plain_from s ends None r h = absurd (none-some r h)
 plain_from s ends (Some entry) r h = ap is_test (sym h)
 

@@ -1,7 +1,7 @@
 -- The journal of a build: which file is started when, over which artefacts.
-use Rattle.std.specs.Prelude.{◌≡◌, ℕ, Bool, true, false, not, ◌&&◌, ◌||◌, ◌==◌, if◌then◌else◌, List, [], ◌∷◌, ◌++◌, length, map, slice_get, drop, Option, Some, None, is_none, unwrap_or}
+use Rattle.std.specs.Prelude.{◌≡◌, ℕ, Bool, true, false, not, ◌&&◌, ◌||◌, ◌==◌, if◌then◌else◌, List, [], ◌∷◌, ◌++◌, length, map, slice_get, drop, Option, Some, None, is_some, unwrap_or}
 use Rattle.std.specs.Option.{option_map, option_and_then}
-use Rattle.std.specs.List.{list_any, filter_map}
+use Rattle.std.specs.List.{list_any, list_all, filter_map}
 use Rattle.vr_base.specs.declared.graph.Entry.{Entry}
 use Rattle.vr_base.specs.declared.graph.BuiltFile.{BuiltFile}
 use Rattle.vr_base.specs.declared.child.Request.{Request}
@@ -10,13 +10,15 @@ use Rattle.vr_base.specs.declared.child.Event.{Event}
 use Rattle.vr_base.specs.declared.child.Event.TheVariants.{Started, Ended, Gone}
 use Rattle.vr_base.specs.Jobs.{compile_request}
 use Rattle.vr_outside.specs.Children.{started_with, IsFresh}
+use Rattle.vr_outside.specs.Records.{deps_at}
+use Rattle.run_spec.specs.Folds.{upto}
 use Rattle.run_spec.specs.Moves.{Job, RunningChild, EndedChild, Core, empty_core, Move, Starts, Ends, Loses, next_start, LawfulMoves, GreedyMoves, IsFinished}
 
--- what a build works on: the graph, the recorded artefact of each file whose record is current, how many
--- children run at once, and whether it goes on after a refusal
+-- what a build works on: the graph; the artefact that a record gives of the file at a position, where it is current over what was
+-- built below the file; how many children run at once; and whether the build goes on after a refusal
 pub record Work : Type 0 where
   pub graph : List Entry
-  pub recorded : ℕ → Option (List ℕ)
+  pub current : ℕ → List BuiltFile → Option (List ℕ)
   pub slots : ℕ
   pub keep_going : Bool
 
@@ -47,43 +49,14 @@ unfoldable pub exit_at : List End → ℕ → Option Exit
 exit_at [] position = None
 exit_at (end ∷ ends) position = if end.position == position then Some end.exit else exit_at ends position
 
--- what the first child of the file at a position printed that ended with code 0
-unfoldable pub output_at : List End → ℕ → Option (List ℕ)
+-- what the first child of the file at a position printed that ended well
+unfoldable pub output_at : List EndedChild → ℕ → Option (List ℕ)
 output_at [] position = None
-output_at (end ∷ ends) position = if end.position == position && end.exit.code == 0 then Some end.exit.output else output_at ends position
+output_at (end ∷ ended) position = if end.position == position && end.ok then Some end.output else output_at ended position
 
 abbrev pub or_else : Option (List ℕ) → Option (List ℕ) → Option (List ℕ)
 or_else None other = other
 or_else (Some artefact) other = Some artefact
-
--- the artefact that the file at a position has after these ends: the recorded one, or what a compiler printed that ended with code 0
-unfoldable pub artefact_so_far : Work → List End → ℕ → Option (List ℕ)
-artefact_so_far setting ends position = or_else (setting.recorded position) (output_at ends position)
-
-abbrev pub deps_of : Option Entry → List ℕ
-deps_of None = []
-deps_of (Some entry) = entry.deps
-
--- what the order of a build follows from: a file is due that has no artefact before any child has ended
-abbrev pub job_of : Work → Job
-job_of setting = record {
-  count = length setting.graph;
-  deps = λ position. deps_of (slice_get setting.graph position);
-  is_due = λ position. is_none (artefact_so_far setting [] position);
-  slots = setting.slots;
-  keep_going = setting.keep_going;
-}
-
--- a running and an ended child, apart from its request and its exit
-abbrev pub child_of_run : Run → RunningChild
-child_of_run run = record { ticket = run.ticket; position = run.position }
-
-abbrev pub child_of_end : End → EndedChild
-child_of_end end = record { position = end.position; ok = end.exit.code == 0 }
-
--- what has happened, apart from requests and exits
-abbrev pub core_of : Book → Core
-core_of book = record { taken = book.taken; running = map child_of_run book.runs; ended = map child_of_end book.ends; halted = book.halted }
 
 -- the file at a position with its artefact
 abbrev pub built_file : Option Entry → Option (List ℕ) → Option BuiltFile
@@ -91,10 +64,53 @@ built_file (Some entry) (Some artefact) = Some (record { name = entry.name; arte
 built_file (Some entry) None = None
 built_file None artefact = None
 
+-- the files at these positions, as far as they have an artefact
+unfoldable pub built_at : List Entry → (ℕ → Option (List ℕ)) → List ℕ → List BuiltFile
+built_at graph artefact_of positions = filter_map (λ position. built_file (slice_get graph position) (artefact_of position)) positions
+
+-- all files at these positions have an artefact
+unfoldable pub has_all : (ℕ → Option (List ℕ)) → List ℕ → Bool
+has_all artefact_of positions = list_all (λ position. is_some (artefact_of position)) positions
+
+-- The artefact of one more file: where all that it depends on has one, that of its record where this is current over them, or
+-- else what its child printed.
+abbrev pub next_artefact : Work → List EndedChild → (ℕ → Option (List ℕ)) → ℕ → Option (List ℕ)
+next_artefact work ended so_far position =
+    if has_all so_far (deps_at work.graph position) then or_else (work.current position (built_at work.graph so_far (deps_at work.graph position))) (output_at ended position) else None
+
+-- the artefact that the file at a position has once these children have ended
+unfoldable pub artefact_by : Work → List EndedChild → ℕ → Option (List ℕ)
+artefact_by work ended position = upto (next_artefact work ended) None (length work.graph) position
+
+-- a running and an ended child, apart from its request and its exit
+abbrev pub child_of_run : Run → RunningChild
+child_of_run run = record { ticket = run.ticket; position = run.position }
+
+abbrev pub child_of_end : End → EndedChild
+child_of_end end = record { position = end.position; ok = end.exit.code == 0; output = end.exit.output }
+
+-- the artefact that the file at a position has after these ends
+abbrev pub artefact_so_far : Work → List End → ℕ → Option (List ℕ)
+artefact_so_far work ends position = artefact_by work (map child_of_end ends) position
+
+-- what the order of a build follows from: a file is made where it has an artefact
+abbrev pub job_of : Work → Job
+job_of work = record {
+  count = length work.graph;
+  deps = λ position. deps_at work.graph position;
+  is_made = λ ended position. is_some (artefact_by work ended position);
+  slots = work.slots;
+  keep_going = work.keep_going;
+}
+
+-- what has happened, apart from requests and exits
+abbrev pub core_of : Book → Core
+core_of book = record { taken = book.taken; running = map child_of_run book.runs; ended = map child_of_end book.ends; halted = book.halted }
+
 -- what a compiler is started with for the file at a position, after these ends
 unfoldable pub request_at : Work → List End → ℕ → Option Request
 request_at setting ends position =
-    option_map (λ entry. compile_request entry (filter_map (λ dep. built_file (slice_get setting.graph dep) (artefact_so_far setting ends dep)) entry.deps)) (slice_get setting.graph position)
+    option_map (λ entry. compile_request entry (built_at setting.graph (artefact_so_far setting ends) entry.deps)) (slice_get setting.graph position)
 
 -- the position of the file that the next start is of
 abbrev pub next_position : Work → Book → Option ℕ
@@ -141,7 +157,7 @@ artefact_after setting events position = artefact_so_far setting (book_of settin
 -- the move of an event
 abbrev pub move_of : Work → Book → Event → Move
 move_of setting book (Started ticket request) = Starts (unwrap_or (next_position setting book) 0) ticket
-move_of setting book (Ended ticket exit) = Ends ticket (exit.code == 0)
+move_of setting book (Ended ticket exit) = Ends ticket (exit.code == 0) exit.output
 move_of setting book (Gone ticket) = Loses ticket
 
 -- the moves of events

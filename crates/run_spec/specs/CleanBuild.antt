@@ -1,5 +1,5 @@
 -- The clean build of a graph: each file compiled in order, over the artefacts of the files that it depends on.
-use Rattle.std.specs.Prelude.{◌≡◌, ℕ, Bool, ◌==◌, if◌then◌else◌, List, [], ◌∷◌, ◌++◌, length, slice_get, Option, Some, None, is_some, is_none}
+use Rattle.std.specs.Prelude.{◌≡◌, ℕ, Bool, ◌==◌, if◌then◌else◌, List, [], ◌∷◌, ◌++◌, slice_get, Option, Some, None, is_some}
 use Rattle.std.specs.Option.{option_and_then}
 use Rattle.std.specs.List.{list_all, filter_map}
 use Rattle.vr_base.specs.declared.graph.Entry.{Entry}
@@ -7,7 +7,6 @@ use Rattle.vr_base.specs.declared.graph.BuiltFile.{BuiltFile}
 use Rattle.vr_base.specs.declared.child.Request.{Request}
 use Rattle.vr_base.specs.declared.child.Exit.{Exit}
 use Rattle.vr_base.specs.Jobs.{compile_request}
-use Rattle.vr_base.specs.PresentGraph.{below}
 
 -- what becomes of a file: an artefact, a refusal, or a file below it was refused
 pub data Result : Type 0 where
@@ -50,16 +49,8 @@ abbrev pub clean_request : (Request → Exit) → List Entry → ℕ → Option 
 clean_request answer graph position =
     option_and_then (λ entry. if is_free (clean_build answer graph) entry then Some (compile_request entry (built_below (clean_build answer graph) entry)) else None) (slice_get graph position)
 
--- what a clean build asks of the compiler for the file at a position, where nothing is recorded of it
-abbrev pub request_unless : (Request → Exit) → List Entry → (ℕ → Option (List ℕ)) → ℕ → Option Request
-request_unless answer graph recorded position = if is_none (recorded position) then clean_request answer graph position else None
-
--- what a clean build asks of the compiler for the files of which nothing is recorded, in compile order
-abbrev pub stale_requests : (Request → Exit) → List Entry → (ℕ → Option (List ℕ)) → List Request
-stale_requests answer graph recorded = filter_map (request_unless answer graph recorded) (below (length graph))
-
--- what is recorded of each file is what a clean build makes
-abbrev pub RecordsClean : (Request → Exit) → List Entry → (ℕ → Option (List ℕ)) → Type 0
-RecordsClean answer graph recorded =
-    (position : ℕ) (artefact : List ℕ) (entry : Entry) → recorded position ≡ Some artefact → slice_get graph position ≡ Some entry →
+-- what a current record gives of each file, over what a clean build makes below it, is what a clean build makes of it
+abbrev pub RecordsClean : (Request → Exit) → List Entry → (ℕ → List BuiltFile → Option (List ℕ)) → Type 0
+RecordsClean answer graph current =
+    (position : ℕ) (artefact : List ℕ) (entry : Entry) → slice_get graph position ≡ Some entry → current position (built_below (clean_build answer graph) entry) ≡ Some artefact →
     slice_get (clean_build answer graph) position ≡ Some (Made (record { name = entry.name; artefact = artefact }))

@@ -9,11 +9,11 @@ use Rattle.vr_base.specs.declared.child.Exit.{Exit}
 use Rattle.vr_base.specs.View.{view}
 use Rattle.vr_outside.specs.declared.records.Record.{Record}
 use Rattle.run_spec.specs.ChildJournal.{Work, End, EachAfter, book_of}
-use Rattle.run_spec.specs.Recorded.{recorded_at}
+use Rattle.run_spec.specs.Recorded.{current_by_view}
 
 -- what a build over a store works on, by the latest record of each name
 abbrev pub work_of : (FileName → Option Record) → List Entry → ℕ → Bool → Work
-work_of latest_of graph slots keep_going = record { graph = graph; recorded = recorded_at latest_of graph; slots = slots; keep_going = keep_going }
+work_of latest_of graph slots keep_going = record { graph = graph; current = current_by_view latest_of graph; slots = slots; keep_going = keep_going }
 
 -- the record of a file that was made
 abbrev pub record_at : List Entry → ℕ → List ℕ → Record

@@ -1,7 +1,9 @@
 -- The definitions.
+pub mod Folds
 pub mod Moves
 pub mod ChildJournal
 pub mod JournalParts
+pub mod Settled
 pub mod CleanBuild
 pub mod Marks
 pub mod Recorded

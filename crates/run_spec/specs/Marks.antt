@@ -1,7 +1,8 @@
 -- What became of each file of a build, by its journal.
-use Rattle.std.specs.Prelude.{◌≡◌, ◌⊎◌, ℕ, Bool, false, true, if◌then◌else◌, List, [], ◌∷◌, length, map, slice_get, Option, Some, None}
+use Rattle.std.specs.Prelude.{◌≡◌, ◌⊎◌, ℕ, Bool, false, true, if◌then◌else◌, List, [], ◌∷◌, length, map, Option, Some, None}
 use Rattle.std.specs.List.{list_any}
 use Rattle.vr_base.specs.declared.graph.Entry.{Entry}
+use Rattle.vr_base.specs.declared.graph.BuiltFile.{BuiltFile}
 use Rattle.vr_base.specs.declared.file.FileName.{FileName}
 use Rattle.vr_base.specs.declared.child.Event.{Event}
 use Rattle.vr_base.specs.declared.child.Exit.{Exit}
@@ -9,8 +10,8 @@ use Rattle.run_spec.specs.declared.marks.Mark.{Mark}
 use Rattle.run_spec.specs.declared.marks.Mark.TheVariants.{Fresh, Compiled, Refused, Skipped, Left}
 use Rattle.vr_base.specs.declared.child.Request.{Request}
 use Rattle.vr_base.specs.PresentGraph.{below}
-use Rattle.run_spec.specs.CleanBuild.{Result, Made, Blocked, clean_build}
-use Rattle.run_spec.specs.CleanBuild as clean
+use Rattle.run_spec.specs.Settled.{Settled, Blocked, settle}
+use Rattle.run_spec.specs.Settled as settled
 use Rattle.run_spec.specs.ChildJournal.{Work, End, exit_at, artefact_so_far, book_of}
 
 -- What became of a file, by whether a child of it has ended and whether there is an artefact of it: compiled with both;
@@ -30,17 +31,16 @@ mark_at setting ends position = mark_of setting.keep_going (exit_at ends positio
 abbrev pub marks_of : Work → List Event → List Mark
 marks_of setting events = map (mark_at setting (book_of setting events).ends) (below (length setting.graph))
 
--- what a clean build says of a file
-abbrev pub steady_mark : Option (List ℕ) → Option Result → Mark
-steady_mark (Some artefact) result = Fresh
-steady_mark None (Some (Made file)) = Compiled
-steady_mark None (Some (clean.Refused code output)) = Refused code output
-steady_mark None (Some Blocked) = Skipped
-steady_mark None None = Skipped
+-- what the settled build says of a file
+abbrev pub steady_mark : Settled → Mark
+steady_mark Blocked = Skipped
+steady_mark (settled.Fresh artefact) = Fresh
+steady_mark (settled.Compiled artefact) = Compiled
+steady_mark (settled.Refused code output) = Refused code output
 
--- the marks that a clean build says, whatever the order of ends: fresh where something is recorded
-abbrev pub steady_marks : (Request → Exit) → List Entry → (ℕ → Option (List ℕ)) → List Mark
-steady_marks answer graph recorded = map (λ position. steady_mark (recorded position) (slice_get (clean_build answer graph) position)) (below (length graph))
+-- the marks that the settled build says, whatever the order of ends
+abbrev pub steady_marks : (Request → Exit) → List Entry → (ℕ → List BuiltFile → Option (List ℕ)) → List Mark
+steady_marks answer graph current = map (λ position. steady_mark (settle answer graph current position)) (below (length graph))
 
 abbrev pub is_refused : Mark → Bool
 is_refused Fresh = false

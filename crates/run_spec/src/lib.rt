@@ -5,5 +5,5 @@
 mod laws;
 mod marks;
 
-pub use laws::laws_of_recorded;
+pub use laws::{laws_of_artefacts, laws_of_recorded};
 pub use marks::{Mark, MarkList};

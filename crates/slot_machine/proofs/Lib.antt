@@ -1,6 +1,6 @@
 -- The lemmas.
-pub mod WordBits
-pub mod Times
-pub mod CoreSteps
+pub mod Passing
+pub mod Sets
+pub mod NextSteps
 pub mod MachineSteps
 pub mod NewMachine

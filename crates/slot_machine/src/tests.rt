@@ -1,14 +1,14 @@
-//! Builds of six files, whose children end in many orders.
+//! Builds of six files, whose children end in many orders, and whose later files are checked meanwhile.
 
-use crate::Slots;
-use build_plan::BuildPlan;
+use crate::{BuildStep, Slots};
+use build_plan::{BuildPlan, Need, Needs};
 use child_steps::Step;
 use record_codec::read_record;
 use std::alloc::Global;
 use std::process::Abort;
 use std::test::Fail;
-use vr_base::{Graph, NoMemory, Positions};
-use vr_outside::{Need, Needs, Record};
+use vr_base::{Graph, NoMemory};
+use vr_outside::Record;
 
 /// A record whose view is the graph: files 1 and 3 depend on file 0, file 4 on 0 and 1, and the last on all.
 const BYTES: [u8; 224] = [
@@ -31,6 +31,8 @@ const BYTES: [u8; 224] = [
 /// What a test does, at a position.
 #[derive(Clone, Copy)]
 enum Call {
+    /// The machine checks this file, whose record is current or not.
+    Checks(u32, bool),
     /// The machine starts this file.
     Starts(u32),
     /// The machine waits, and the child of this file ends with code 0.
@@ -43,96 +45,175 @@ enum Call {
     Stops,
 }
 
-use Call::{Ends, Loses, Refuses, Starts, Stops};
+use Call::{Checks, Ends, Loses, Refuses, Starts, Stops};
+use Need::{Fresh, Later, Stale};
 
-/// The slots, whether the build goes on after a refusal, the stale files, and the calls until nothing is left to do.
+/// The slots, whether the build goes on after a refusal, the plan, and the calls until nothing is left to do.
 struct Row {
     limit: u32,
     keep_going: bool,
-    stale: [bool; 6],
+    needs: [Need; 6],
     calls: &'static [Call],
 }
 
-static ROWS: [Row; 9] = [
-    // One child at a time: the file that changed and what depends on it, in order.
+static ROWS: [Row; 12] = [
+    // One child at a time: the file that changed, then each file that depends on it, once all that this depends on is
+    // made. The last one still has a current record.
     Row {
         limit: 1,
         keep_going: false,
-        stale: [true, true, false, true, true, false],
+        needs: [Stale, Later, Fresh, Later, Later, Later],
         calls: &[
             Starts(0),
             Ends(0),
+            Checks(1, false),
+            Checks(3, false),
             Starts(1),
             Ends(1),
+            Checks(4, false),
             Starts(3),
             Ends(3),
             Starts(4),
             Ends(4),
+            Checks(5, true),
+        ],
+    },
+    // The file that changed gave what it gave before: nothing else is started. A file that is fresh lets the next be checked.
+    Row {
+        limit: 1,
+        keep_going: false,
+        needs: [Stale, Later, Fresh, Later, Later, Later],
+        calls: &[
+            Starts(0),
+            Ends(0),
+            Checks(1, true),
+            Checks(3, true),
+            Checks(4, true),
+            Checks(5, true),
         ],
     },
     // Two at a time: the last file waits for what it depends on.
     Row {
         limit: 2,
         keep_going: false,
-        stale: [true, true, false, true, true, false],
+        needs: [Stale, Later, Stale, Later, Later, Later],
         calls: &[
             Starts(0),
+            Starts(2),
+            Ends(2),
             Ends(0),
+            Checks(1, false),
+            Checks(3, true),
             Starts(1),
+            Ends(1),
+            Checks(4, true),
+            Checks(5, false),
+            Starts(5),
+            Ends(5),
+        ],
+    },
+    // A check comes before a start, and doesn't wait for a free slot.
+    Row {
+        limit: 2,
+        keep_going: false,
+        needs: [Fresh, Stale, Stale, Stale, Later, Later],
+        calls: &[
+            Starts(1),
+            Starts(2),
+            Ends(1),
+            Checks(4, false),
             Starts(3),
             Ends(3),
-            Ends(1),
             Starts(4),
+            Ends(2),
             Ends(4),
+            Checks(5, true),
         ],
     },
     // A chain runs one after another in any number of slots.
     Row {
         limit: 64,
         keep_going: false,
-        stale: [true, true, false, false, true, false],
-        calls: &[Starts(0), Ends(0), Starts(1), Ends(1), Starts(4), Ends(4)],
+        needs: [Stale, Later, Fresh, Later, Later, Later],
+        calls: &[
+            Starts(0),
+            Ends(0),
+            Checks(1, false),
+            Checks(3, true),
+            Starts(1),
+            Ends(1),
+            Checks(4, false),
+            Starts(4),
+            Ends(4),
+            Checks(5, true),
+        ],
     },
     // Three files that don't wait for each other end in the other order.
     Row {
         limit: 3,
         keep_going: false,
-        stale: [false, true, true, true, false, false],
-        calls: &[Starts(1), Starts(2), Starts(3), Ends(3), Ends(2), Ends(1)],
+        needs: [Fresh, Stale, Stale, Stale, Later, Later],
+        calls: &[
+            Starts(1),
+            Starts(2),
+            Starts(3),
+            Ends(3),
+            Ends(2),
+            Ends(1),
+            Checks(4, true),
+            Checks(5, true),
+        ],
     },
-    // A refusal ends a build that doesn't keep going,
+    // A refusal ends the starts of a build that doesn't keep going,
     Row {
         limit: 1,
         keep_going: false,
-        stale: [true, true, true, false, true, false],
+        needs: [Stale, Later, Stale, Later, Later, Later],
         calls: &[Starts(0), Refuses(0)],
     },
-    // and one that does skips what depends on the file.
+    // but not its checks,
+    Row {
+        limit: 2,
+        keep_going: false,
+        needs: [Stale, Later, Stale, Later, Later, Later],
+        calls: &[
+            Starts(0),
+            Starts(2),
+            Ends(0),
+            Checks(1, false),
+            Checks(3, true),
+            Starts(1),
+            Refuses(2),
+            Ends(1),
+            Checks(4, false),
+        ],
+    },
+    // and one that does keep going skips what depends on the file.
     Row {
         limit: 1,
         keep_going: true,
-        stale: [true, true, true, false, true, false],
+        needs: [Stale, Later, Stale, Later, Later, Later],
         calls: &[Starts(0), Refuses(0), Starts(2), Ends(2)],
     },
-    // A lost child ends the build, and the others are waited for.
+    // A lost child ends the build with its checks, and the others are waited for.
     Row {
         limit: 2,
         keep_going: true,
-        stale: [false, true, true, true, false, false],
-        calls: &[Starts(1), Starts(2), Loses(1), Ends(2)],
+        needs: [Stale, Later, Stale, Later, Later, Later],
+        calls: &[Starts(0), Starts(2), Loses(2), Ends(0)],
     },
     // So does a stop.
     Row {
         limit: 3,
         keep_going: true,
-        stale: [true, true, true, true, true, true],
+        needs: [Stale, Later, Stale, Later, Later, Later],
         calls: &[Starts(0), Starts(2), Stops, Ends(0), Ends(2)],
     },
     // Nothing is stale.
     Row {
         limit: 1,
         keep_going: false,
-        stale: [false, false, false, false, false, false],
+        needs: [Fresh, Fresh, Fresh, Fresh, Fresh, Fresh],
         calls: &[],
     },
 ];
@@ -145,15 +226,15 @@ fn graph(alloc: Global) -> Result<Graph, Fail> {
     Ok(view)
 }
 
-/// The plan that names these files stale.
-fn plan_of(alloc: Global, stale: &[bool]) -> Result<BuildPlan, NoMemory> {
-    let mut needs = Needs::new(alloc);
-    for is_stale in stale {
-        needs.push(if *is_stale { Need::Stale } else { Need::Fresh })?;
+/// The plan of these needs.
+fn plan_of(alloc: Global, needs: &[Need]) -> Result<BuildPlan, NoMemory> {
+    let mut all = Needs::new(alloc);
+    for need in needs {
+        all.push(*need)?;
     }
     Ok(BuildPlan {
-        needs,
-        stale: Positions::new(alloc),
+        needs: all,
+        recorded: vr_outside::Needs::new(alloc),
     })
 }
 
@@ -162,25 +243,35 @@ fn ticket_of(at: u32) -> u64 {
     at as u64 * 7 + 1
 }
 
+fn check(rt: &impl Abort, slots: &mut Slots, at: u32, fresh: bool) {
+    match slots.next() {
+        BuildStep::Check(found) => {
+            assert!(rt; found == at);
+            slots.checked(found, fresh);
+        }
+        BuildStep::Run(_) => assert!(rt; false),
+    }
+}
+
 fn start(rt: &impl Abort, slots: &mut Slots, at: u32) {
     match slots.next() {
-        Step::Start(found) => {
+        BuildStep::Run(Step::Start(found)) => {
             assert!(rt; found == at);
             slots.started(found, ticket_of(at));
         }
-        Step::Wait | Step::Finished => assert!(rt; false),
+        BuildStep::Check(_) | BuildStep::Run(Step::Wait | Step::Finished) => assert!(rt; false),
     }
 }
 
 fn end(rt: &impl Abort, slots: &mut Slots, at: u32, ok: bool) {
-    assert!(rt; slots.next() == Step::Wait);
+    assert!(rt; slots.next() == BuildStep::Run(Step::Wait));
     let ticket = ticket_of(at);
     assert!(rt; slots.is_running(ticket));
     assert!(rt; slots.ended(ticket, ok) == at);
 }
 
 fn lose(rt: &impl Abort, slots: &mut Slots, at: u32) {
-    assert!(rt; slots.next() == Step::Wait);
+    assert!(rt; slots.next() == BuildStep::Run(Step::Wait));
     let ticket = ticket_of(at);
     assert!(rt; slots.is_running(ticket));
     assert!(rt; slots.lost(ticket) == at);
@@ -188,6 +279,7 @@ fn lose(rt: &impl Abort, slots: &mut Slots, at: u32) {
 
 fn go(rt: &impl Abort, slots: &mut Slots, call: Call) {
     match call {
+        Checks(at, fresh) => check(rt, slots, at, fresh),
         Starts(at) => start(rt, slots, at),
         Ends(at) => end(rt, slots, at, true),
         Refuses(at) => end(rt, slots, at, false),
@@ -198,7 +290,7 @@ fn go(rt: &impl Abort, slots: &mut Slots, call: Call) {
 
 fn build(rt: &impl Abort, alloc: Global, row: &Row) -> Result<(), Fail> {
     let graph = graph(alloc)?;
-    let plan = plan_of(alloc, row.stale.as_slice())?;
+    let plan = plan_of(alloc, row.needs.as_slice())?;
     assert!(rt; plan.needs.len() == graph.len());
     assert!(rt; row.limit >= 1);
     assert!(rt; row.limit <= 64);
@@ -206,7 +298,7 @@ fn build(rt: &impl Abort, alloc: Global, row: &Row) -> Result<(), Fail> {
     for call in row.calls {
         go(rt, &mut slots, *call);
     }
-    assert!(rt; slots.next() == Step::Finished);
+    assert!(rt; slots.next() == BuildStep::Run(Step::Finished));
     Ok(())
 }
 

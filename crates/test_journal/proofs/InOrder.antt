@@ -6,7 +6,7 @@ use Rattle.std.proofs.lemmas.Bool.{cases_Bool, cond-true, cond-false, ltb-true, 
 use Rattle.std.proofs.lemmas.List.{length-append}
 use Rattle.vr_base.specs.PresentGraph.{below}
 use Rattle.vr_base.specs.declared.child.Event.{Event}
-use Rattle.run_spec.specs.Moves.{Job, Core, RunningChild, EndedChild, Move, Starts, Ends, Loses, Halts, empty_core, next_start, start_now, position_of, without_child, ended_child, after_move, after_moves, LawfulMoves}
+use Rattle.run_spec.specs.Moves.{Job, Core, RunningChild, EndedChild, Move, Starts, Ends, Loses, Halts, empty_core, has_ended_well, next_start, start_now, position_of, without_child, ended_child, after_move, after_moves, LawfulMoves}
 use Rattle.test_journal.specs.TestJournal.{TestSetting, TestBook, test_job, test_moves, after_test, after_tests, empty_tests, book_of_tests, LawfulTests}
 use Rattle.test_journal.proofs.InLine.{IsInLine, first_in_line}
 
@@ -43,12 +43,13 @@ low_position (child ∷ children) next ticket at low h = elim (cases_Bool (child
   | inr is ↦ low_position children next ticket at low.1 (sym (cond-false (child.ticket == ticket) (Some child.position) (position_of ticket children) is) ∙ h)
 ]
 
-low_ended : (ends : List EndedChild) (next : ℕ) (o : Option ℕ) (ok : Bool) → AreLowEnds ends next → ((at : ℕ) → o ≡ Some at → at < next) → AreLowEnds (ends ++ ended_child o ok) next
-low_ended [] next None ok low of = record {}
-low_ended [] next (Some at) ok low of = (of at refl, record {})
-low_ended (end ∷ ends) next o ok low of = (low.0, low_ended ends next o ok low.1 of)
+low_ended : (ends : List EndedChild) (next : ℕ) (o : Option ℕ) (ok : Bool) (output : List ℕ) → AreLowEnds ends next → ((at : ℕ) → o ≡ Some at → at < next) → AreLowEnds (ends ++ ended_child o ok output) next
+low_ended [] next None ok output low of = record {}
+low_ended [] next (Some at) ok output low of = (of at refl, record {})
+low_ended (end ∷ ends) next o ok output low of = (low.0, low_ended ends next o ok output low.1 of)
 
-unmade_by : (ends : List EndedChild) (next k : ℕ) → AreLowEnds ends next → next ≤ k → list_any (λ (end : EndedChild). (end.position == k) && end.ok) ends ≡ false
+unmade_by : (ends : List EndedChild) (next k : ℕ) → AreLowEnds ends next → next ≤ k → has_ended_well ends k ≡ false
+unfolding has_ended_well
 unmade_by [] next k low le = refl
 unmade_by (end ∷ ends) next k low le =
     ap (λ b. (b && end.ok) || list_any (λ (e : EndedChild). (e.position == k) && e.ok) ends) (ne_eqb end.position k (λ e. omega (arith, low.0, e))) ∙ unmade_by ends next k low.1 le
@@ -93,12 +94,12 @@ after_orderly setting core next (Starts at ticket ∷ moves) is lawful =
       running = low_pushed core.running next ticket is.running;
       ended = low_ends_more core.ended next is.ended;
     })) lawful.1
-after_orderly setting core next (Ends ticket ok ∷ moves) is lawful =
-    after_orderly setting (after_move (test_job setting) core (Ends ticket ok)) next moves (record {
+after_orderly setting core next (Ends ticket ok output ∷ moves) is lawful =
+    after_orderly setting (after_move (test_job setting) core (Ends ticket ok output)) next moves (record {
       taken = is.taken;
       within = is.within;
       running = low_without core.running next ticket is.running;
-      ended = low_ended core.ended next (position_of ticket core.running) ok is.ended (λ at h. low_position core.running next ticket at is.running h);
+      ended = low_ended core.ended next (position_of ticket core.running) ok output is.ended (λ at h. low_position core.running next ticket at is.running h);
     }) lawful.1
 after_orderly setting core next (Loses ticket ∷ moves) is lawful =
     after_orderly setting (after_move (test_job setting) core (Loses ticket)) next moves (record {

@@ -1,5 +1,5 @@
 -- The journal of the runs of tests: which run is started when, and what its child is started with.
-use Rattle.std.specs.Prelude.{◌≡◌, ℕ, Bool, true, false, not, List, [], ◌∷◌, ◌++◌, length, slice_get, Option, Some, None, unwrap_or}
+use Rattle.std.specs.Prelude.{◌≡◌, ℕ, Bool, false, not, List, [], ◌∷◌, ◌++◌, length, slice_get, Option, Some, None, unwrap_or}
 use Rattle.std.specs.Option.{option_map, option_and_then}
 use Rattle.std.specs.List.{list_any}
 use Rattle.vr_base.specs.declared.graph.BuiltFile.{BuiltFile}
@@ -7,7 +7,7 @@ use Rattle.vr_base.specs.declared.child.Request.{Request}
 use Rattle.vr_base.specs.declared.child.Exit.{Exit}
 use Rattle.vr_base.specs.declared.child.Event.{Event}
 use Rattle.vr_base.specs.declared.child.Event.TheVariants.{Started, Ended, Gone}
-use Rattle.run_spec.specs.Moves.{Job, Core, empty_core, Move, Starts, Ends, Loses, next_start, position_of, after_move, LawfulMoves, GreedyMoves, IsFinished}
+use Rattle.run_spec.specs.Moves.{Job, Core, empty_core, Move, Starts, Ends, Loses, has_ended_well, next_start, position_of, after_move, LawfulMoves, GreedyMoves, IsFinished}
 use Rattle.run_spec.specs.ChildJournal.{EachAfter, HasFreshTicket, is_gone}
 use Rattle.test_spec.specs.declared.runs.TestRun.{TestRun}
 use Rattle.test_spec.specs.BenchJobs.{bench_request}
@@ -38,9 +38,9 @@ pub record TestBook : Type 0 where
 abbrev pub empty_tests : TestBook
 empty_tests = record { core = empty_core; ends = [] }
 
--- the order of the runs: all are due, and none depends on another
+-- the order of the runs: none depends on another, and one is made where its child has ended well
 abbrev pub test_job : TestSetting → Job
-test_job setting = record { count = length setting.plan.runs; deps = λ position. []; is_due = λ position. true; slots = setting.slots; keep_going = not setting.plan.fail_fast }
+test_job setting = record { count = length setting.plan.runs; deps = λ position. []; is_made = λ ended position. has_ended_well ended position; slots = setting.slots; keep_going = not setting.plan.fail_fast }
 
 -- the run at a position has passed with this exit
 abbrev pub has_passed : Option TestRun → Exit → Bool
@@ -58,7 +58,7 @@ next_run setting book = next_start (test_job setting) book.core
 -- the move of an event
 abbrev pub test_move : TestSetting → TestBook → Event → Move
 test_move setting book (Started ticket request) = Starts (unwrap_or (next_run setting book) 0) ticket
-test_move setting book (Ended ticket exit) = Ends ticket (passed_at setting (position_of ticket book.core.running) exit)
+test_move setting book (Ended ticket exit) = Ends ticket (passed_at setting (position_of ticket book.core.running) exit) exit.output
 test_move setting book (Gone ticket) = Loses ticket
 
 abbrev pub exits_of : Option ℕ → Exit → List TestExit

@@ -72,7 +72,7 @@ module _ (setting : TestSetting) (events : List Event) (row : Row) (found : List
 
   -- a run has ended
   pub ended_then : (row' : Row) (found' : List RunEnd) (ticket : ℕ) (exit : Exit) (ok : Bool) → passed_at setting (position_of ticket core.running) exit ≡ ok → IsTrue (is_running core ticket)
-      → start_now (test_job setting) (halted_if noted core) ≡ None → IsRowOf row' (test_job setting) (after_move (test_job setting) (halted_if noted core) (Ends ticket ok))
+      → start_now (test_job setting) (halted_if noted core) ≡ None → IsRowOf row' (test_job setting) (after_move (test_job setting) (halted_if noted core) (Ends ticket ok exit.output))
       → (found ≡ test_ends setting events → found' ≡ test_ends setting (events ++ Ended ticket exit ∷ []))
       → AreUnderWay setting (events ++ Ended ticket exit ∷ []) row' found' noted
   ended_then row' found' ticket exit ok passed runs none step kept = record {
@@ -80,14 +80,14 @@ module _ (setting : TestSetting) (events : List Event) (row : Row) (found : List
     requests = requests_more setting empty_tests events (Ended ticket exit) is.requests (record {});
     greedy = λ not_noted. greedy_more setting events (Ended ticket exit) (is.greedy not_noted) (none_now none not_noted);
     none_lost = λ not_noted. none_gone (Ended ticket exit) refl (is.none_lost not_noted);
-    in_step = row_then row' (Ended ticket exit) (Ends ticket ok) (ap (Ends ticket) passed) step;
+    in_step = row_then row' (Ended ticket exit) (Ends ticket ok exit.output) (ap (λ passes. Ends ticket passes exit.output) passed) step;
     found_all = λ not_noted. kept (is.found_all not_noted);
   }
 
   module _ (noted' : Bool) (faulty : noted' ≡ true) where
     -- a run has ended, but there was no memory for its verdicts
     pub given_up_then : (row' : Row) (found' : List RunEnd) (ticket : ℕ) (exit : Exit) → IsTrue (is_running core ticket)
-        → ((ok : Bool) → IsRowOf row' (test_job setting) (after_move (test_job setting) (after_move (test_job setting) (halted_if noted core) (Ends ticket ok)) Halts))
+        → ((ok : Bool) → IsRowOf row' (test_job setting) (after_move (test_job setting) (after_move (test_job setting) (halted_if noted core) (Ends ticket ok exit.output)) Halts))
         → AreUnderWay setting (events ++ Ended ticket exit ∷ []) row' found' noted'
     given_up_then row' found' ticket exit runs step =
         let ok : Bool = passed_at setting (position_of ticket core.running) exit in
@@ -97,8 +97,8 @@ module _ (setting : TestSetting) (events : List Event) (row : Row) (found : List
           greedy = never noted' faulty;
           none_lost = never noted' faulty;
           in_step = subst (IsRowOf row' (test_job setting))
-              (ap (λ (c : Core). after_move (test_job setting) c Halts) (halted_after (test_job setting) noted core (Ends ticket ok))
-              ∙ halts_now (test_job setting) noted (after_move (test_job setting) core (Ends ticket ok)) ∙ ap (halted_if true) (sym (core_then (Ended ticket exit)))
+              (ap (λ (c : Core). after_move (test_job setting) c Halts) (halted_after (test_job setting) noted core (Ends ticket ok exit.output))
+              ∙ halts_now (test_job setting) noted (after_move (test_job setting) core (Ends ticket ok exit.output)) ∙ ap (halted_if true) (sym (core_then (Ended ticket exit)))
               ∙ ap (λ (b : Bool). halted_if b (book_of_tests setting (events ++ Ended ticket exit ∷ [])).core) (sym faulty)) (step ok);
           found_all = never noted' faulty;
         }

@@ -1,15 +1,15 @@
 -- A row stays in step with what has happened.
-use Rattle.std.proofs.Common.{suc, ◌≡◌, ◌≢◌, ℕ, ◌+◌, ◌<◌, ◌==◌, nat_lt, Bool, true, false, not, ◌&&◌, cond, List, [], ◌∷◌, ◌++◌, length, map, Some, None, refl, sym, ap, ◌∙◌, arith}
+use Rattle.std.proofs.Common.{suc, ◌≡◌, ◌≢◌, ℕ, ◌+◌, ◌<◌, ◌≤◌, ◌==◌, nat_lt, Bool, true, false, not, ◌&&◌, ◌||◌, cond, List, [], ◌∷◌, ◌++◌, length, map, Some, None, refl, sym, ap, ◌∙◌, arith}
 use Rattle.std.specs.Prelude.{Option}
-use Rattle.std.proofs.lemmas.Bool.{and_parts, not-true, ltb-true, eqb-true, eqb-false}
+use Rattle.std.proofs.lemmas.Bool.{ne_eqb, and_parts, not-true, ltb-true, eqb-true, eqb-false}
 use Rattle.std.proofs.lemmas.List.{map-append, length-map}
-use Rattle.run_spec.specs.Moves.{Job, Core, RunningChild, Starts, is_made_so_far, next_start, start_now, after_move, IsFinished}
+use Rattle.run_spec.specs.Moves.{Job, Core, RunningChild, Starts, empty_core, has_ended_well, is_made_so_far, next_start, start_now, after_move, IsFinished}
 use Rattle.vr_base.specs.PresentGraph.{below}
 use Rattle.test_journal.proofs.InLine.{first_in_line}
-use Rattle.child_steps.specs.Steps.{running_child, step_of, step_at}
+use Rattle.child_steps.specs.Steps.{running_child, step_of, step_at, with_end}
 use Rattle.child_steps.specs.declared.step.Step.TheVariants.{Start, Wait, Finished}
-use Rattle.child_steps.proofs.PlainSteps.{step_starts, step_waits, step_ends, no_running, over_none}
-use Rattle.test_row.specs.Rows.{candidate_of, next_of, IsRowOf}
+use Rattle.child_steps.proofs.PlainSteps.{step_starts, step_waits, step_ends, no_running, over_none, well_after_end}
+use Rattle.test_row.specs.Rows.{candidate_of, next_of, IsRowJob, IsRowOf}
 use Rattle.test_row.specs.declared.row.Row.{Row}
 
 -- the run that is first in line, where one is left
@@ -104,7 +104,7 @@ in_step_started old new job core at ticket first next count limit fail children 
   of_job = record {
     count = is.of_job.count ∙ sym count;
     deps = is.of_job.deps;
-    is_due = is.of_job.is_due;
+    is_made = is.of_job.is_made;
     slots = is.of_job.slots ∙ sym limit;
     keep_going = is.of_job.keep_going ∙ ap not (sym fail);
   };
@@ -114,3 +114,53 @@ in_step_started old new job core at ticket first next count limit fail children 
   taken = ap (λ xs. xs ++ at ∷ []) is.taken ∙ ap (λ n. below old.next ++ n ∷ []) first ∙ sym (below_more old.next) ∙ ap below (sym next);
   unmade = λ k le. made_after_start job core at ticket k ∙ is.unmade k (omega (arith, next));
 }
+
+-- a run that wasn't started isn't made by the end of one that was
+end_other : (w e ok : Bool) → w ≡ false → e ≡ false → (w || (e && ok)) ≡ false
+end_other w e ok fails other = ap (λ b. b || (e && ok)) fails ∙ ap (λ b. b && ok) other
+
+pub unmade_after_end : (row : Row) (job : Job) (core : Core) (at : ℕ) (ok : Bool) (output : List ℕ) → IsRowOf row job core → at < row.next → (k : ℕ) → row.next ≤ k → is_made_so_far job (with_end job core at ok output) k ≡ false
+unmade_after_end row job core at ok output is lt k le =
+    is.of_job.is_made (core.ended ++ (record { position = at; ok = ok; output = output }) ∷ []) k
+    ∙ well_after_end core.ended (record { position = at; ok = ok; output = output }) k
+    ∙ end_other (has_ended_well core.ended k) (at == k) ok (sym (is.of_job.is_made core.ended k) ∙ is.unmade k le) (ne_eqb at k (λ e. omega (arith, e, lt, le)))
+
+pub unmade_first : (job : Job) (runs limit : ℕ) (fail_fast : Bool) → IsRowJob job runs limit fail_fast → (at : ℕ) → is_made_so_far job empty_core at ≡ false
+unfolding has_ended_well
+unmade_first job runs limit fail_fast is at = is.is_made [] at
+
+-- a run has ended
+pub in_step_ended : (old new : Row) (job : Job) (core : Core) (at : ℕ) (ok : Bool) (output : List ℕ) → new.next ≡ old.next → new.count ≡ old.count → new.limit ≡ old.limit → new.fail_fast ≡ old.fail_fast → new.children.items ≡ old.children.items
+    → (core.halted || (not job.keep_going && not ok)) ≡ new.is_halted → at < old.next → IsRowOf old job core → IsRowOf new job (with_end job core at ok output)
+in_step_ended old new job core at ok output next count limit fail children halted lt is = record {
+  of_job = record {
+    count = is.of_job.count ∙ sym count;
+    deps = is.of_job.deps;
+    is_made = is.of_job.is_made;
+    slots = is.of_job.slots ∙ sym limit;
+    keep_going = is.of_job.keep_going ∙ ap not (sym fail);
+  };
+  halted = halted;
+  running = is.running ∙ ap (map running_child) (sym children);
+  taken = is.taken ∙ ap below (sym next);
+  unmade = λ k le. unmade_after_end old job core at ok output is lt k (omega (arith, le, next));
+}
+
+pub row_halts : (h keep fail ok : Bool) → keep ≡ not fail → fail ≡ true → ok ≡ false → (h || (not keep && not ok)) ≡ true
+row_halts true keep fail ok k f o = refl
+row_halts false keep fail ok k f o = ap (λ b. not b && not ok) (k ∙ ap not f) ∙ ap not o
+
+pub row_goes_on : (h keep fail ok : Bool) → keep ≡ not fail → ok ≡ true → (h || (not keep && not ok)) ≡ h
+row_goes_on h keep fail ok k o = ap (λ b. h || (not keep && not b)) o ∙ with_false h (not keep)
+  where
+    with_false : (a b : Bool) → (a || (b && false)) ≡ a
+    with_false true b = refl
+    with_false false true = refl
+    with_false false false = refl
+
+pub row_keeps : (h keep fail ok : Bool) → keep ≡ not fail → fail ≡ false → (h || (not keep && not ok)) ≡ h
+row_keeps h keep fail ok k f = ap (λ b. h || (not b && not ok)) (k ∙ ap not f) ∙ or_no h
+  where
+    or_no : (a : Bool) → (a || false) ≡ a
+    or_no true = refl
+    or_no false = refl

@@ -1,16 +1,16 @@
 -- What a row is one of: a job of runs in order, and what has happened in it so far.
-use Rattle.std.specs.Prelude.{◌≡◌, ℕ, ◌+◌, ◌-◌, ◌*◌, ◌≤◌, nat_lt, Bool, true, false, not, ◌&&◌, ◌==◌, if◌then◌else◌, List, [], length, map, Option, Some, None}
+use Rattle.std.specs.Prelude.{◌≡◌, ℕ, ◌+◌, ◌-◌, ◌*◌, ◌≤◌, nat_lt, Bool, false, not, ◌&&◌, ◌==◌, if◌then◌else◌, List, [], length, map, Option, Some, None}
 use Rattle.vr_base.specs.PresentGraph.{below}
-use Rattle.run_spec.specs.Moves.{Job, Core, is_made_so_far}
+use Rattle.run_spec.specs.Moves.{Job, Core, EndedChild, has_ended_well, is_made_so_far}
 use Rattle.child_steps.specs.declared.step.Step.{Step}
 use Rattle.child_steps.specs.Steps.{step_of, running_child}
 use Rattle.test_row.specs.declared.row.Row.{Row}
 
--- a job of so many runs, all due, none of which depends on another
+-- a job of so many runs, none of which depends on another, each made where its child has ended well
 pub record IsRowJob (job : Job) (runs limit : ℕ) (fail_fast : Bool) : Type 0 where
   pub count : job.count ≡ runs
   pub deps : (at : ℕ) → job.deps at ≡ []
-  pub is_due : (at : ℕ) → job.is_due at ≡ true
+  pub is_made : (ended : List EndedChild) (at : ℕ) → job.is_made ended at ≡ has_ended_well ended at
   pub slots : job.slots ≡ limit
   pub keep_going : job.keep_going ≡ not fail_fast
 

@@ -25,7 +25,7 @@ pub struct Row {
 }
 
 impl Row {
-    ghost use Rattle.std.specs.Prelude.{◌≡◌, ◌≢◌, ◌↔◌, IsTrue, ℕ, ◌+◌, ◌<◌, ◌≤◌, ◌++◌, Bool, [], ◌∷◌, length, Contains, Option, Some, None, IfOk};
+    ghost use Rattle.std.specs.Prelude.{◌≡◌, ◌≢◌, ◌↔◌, IsTrue, ℕ, ◌+◌, ◌<◌, ◌≤◌, ◌++◌, Bool, List, [], ◌∷◌, length, Contains, Option, Some, None, IfOk};
     ghost use Rattle.vr_base.specs.declared.limits.TheConstants.{SLOT_LIMIT};
     ghost use Rattle.vr_outside.specs.Children.{without};
     ghost use Rattle.run_spec.specs.Moves.{Job, Core, Starts, Ends, Loses, Halts, IsLawfulMove, IsGreedyMove, IsFinished, empty_core, position_of, after_move};
@@ -182,8 +182,9 @@ impl Row {
     /// A run has ended, and all its verdicts are passed or not.
     #[tactic(auto, unfolding(crate::specs::Rows::run_count, crate::specs::Rows::tickets_of, crate::specs::Rows::to_come))]
     fn judge(&mut self, ok: bool)
-        ensures in_step { (job : Job) (core : Core) (at : ℕ) → at < self.old.next →
-            IsRowOf self.old job core → IsRowOf self.new job (with_end job core at ok) }
+        ensures in_step { (job : Job) (core : Core) (at : ℕ) (output : List ℕ) →
+            at < self.old.next → IsRowOf self.old job core →
+            IsRowOf self.new job (with_end job core at ok output) }
         ensures runs { run_count self.new ≡ run_count self.old }
         ensures tickets { tickets_of self.new ≡ tickets_of self.old }
         ensures nearer { to_come self.new ≤ to_come self.old }
@@ -201,12 +202,14 @@ impl Row {
         ensures within { result < run_count self.old }
         ensures position { (job : Job) (core : Core) → IsRowOf self.old job core →
             position_of ticket core.running ≡ Some result }
-        ensures lawful { (job : Job) (core : Core) → IsRowOf self.old job core →
-            IsLawfulMove job core (Ends ticket ok) }
-        ensures greedy { (job : Job) (core : Core) → IsRowOf self.old job core →
-            next_of self.old ≡ Wait → IsGreedyMove job core (Ends ticket ok) }
-        ensures in_step { (job : Job) (core : Core) → IsRowOf self.old job core →
-            IsRowOf self.new job (after_move job core (Ends ticket ok)) }
+        ensures lawful { (job : Job) (core : Core) (output : List ℕ) →
+            IsRowOf self.old job core → IsLawfulMove job core (Ends ticket ok output) }
+        ensures greedy { (job : Job) (core : Core) (output : List ℕ) →
+            IsRowOf self.old job core → next_of self.old ≡ Wait →
+            IsGreedyMove job core (Ends ticket ok output) }
+        ensures in_step { (job : Job) (core : Core) (output : List ℕ) →
+            IsRowOf self.old job core →
+            IsRowOf self.new job (after_move job core (Ends ticket ok output)) }
         ensures runs { run_count self.new ≡ run_count self.old }
         ensures tickets { tickets_of self.new ≡ without ticket (tickets_of self.old) }
         ensures nearer { to_come self.new < to_come self.old }
@@ -219,9 +222,9 @@ impl Row {
     /// A run has ended, and it isn't known how: nothing more is started.
     #[tactic(auto, unfolding(crate::specs::Rows::run_count, crate::specs::Rows::tickets_of, crate::specs::Rows::to_come, run_spec::specs::Moves::after_move))]
     fn give_up(&mut self)
-        ensures in_step { (job : Job) (core : Core) (at : ℕ) (ok : Bool) → at < self.old.next →
-            IsRowOf self.old job core →
-            IsRowOf self.new job (after_move job (with_end job core at ok) Halts) }
+        ensures in_step { (job : Job) (core : Core) (at : ℕ) (ok : Bool)
+            (output : List ℕ) → at < self.old.next → IsRowOf self.old job core →
+            IsRowOf self.new job (after_move job (with_end job core at ok output) Halts) }
         ensures runs { run_count self.new ≡ run_count self.old }
         ensures tickets { tickets_of self.new ≡ tickets_of self.old }
         ensures nearer { to_come self.new ≤ to_come self.old }
@@ -232,12 +235,14 @@ impl Row {
     /// The child of a ticket has ended, but there is no memory for its verdicts. Nothing more is started.
     pub fn given_up(&mut self, ticket: u64)
         requires { Contains (tickets_of self.old) ticket }
-        ensures lawful { (job : Job) (core : Core) (ok : Bool) → IsRowOf self.old job core →
-            IsLawfulMove job core (Ends ticket ok) }
-        ensures greedy { (job : Job) (core : Core) (ok : Bool) → IsRowOf self.old job core →
-            next_of self.old ≡ Wait → IsGreedyMove job core (Ends ticket ok) }
-        ensures in_step { (job : Job) (core : Core) (ok : Bool) → IsRowOf self.old job core →
-            IsRowOf self.new job (after_move job (after_move job core (Ends ticket ok)) Halts) }
+        ensures lawful { (job : Job) (core : Core) (ok : Bool) (output : List ℕ) →
+            IsRowOf self.old job core → IsLawfulMove job core (Ends ticket ok output) }
+        ensures greedy { (job : Job) (core : Core) (ok : Bool) (output : List ℕ) →
+            IsRowOf self.old job core → next_of self.old ≡ Wait →
+            IsGreedyMove job core (Ends ticket ok output) }
+        ensures in_step { (job : Job) (core : Core) (ok : Bool) (output : List ℕ) →
+            IsRowOf self.old job core → IsRowOf self.new job
+            (after_move job (after_move job core (Ends ticket ok output)) Halts) }
         ensures runs { run_count self.new ≡ run_count self.old }
         ensures tickets { tickets_of self.new ≡ without ticket (tickets_of self.old) }
         ensures nearer { to_come self.new < to_come self.old }

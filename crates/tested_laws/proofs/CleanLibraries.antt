@@ -22,7 +22,8 @@ use Rattle.run_spec.specs.CleanBuild as clean
 use Rattle.run_spec.specs.Faithful.{IsFaithfulDisk}
 use Rattle.run_spec.specs.Marks.{mark_of, mark_at, marks_of}
 use Rattle.clean_laws.proofs.CleanPlaces.{filter_map-same}
-use Rattle.clean_laws.proofs.JournalBooks.{clean_book, made_clean}
+use Rattle.clean_laws.proofs.CleanSettled.{made_settled}
+use Rattle.clean_laws.proofs.JournalSettled.{made_settled_so_far}
 use Rattle.history_spec.specs.Histories.{Order, World, Sources, IsReadable, work_over}
 use Rattle.history_laws.proofs.RightRuns.{run_clean}
 use Rattle.compile_loop.specs.Ran.{built_by, is_made}
@@ -40,7 +41,7 @@ has_artefact keep_going (Some exit) None made = absurd (false≢true made)
 has_artefact true None None made = absurd (false≢true made)
 has_artefact false None None made = absurd (false≢true made)
 
-module _ (answer : Request → Exit) (work : Work) (is : IsGraph work.graph) (records : RecordsClean answer work.graph work.recorded) (events : List Event) (lawful : Lawful work events) (answered : Answered answer events)
+module _ (answer : Request → Exit) (work : Work) (is : IsGraph work.graph) (records : RecordsClean answer work.graph work.current) (events : List Event) (lawful : Lawful work events) (answered : Answered answer events)
     (all : list_all is_made (marks_of work events) ≡ true) where
   abbrev same : ℕ → Type 0
   same position = built_file (slice_get work.graph position) (artefact_after work events position) ≡ built_of (slice_get (clean_build answer work.graph) position)
@@ -55,7 +56,7 @@ module _ (answer : Request → Exit) (work : Work) (is : IsGraph work.graph) (re
       let artefact = has_artefact work.keep_going (exit_at (book_of work events).ends k) (artefact_after work events k) made in
       let entry = item_at work.graph k inside in
       let clean_one : slice_get (clean_build answer work.graph) k ≡ Some (clean.Made (record { name = entry.0.name; artefact = artefact.0 })) =
-      made_clean answer work is records (book_of work events) (clean_book answer work is records events lawful answered) k entry.0 artefact.0 entry.1 artefact.1 in
+      made_settled answer work.graph is work.current records k entry.0 artefact.0 entry.1 (made_settled_so_far answer work is events lawful answered k artefact.0 artefact.1) in
       ap (λ (o : Option Entry). built_file o (artefact_after work events k)) entry.1 ∙ ap (built_file (Some entry.0)) artefact.1 ∙ sym (ap built_of clean_one)
 
   pub built_clean : built_by work events ≡ libraries answer work.graph

@@ -25,7 +25,7 @@ pub fn laws_of_libraries()
     // Where what is recorded is what a clean build makes, and all files are made in the end, what was built are the
     // libraries of a clean build.
     ensures built { (answer : Request → Exit) (work : Work) → IsGraph work.graph →
-        RecordsClean answer work.graph work.recorded → (events : List Event) →
+        RecordsClean answer work.graph work.current → (events : List Event) →
         Lawful work events → Answered answer events →
         list_all is_made (marks_of work events) ≡ true →
         built_by work events ≡ libraries answer work.graph }

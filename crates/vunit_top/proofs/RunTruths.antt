@@ -21,15 +21,13 @@ use Rattle.run_spec.specs.ChildJournal.{Work, AreRequested, EachAfter, moves_aft
 use Rattle.run_spec.specs.Commits.{commits, Waits}
 use Rattle.run_spec.specs.JournalParts.{compile_part}
 use Rattle.vr_outside.specs.Phases.{HasPhases}
-use Rattle.run_spec.specs.CleanBuild.{RecordsClean}
 use Rattle.run_spec.specs.Faithful.{IsFaithfulDisk}
 use Rattle.history_spec.specs.Histories.{Order, World, ProgramRun, empty_image, IsReadable, IsIdleRun, RunStep, work_over}
 use Rattle.run_spec.specs.Marks.{marks_of, is_refused, refused_files}
 use Rattle.run_spec.proofs.Parts.{build_parts}
-use Rattle.clean_laws.proofs.JournalMarks.{all_files_made}
-use Rattle.clean_laws.proofs.JournalOutcomes.{all_started, all_steady}
+use Rattle.clean_laws.proofs.JournalSettled.{all_started, all_steady, all_files_made}
 use Rattle.history_laws.specs.Rights.{IsRightStep}
-use Rattle.history_laws.proofs.RightRuns.{run_clean, run_right}
+use Rattle.history_laws.proofs.RightRuns.{run_right}
 use Rattle.compile_loop.specs.declared.faults.BuildFault.{BuildFault}
 use Rattle.compile_loop.specs.declared.faults.BuildFault.TheVariants as fault
 use Rattle.run_report.specs.Outcomes.{build_outcome}
@@ -86,10 +84,6 @@ right_step : (scan : List ℕ → Finding) (answer : Request → Exit) (order : 
     IsRightStep (world_of scan answer) order run first
 right_step scan answer order run first readable step faithful = run_right (world_of scan answer) order run first readable faithful step
 
--- what is recorded is what a clean build makes
-recorded_clean : (scan : List ℕ → Finding) (answer : Request → Exit) (order : Order) (first : DiskState) → IsGraph order.graph → IsReadable first → IsFaithfulDisk answer records_in_image first → RecordsClean answer order.graph (work_over records_in_image order first).recorded
-recorded_clean scan answer order first is readable faithful = run_clean (world_of scan answer) order first is readable faithful
-
 module _ (scan : List ℕ → Finding) (answer : Request → Exit) (order : Order) (warnings : List ℕ) (result : Result (List Mark) BuildFault) (failed : Bool) (old new : Moments) (sound : AreSound old) (events : List Event)
     (over : BuildsOver records_in_image answer order result failed old new events) (words : List (List ℕ)) (said : Outcome) where
   abbrev s : Work
@@ -118,9 +112,6 @@ module _ (scan : List ℕ → Finding) (answer : Request → Exit) (order : Orde
       all = λ disk memory. moved (λ l. over.acknowledged ≡ length (commits s l)) (over.all disk (λ is. memory (no_memory is)));
     })
 
-    clean : IsFaithfulDisk answer records_in_image old.now → RecordsClean answer order.graph s.recorded
-    clean faithful = recorded_clean scan answer order old.now over.graph_form (readable_now old sound) faithful
-
     pub runs_over : (HasEnded said → (marks : List Mark) × (result ≡ Ok marks)) → (HasBuilt said → list_any is_refused (marks_of s events) ≡ false) → RunsAs scan answer (Builds order warnings) run old.now new.now
     runs_over ends done =
         let whole : HasEnded said → IsWhole s events = λ is. subst (λ (r : Result (List Mark) BuildFault). OnOk r (IsWhole s events)) (ends is).1 over.whole in
@@ -134,10 +125,10 @@ module _ (scan : List ℕ → Finding) (answer : Request → Exit) (order : Orde
               (subst (λ (r : Result (List Mark) BuildFault). OnOk r (order.clean ≡ true → EachImage (λ image. records_in_image image ≡ commits s events) new.now)) (ends is).1 over.emptied);
           right = right_step scan answer (Some order) run old.now (readable_now old sound) build_step;
           exact = λ faithful is none. record {
-            started = all_started answer s over.graph_form (clean faithful) (compile_part events) (moved (λ l. IsWhole s l) (whole is)) (moved (λ l. Answered answer l) over.answered) none;
-            steady = all_steady answer s over.graph_form (clean faithful) (compile_part events) (moved (λ l. IsWhole s l) (whole is)) (moved (λ l. Answered answer l) over.answered) none;
+            started = all_started answer s over.graph_form (compile_part events) (moved (λ l. IsWhole s l) (whole is)) (moved (λ l. Answered answer l) over.answered) none;
+            steady = all_steady answer s over.graph_form (compile_part events) (moved (λ l. IsWhole s l) (whole is)) (moved (λ l. Answered answer l) over.answered) none;
           };
-          made = λ faithful is. all_files_made answer s over.graph_form (clean faithful) (compile_part events) (moved (λ l. IsWhole s l) (whole (built_ended said is))) (moved (λ l. Answered answer l) over.answered)
+          made = λ faithful is. all_files_made answer s over.graph_form (compile_part events) (moved (λ l. IsWhole s l) (whole (built_ended said is))) (moved (λ l. Answered answer l) over.answered)
               (moved (λ l. list_any is_refused (marks_of s l) ≡ false) (done is));
         }
 
@@ -194,7 +185,6 @@ module _ (scan : List ℕ → Finding) (answer : Request → Exit) (r : Reading)
       let empty : HasEnded said → IsGraph (order_in r).graph = λ is. subst IsGraph (sym (none is)) no_graph in
       let no_file : HasEnded said → (position : ℕ) → position < length (order_in r).graph → ⊥ = λ is position inside.
       let none_there : position < 0 = subst (λ (g : List Entry). position < length g) (none is) inside in omega (arith, none_there) in
-      let clean : HasEnded said → IsFaithfulDisk answer records_in_image moments.now → RecordsClean answer (order_in r).graph s.recorded = λ is faithful. recorded_clean scan answer (order_in r) moments.now (empty is) (readable_now moments sound) faithful in
       record {
         step = step;
         ends = ap (last_state moments.now) (nothing_added moments);
@@ -203,8 +193,8 @@ module _ (scan : List ℕ → Finding) (answer : Request → Exit) (r : Reading)
         emptied = λ is clean. absurd (false≢true (sym (ap (λ (o : Option Order). (unwrap_or o no_order).clean) (unordered is)) ∙ clean));
         right = right_step scan answer (order_of r) rest moments.now (readable_now moments sound) step;
         exact = λ faithful is halts. record {
-          started = all_started answer s (empty is) (clean is faithful) (compile_part (since journal journal)) (subst (IsWhole s) (sym nothing) (whole is)) (subst (Answered answer) (sym nothing) tt) halts;
-          steady = all_steady answer s (empty is) (clean is faithful) (compile_part (since journal journal)) (subst (IsWhole s) (sym nothing) (whole is)) (subst (Answered answer) (sym nothing) tt) halts;
+          started = all_started answer s (empty is) (compile_part (since journal journal)) (subst (IsWhole s) (sym nothing) (whole is)) (subst (Answered answer) (sym nothing) tt) halts;
+          steady = all_steady answer s (empty is) (compile_part (since journal journal)) (subst (IsWhole s) (sym nothing) (whole is)) (subst (Answered answer) (sym nothing) tt) halts;
         };
         made = λ faithful is position inside. absurd (no_file (built_ended said is) position inside);
       }

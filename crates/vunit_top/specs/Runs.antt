@@ -7,7 +7,7 @@ use Rattle.outcomes.specs.declared.outcome.Outcome.{Outcome}
 use Rattle.vr_outside.specs.Disks.{DiskState, EachImage}
 use Rattle.vr_outside.specs.Commits.{last_state}
 use Rattle.run_spec.specs.ChildJournal.{Work, IsWhole, book_of, artefact_after}
-use Rattle.run_spec.specs.CleanBuild.{request_unless}
+use Rattle.run_spec.specs.Settled.{request_unless}
 use Rattle.run_spec.specs.Commits.{commits}
 use Rattle.run_spec.specs.Faithful.{IsFaithfulDisk}
 use Rattle.history_spec.specs.Histories.{World, ProgramRun, RunStep, work_over}
@@ -33,11 +33,11 @@ tested_world_of scan answer = record { world = world_of scan answer; plan = λ w
 abbrev pub run_of : List (List ℕ) → Outcome → Bool → List Event → List DiskState → ProgramRun
 run_of words result disk_failed events later = record { words = words; outcome = result; disk_failed = disk_failed; events = compile_part events; later = later }
 
--- The started files are those that differ from their records and that a clean build doesn't block, and the marks are those
--- that it says.
+-- The started files are those that the settled build asks for: those that have no current record over what it makes of the
+-- files that they depend on, and that it doesn't block. The marks are those that it says.
 pub record IsExact (answer : Request → Exit) (setting : Work) (events : List Event) : Type 0 where
-  pub started : (position : ℕ) → Contains (book_of setting events).taken position ↔ ((request : Request) × (request_unless answer setting.graph setting.recorded position ≡ Some request))
-  pub steady : marks_of setting events ≡ steady_marks answer setting.graph setting.recorded
+  pub started : (position : ℕ) → Contains (book_of setting events).taken position ↔ ((request : Request) × (request_unless answer setting.graph setting.current position ≡ Some request))
+  pub steady : marks_of setting events ≡ steady_marks answer setting.graph setting.current
 
 -- What a run did, over the moment of the disk before it and the last one. It is the step of a history, which goes on from
 -- that last moment. Where it has ended its build did so by itself, and each file that is made has a record of its present

@@ -18,10 +18,10 @@ pub cycle_of-requires-clause-some : goal.cycle_of-requires-clause-some
 cycle_of-requires-clause-some c = some_left c.args.edges.now (λ all. c.if-len.false (c.len.ensures ∙ ap (λ (xs : List ℕ). length xs) c.in_ok-order.ensures.order ∙ all ∙ sym c.len-2.ensures))
 
 pub cycle_of-requires-clause-as_many : goal.cycle_of-requires-clause-as_many
-cycle_of-requires-clause-as_many c = (c.waiting.ensures c.args.edges.now c.in_ok-order.order c.in_ok-order.ensures.left).as_many
+cycle_of-requires-clause-as_many c = (c.untaken.ensures c.args.edges.now c.in_ok-order.order c.in_ok-order.ensures.left).as_many
 
 pub returns-clause-exact : goal.returns-clause-exact
 returns-clause-exact c =
-    let waiting : AreWaiting c.waiting.result.now (length c.args.edges.now) (all_taken c.args.edges.now) = subst (AreWaiting c.waiting.result.now (length c.args.edges.now)) c.in_ok-order.ensures.order (c.waiting.ensures c.args.edges.now c.in_ok-order.order c.in_ok-order.ensures.left) in
+    let waiting : AreWaiting c.untaken.result.now (length c.args.edges.now) (all_taken c.args.edges.now) = subst (AreWaiting c.untaken.result.now (length c.args.edges.now)) c.in_ok-order.ensures.order (c.untaken.ensures c.args.edges.now c.in_ok-order.order c.in_ok-order.ensures.left) in
     order_is_short c.args.edges.now (λ all. c.if-len.false (c.len.ensures ∙ ap (λ (xs : List ℕ). length xs) c.in_ok-order.ensures.order ∙ all ∙ sym c.len-2.ensures))
     ∙ ap Cyclic (sym (c.in_ok-files.ensures (all_taken c.args.edges.now) waiting))

@@ -7,7 +7,7 @@ use Rattle.build_order.proofs.ordering.take_next.Goals as goal
 
 pub returns : goal.returns
 returns c edges is =
-    let first : first_free edges c.args.order.now ≡ Some c.in-Some.at = sym (c.next.ensures.first edges c.args.order.now is) ∙ c.in-Some.is in (
+    let first : first_free edges c.args.order.now ≡ Some c.in-Some.at = sym (c.next_free.ensures.first edges c.args.order.now is) ∙ c.in-Some.is in (
       c.in_ok-push.ensures.ok ∙ sym (ap (with_taken c.args.order.now) first),
-      subst (IsUntaken c.take.new.self edges) (sym c.in_ok-push.ensures.ok) (c.take.ensures edges c.args.order.now is (fresh_from_first edges c.args.order.now c.in-Some.at first)),
+      subst (IsUntaken c.take.new.left edges) (sym c.in_ok-push.ensures.ok) (c.take.ensures edges c.args.order.now is (fresh_from_first edges c.args.order.now c.in-Some.at first)),
     )

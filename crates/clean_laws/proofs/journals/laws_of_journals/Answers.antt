@@ -1,10 +1,10 @@
 -- Answers to the goals of `laws_of_journals`.
-use Rattle.run_spec.specs.ChildJournal.{book_of}
 use Rattle.run_spec.proofs.Parts.{no_event, build_parts, all_compiled}
 use Rattle.run_spec.proofs.Prefixes.{lawful_prefix}
 use Rattle.clean_laws.proofs.CleanCommits.{commits_true}
-use Rattle.clean_laws.proofs.JournalBooks.{clean_book, made_clean}
-use Rattle.clean_laws.proofs.JournalStarted.{asked, nothing_due, started_once, started_stale}
+use Rattle.clean_laws.proofs.CleanSettled.{request_clean, made_settled}
+use Rattle.clean_laws.proofs.JournalStarted.{nothing_due, started_once}
+use Rattle.clean_laws.proofs.JournalSettled.{made_settled_so_far, asked, started_stale}
 use Rattle.clean_laws.proofs.journals.laws_of_journals.Goals as goal
 
 pub returns-clause-compiles : goal.returns-clause-compiles
@@ -35,8 +35,13 @@ pub returns-clause-once : goal.returns-clause-once
 returns-clause-once c = started_once
 
 pub returns-clause-made : goal.returns-clause-made
-returns-clause-made c = λ answer setting graph clean events lawful answered.
-    made_clean answer setting graph clean (book_of setting events) (clean_book answer setting graph clean events lawful answered)
+returns-clause-made c = made_settled_so_far
+
+pub returns-clause-clean_asked : goal.returns-clause-clean_asked
+returns-clause-clean_asked c = λ answer setting graph records. request_clean answer setting.graph graph setting.current records
+
+pub returns-clause-clean_made : goal.returns-clause-clean_made
+returns-clause-clean_made c = λ answer setting graph records. made_settled answer setting.graph graph setting.current records
 
 pub returns-clause-commits : goal.returns-clause-commits
 returns-clause-commits c = commits_true

@@ -1,6 +1,5 @@
 -- Answers to the goals of `laws_of_whole_builds`.
-use Rattle.clean_laws.proofs.JournalMarks.{all_files_made}
-use Rattle.clean_laws.proofs.JournalOutcomes.{all_started, all_built, all_steady}
+use Rattle.clean_laws.proofs.JournalSettled.{all_started, all_built, all_steady, all_files_made}
 use Rattle.clean_laws.proofs.journals.laws_of_whole_builds.Goals as goal
 
 pub returns-clause-started : goal.returns-clause-started

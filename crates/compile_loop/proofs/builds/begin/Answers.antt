@@ -5,8 +5,10 @@ use Rattle.compile_loop.proofs.BeginThen.{is_job, first_marks_are}
 use Rattle.compile_loop.proofs.builds.begin.Goals as goal
 
 pub returns-clause-in_step : goal.returns-clause-in_step
-returns-clause-in_step g c = c.in_ok-slots.ensures.in_step _ (is_job _ c.args.graph.now _ c.in_ok-plan.ensures.needs c.args.limit c.args.keep_going)
+returns-clause-in_step g c =
+    c.in_ok-slots.ensures.in_step _ (is_job _ c.args.graph.now c.len.ensures.graph _ c.in_ok-plan.ensures.recorded _ c.in_ok-plan.ensures.needs c.args.limit c.args.keep_going)
 
 pub returns-clause-marked : goal.returns-clause-marked
 returns-clause-marked g c =
-    c.in_ok-marks.ensures ∙ ap (map (first_mark c.args.keep_going)) c.as_slice.ensures ∙ first_marks_are _ c.args.graph.now c.in_ok-plan.plan.needs c.in_ok-plan.ensures.needs c.args.limit c.args.keep_going
+    c.in_ok-marks.ensures ∙ ap (map (first_mark c.args.keep_going)) c.as_slice.ensures
+    ∙ first_marks_are _ c.args.graph.now c.len.ensures.graph _ c.in_ok-plan.ensures.recorded _ c.in_ok-plan.ensures.needs c.args.limit c.args.keep_going _ c.in_ok-slots.ensures.checked

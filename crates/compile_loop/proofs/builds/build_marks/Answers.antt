@@ -1,7 +1,10 @@
 -- Answers to the goals of `build_marks`.
-use Rattle.std.proofs.Common.{List, [], length, refl, sym, ap, ◌∙◌}
+use Rattle.std.proofs.Common.{List, [], length, refl, sym, ap, subst, ◌∙◌, arith}
 use Rattle.std.specs.Prelude.{slice_get}
 use Rattle.run_spec.specs.declared.marks.Mark.{Mark}
+use Rattle.child_steps.specs.declared.step.Step.{Step}
+use Rattle.slot_machine.specs.declared.step.BuildStep.TheVariants.{Run}
+use Rattle.vr_outside.specs.Records.{AreNeeds}
 use Rattle.compile_loop.proofs.UnderWayThen.{marks_count, started_at, nothing_noted, start_recorded}
 use Rattle.compile_loop.proofs.WholeBuilds.{first_under_way, first_journal, holds_nothing, on_false, counts_at_first, ran_nothing, ran_done, ran_fault, marks_recorded, goes_on}
 use Rattle.compile_loop.proofs.builds.build_marks.Goals as goal
@@ -14,7 +17,7 @@ loop-at-init g c = record {
   going = record {
     events = [];
     acknowledged = 0;
-    under_way = first_under_way c.args.graph.now _ _ _ _ c.in-Ok.ensures.graph c.in-Ok.ensures.in_step c.in-Ok.ensures.marked c.requires.usable;
+    under_way = first_under_way c.args.graph.now _ _ _ _ c.in-Ok.ensures.graph c.in-Ok.ensures.in_step c.in-Ok.ensures.stopped c.in-Ok.ensures.marked c.requires.usable;
     journal = λ tells. first_journal _ _ _;
     images = λ tells. holds_nothing _ _ _ _ c.requires.usable (g.met.K.Records.durable c.args.store.now _ (c.requires.in_step tells));
   };
@@ -22,21 +25,22 @@ loop-at-init g c = record {
   same = refl;
   files = c.in-Ok.ensures.files;
   in_step = λ tells. on_false (g.K.Records.broken c.args.store.now) (c.requires.in_step tells);
+  recorded = c.in-Ok.ensures.recorded;
   counts = counts_at_first (g.K.Records.broken c.args.store.now) _ c.requires.usable;
 }
 
 pub start_one-requires-clause-recorded : goal.start_one-requires-clause-recorded
 start_one-requires-clause-recorded g c =
     let under = c.loop-at.invariant.going.under_way in
-    start_recorded _ _ _ _ _ under c.in-Start.at (started_at _ _ c.in-Start.at (c.in-Start.ensures.in_step _ _ under.in_step))
+    start_recorded _ _ _ _ _ under c.in-Run-Start.at (started_at _ _ c.in-Run-Start.at (sym c.in-Run-Start.field-0-is ∙ c.in-Run-Start.ensures.in_step _ _ under.in_step c.in-Run-Start.field-0 refl))
 
 pub start_one-requires-clause-unnoted : goal.start_one-requires-clause-unnoted
 start_one-requires-clause-unnoted g c =
     let under = c.loop-at.invariant.going.under_way in
-    nothing_noted _ _ _ _ _ under c.in-Start.at (started_at _ _ c.in-Start.at (c.in-Start.ensures.in_step _ _ under.in_step))
+    nothing_noted _ _ _ _ _ under c.in-Run-Start.at (started_at _ _ c.in-Run-Start.at (sym c.in-Run-Start.field-0-is ∙ c.in-Run-Start.ensures.in_step _ _ under.in_step c.in-Run-Start.field-0 refl))
 
-pub loop-at-preserved-in-Start : goal.loop-at-preserved-in-Start
-loop-at-preserved-in-Start g c =
+pub loop-at-preserved-in-Run-Start : goal.loop-at-preserved-in-Run-Start
+loop-at-preserved-in-Run-Start g c =
     let before = c.loop-at.invariant in
     record {
       going = goes_on _ _ _ _ _ _ _ _ _ _ _ _ before.same before.going
@@ -45,6 +49,7 @@ loop-at-preserved-in-Start g c =
       same = c.start_one.ensures.same ∙ before.same;
       files = c.start_one.ensures.files ∙ before.files;
       in_step = before.in_step;
+      recorded = before.recorded;
       counts = c.start_one.ensures.counts _ _ _ before.counts;
     }
 
@@ -54,7 +59,8 @@ returns-in-None-clause-count g c = ap length c.from_vec.ensures ∙ marks_count 
 pub returns-in-None-clause-ran : goal.returns-in-None-clause-ran
 returns-in-None-clause-ran g c =
     let before = c.loop-at.invariant in
-    ran_done _ _ _ _ _ _ _ _ before.going c.in-None.is (c.in-Finished.ensures.finished refl _ _ before.going.under_way.in_step) c.from_vec.result c.from_vec.ensures
+    ran_done _ _ _ _ _ _ _ _ before.going c.in-None.is (c.in-Run-Finished.ensures.finished (ap (λ (step : Step). Run step) c.in-Run-Finished.field-0-is) _ _ before.going.under_way.in_step)
+    (λ at lt new. c.in-Run-Finished.ensures.unchecked _ _ before.going.under_way.in_step (before.going.under_way.goes_on c.in-None.is) c.in-Run-Finished.field-0 refl at (omega (arith, lt, before.files)) new) c.from_vec.result c.from_vec.ensures
 
 pub returns-in-None-clause-recorded : goal.returns-in-None-clause-recorded
 returns-in-None-clause-recorded g c = λ position mark at made.
@@ -62,3 +68,32 @@ returns-in-None-clause-recorded g c = λ position mark at made.
 
 pub returns-clause-ran : goal.returns-clause-ran
 returns-clause-ran g c = ran_fault _ _ _ _ _ _ _ _ c.loop-at.invariant.going c.in-Some.fault c.in-Some.is _
+
+pub check_one-requires-clause-position : goal.check_one-requires-clause-position
+check_one-requires-clause-position g c =
+    let before = c.loop-at.invariant in
+    omega (arith, c.in-Check.ensures.checks c.in-Check.at refl, before.files, marks_count _ _ _ _ _ before.going.under_way)
+
+pub check_one-requires-clause-recorded : goal.check_one-requires-clause-recorded
+check_one-requires-clause-recorded g c =
+    let before = c.loop-at.invariant in
+    omega (arith, ap length c.as_slice.ensures, before.recorded.each, marks_count _ _ _ _ _ before.going.under_way)
+
+pub loop-at-preserved-in-Check : goal.loop-at-preserved-in-Check
+loop-at-preserved-in-Check g c =
+    let before = c.loop-at.invariant in
+    record {
+      going = record {
+        events = before.going.events;
+        acknowledged = before.going.acknowledged;
+        under_way = c.check_one.ensures.goes _ _ before.going.events before.going.acknowledged _ _ _ (subst (AreNeeds _ _) (sym c.as_slice.ensures) before.recorded) before.going.under_way;
+        journal = before.going.journal;
+        images = before.going.images;
+      };
+      running = before.running ∙ sym c.check_one.ensures.tickets;
+      same = before.same;
+      files = c.check_one.ensures.files ∙ before.files;
+      in_step = before.in_step;
+      recorded = before.recorded;
+      counts = before.counts;
+    }

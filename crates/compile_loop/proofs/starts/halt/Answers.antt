@@ -10,3 +10,6 @@ use Rattle.compile_loop.proofs.starts.halt.Goals as goal
 pub returns-clause-in_step : goal.returns-clause-in_step
 returns-clause-in_step c = λ job core halts is.
     subst (IsMachineOf c.stop.new.self job) (halts_now job halts core ∙ ap (λ (o : Option BuildFault). halted_if (is_some o) core) (sym c.note.ensures)) (c.stop.ensures.in_step job (halted_if halts core) is)
+
+pub returns-clause-checked : goal.returns-clause-checked
+returns-clause-checked c = λ k. c.stop.ensures.checked k

@@ -24,7 +24,7 @@ returns-in-Ok-clause-goes g c = λ from events acknowledged marks broken is jour
     let asked = c.in-Ok.ensures.journal.1 in
     record {
       more = Started ticket request ∷ [];
-      under_way = started_under_way c.args.graph.now from events acknowledged before is c.args.at start ticket request asked c.started.new.self
+      under_way = started_under_way c.args.graph.now from events acknowledged before is c.args.at start ticket request asked c.started.new.self c.started.ensures.checked c.started.ensures.stopped
           (c.started.ensures.in_step _ _ is.in_step);
       journal = λ tells. journal_started (g.P.Procs.answer c.args.procs.now) (work_from c.args.graph.now from) events from.journal (g.P.Procs.journal c.args.procs.now) (journal tells) ticket request (g.P.Procs.journal c.try_start.new.procs)
           (c.in-Ok.ensures.fresh tells) (c.in-Ok.ensures.journal.2 tells);
@@ -37,7 +37,7 @@ returns-in-Err-clause-goes g c = λ from events acknowledged marks broken is jou
     let none : events ++ [] ≡ events = append-nil events in
     let halted : IsUnderWay c.args.graph.now from events acknowledged (with_machine c.halt.new.slots c.halt.new.noted before) =
     subst (λ (o : Option BuildFault). IsUnderWay c.args.graph.now from events acknowledged (with_machine c.halt.new.slots o before)) (sym c.halt.ensures.noted)
-    (halted_under_way c.args.graph.now from events acknowledged before is c.halt.new.slots _
+    (halted_under_way c.args.graph.now from events acknowledged before is c.halt.new.slots _ c.halt.ensures.checked
     (subst (λ (o : Option BuildFault). IsMachineOf c.halt.new.slots (job_of (work_from c.args.graph.now from)) (halted_if (is_some o) (core_of (book_of (work_from c.args.graph.now from) events)))) c.halt.ensures.noted (c.halt.ensures.in_step _ _ _ is.in_step))
     (still_all c.args.noted.now c.in-Err.fault broken)
     (first_start (work_from c.args.graph.now from) events acknowledged broken c.args.noted.now c.in-Err.fault _ _ c.requires.unnoted c.in-Err.ensures.starts)) in

@@ -21,7 +21,7 @@ returns-in-Ok-clause-goes c = λ simulator built slots fail_fast events is.
     let position = c.run_of-at.ensures.position _ _ is.in_step in
     ended_then setting events c.args.row.now c.args.found.now.items _ is c.ended-at.new.self _ c.args.ticket c.args.exit.now c.has_passed-passed.result
     (passed_is setting _ c.run_of-at.result c.get-run.result.now c.args.exit.now c.in-Ok.end c.has_passed-passed.result position c.get-run.ensures c.in-Ok.ensures c.has_passed-passed.ensures)
-    (c.ended-at.ensures.lawful _ _ is.in_step) (c.ended-at.ensures.greedy _ _ is.in_step c.requires.step) (c.ended-at.ensures.in_step _ _ is.in_step)
+    (c.ended-at.ensures.lawful _ _ c.args.exit.now.output is.in_step) (c.ended-at.ensures.greedy _ _ c.args.exit.now.output is.in_step c.requires.step) (c.ended-at.ensures.in_step _ _ c.args.exit.now.output is.in_step)
     (λ so_far. ap (λ (end : RunEnd). set c.args.found.now.items c.run_of-at.result end) c.in-Ok.ensures
     ∙ found_ended setting events c.args.found.now.items c.args.ticket c.run_of-at.result c.get-run.result.now c.args.exit.now so_far position c.get-run.ensures)
 
@@ -29,7 +29,7 @@ pub returns-in-Err-clause-goes : goal.returns-in-Err-clause-goes
 returns-in-Err-clause-goes c = λ simulator built slots fail_fast events is.
     let setting : TestSetting = tests_with c.args.runs.now simulator built slots fail_fast in
     given_up_then setting events c.args.row.now c.args.found.now.items _ is (is_some c.note.new.noted) (ap is_some c.note.ensures) c.given_up.new.self c.args.found.now.items c.args.ticket c.args.exit.now
-    (c.given_up.ensures.lawful _ _ true is.in_step) (λ ok. c.given_up.ensures.in_step _ _ ok is.in_step)
+    (c.given_up.ensures.lawful _ _ true c.args.exit.now.output is.in_step) (λ ok. c.given_up.ensures.in_step _ _ ok c.args.exit.now.output is.in_step)
 
 pub returns-in-Err-clause-counts : goal.returns-in-Err-clause-counts
 returns-in-Err-clause-counts c = λ first now is.

@@ -6,7 +6,7 @@ pub returns-clause-in_step : goal.returns-clause-in_step
 returns-clause-in_step g c = λ job is. c.in_ok-row.ensures.in_step job (record {
   count = omega (arith, c.len-count.ensures, is.count);
   deps = is.deps;
-  is_due = is.is_due;
+  is_made = is.is_made;
   slots = is.slots;
   keep_going = is.keep_going;
 })

@@ -22,7 +22,7 @@ loop-at-init g c =
           (c.in-Ok.ensures.in_step (test_job setting) (record {
             count = refl;
             deps = λ at. refl;
-            is_due = λ at. refl;
+            is_made = λ ended at. refl;
             slots = refl;
             keep_going = refl;
           })) c.in-Ok.ensures.found;

@@ -1,12 +1,15 @@
 -- What remains to be proved of `candidate`.
 use Rattle.std.proofs.Common.{sym, ◌∙◌}
-use Rattle.std.proofs.lemmas.Bool.{cond-false}
-use Rattle.slot_machine.specs.Machines.{candidate_of}
-use Rattle.slot_machine.proofs.MachineSteps.{candidate_some}
+use Rattle.std.proofs.lemmas.Bool.{cond-true, cond-false}
+use Rattle.position_set.specs.Positions.{has}
+use Rattle.slot_machine.specs.Machines.{candidate_of, files_of}
+use Rattle.slot_machine.proofs.Passing.{next_first}
 use Rattle.slot_machine.proofs.slots.Slots.candidate.Goals as goal
 
 pub returns-then-is_free : goal.returns-then-is_free
-returns-then-is_free c = candidate_some c.args.self.now c.args.self.now.exact c.least.result c.least.ensures (sym c.is_free.ensures ∙ c.if-is_free.true)
+unfolding candidate_of files_of
+returns-then-is_free c =
+    sym (cond-true _ _ _ (sym c.is_free.ensures ∙ c.if-is_free.true) ∙ next_first (has c.args.self.now.ready) _ c.next_from.result c.next_from.ensures c.args.self.now.past)
 
 pub returns-else-is_free : goal.returns-else-is_free
 unfolding candidate_of

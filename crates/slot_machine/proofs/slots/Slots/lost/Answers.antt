@@ -1,8 +1,8 @@
 -- What remains to be proved of `lost`.
 use Rattle.run_spec.specs.Moves.{after_move}
 use Rattle.child_steps.specs.Steps.{without_ticket}
-use Rattle.slot_machine.proofs.MachineSteps.{greedy_end}
 use Rattle.child_steps.proofs.PlainSteps.{lawful_end}
+use Rattle.slot_machine.proofs.MachineSteps.{greedy_end}
 use Rattle.slot_machine.proofs.slots.Slots.lost.Goals as goal
 
 pub returns-clause-greedy : goal.returns-clause-greedy

@@ -1,25 +1,37 @@
 -- What remains to be proved of `next`.
 use Rattle.std.proofs.Common.{arith, sym, ◌∙◌}
 use Rattle.std.proofs.lemmas.List.{length-map}
-use Rattle.slot_machine.specs.Machines.{files_of, tickets_of}
-use Rattle.slot_machine.proofs.MachineSteps.{next_in_step, start_is, next_runs, next_ends, finished_is}
 use Rattle.child_steps.proofs.ChildLists.{no_children}
+use Rattle.slot_machine.specs.Machines.{tickets_of}
+use Rattle.slot_machine.proofs.NextSteps.{check_is, start_is, wait_runs, end_runs}
+use Rattle.slot_machine.proofs.MachineSteps.{check_free, run_in_step, finished_is, unchecked_idle}
 use Rattle.slot_machine.proofs.slots.Slots.next.Goals as goal
 
 pub returns-clause-in_step : goal.returns-clause-in_step
-returns-clause-in_step c job core step = c.step.ensures ∙ next_in_step c.args.self.now c.args.self.now.exact job core step
+returns-clause-in_step c job core step is h = run_in_step c.args.self.now job core step is (sym c.step.ensures ∙ h)
 
-pub returns-clause-within : goal.returns-clause-within
-unfolding files_of
-returns-clause-within c at is = (start_is c.args.self.now at (sym c.step.ensures ∙ is)).within
+pub returns-clause-free : goal.returns-clause-free
+returns-clause-free c job core step at h = let free = check_free c.args.self.now job core step at (check_is c.args.self.now at (sym c.step.ensures ∙ h)) in (free.1, free.2)
+
+pub returns-clause-checks : goal.returns-clause-checks
+returns-clause-checks c at h = (check_is c.args.self.now at (sym c.step.ensures ∙ h)).within
+
+pub returns-clause-starts : goal.returns-clause-starts
+returns-clause-starts c at h = (start_is c.args.self.now at (sym c.step.ensures ∙ h)).within
 
 pub returns-clause-runs : goal.returns-clause-runs
 unfolding tickets_of
-returns-clause-runs c is = let some = next_runs c.args.self.now (sym c.step.ensures ∙ is) in omega (arith, length-map c.args.self.now.children.items (λ child. child.ticket))
+returns-clause-runs c h = let some = wait_runs c.args.self.now (sym c.step.ensures ∙ h) in omega (arith, length-map c.args.self.now.children.items (λ child. child.ticket))
 
 pub returns-clause-idle : goal.returns-clause-idle
 unfolding tickets_of
-returns-clause-idle c is = no_children c.args.self.now.children.items (next_ends c.args.self.now (sym c.step.ensures ∙ is))
+returns-clause-idle c h = no_children c.args.self.now.children.items (end_runs c.args.self.now (sym c.step.ensures ∙ h))
 
 pub returns-clause-finished : goal.returns-clause-finished
-returns-clause-finished c is job core step = finished_is c.args.self.now job core step (sym c.step.ensures ∙ is)
+returns-clause-finished c h job core step = finished_is c.args.self.now job core step (sym c.step.ensures ∙ h)
+
+pub returns-clause-unchecked : goal.returns-clause-unchecked
+returns-clause-unchecked c job core step on is h at lt new = unchecked_idle c.args.self.now job core step is on (sym c.step.ensures ∙ h) at lt new
+
+pub returns-clause-ready : goal.returns-clause-ready
+returns-clause-ready c job core step at lt is = step.free at (omega (arith, lt, step.count)) is

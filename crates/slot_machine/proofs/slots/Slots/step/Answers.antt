@@ -1,23 +1,14 @@
 -- What remains to be proved of `step`.
-use Rattle.std.proofs.Common.{arith, sym, ap, ◌∙◌, ◌==◌, ◌≡◌, length}
-use Rattle.std.specs.Vec.{vec_len}
-use Rattle.slot_machine.specs.Machines.{next_of}
+use Rattle.std.proofs.Common.{sym, ap, ◌∙◌, ◌==◌, length}
 use Rattle.child_steps.specs.Steps.{step_of}
-use Rattle.child_steps.proofs.PlainSteps.{step_finished, step_wait}
+use Rattle.slot_machine.specs.declared.step.BuildStep.TheVariants.{Run}
+use Rattle.slot_machine.specs.Machines.{check_before, candidate_of, next_of}
 use Rattle.slot_machine.proofs.slots.Slots.step.Goals as goal
 
 pub returns-in-Some : goal.returns-in-Some
 unfolding next_of
-returns-in-Some c = ap (λ o. step_of o (length c.args.self.now.children.items == 0)) (sym c.in-Some.is ∙ c.candidate.ensures)
+returns-in-Some c = ap (λ o. check_before o (step_of (candidate_of c.args.self.now) (length c.args.self.now.children.items == 0))) (sym c.in-Some.is ∙ c.due_check.ensures)
 
-pub returns-then-is_empty : goal.returns-then-is_empty
+pub returns-in-None : goal.returns-in-None
 unfolding next_of
-returns-then-is_empty c =
-    let count : length c.args.self.now.children.items ≡ vec_len c.args.self.now.children = omega arith in
-    step_finished _ _ (sym c.candidate.ensures ∙ c.in-None.is) (ap (λ n. n == 0) count ∙ sym c.is_empty.ensures ∙ c.if-is_empty.true)
-
-pub returns-else-is_empty : goal.returns-else-is_empty
-unfolding next_of
-returns-else-is_empty c =
-    let count : length c.args.self.now.children.items ≡ vec_len c.args.self.now.children = omega arith in
-    step_wait _ _ (sym c.candidate.ensures ∙ c.in-None.is) (ap (λ n. n == 0) count ∙ sym c.is_empty.ensures ∙ c.if-is_empty.false)
+returns-in-None c = ap Run c.run_step.ensures ∙ ap (λ o. check_before o (step_of (candidate_of c.args.self.now) (length c.args.self.now.children.items == 0))) (sym c.in-None.is ∙ c.due_check.ensures)

@@ -1,14 +1,15 @@
 -- What remains to be proved of `stop`.
-use Rattle.std.proofs.Common.{refl, true, false, ◌≡◌}
+use Rattle.std.proofs.Common.{arith, refl, sym}
 use Rattle.run_spec.specs.Moves.{Halts, after_move}
-use Rattle.slot_machine.specs.Machines.{files_of, tickets_of}
-use Rattle.slot_machine.proofs.MachineSteps.{in_step_as, start_is, nearer_same, nearer_halted, halted_last}
+use Rattle.slot_machine.specs.Machines.{is_checked, files_of, tickets_of}
+use Rattle.slot_machine.proofs.NextSteps.{start_is, no_check, no_start, on_from}
+use Rattle.slot_machine.proofs.MachineSteps.{in_step_as, nearer_by, nearer_stop, stopped_last, or_true}
 use Rattle.slot_machine.proofs.slots.Slots.stop.Goals as goal
 
 pub returns-clause-in_step : goal.returns-clause-in_step
 unfolding after_move
 returns-clause-in_step c job core step =
-    in_step_as c.args.self.now _ job core (after_move job core Halts) refl refl refl refl refl refl (λ k. refl) (λ k. refl) step.running refl step
+    in_step_as c.args.self.now _ job core (after_move job core Halts) refl refl refl refl refl refl refl (λ k lt is. refl) (λ k lt made. made) step.running step.started (sym (or_true c.args.self.now.is_halted)) step
 
 pub returns-clause-files : goal.returns-clause-files
 unfolding files_of
@@ -18,11 +19,21 @@ pub returns-clause-tickets : goal.returns-clause-tickets
 unfolding tickets_of
 returns-clause-tickets c = refl
 
+pub returns-clause-no_check : goal.returns-clause-no_check
+returns-clause-no_check c = no_check _ refl
+
 pub returns-clause-over : goal.returns-clause-over
-returns-clause-over c at is = let goes_on : true ≡ false = (start_is _ at is).goes_on in absurd (let nothing : ⊥ = cc in nothing)
+returns-clause-over c = no_start _ refl
 
 pub returns-clause-nearer : goal.returns-clause-nearer
-returns-clause-nearer c = nearer_same c.args.self.now _ refl refl (halted_last c.args.self.now.is_halted)
+unfolding files_of
+returns-clause-nearer c = nearer_by c.args.self.now _ (omega arith) (omega arith) (omega arith) (stopped_last c.args.self.now.is_stopped)
 
 pub returns-clause-ends : goal.returns-clause-ends
-returns-clause-ends c at is = nearer_halted c.args.self.now _ refl refl refl (start_is c.args.self.now at is).goes_on
+unfolding files_of
+returns-clause-ends c at is =
+    nearer_stop c.args.self.now _ (omega arith) (omega arith) (omega arith) refl (on_from c.args.self.now.is_halted c.args.self.now.is_stopped (start_is c.args.self.now at is).goes_on)
+
+pub returns-clause-checked : goal.returns-clause-checked
+unfolding is_checked
+returns-clause-checked c = λ k. refl

@@ -7,12 +7,12 @@ use Rattle.test_row.proofs.RowSteps.{greedy_end}
 use Rattle.test_row.proofs.row.Row.ended.Goals as goal
 
 pub returns-clause-lawful : goal.returns-clause-lawful
-returns-clause-lawful c job core is = lawful_end core c.args.ticket c.end_child-at.result (c.end_child-at.ensures.position job core is)
+returns-clause-lawful c job core output is = lawful_end core c.args.ticket c.end_child-at.result (c.end_child-at.ensures.position job core is)
 
 pub returns-clause-greedy : goal.returns-clause-greedy
-returns-clause-greedy c job core is waits = greedy_end c.args.self.now job core is waits
+returns-clause-greedy c job core output is waits = greedy_end c.args.self.now job core is waits
 
 pub returns-clause-in_step : goal.returns-clause-in_step
-returns-clause-in_step c job core is =
-    subst (IsRowOf _ job) (ends_as job core c.args.ticket c.end_child-at.result c.args.ok (c.end_child-at.ensures.position job core is))
-    (c.judge.ensures.in_step job (without_ticket c.args.ticket core) c.end_child-at.result c.end_child-at.ensures.before (c.end_child-at.ensures.in_step job core is))
+returns-clause-in_step c job core output is =
+    subst (IsRowOf _ job) (ends_as job core c.args.ticket c.end_child-at.result c.args.ok output (c.end_child-at.ensures.position job core is))
+    (c.judge.ensures.in_step job (without_ticket c.args.ticket core) c.end_child-at.result output c.end_child-at.ensures.before (c.end_child-at.ensures.in_step job core is))
