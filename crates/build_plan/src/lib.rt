@@ -1,4 +1,5 @@
-//! What a build has to do: which files of a graph are fresh or stale over the records of a store, and which are checked later.
+//! What a build has to do: which files of a graph are fresh or stale over the records of a store, and which are checked
+//! later.
 #![tactic(auto)]
 
 mod plans;

@@ -101,10 +101,11 @@ fn needs_of(alloc: Global, graph: &Graph, recorded: &[vr_outside::Need]) -> Resu
     Ok(Needs::from_vec(needs))
 }
 
-/// The plan of a build: a file that depends on one that isn't fresh is checked later, and of the others those are fresh that
-/// have a record of their present view.
+/// The plan of a build: a file that depends on one that isn't fresh is checked later, and of the others those are fresh
+/// that have a record of their present view.
 pub fn plan<K: Records>(alloc: Global, graph: &Graph, store: &K) -> Result<BuildPlan, NoMemory>
-    ensures recorded { IfOk result (λ plan. AreNeeds (K.latest_of store.now) graph.now plan.recorded) }
+    ensures recorded { IfOk result (λ plan.
+        AreNeeds (K.latest_of store.now) graph.now plan.recorded) }
     ensures needs { IfOk result (λ plan.
         ArePlanned graph.now (is_recorded_at plan.recorded) plan.needs) }
 {

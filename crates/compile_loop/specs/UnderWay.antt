@@ -65,8 +65,8 @@ HasRecords graph from ends =
     latest_after (commits_of graph ends) from.latest_of entry.name ≡ Some (record_at graph position artefact)
 
 -- What holds after these events, whatever objects tell: they are lawful moves with their requests, the machine is that of
--- what has happened and the marks are what is known of it, the first so many commits are acknowledged, the fault that is noted came first,
--- and while none is noted no end was waited for too early and none is lost.
+-- what has happened and the marks are what is known of it, the first so many commits are acknowledged, the fault that is
+-- noted came first, and while none is noted no end was waited for too early and none is lost.
 pub record IsUnderWay (graph : List Entry) (from : Origin) (events : List Event) (acknowledged : ℕ) (state : BuildState) : Type 0 where
   pub is_graph : IsGraph graph
   pub moves : LawfulMoves (job_of (work_from graph from)) empty_core (moves_of (work_from graph from) events)

@@ -83,11 +83,11 @@ fn begin<K: Records>(
 }
 
 /// Builds the graph over a store of records, and gives one mark for each file: a file whose record is current over
-/// what it depends on is fresh, and the others are compiled, each once all that it depends on is made. At most `limit` children run at once, from 1 to
-/// 64. What a compiler gives is committed before the next start. After a refusal nothing more is started, but with
-/// `keep_going` all that doesn't depend on a refused file. After a fault nothing more is started, and what the children
-/// give that still run is committed where it can be; the first fault is answered, but out of memory in the place of any
-/// other. No child runs in the end.
+/// what it depends on is fresh, and the others are compiled, each once all that it depends on is made. At most `limit`
+/// children run at once, from 1 to 64. What a compiler gives is committed before the next start. After a refusal
+/// nothing more is started, but with `keep_going` all that doesn't depend on a refused file. After a fault nothing
+/// more is started, and what the children give that still run is committed where it can be; the first fault is
+/// answered, but out of memory in the place of any other. No child runs in the end.
 pub fn build_marks<K: Records, D: Disk, P: Procs>(
     alloc: Global,
     graph: &Graph,

@@ -14,8 +14,8 @@ use Rattle.vr_outside.specs.Records.{deps_at}
 use Rattle.run_spec.specs.Folds.{upto}
 use Rattle.run_spec.specs.Moves.{Job, RunningChild, EndedChild, Core, empty_core, Move, Starts, Ends, Loses, next_start, LawfulMoves, GreedyMoves, IsFinished}
 
--- what a build works on: the graph; the artefact that a record gives of the file at a position, where it is current over what was
--- built below the file; how many children run at once; and whether the build goes on after a refusal
+-- what a build works on: the graph; the artefact that a record gives of the file at a position, where it is current over what
+-- was built below the file; how many children run at once; and whether the build goes on after a refusal
 pub record Work : Type 0 where
   pub graph : List Entry
   pub current : ℕ → List BuiltFile → Option (List ℕ)

@@ -26,6 +26,7 @@ artefact_for present kept = if is_same_view kept.view present then Some kept.art
 unfoldable pub recorded_at : (FileName → Option Record) → List Entry → ℕ → Option (List ℕ)
 recorded_at latest_of graph at = option_and_then (λ entry. option_and_then (artefact_for (view graph at)) (latest_of entry.name)) (slice_get graph at)
 
--- what a record gives of the file at a position that is current where it has the file's present view, whatever was built below it
+-- what a record gives of the file at a position that is current where it has the file's present view, whatever was built
+-- below it
 abbrev pub current_by_view : (FileName → Option Record) → List Entry → ℕ → List BuiltFile → Option (List ℕ)
 current_by_view latest_of graph at built = recorded_at latest_of graph at

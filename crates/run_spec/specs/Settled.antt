@@ -12,8 +12,8 @@ use Rattle.vr_outside.specs.Records.{deps_at}
 use Rattle.run_spec.specs.Folds.{upto}
 use Rattle.run_spec.specs.ChildJournal.{Work, End, exit_at, has_all, built_at, artefact_so_far}
 
--- What becomes of a file: a file below it was refused or has no artefact, its record is current, or its compiler gave an artefact or
--- refused it.
+-- What becomes of a file: a file below it was refused or has no artefact, its record is current, or its compiler gave an
+-- artefact or refused it.
 pub data Settled : Type 0 where
   Blocked : Settled
   Fresh : List ℕ → Settled
@@ -61,8 +61,8 @@ is_asked (Fresh artefact) = false
 is_asked (Compiled artefact) = true
 is_asked (Refused code output) = true
 
--- what the settled build asks of the compiler for the file at a position, over what is settled below it; nothing where the file is
--- fresh or blocked
+-- what the settled build asks of the compiler for the file at a position, over what is settled below it; nothing where the
+-- file is fresh or blocked
 abbrev pub request_unless : (Request → Exit) → List Entry → (ℕ → List BuiltFile → Option (List ℕ)) → ℕ → Option Request
 request_unless answer graph current position =
     if is_asked (settle answer graph current position) then request_over graph position (built_at graph (artefact_settled answer graph current) (deps_at graph position)) else None
@@ -86,8 +86,8 @@ pub record IsAnswered (answer : Request → Exit) (work : Work) (ends : List End
 abbrev pub has_ended : List End → ℕ → Bool
 has_ended ends position = is_some (exit_at ends position)
 
--- each file all of whose dependencies have an artefact has one too, or a child of it has ended: what a build is that is done and that no
--- refusal halted
+-- each file all of whose dependencies have an artefact has one too, or a child of it has ended: what a build is that is done
+-- and that no refusal halted
 abbrev pub IsOver : Work → List End → Type 0
 IsOver work ends = (position : ℕ) → position < length work.graph → has_all (artefact_so_far work ends) (deps_at work.graph position) ≡ true →
     (is_some (artefact_so_far work ends position) || has_ended ends position) ≡ true
