@@ -24,7 +24,7 @@ use Rattle.clean_laws.proofs.CleanPlaces.{list_all-same, filter_map-same, length
 
 -- what an exit says of a file, in both
 exit_says : (entry : Entry) (exit : Exit) → built_file (Some entry) (settled_artefact (settled_by_exit exit)) ≡ built_of (Some (result_of entry exit))
-exit_says entry exit = elim (cases_Bool (exit.code == 0)) [ | inl good ↦ rw good refl | inr bad ↦ rw bad refl ]
+exit_says entry exit = elim (cases_Bool (exit.code == 0)) [ inl good ↦ rw good refl | inr bad ↦ rw bad refl ]
 
 some_file : (entry : Entry) (artefact : Option (List ℕ)) → is_some artefact ≡ is_some (built_file (Some entry) artefact)
 some_file entry None = refl
@@ -136,19 +136,19 @@ module _ (answer : Request → Exit) (graph : List Entry) (valid : IsGraph graph
     request_clean at request is = elim (cases_Bool (is_asked (settle answer graph current at))) [
       | inr other ↦ absurd (none-some request (sym (cond-false (is_asked (settle answer graph current at)) _ None other) ∙ is))
       | inl asked ↦ elim (slice_get_cases graph at).1 [
-          | inr past ↦ absurd (none-some request (sym (ap (option_map (λ e. compile_request e (built_at graph (artefact_settled answer graph current) (deps_at graph at)))) past.1)
-              ∙ sym (cond-true (is_asked (settle answer graph current at)) (request_over graph at (built_at graph (artefact_settled answer graph current) (deps_at graph at))) None asked) ∙ is))
-          | inl here ↦
-              let entry : Entry = here.0 in
-              let all : ℕ → Option (List ℕ) = artefact_settled answer graph current in
-              let same_all : (dep : ℕ) → all dep ≡ bare dep = records_settled current records in
-              let free : is_free clean entry ≡ true =
-              sym (same_free at entry here.2 (λ dep less. bare_clean dep)) ∙ sym (has_all_same all bare (deps_at graph at) (λ k d l. same_all (get_or (deps_at graph at) k d)))
-              ∙ asked_free (has_all all (deps_at graph at)) _ (sym (ap is_asked (settle_at answer graph current (deps_before graph valid) at here.1)) ∙ asked) in
-              let built : built_at graph all (deps_at graph at) ≡ built_below clean entry =
-              built_same graph all bare (deps_at graph at) (λ k d l. same_all (get_or (deps_at graph at) k d)) ∙ same_below at entry here.2 (λ dep less. bare_clean dep) in
-              let asks : request_over graph at (built_at graph all (deps_at graph at)) ≡ Some request =
-              sym (cond-true (is_asked (settle answer graph current at)) (request_over graph at (built_at graph all (deps_at graph at))) None asked) ∙ is in
-              rw (here.2, free) (sym (ap (λ (b : List BuiltFile). Some (compile_request entry b)) built) ∙ sym (ap (option_map (λ e. compile_request e (built_at graph all (deps_at graph at)))) here.2) ∙ asks)
-        ]
+        | inr past ↦ absurd (none-some request (sym (ap (option_map (λ e. compile_request e (built_at graph (artefact_settled answer graph current) (deps_at graph at)))) past.1)
+            ∙ sym (cond-true (is_asked (settle answer graph current at)) (request_over graph at (built_at graph (artefact_settled answer graph current) (deps_at graph at))) None asked) ∙ is))
+        | inl here ↦
+            let entry : Entry = here.0 in
+            let all : ℕ → Option (List ℕ) = artefact_settled answer graph current in
+            let same_all : (dep : ℕ) → all dep ≡ bare dep = records_settled current records in
+            let free : is_free clean entry ≡ true =
+            sym (same_free at entry here.2 (λ dep less. bare_clean dep)) ∙ sym (has_all_same all bare (deps_at graph at) (λ k d l. same_all (get_or (deps_at graph at) k d)))
+            ∙ asked_free (has_all all (deps_at graph at)) _ (sym (ap is_asked (settle_at answer graph current (deps_before graph valid) at here.1)) ∙ asked) in
+            let built : built_at graph all (deps_at graph at) ≡ built_below clean entry =
+            built_same graph all bare (deps_at graph at) (λ k d l. same_all (get_or (deps_at graph at) k d)) ∙ same_below at entry here.2 (λ dep less. bare_clean dep) in
+            let asks : request_over graph at (built_at graph all (deps_at graph at)) ≡ Some request =
+            sym (cond-true (is_asked (settle answer graph current at)) (request_over graph at (built_at graph all (deps_at graph at))) None asked) ∙ is in
+            rw (here.2, free) (sym (ap (λ (b : List BuiltFile). Some (compile_request entry b)) built) ∙ sym (ap (option_map (λ e. compile_request e (built_at graph all (deps_at graph at)))) here.2) ∙ asks)
+      ]
     ]

@@ -119,9 +119,9 @@ module _ (work : Work) (ordered : (position : ℕ) → All (λ dep. dep < positi
   pub artefact_deps : (ended : List EndedChild) (at : ℕ) → is_some (artefact_by work ended at) ≡ true → has_all (artefact_by work ended) (deps_at work.graph at) ≡ true
   artefact_deps ended at some = elim (cases_lt at (length work.graph)) [
     | inl lt ↦ elim (cases_Bool (has_all (artefact_by work ended) (deps_at work.graph at))) [
-        | inl all ↦ all
-        | inr fails ↦ absurd (false≢true (sym (ap is_some (artefact_at ended at lt ∙ cond-false (has_all (artefact_by work ended) (deps_at work.graph at)) _ None fails)) ∙ some))
-      ]
+      | inl all ↦ all
+      | inr fails ↦ absurd (false≢true (sym (ap is_some (artefact_at ended at lt ∙ cond-false (has_all (artefact_by work ended) (deps_at work.graph at)) _ None fails)) ∙ some))
+    ]
     | inr le ↦ absurd (false≢true (sym (ap is_some (none_past work ended at le)) ∙ some))
   ]
 
