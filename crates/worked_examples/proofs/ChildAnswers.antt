@@ -11,7 +11,7 @@ use Rattle.worked_examples.specs.ChildAnswers.{CompilerAnswers, SimulatorAnswers
 
 pub compiler_answers : CompilerAnswers
 unfolding word_role reserved_words after_word answer_by linked made no_unit not_vhdl refused scripted artefact_of kind_word of_entity script_line unit_line exported_by strict_unit wanted_units
-compiler_answers = record { wanted = refl; missing = refl; there = refl; body = refl; other_case = refl; no_file = refl; lines_of = refl; empty_line = refl; word = refl }
+compiler_answers = record { wanted = refl; missing = refl; there = refl; body = refl; other_case = refl; refused_by_comment = refl; no_file = refl; lines_of = refl; empty_line = refl; word = refl }
 
 pub simulator_answers : SimulatorAnswers
 unfolding all_done bench_answer cases_from done_line failed_case full_name is_entity_line is_failure no_bench start_line whole_bench

@@ -5,7 +5,7 @@ use Rattle.vr_base.specs.View.{part, viewed}
 use Rattle.position_set.specs.Positions.{is_set}
 use Rattle.order_spec.specs.BuildOrder.{file_order, first_free, first_untaken, repeated, taken_after, untaken_dep}
 use Rattle.order_spec.specs.LinkedGraph.{linked, reaches_within}
-use Rattle.worked_examples.specs.Graphs.{ListedFiles, Orders, Positions, Views, Ways}
+use Rattle.worked_examples.specs.Graphs.{ListedFiles, Orders, PositionSets, Views, Ways}
 
 pub listed_files : ListedFiles
 unfolding below listed_from
@@ -19,9 +19,9 @@ pub ways : Ways
 unfolding below linked reaches_within
 ways = record { reached = refl; not_back = refl; way = ((0, omega arith, refl), (0, omega arith, refl)); linked_files = refl }
 
-pub positions : Positions
+pub position_sets : PositionSets
 unfolding is_set
-positions = record { first = refl; not_second = refl; last_of_word = refl; next_word = refl }
+position_sets = record { first = refl; not_second = refl; last_of_word = refl; next_word = refl }
 
 pub views : Views
 unfolding part viewed

@@ -17,6 +17,8 @@ pub mod NumberedKeys
 pub mod SaidTexts
 pub mod OutsideObjects
 pub mod WordsAndSources
+pub mod AskedJobs
+pub mod RunReadings
 pub mod MadeFiles
 pub mod BuildHistories
 pub mod TestedRuns

@@ -1,18 +1,21 @@
 -- The examples of "The outside", by computation.
-use Rattle.std.proofs.Common.{refl}
+use Rattle.std.proofs.Common.{arith, refl}
 use Rattle.vr_base.specs.Bytes.{text_bytes}
 use Rattle.vr_base.specs.Jobs.{all_built_bytes, built_bytes, compile_input, name_bytes}
 use Rattle.vr_base.specs.View.{part, viewed}
 use Rattle.vr_outside.specs.Records.{latest}
-use Rattle.worked_examples.specs.OutsideObjects.{DiskSides, EndedChildren, LatestAfter}
+use Rattle.worked_examples.specs.OutsideObjects.{CountsAndReads, EndedChildren, LatestAfter, SidesOfDisks}
 
 pub ended_children : EndedChildren
 unfolding text_bytes all_built_bytes built_bytes compile_input name_bytes
 ended_children = record { remaining = refl; lost = refl; ended = refl; request = refl; fresh = refl }
 
-pub disk_sides : DiskSides
-disk_sides = record { low = refl; high = refl; first_kept = refl; third_touched = refl; reads = refl; same_images = refl; synced_side = refl; through = refl; inside_cut_low = refl; inside_cut_high = refl; cut = refl; two_bytes = refl }
+pub sides_of_disks : SidesOfDisks
+sides_of_disks = record { low = refl; high = refl; first_kept = refl; third_touched = refl; reads = refl; same_images = refl; synced_side = refl; through = refl; inside_cut_low = refl; inside_cut_high = refl; cut = refl; two_bytes = refl }
 
 pub latest_after : LatestAfter
 unfolding part viewed latest
 latest_after = record { of_a = refl; of_b = refl }
+
+pub counts_and_reads : CountsAndReads
+counts_and_reads = record { counted = record { later = omega arith; rose = omega arith }; not_counted = λ counted. omega (arith, counted.rose); last_count = record { later = omega arith; rose = omega arith }; too_long = refl; empty = refl; listed_paths = refl; all_names = refl; too_many = refl; input_too_long = refl; first_two = (refl, refl); all_three = (refl, refl); line = refl; column = refl }

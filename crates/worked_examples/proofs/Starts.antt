@@ -8,7 +8,7 @@ use Rattle.run_spec.specs.ChildJournal.{AreRequested, EachAfter, after, after_al
 use Rattle.run_spec.specs.Moves.{GreedyMoves, LawfulMoves, after_move, after_moves, first_from, is_startable, next_start}
 use Rattle.run_spec.specs.Recorded.{is_same_view, recorded_at}
 use Rattle.child_steps.specs.Steps.{step_at}
-use Rattle.worked_examples.specs.Starts.{BuildEvents, JournalParts, Journals, LawfulStarts, NextStarts, NextSteps, SoFar}
+use Rattle.worked_examples.specs.Starts.{BuildEvents, CompileParts, Journals, LawfulStarts, NextStarts, NextSteps, SoFar}
 
 pub journals : Journals
 unfolding text_bytes all_built_bytes built_bytes compile_input name_bytes part viewed latest is_same_view recorded_at
@@ -28,12 +28,12 @@ so_far = record { is_lawful = refl; taken = refl; position = refl; no_position =
 
 pub next_steps : NextSteps
 unfolding artefact_so_far output_at after_move after_moves first_from is_startable next_start step_at
-next_steps = record { at_first = refl; while_a_runs = refl; after_a = refl; at_last = refl; after_refusal = refl }
+next_steps = record { at_first = refl; while_a_runs = refl; after_a = refl; at_last = refl; while_b_runs = refl; after_refusal = refl }
 
 pub build_events : BuildEvents
 unfolding text_bytes all_built_bytes built_bytes compile_input name_bytes AreRequested EachAfter after after_all artefact_so_far moves_after output_at request_at GreedyMoves LawfulMoves after_move first_from is_startable next_start
 build_events = record { taken = refl; none_next = refl; next = refl; no_artefact = refl; artefact = refl; lawful = record { moves = (refl, (refl, (refl, (refl, tt)))); requests = (refl, (tt, (refl, (tt, tt)))); tickets = (refl, (tt, (refl, (tt, tt)))) }; whole = record { lawful = record { moves = (refl, (refl, (refl, (refl, tt)))); requests = (refl, (tt, (refl, (tt, tt)))); tickets = (refl, (tt, (refl, (tt, tt)))) }; greedy = (tt, (refl, (tt, (refl, tt)))); finished = record { idle = refl; over = refl }; none_lost = refl }; whole_refused = record { lawful = record { moves = (refl, (refl, tt)); requests = (refl, (tt, tt)); tickets = (refl, (tt, tt)) }; greedy = (tt, (refl, tt)); finished = record { idle = refl; over = refl }; none_lost = refl }; answered = (tt, (refl, (tt, (refl, tt)))) }
 
-pub journal_parts : JournalParts
+pub compile_parts : CompileParts
 unfolding text_bytes all_built_bytes built_bytes compile_input name_bytes
-journal_parts = record { compilers = refl }
+compile_parts = record { compilers = refl }

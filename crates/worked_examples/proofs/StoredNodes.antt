@@ -14,15 +14,15 @@ use Rattle.node_codec.specs.Nodes.{node_files}
 use Rattle.node_codec.specs.Shelves.{after_payload, are_same_by, is_draft, is_same_node, shelf_of, with_payload}
 use Rattle.gate_journal.specs.Payloads.{block}
 use Rattle.node_carry.specs.Carrying.{carried_from, carry_alone, carry_others, carry_own, carry_record, compacted}
-use Rattle.worked_examples.specs.StoredNodes.{CompactedRecords, Nodes, Payloads, ShelfRecords, SpannedWords}
+use Rattle.worked_examples.specs.StoredNodes.{CompactedRecords, Nodes, ShelfRecords, SpannedWords, SpelledPayloads}
 
 pub nodes : Nodes
 unfolding part viewed node_files
 nodes = record { unfolds = refl; first_unfolds = refl }
 
-pub payloads : Payloads
+pub spelled_payloads : SpelledPayloads
 unfolding text_bytes name_bytes name_at counted_at many_at text_at words_bytes draft_alone_in draft_at draft_bytes known_at new_at node_payload_by node_payload_bytes node_payload_in numbers_bytes of_draft_in of_node_in source_at source_by source_bytes
-payloads = record { of_node = refl; shorter = refl; longer = refl; of_first = refl; of_second = refl }
+spelled_payloads = record { of_node = refl; shorter = refl; longer = refl; of_first = refl; of_second = refl }
 
 pub shelf_records : ShelfRecords
 unfolding part viewed name_at counted_at many_at text_at all_pairs fit_deps is_graph is_whole stands draft_alone_in draft_at known_at new_at node_payload_by node_payload_in of_draft_in of_node_in source_at source_by node_files after_payload are_same_by is_draft is_same_node shelf_of with_payload

@@ -14,7 +14,7 @@ bench_entities = record { inner = refl; outer = refl }
 
 pub called_cases : CalledCases
 unfolding word_role reserved_words unquoted
-called_cases = record { call = refl; no_call = refl; kept = refl; named = refl }
+called_cases = record { call = refl; no_call = refl; kept = refl; string_kept = refl; named = refl }
 
 pub same_sim_comments : SameSimComments
 same_sim_comments = record { asks = refl; more = refl }

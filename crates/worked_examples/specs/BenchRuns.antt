@@ -23,19 +23,19 @@ bench same_sim = record { library = codes "tb_lib"; name = codes "tb_x"; archite
 abbrev project_files : List ProjectFile
 project_files = record { name = record { library = codes "tb_lib"; path = codes "tb/tb_x.vhd" }; command = command } ∷ []
 
-abbrev run_of : Bool → List (List ℕ) → TestRun
-run_of same_sim cases = record { library = codes "tb_lib"; bench = codes "tb_x"; architecture = codes "rtl"; cases = cases; whole = false; same_sim = same_sim; path = codes "tb/tb_x.vhd" }
+abbrev run_by : Bool → List (List ℕ) → TestRun
+run_by same_sim cases = record { library = codes "tb_lib"; bench = codes "tb_x"; architecture = codes "rtl"; cases = cases; whole = false; same_sim = same_sim; path = codes "tb/tb_x.vhd" }
 
 abbrev second : TestRun
-second = run_of false (codes "b,c" ∷ [])
+second = run_by false (codes "b,c" ∷ [])
 
 -- which runs there are, and their names and paths
 pub record NamedRuns : Type 0 where
-  pub two : test_runs project_files (bench false ∷ []) ≡ run_of false (codes "a" ∷ []) ∷ second ∷ []
-  pub one : test_runs project_files (bench true ∷ []) ≡ run_of true (codes "a" ∷ codes "b,c" ∷ []) ∷ []
+  pub two : test_runs project_files (bench false ∷ []) ≡ run_by false (codes "a" ∷ []) ∷ second ∷ []
+  pub one : test_runs project_files (bench true ∷ []) ≡ run_by true (codes "a" ∷ codes "b,c" ∷ []) ∷ []
   pub case_name : case_names second ≡ codes "tb_lib.tb_x.b,c" ∷ []
   pub name : run_name second ≡ codes "tb_lib.tb_x.b,c"
-  pub name_of_one : run_name (run_of true (codes "a" ∷ codes "b,c" ∷ [])) ≡ codes "tb_lib.tb_x"
+  pub name_of_one : run_name (run_by true (codes "a" ∷ codes "b,c" ∷ [])) ≡ codes "tb_lib.tb_x"
   pub folder : output_path second ≡ codes "vunit_out/tests/tb_lib.tb_x.b=2cc/"
   pub results : results_path second ≡ codes "vunit_out/tests/tb_lib.tb_x.b=2cc/vunit_results"
 

@@ -5,7 +5,6 @@ use Rattle.vr_outside.specs.Disks.{DiskState, Image, settled_disk}
 use Rattle.vr_outside.specs.declared.records.Record.{Record}
 use Rattle.history_spec.specs.Histories.{Order, empty_image, latest_over, work_over}
 use Rattle.worked_examples.specs.Example.{Ra, a_name, files}
-use Rattle.worked_examples.specs.Example.{Ra, a_name}
 
 abbrev order : Bool → Order
 order clean = record { graph = files; slots = 1; keep_going = false; clean = clean }

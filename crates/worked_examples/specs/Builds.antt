@@ -2,7 +2,7 @@
 use Rattle.std.specs.Prelude.{◌≡◌, ℕ, zero, suc, ◌∷◌, List, [], Option, Some, None, codes}
 use Rattle.vr_base.specs.declared.child.MaybeText.TheVariants.{Nothing}
 use Rattle.run_spec.specs.CleanBuild.{Blocked, Made, Refused, built_of, clean_build, clean_request, request_unless, stale_requests}
-use Rattle.worked_examples.specs.Example.{a_built, a_request, answer, b_built, b_request, command, files, refusing}
+use Rattle.worked_examples.specs.Example.{a_built, a_request, accepting, b_built, b_request, command, files, refusing}
 
 -- 1 recorded of a alone
 abbrev a_recorded : ℕ → Option (List ℕ)
@@ -22,15 +22,15 @@ pub record CompilerRequests : Type 0 where
 
 -- what becomes of each file
 pub record CleanBuilds : Type 0 where
-  pub made : clean_build answer files ≡ Made a_built ∷ Made b_built ∷ []
+  pub made : clean_build accepting files ≡ Made a_built ∷ Made b_built ∷ []
   pub refused : clean_build refusing files ≡ Refused 1 (codes "no") ∷ Blocked ∷ []
   pub of_made : built_of (Some (Made a_built)) ≡ Some a_built
 
 -- what is asked for each file
 pub record CleanRequests : Type 0 where
-  pub second : clean_request answer files 1 ≡ Some b_request
+  pub second : clean_request accepting files 1 ≡ Some b_request
   pub blocked : clean_request refusing files 1 ≡ None
-  pub recorded : request_unless answer files a_recorded 0 ≡ None
-  pub stale : stale_requests answer files none_recorded ≡ a_request ∷ b_request ∷ []
-  pub second_alone : stale_requests answer files a_recorded ≡ b_request ∷ []
+  pub recorded : request_unless accepting files a_recorded 0 ≡ None
+  pub stale : stale_requests accepting files none_recorded ≡ a_request ∷ b_request ∷ []
+  pub second_alone : stale_requests accepting files a_recorded ≡ b_request ∷ []
   pub first_alone : stale_requests refusing files none_recorded ≡ a_request ∷ []

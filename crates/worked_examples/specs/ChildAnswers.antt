@@ -12,23 +12,22 @@ use Rattle.child_tools.specs.Answers.{answer_by}
 use Rattle.child_tools.specs.Exports.{is_missing, wanted_units}
 use Rattle.child_benches.specs.Benches.{bench_answer}
 use Rattle.worked_examples.specs.Example.{a_name, built}
-use Rattle.worked_examples.specs.Samples.{scan_of, uses_p_text, uses_p_tokens, uses_p_unit}
-use Rattle.worked_examples.specs.Example.{a_name}
-use Rattle.worked_examples.specs.Samples.{uses_p_text, uses_p_tokens, uses_p_unit}
+use Rattle.worked_examples.specs.Samples.{scan_with, uses_p_text, uses_p_tokens, uses_p_unit}
 
 abbrev compile_job : List ℕ → List BuiltFile → CompileJob
 compile_job text deps = record { name = a_name; text = text; deps = deps }
 
 -- the answer to a text with one unit
 abbrev answer_over : List ℕ → List ℕ → Exit
-answer_over library artefact = answer_by (compile_job uses_p_text (record { name = record { library = library; path = codes "p.vhd" }; artefact = artefact } ∷ [])) (Clean (scan_of uses_p_tokens (uses_p_unit ∷ [])))
+answer_over library artefact = answer_by (compile_job uses_p_text (record { name = record { library = library; path = codes "p.vhd" }; artefact = artefact } ∷ [])) (Clean (scan_with uses_p_tokens (uses_p_unit ∷ [])))
 
 pub record CompilerAnswers : Type 0 where
-  pub wanted : wanted_units (codes "lib") uses_p_text (scan_of uses_p_tokens (uses_p_unit ∷ [])) ≡ record { library = codes "lib"; name = codes "p" } ∷ []
-  pub missing : answer_by (compile_job uses_p_text []) (Clean (scan_of uses_p_tokens (uses_p_unit ∷ []))) ≡ ends_with 1 (codes "a.vhd: no unit lib.p\n")
+  pub wanted : wanted_units (codes "lib") uses_p_text (scan_with uses_p_tokens (uses_p_unit ∷ [])) ≡ record { library = codes "lib"; name = codes "p" } ∷ []
+  pub missing : answer_by (compile_job uses_p_text []) (Clean (scan_with uses_p_tokens (uses_p_unit ∷ []))) ≡ ends_with 1 (codes "a.vhd: no unit lib.p\n")
   pub there : answer_over (codes "lib") (codes "unit package p\n") ≡ ends_with 0 (codes "unit package q\n")
   pub body : answer_over (codes "lib") (codes "unit body p\n") ≡ ends_with 1 (codes "a.vhd: no unit lib.p\n")
   pub other_case : answer_over (codes "lib") (codes "unit package P\n") ≡ ends_with 1 (codes "a.vhd: no unit lib.p\n")
+  pub refused_by_comment : answer_by (compile_job (codes "-- child: refuse no\nuse work.p.all;") []) (Clean (record { tokens = record { list = []; comments = record { start = 0; end = 19 } ∷ [] }; units = [] })) ≡ ends_with 1 (codes "no\n")
   pub no_file : is_missing (record { name = record { library = codes "other"; path = codes "x.vhd" }; artefact = [] } ∷ []) (record { library = codes "o"; name = codes "p" }) ≡ false
   pub lines_of : lines (codes "a\nb") ≡ codes "a" ∷ codes "b" ∷ []
   pub empty_line : lines (codes "a\n") ≡ codes "a" ∷ [] ∷ []

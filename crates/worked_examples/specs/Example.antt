@@ -60,8 +60,8 @@ exit code output = record { code = code; output = output; results = Nothing }
 abbrev pub compiler : Exit → Exit → Request → Exit
 compiler to_a other request = if bytes_eq request.input a_request.input then to_a else other
 
-abbrev pub answer : Request → Exit
-answer request = compiler (exit 0 (codes "1")) (exit 0 (codes "2")) request
+abbrev pub accepting : Request → Exit
+accepting request = compiler (exit 0 (codes "1")) (exit 0 (codes "2")) request
 
 -- one that refuses a with code 1 and the output no
 abbrev pub refusing : Request → Exit
@@ -82,8 +82,8 @@ Rw = record { view = file a_name (codes "w") [] ∷ []; artefact = codes "8" }
 abbrev pub work_with : ℕ → Bool → Work
 work_with slots keep_going = record { graph = files; recorded = λ position. None; slots = slots; keep_going = keep_going }
 
-abbrev pub work : Work
-work = work_with 1 false
+abbrev pub one_slot : Work
+one_slot = work_with 1 false
 
 -- the events of a build with one slot, of which b ends so
 abbrev pub with_end_of_b : Exit → List Event

@@ -22,8 +22,8 @@ five = (2 ∷ []) ∷ (2 ∷ []) ∷ (3 ∷ []) ∷ (4 ∷ []) ∷ (2 ∷ []) �
 abbrev chain : List (List ℕ)
 chain = (2 ∷ []) ∷ (0 ∷ []) ∷ [] ∷ []
 
-abbrev listed_file : FileName → ProjectFile
-listed_file it = record { name = it; command = command }
+abbrev project_file_of : FileName → ProjectFile
+project_file_of it = record { name = it; command = command }
 
 abbrev letter_file : ℕ → List ℕ → Entry
 letter_file letter deps = file (name letter) (letter ∷ []) deps
@@ -40,7 +40,7 @@ some_positions = (1 + 2 ^ 63) ∷ 1 ∷ []
 pub record ListedFiles : Type 0 where
   -- the third file depends on those
   pub before_third : below 2 ≡ 0 ∷ 1 ∷ []
-  pub example : listed (listed_file a_name ∷ listed_file b_name ∷ []) (codes "x" ∷ codes "y" ∷ []) ≡ files
+  pub example : listed (project_file_of a_name ∷ project_file_of b_name ∷ []) (codes "x" ∷ codes "y" ∷ []) ≡ files
   pub edges : deps_in three 0 ≡ []
   pub edges_of_b : deps_in three 1 ≡ 0 ∷ 2 ∷ []
 
@@ -58,11 +58,11 @@ pub record Ways : Type 0 where
   pub not_back : reaches chain 2 1 ≡ false
   pub way : IsWay chain 1 (0 ∷ []) 2
   pub linked_files :
-      linked (map (λ letter. listed_file (name letter)) (99 ∷ 119 ∷ 113 ∷ [])) (codes "c" ∷ codes "w" ∷ codes "q" ∷ []) chain (2 ∷ 0 ∷ 1 ∷ [])
+      linked (map (λ letter. project_file_of (name letter)) (99 ∷ 119 ∷ 113 ∷ [])) (codes "c" ∷ codes "w" ∷ codes "q" ∷ []) chain (2 ∷ 0 ∷ 1 ∷ [])
       ≡ letter_file 113 [] ∷ letter_file 99 (0 ∷ []) ∷ letter_file 119 (0 ∷ 1 ∷ []) ∷ []
 
 -- sets of positions
-pub record Positions : Type 0 where
+pub record PositionSets : Type 0 where
   pub first : is_set some_positions 0 ≡ true
   pub not_second : is_set some_positions 1 ≡ false
   pub last_of_word : is_set some_positions 63 ≡ true

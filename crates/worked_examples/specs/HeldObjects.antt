@@ -5,10 +5,6 @@ use Rattle.vr_memory.specs.Books.{HeldBook, no_children, picked}
 use Rattle.vr_memory.specs.Failing.{fails_next, next_call, no_calls}
 use Rattle.vr_memory.specs.Trees.{file_at}
 use Rattle.worked_examples.specs.Example.{a_name, b_name, name}
-use Rattle.worked_examples.specs.Example.{a_name, b_name}
-use Rattle.vr_outside.specs.Disks.{Image, settled, writing}
-use Rattle.vr_outside.specs.declared.disk.Side.TheVariants.{A}
-use Rattle.vr_memory.specs.Disks.{Log, moment_of, nearest}
 
 -- calls that fail, and what children and trees hold
 abbrev book : List ℕ → HeldBook

@@ -1,12 +1,12 @@
 -- The examples of "Patterns of names".
 use Rattle.std.specs.Prelude.{◌≡◌, ℕ, ◌∷◌, true, false, List, [], map, codes}
+use Rattle.std.specs.List.{flat_map}
 use Rattle.vhdl_benches.specs.declared.bench.Bench.{Bench}
 use Rattle.vhdl_benches.specs.declared.bench.TestCase.{TestCase}
 use Rattle.test_select.specs.Patterns.{pieces_of}
 use Rattle.test_select.specs.Segments.{is_match}
 use Rattle.test_select.specs.Selection.{bench_names, selection}
 use Rattle.test_select.specs.declared.pattern.Piece.TheVariants.{AnyBytes, Byte, OneOf}
-use Rattle.std.specs.List.{flat_map}
 
 abbrev case : List ℕ → TestCase
 case it = record { name = it; file = 0; at = 0; length = 0 }

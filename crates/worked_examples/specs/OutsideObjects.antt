@@ -1,11 +1,19 @@
 -- The examples of "The outside".
-use Rattle.std.specs.Prelude.{◌≡◌, ◌∷◌, true, false, [], Some, Err, codes}
+use Rattle.std.specs.Prelude.{◌≡◌, ◌-◌, ◌^◌, ◌∷◌, true, false, [], Some, Err, filter, codes}
 use Rattle.vr_base.specs.declared.child.Event.TheVariants.{Gone}
 use Rattle.vr_outside.specs.Children.{IsFresh, end_event, ended_ticket, started_with, without}
+use Rattle.vr_outside.specs.Counts.{Counted}
 use Rattle.vr_outside.specs.Disks.{SideState, bytes_at, cut_through, cutting, is_touched, settled, synced, writing, written, written_through}
 use Rattle.vr_outside.specs.Records.{latest, with_record}
+use Rattle.vr_outside.specs.Streams.{take_end}
+use Rattle.vr_outside.specs.Trees.{is_listed, names_end, read_end}
+use Rattle.fault_causes.specs.Places.{column_after, line_after}
+use Rattle.limited_reading.specs.Prefixes.{IsPrefix}
 use Rattle.worked_examples.specs.Example.{Ra, Rb, Rw, a_name, b_name, b_request, events}
 use Rattle.vr_outside.specs.declared.procs.WaitFault.TheVariants as wait
+use Rattle.vr_outside.specs.declared.tree.ReadEnd.TheVariants as read
+use Rattle.vr_outside.specs.declared.tree.NamesEnd.TheVariants as names
+use Rattle.vr_outside.specs.declared.streams.TakeEnd.TheVariants as take
 
 -- the side abcd, synced; inside a write of XYZ at 2; and after it
 abbrev abcd : SideState
@@ -26,7 +34,7 @@ pub record EndedChildren : Type 0 where
   pub fresh : IsFresh events 9
 
 -- the sides of a disk
-pub record DiskSides : Type 0 where
+pub record SidesOfDisks : Type 0 where
   pub low : inside_write.low ≡ 4
   pub high : inside_write.high ≡ 5
   pub first_kept : is_touched inside_write.touched 1 ≡ false
@@ -44,3 +52,19 @@ pub record DiskSides : Type 0 where
 pub record LatestAfter : Type 0 where
   pub of_a : with_record Rw (λ it. latest it (Ra ∷ Rb ∷ [])) a_name ≡ Some Rw
   pub of_b : with_record Rw (λ it. latest it (Ra ∷ Rb ∷ [])) b_name ≡ Some Rb
+
+-- counts, what is read and taken, and places in a text
+pub record CountsAndReads : Type 0 where
+  pub counted : Counted 0 1
+  pub not_counted : Counted 0 0 → ⊥
+  pub last_count : Counted (2 ^ 64 - 1) (2 ^ 64 - 1)
+  pub too_long : read_end (Some (0 ∷ [])) 0 ≡ read.TooLong
+  pub empty : read_end (Some []) 0 ≡ read.Got []
+  pub listed_paths : filter is_listed (codes "a.vhd" ∷ codes ".git/x" ∷ codes "vunit_out/a" ∷ []) ≡ codes "a.vhd" ∷ []
+  pub all_names : names_end (codes "a" ∷ codes "b" ∷ []) 2 ≡ names.Got (codes "a" ∷ codes "b" ∷ [])
+  pub too_many : names_end (codes "a" ∷ codes "b" ∷ []) 1 ≡ names.TooMany
+  pub input_too_long : take_end (codes "abc") 2 ≡ take.TooLong
+  pub first_two : IsPrefix 2 (Some (codes "abc")) (codes "ab") true
+  pub all_three : IsPrefix 3 (Some (codes "abc")) (codes "abc") false
+  pub line : line_after (codes "ab\nc") ≡ 2
+  pub column : column_after 1 (codes "ab\nc") ≡ 2

@@ -5,7 +5,7 @@ use Rattle.vr_outside.specs.Records.{IsAllOrLatest, deps_at, latest, latest_alon
 use Rattle.vr_outside.specs.declared.records.Record.{Record}
 use Rattle.run_spec.specs.Commits.{commits}
 use Rattle.run_spec.specs.Recorded.{recorded_at}
-use Rattle.worked_examples.specs.Example.{Ra, Rb, Rw, a_name, b_file, b_name, events, exit, file, files, with_end_of_b, work}
+use Rattle.worked_examples.specs.Example.{Ra, Rb, Rw, a_name, b_file, b_name, events, exit, file, files, one_slot, with_end_of_b}
 
 -- of Ra, Rb and Rw
 abbrev three : List Record
@@ -35,5 +35,5 @@ pub record RecordedFiles : Type 0 where
 
 -- what a build commits: where both end with code 0 Ra and Rb, where b ends with code 3 Ra
 pub record BuildCommits : Type 0 where
-  pub both : commits work events ≡ Ra ∷ Rb ∷ []
-  pub first : commits work (with_end_of_b (exit 3 [])) ≡ Ra ∷ []
+  pub both : commits one_slot events ≡ Ra ∷ Rb ∷ []
+  pub first : commits one_slot (with_end_of_b (exit 3 [])) ≡ Ra ∷ []

@@ -1,5 +1,7 @@
 -- The examples of "Marks, texts and answers".
 use Rattle.std.specs.Prelude.{◌≡◌, ◌∷◌, true, false, List, [], codes}
+use Rattle.std.specs.List.{list_any}
+use Rattle.serde_json.specs.Data.{string}
 use Rattle.vr_base.specs.declared.child.Event.{Event}
 use Rattle.vr_base.specs.declared.child.Event.TheVariants.{Ended, Started}
 use Rattle.vr_outside.specs.Records.{latest}
@@ -11,11 +13,7 @@ use Rattle.run_report.specs.Outcomes.{build_outcome}
 use Rattle.run_report.specs.Texts.{build_text, files_list, limit_text, refusal_text, shown_bytes, warning_text}
 use Rattle.test_report.specs.Export.{text_data}
 use Rattle.test_report.specs.Listing.{tests_list}
-use Rattle.worked_examples.specs.Example.{Ra, a_file, a_name, a_request, answer, b_request, command, exit, files, work}
-use Rattle.worked_examples.specs.Example.{Ra, a_file, a_name, a_request, b_request, command, exit, files, work}
-use Rattle.worked_examples.specs.Example.{Ra, a_file, a_name, a_request, answer, b_request, command, exit, files}
-use Rattle.std.specs.List.{list_any}
-use Rattle.serde_json.specs.Data.{string}
+use Rattle.worked_examples.specs.Example.{Ra, a_file, a_name, a_request, accepting, b_request, command, exit, files, one_slot}
 use Rattle.outcomes.specs.declared.outcome.Outcome.TheVariants as outcome
 use Rattle.outcomes.specs.declared.outcome.Refusal.TheVariants as refusal
 use Rattle.outcomes.specs.declared.outcome.Limit.TheVariants as limit
@@ -29,10 +27,10 @@ a_recorded = work_of (λ it. latest it (Ra ∷ [])) files 1 false
 
 -- what became of files
 pub record FileMarks : Type 0 where
-  pub refused : marks_of work refused_a ≡ Refused 1 (codes "no") ∷ Left ∷ []
+  pub refused : marks_of one_slot refused_a ≡ Refused 1 (codes "no") ∷ Left ∷ []
   pub compiled : marks_of a_recorded (Started 8 b_request ∷ Ended 8 (exit 0 (codes "2")) ∷ []) ≡ Fresh ∷ Compiled ∷ []
-  pub steady : steady_marks answer files a_recorded.recorded ≡ Fresh ∷ Compiled ∷ []
-  pub some_refused : list_any is_refused (marks_of work refused_a) ≡ true
+  pub steady : steady_marks accepting files a_recorded.recorded ≡ Fresh ∷ Compiled ∷ []
+  pub some_refused : list_any is_refused (marks_of one_slot refused_a) ≡ true
 
 -- what is said of a build
 pub record BuildTexts : Type 0 where

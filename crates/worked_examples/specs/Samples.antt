@@ -25,8 +25,8 @@ string start end = token Str start end
 abbrev symbol : ℕ → Token
 symbol at = token Symbol at (at + 1)
 
-abbrev pub scan_of : List Token → List DesignUnit → Scan
-scan_of tokens units = record { tokens = record { list = tokens; comments = [] }; units = units }
+abbrev pub scan_with : List Token → List DesignUnit → Scan
+scan_with tokens units = record { tokens = record { list = tokens; comments = [] }; units = units }
 
 -- a unit by its kind, its name and its owner, and the numbers of the first token of its context part, of its keyword and of its last token
 abbrev unit : UnitKind → List ℕ → MaybeText → ℕ → ℕ → ℕ → DesignUnit

@@ -15,14 +15,14 @@ use Rattle.node_carry.specs.Plans.{blocks_length}
 use Rattle.worked_examples.specs.Example.{Rw, a_file, a_name, b_name, command, file}
 
 -- the two payloads of the example in FORMATS.md, of a.vhd with the artefact y, and of b.vhd over it with the artefact z
-abbrev first : List ℕ
+abbrev pub first : List ℕ
 first = 1 ∷ 3 ∷ 0 ∷ 0 ∷ 0 ∷ 108 ∷ 105 ∷ 98 ∷ 5 ∷ 0 ∷ 0 ∷ 0 ∷ 97 ∷ 46 ∷ 118 ∷ 104 ∷ 100 ∷ 1 ∷ 0 ∷ 0 ∷ 0 ∷ 2 ∷ 0 ∷ 0 ∷ 0 ∷ 99 ∷ 99 ∷ 1 ∷ 1 ∷ 0 ∷ 0 ∷ 0 ∷ 120 ∷ 0 ∷ 0 ∷ 0 ∷ 0 ∷ 1 ∷ 0 ∷ 0 ∷ 0 ∷ 121 ∷ []
 
-abbrev second : List ℕ
+abbrev pub second : List ℕ
 second = 1 ∷ 3 ∷ 0 ∷ 0 ∷ 0 ∷ 108 ∷ 105 ∷ 98 ∷ 5 ∷ 0 ∷ 0 ∷ 0 ∷ 98 ∷ 46 ∷ 118 ∷ 104 ∷ 100 ∷ 1 ∷ 0 ∷ 0 ∷ 0 ∷ 2 ∷ 0 ∷ 0 ∷ 0 ∷ 99 ∷ 99 ∷ 0 ∷ 0 ∷ 0 ∷ 0 ∷ 0 ∷ 0 ∷ 0 ∷ 0 ∷ 0 ∷ 1 ∷ 0 ∷ 0 ∷ 0 ∷ 0 ∷ 0 ∷ 0 ∷ 0 ∷ 0 ∷ 0 ∷ 0 ∷ 0 ∷ 1 ∷ 0 ∷ 0 ∷ 0 ∷ 122 ∷ []
 
 -- b with the text x too
-abbrev same_text : Entry
+abbrev pub same_text : Entry
 same_text = file b_name (codes "x") (0 ∷ [])
 
 abbrev node : FileName → List ℕ → Node
@@ -44,7 +44,7 @@ pub record Nodes : Type 0 where
   pub first_unfolds : unfolded (codes "x" ∷ []) two_nodes 0 ≡ a_file ∷ []
 
 -- what payloads spell
-pub record Payloads : Type 0 where
+pub record SpelledPayloads : Type 0 where
   pub of_node : node_payload_in (0 ∷ 7 ∷ 0 ∷ 0 ∷ 0 ∷ 0 ∷ 0 ∷ 0 ∷ 0 ∷ 1 ∷ 0 ∷ 0 ∷ 0 ∷ 122 ∷ []) ≡ Some (OfNode 7 (codes "z"))
   pub shorter : node_payload_in (0 ∷ 7 ∷ 0 ∷ 0 ∷ 0 ∷ 0 ∷ 0 ∷ 0 ∷ 0 ∷ 1 ∷ 0 ∷ 0 ∷ 0 ∷ []) ≡ None
   pub longer : node_payload_in (0 ∷ 7 ∷ 0 ∷ 0 ∷ 0 ∷ 0 ∷ 0 ∷ 0 ∷ 0 ∷ 1 ∷ 0 ∷ 0 ∷ 0 ∷ 122 ∷ 0 ∷ []) ≡ None

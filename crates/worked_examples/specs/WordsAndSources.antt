@@ -1,5 +1,6 @@
 -- The examples of "Reading: what words and sources say".
 use Rattle.std.specs.Prelude.{◌≡◌, ℕ, ◌&&◌, ◌∷◌, Bool, true, false, List, [], Option, Some, None, Ok, Err, map, codes, if◌then◌else◌, bytes_eq}
+use Rattle.vr_base.specs.Names.{FitsName}
 use Rattle.vr_base.specs.declared.child.MaybeText.TheVariants.{Nothing}
 use Rattle.vr_base.specs.declared.design.UnitFault.TheVariants.{NotUnit}
 use Rattle.vr_base.specs.declared.file.FileName.{FileName}
@@ -15,12 +16,7 @@ use Rattle.project_file.specs.Toml.{matching_names}
 use Rattle.project_reading.specs.Asked.{project_paths}
 use Rattle.project_reading.specs.Reading.{SourceReading, project_reading, scanned_reading, scans_of}
 use Rattle.worked_examples.specs.Example.{a_name, b_name, name}
-use Rattle.worked_examples.specs.Samples.{scan_of, uses_p_text, uses_p_tokens, uses_p_unit, uses_q_text, uses_q_tokens, uses_q_unit}
-use Rattle.worked_examples.specs.Example.{a_name, b_name}
-use Rattle.std.specs.Prelude.{◌≡◌, ◌∷◌, Bool, true, false, [], Err, map, codes}
-use Rattle.project_file.specs.Csv.{listed_simulator}
-use Rattle.project_reading.specs.Reading.{SourceReading, scanned_reading}
-use Rattle.worked_examples.specs.Samples.{uses_p_text, uses_p_tokens, uses_p_unit, uses_q_text, uses_q_tokens, uses_q_unit}
+use Rattle.worked_examples.specs.Samples.{scan_with, uses_p_text, uses_p_tokens, uses_p_unit, uses_q_text, uses_q_tokens, uses_q_unit}
 use Rattle.outcomes.specs.declared.outcome.Refusal.TheVariants as refusal
 use Rattle.project_reading.specs.Reading as sources
 use Rattle.vr_base.specs.declared.project.ProjectFault.TheVariants as fault
@@ -76,7 +72,7 @@ folder has_a path =
 
 -- a scanner that finds nothing in any text, and one that finds no unit in foo
 abbrev pub finds_nothing : List ℕ → Finding
-finds_nothing text = Clean (scan_of [] [])
+finds_nothing text = Clean (scan_with [] [])
 
 abbrev refuses_foo : List ℕ → Finding
 refuses_foo text = if bytes_eq text (codes "foo") then Grammatical (NotUnit 0) else finds_nothing text
@@ -102,8 +98,14 @@ abbrev cyclic : Bool → Project
 cyclic is_listed = record { files = map listed_file_of (a_name ∷ b_name ∷ []); simulator = listed_simulator; external = []; bodies = false; depends = []; listed = is_listed }
 
 abbrev cyclic_reading : Bool → SourceReading
-cyclic_reading is_listed = scanned_reading false (cyclic is_listed) (uses_q_text ∷ uses_p_text ∷ []) (scan_of uses_q_tokens (uses_q_unit ∷ []) ∷ scan_of uses_p_tokens (uses_p_unit ∷ []) ∷ [])
+cyclic_reading is_listed = scanned_reading false (cyclic is_listed) (uses_q_text ∷ uses_p_text ∷ []) (scan_with uses_q_tokens (uses_q_unit ∷ []) ∷ scan_with uses_p_tokens (uses_p_unit ∷ []) ∷ [])
 
 pub record CyclicSources : Type 0 where
   pub linked : cyclic_reading false ≡ sources.Stops (refusal.Cycle (a_name ∷ b_name ∷ []))
   pub in_listed_order : cyclic_reading true ≡ sources.Found (record { project = cyclic true; graph = child_file a_name uses_q_text [] ∷ child_file b_name uses_p_text (0 ∷ []) ∷ []; warnings = []; tests = [] })
+
+-- ## Names
+
+pub record FittingNames : Type 0 where
+  pub fits : FitsName a_name
+  pub empty_path : FitsName (record { library = codes "lib"; path = [] }) → ⊥

@@ -1,26 +1,28 @@
 //! What the chapters of DEFINITIONS.md say of its examples, for those that compute.
 
-ghost use Rattle.worked_examples.specs.Graphs.{ListedFiles, Orders, Ways, Positions, Views};
+ghost use Rattle.worked_examples.specs.Graphs.{ListedFiles, Orders, Ways, PositionSets, Views};
 ghost use Rattle.worked_examples.specs.Builds.{CompilerRequests, CleanBuilds, CleanRequests};
 ghost use Rattle.worked_examples.specs.Recorded.{LatestRecords, RecordedFiles, BuildCommits};
-ghost use Rattle.worked_examples.specs.Starts.{Journals, NextStarts, LawfulStarts, SoFar, NextSteps, BuildEvents, JournalParts};
+ghost use Rattle.worked_examples.specs.Starts.{Journals, NextStarts, LawfulStarts, SoFar, NextSteps, BuildEvents, CompileParts};
 ghost use Rattle.worked_examples.specs.DesignUnits.{TokenRoles, UnitNumbers};
 ghost use Rattle.worked_examples.specs.UnitReferences.{FoundReferences, GivenArchitectures, Clauses};
-ghost use Rattle.worked_examples.specs.SeenLibraries.{VisibleNames};
+ghost use Rattle.worked_examples.specs.SeenLibraries.{VisibleNames, TableNames};
 ghost use Rattle.worked_examples.specs.LinkedUnits.{LinkedFiles};
 ghost use Rattle.worked_examples.specs.TestBenches.{BenchEntities, CalledCases, SameSimComments, ProjectTests};
 ghost use Rattle.worked_examples.specs.NamePatterns.{PatternPieces, MatchedNames, SelectedCases};
 ghost use Rattle.worked_examples.specs.BenchRuns.{NamedRuns, BenchTexts, CaseVerdicts};
 ghost use Rattle.worked_examples.specs.SpelledBytes.{NumbersAndTexts, CompileJobs, BenchJobs, SpelledRecords};
 ghost use Rattle.worked_examples.specs.JournalSides.{SpelledSides, ImagePayloads, SideHeaders};
-ghost use Rattle.worked_examples.specs.StoredNodes.{Nodes, Payloads, ShelfRecords, SpannedWords, CompactedRecords};
+ghost use Rattle.worked_examples.specs.StoredNodes.{Nodes, SpelledPayloads, ShelfRecords, SpannedWords, CompactedRecords};
 ghost use Rattle.worked_examples.specs.NumberedKeys.{NumberedRows, PlacesOfItems};
 ghost use Rattle.worked_examples.specs.SaidTexts.{FileMarks, BuildTexts, OtherTexts};
-ghost use Rattle.worked_examples.specs.OutsideObjects.{EndedChildren, DiskSides, LatestAfter};
-ghost use Rattle.worked_examples.specs.WordsAndSources.{SettingsOfWords, ListedProjects, PatternsOfFiles, ReadSources, CyclicSources};
-ghost use Rattle.worked_examples.specs.MadeFiles.{MadeInTheEnd, AnsweredFaults};
+ghost use Rattle.worked_examples.specs.OutsideObjects.{EndedChildren, SidesOfDisks, LatestAfter, CountsAndReads};
+ghost use Rattle.worked_examples.specs.WordsAndSources.{SettingsOfWords, ListedProjects, PatternsOfFiles, ReadSources, CyclicSources, FittingNames};
+ghost use Rattle.worked_examples.specs.AskedJobs.{JobsOfSettings, WholeReadings};
+ghost use Rattle.worked_examples.specs.RunReadings.{OrdersOfReadings, ChildrenSay, EndedRuns};
+ghost use Rattle.worked_examples.specs.MadeFiles.{MadeInTheEnd, AnsweredFaults, GivenBeforeLosses};
 ghost use Rattle.worked_examples.specs.BuildHistories.{FoundRecords};
-ghost use Rattle.worked_examples.specs.TestedRuns.{TestsSaid, MovesOfTests, EndsOfTests, RunsSaid};
+ghost use Rattle.worked_examples.specs.TestedRuns.{TestsSaid, MovesOfTests, EndsOfTests, RunsSaid, ChosenTests, WrittenReports};
 ghost use Rattle.worked_examples.specs.ChildAnswers.{CompilerAnswers, SimulatorAnswers};
 ghost use Rattle.worked_examples.specs.HeldObjects.{HeldThings};
 ghost use Rattle.worked_examples.specs.StoreRecords.{StoredRecords};
@@ -30,7 +32,7 @@ pub fn examples_of_graphs()
     ensures listed_files { ListedFiles }
     ensures orders { Orders }
     ensures ways { Ways }
-    ensures positions { Positions }
+    ensures position_sets { PositionSets }
     ensures views { Views }
 {}
 
@@ -56,7 +58,7 @@ pub fn examples_of_starts()
     ensures so_far { SoFar }
     ensures next_steps { NextSteps }
     ensures build_events { BuildEvents }
-    ensures journal_parts { JournalParts }
+    ensures compile_parts { CompileParts }
 {}
 
 /// The examples of "The unit grammar".
@@ -75,6 +77,7 @@ pub fn examples_of_unit_references()
 /// The examples of "Visible libraries".
 pub fn examples_of_seen_libraries()
     ensures visible_names { VisibleNames }
+    ensures table_names { TableNames }
 {}
 
 /// The examples of "Dependencies".
@@ -122,7 +125,7 @@ pub fn examples_of_journal_sides()
 /// The examples of "Texts and nodes stored once".
 pub fn examples_of_stored_nodes()
     ensures nodes { Nodes }
-    ensures payloads { Payloads }
+    ensures spelled_payloads { SpelledPayloads }
     ensures shelf_records { ShelfRecords }
     ensures spanned_words { SpannedWords }
     ensures compacted_records { CompactedRecords }
@@ -144,8 +147,9 @@ pub fn examples_of_said_texts()
 /// The examples of "The outside".
 pub fn examples_of_outside_objects()
     ensures ended_children { EndedChildren }
-    ensures disk_sides { DiskSides }
+    ensures sides_of_disks { SidesOfDisks }
     ensures latest_after { LatestAfter }
+    ensures counts_and_reads { CountsAndReads }
 {}
 
 /// The examples of "Reading: what words and sources say".
@@ -155,12 +159,27 @@ pub fn examples_of_words_and_sources()
     ensures patterns_of_files { PatternsOfFiles }
     ensures read_sources { ReadSources }
     ensures cyclic_sources { CyclicSources }
+    ensures fitting_names { FittingNames }
+{}
+
+/// The examples of "Reading: what words and sources say".
+pub fn examples_of_asked_jobs()
+    ensures jobs_of_settings { JobsOfSettings }
+    ensures whole_readings { WholeReadings }
+{}
+
+/// The examples of "What a run of the program did".
+pub fn examples_of_run_readings()
+    ensures orders_of_readings { OrdersOfReadings }
+    ensures children_say { ChildrenSay }
+    ensures ended_runs { EndedRuns }
 {}
 
 /// The examples of "A build over any store".
 pub fn examples_of_made_files()
     ensures made_in_the_end { MadeInTheEnd }
     ensures answered_faults { AnsweredFaults }
+    ensures given_before_losses { GivenBeforeLosses }
 {}
 
 /// The examples of "Histories".
@@ -174,6 +193,8 @@ pub fn examples_of_tested_runs()
     ensures moves_of_tests { MovesOfTests }
     ensures ends_of_tests { EndsOfTests }
     ensures runs_said { RunsSaid }
+    ensures chosen_tests { ChosenTests }
+    ensures written_reports { WrittenReports }
 {}
 
 /// The examples of "Bytes: requests and records".

@@ -1,5 +1,5 @@
 -- Answers to the goals of `examples_of_made_files`.
-use Rattle.worked_examples.proofs.MadeFiles.{made_in_the_end, answered_faults}
+use Rattle.worked_examples.proofs.MadeFiles.{made_in_the_end, answered_faults, given_before_losses}
 use Rattle.worked_examples.proofs.chapters.examples_of_made_files.Goals as goal
 
 pub returns-clause-made_in_the_end : goal.returns-clause-made_in_the_end
@@ -7,3 +7,6 @@ returns-clause-made_in_the_end c = made_in_the_end
 
 pub returns-clause-answered_faults : goal.returns-clause-answered_faults
 returns-clause-answered_faults c = answered_faults
+
+pub returns-clause-given_before_losses : goal.returns-clause-given_before_losses
+returns-clause-given_before_losses c = given_before_losses

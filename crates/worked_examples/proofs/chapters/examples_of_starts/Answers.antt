@@ -1,5 +1,5 @@
 -- Answers to the goals of `examples_of_starts`.
-use Rattle.worked_examples.proofs.Starts.{journals, next_starts, lawful_starts, so_far, next_steps, build_events, journal_parts}
+use Rattle.worked_examples.proofs.Starts.{journals, next_starts, lawful_starts, so_far, next_steps, build_events, compile_parts}
 use Rattle.worked_examples.proofs.chapters.examples_of_starts.Goals as goal
 
 pub returns-clause-journals : goal.returns-clause-journals
@@ -20,5 +20,5 @@ returns-clause-next_steps c = next_steps
 pub returns-clause-build_events : goal.returns-clause-build_events
 returns-clause-build_events c = build_events
 
-pub returns-clause-journal_parts : goal.returns-clause-journal_parts
-returns-clause-journal_parts c = journal_parts
+pub returns-clause-compile_parts : goal.returns-clause-compile_parts
+returns-clause-compile_parts c = compile_parts

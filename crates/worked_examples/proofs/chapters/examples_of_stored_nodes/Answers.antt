@@ -1,12 +1,12 @@
 -- Answers to the goals of `examples_of_stored_nodes`.
-use Rattle.worked_examples.proofs.StoredNodes.{nodes, payloads, shelf_records, spanned_words, compacted_records}
+use Rattle.worked_examples.proofs.StoredNodes.{nodes, spelled_payloads, shelf_records, spanned_words, compacted_records}
 use Rattle.worked_examples.proofs.chapters.examples_of_stored_nodes.Goals as goal
 
 pub returns-clause-nodes : goal.returns-clause-nodes
 returns-clause-nodes c = nodes
 
-pub returns-clause-payloads : goal.returns-clause-payloads
-returns-clause-payloads c = payloads
+pub returns-clause-spelled_payloads : goal.returns-clause-spelled_payloads
+returns-clause-spelled_payloads c = spelled_payloads
 
 pub returns-clause-shelf_records : goal.returns-clause-shelf_records
 returns-clause-shelf_records c = shelf_records
