@@ -1,7 +1,7 @@
 //! Each call of each object fails in turn, in each mode of the program. What fails is the first run over an empty disk; a
 //! second run over the same objects then does the rest.
 
-use crate::parts::{letters, part, project, push_meant, run_once, words_of};
+use crate::parts::{letters, number_in, part, project, push_meant, run_once, told_on, words_of};
 use crate::records::{files_of, stale_on};
 use loop_procs::LoopProcs;
 use memory_reports::MemReports;
@@ -13,30 +13,37 @@ use vr_base::{NoMemory, Numbers, Positions, Text, TextList};
 use vr_memory::{MemDisk, MemSink, MemSource, MemTree};
 use vr_outside::{Source, Tree};
 
-/// A row a line: the words; what runs do (`c` compiles, `n` compiles all anew, `t` runs the two tests); the letter of their
-/// answer; how many calls are made of the tree, the disk, children, the output, the reports and the input, by letters; and
-/// which texts are put. Of the tree the project file, the listing and six files are asked for. Opening an empty disk takes
-/// 14 calls, a commit 4, and emptying a store 12. A child is started and waited for.
+/// A row a line: the words; what runs do (`c` compiles, `n` compiles all anew, `t` runs the two tests), and `1` where a build
+/// of stage 1 came before; the letter of their answer; how many calls are made of the tree, the disk, the output, the reports
+/// and the input, by letters; which texts are put; and the starts and waits, in order. Of the tree the project file, the
+/// listing and six files are asked for. Opening an empty disk takes 14 calls and a live side 7, a commit 4, and emptying a
+/// store 12. With three slots p, t and the bench start first, and each end of one of them lets a user of p start.
 static ROWS: &str = "\
---compile|c|d|t8 k38 c12 o1|C
---compile -p 3|c|d|t8 k38 c12 o1|C
---compile -k|c|d|t8 k38 c12 o1|C
---compile --clean|n|d|t8 k50 c12 o1|C
--p 1|ct|d|t8 k38 c16 o1|CT
--p 3 -k|ct|d|t8 k38 c16 o1|CT
--x out.xml|ct|d|t8 k38 c16 o1 p1|CT
--p 3 -x out.xml|ct|d|t8 k38 c16 o1 p1|CT
---clean -p 3|nt|d|t8 k50 c16 o1|CT
--l||d|t8 o1|L
--f||d|t8 o1|F
---export-json out.json||d|t8 p1|
---frob||w|o1|U
-child-analyse||x|i1 o1|B
-child-bench||x|i1 o1|B";
+--compile|c|d|t8 k38 o1|C|swswswswswsw
+--compile|c1|d|t8 k27 o1|E|swswswswsw
+--compile -p 3|c|d|t8 k38 o1|C|ssswswswswww
+--compile -p 3|c1|d|t8 k27 o1|E|sswsswswww
+--compile -k|c|d|t8 k38 o1|C|swswswswswsw
+--compile --clean|n|d|t8 k50 o1|C|swswswswswsw
+--compile --clean|n1|d|t8 k43 o1|C|swswswswswsw
+-p 1|ct|d|t8 k38 o1|CT|swswswswswswswsw
+-p 1|ct1|d|t8 k27 o1|ET|swswswswswswsw
+-p 3 -k|ct|d|t8 k38 o1|CT|ssswswswswwwssww
+-x out.xml|ct|d|t8 k38 o1 p1|CT|swswswswswswswsw
+-p 3 -x out.xml|ct1|d|t8 k27 o1 p1|ET|sswsswswwwssww
+--clean -p 3|nt|d|t8 k50 o1|CT|ssswswswswwwssww
+--clean --fail-fast -q|nt1|d|t8 k43 o1|CT|swswswswswswswsw
+-l||d|t8 o1|L|
+-f||d|t8 o1|F|
+--export-json out.json||d|t8 p1||
+--frob||w|o1|U|
+child-analyse||x|i1 o1|B|
+child-bench||x|i1 o1|B|";
 
 /// The letter of a text, and the text. `~` is a line feed.
 static TEXTS: &str = "\
 C|Compiling into lib: p.vhd passed~Compiling into lib: q.vhd passed~Compiling into lib: r.vhd passed~Compiling into lib: s.vhd passed~Compiling into lib: t.vhd passed~Compiling into lib: b.vhd passed~Compile passed~
+E|Compiling into lib: p.vhd passed~Compiling into lib: q.vhd passed~Compiling into lib: r.vhd passed~Compiling into lib: s.vhd passed~Compiling into lib: b.vhd passed~Compile passed~
 T|pass lib.b.one~pass lib.b.two~==== Summary~pass 2 of 2~fail 0 of 2~skip 0 of 2~All passed!~
 L|lib.b.one~lib.b.two~Listed 2 tests~
 F|lib, p.vhd~lib, q.vhd~lib, r.vhd~lib, s.vhd~lib, t.vhd~lib, b.vhd~Listed 6 files~
@@ -62,31 +69,14 @@ fn of_object(alloc: Global, failing: Failing, object: u8) -> Result<Numbers, NoM
     Ok(calls)
 }
 
-/// The value of a digit.
-fn digit(byte: u8) -> u64 {
-    if byte.is_ascii_digit() {
-        (byte - b'0') as u64
-    } else {
-        0
-    }
-}
-
-/// The number after a letter.
-fn number_after(text: &str) -> u64 {
-    let mut number = 0u64;
-    for byte in text.as_bytes() {
-        if byte.is_ascii_digit() {
-            number = number.saturating_mul(10).saturating_add(digit(*byte));
-        }
-    }
-    number
-}
-
 /// How many calls of an object a row has.
 fn calls_of(row: &str, object: u8) -> u64 {
+    if object == b'c' {
+        return part(row, 5).len() as u64;
+    }
     for count in part(row, 3).split(' ') {
         if count.as_bytes().contains(&object) {
-            return number_after(count);
+            return number_in(count);
         }
     }
     0
@@ -126,12 +116,15 @@ fn are_starts(told: &[u8], wanted: &[u8]) -> bool {
     count(told, b'.') == wanted.len() && told.len() == wanted.len().saturating_mul(2)
 }
 
-/// The letter of the fault that is to be answered: of children, whether a child was lost or a start failed.
-fn fault_letter(object: u8, told: &[u8]) -> u8 {
-    if object != b'c' {
-        return object;
+/// The letter of the fault that is to be answered: of children, that of a failed start, or of a lost child.
+fn fault_letter(row: &str, failing: Failing) -> u8 {
+    if failing.object != b'c' {
+        return failing.object;
     }
-    if told.contains(&b'?') { b'c' } else { b's' }
+    match part(row, 5).as_bytes().get(failing.call as usize) {
+        Some(b's') => b's',
+        _ => b'c',
+    }
 }
 
 /// The text that a run of a row puts.
@@ -167,9 +160,8 @@ fn taken_apart(told: &[u8]) -> (&[u8], u8) {
 }
 
 /// Whether a run has failed as it should.
-fn is_fault(failing: Failing, told: &[u8]) -> bool {
-    let (events, answer) = taken_apart(told);
-    answer == fault_letter(failing.object, events)
+fn is_fault(row: &str, failing: Failing, told: &[u8]) -> bool {
+    taken_apart(told).1 == fault_letter(row, failing)
 }
 
 /// Whether a run after some events is as its row says, and makes these starts.
@@ -240,16 +232,25 @@ fn fails_over<I: Source, T: Tree, R: Reports>(
     let put = is_put(alloc, row, failing.object, out.bytes())?;
     let before = taken_apart(told.as_slice()).0.len();
     Ok(
-        put && is_fault(failing, told.as_slice())
+        put && is_fault(row, failing, told.as_slice())
             && goes_on(
                 alloc, words, row, before, input, tree, disk, procs, out, reports,
             )?,
     )
 }
 
-/// Whether a run over an empty disk does all that its row says.
+/// The files that a run without a fault compiles, unless all are compiled anew.
+fn first_stale(row: &str) -> &'static [u8] {
+    if does(row, b'1') {
+        b"pqrsb"
+    } else {
+        files_of(b'2')
+    }
+}
+
+/// Whether a run does all that its row says.
 fn does_all(alloc: Global, row: &str, told: &[u8], put: &[u8]) -> Result<bool, NoMemory> {
-    let wanted = wanted(alloc, row, files_of(b'2'))?;
+    let wanted = wanted(alloc, row, first_stale(row))?;
     Ok(is_right(row, wanted.as_slice(), told, 0) && is_whole(alloc, row, put)?)
 }
 
@@ -300,7 +301,29 @@ fn with_children<T: Tree, R: Reports>(
     with_output(alloc, words, row, failing, tree, disk, &mut procs, reports)
 }
 
+/// How many calls of the disk a build of stage 1 makes.
+const BEFORE: u64 = 34;
+
+/// The calls of the disk that fail, after those of a build of stage 1, if one comes before.
+fn disk_calls(alloc: Global, row: &str, failing: Failing) -> Result<Numbers, NoMemory> {
+    let before = if does(row, b'1') { BEFORE } else { 0 };
+    let after = Failing {
+        object: failing.object,
+        call: failing.call.saturating_add(before),
+    };
+    of_object(alloc, after, b'k')
+}
+
+/// Builds stage 1 where a row asks for it.
+fn before(rt: &impl Abort, alloc: Global, row: &str, disk: &mut MemDisk) -> Result<(), NoMemory> {
+    if does(row, b'1') {
+        told_on(rt, alloc, disk, b'1', "--compile")?;
+    }
+    Ok(())
+}
+
 fn with_disk<T: Tree, R: Reports>(
+    rt: &impl Abort,
     alloc: Global,
     words: &TextList,
     row: &str,
@@ -308,7 +331,8 @@ fn with_disk<T: Tree, R: Reports>(
     tree: &mut T,
     reports: &mut R,
 ) -> Result<bool, NoMemory> {
-    let mut disk = MemDisk::new(alloc, of_object(alloc, failing, b'k')?);
+    let mut disk = MemDisk::new(alloc, disk_calls(alloc, row, failing)?);
+    before(rt, alloc, row, &mut disk)?;
     with_children(alloc, words, row, failing, tree, &mut disk, reports)
 }
 
@@ -322,7 +346,7 @@ fn with_tree<R: Reports>(
 ) -> Result<bool, NoMemory> {
     let calls = of_object(alloc, failing, b't')?;
     let mut tree = project(rt, alloc, b'2', calls)?;
-    with_disk(alloc, words, row, failing, &mut tree, reports)
+    with_disk(rt, alloc, words, row, failing, &mut tree, reports)
 }
 
 fn with_reports(

@@ -2,14 +2,17 @@
 
 ghost use Rattle.std.specs.Prelude.{◌≡◌, []};
 
+use loop_procs::LoopProcs;
+use memory_reports::MemReports;
 use outcomes::{Outcome, Which};
 use report_files::Reports;
 use std::alloc::Global;
 use std::process::Abort;
 use vr_base::{
-    Event, Items, MaybeText, NamedText, NamedTextList, NoMemory, Numbers, Request, Text, TextList,
+    Event, Items, MaybeText, NamedText, NamedTextList, NoMemory, Numbers, Positions, Request, Text,
+    TextList,
 };
-use vr_memory::{MemTree, have_paths};
+use vr_memory::{MemSink, MemSource, MemTree, have_paths};
 use vr_outside::{Disk, Procs, Sink, Source, Tree};
 use vunit_top::run_vunit;
 
@@ -163,4 +166,77 @@ pub(super) fn letters(alloc: Global, events: &[Event]) -> Result<Vec<u8>, NoMemo
         letters.push(event_letter(event))?;
     }
     Ok(letters)
+}
+
+/// The value of a digit.
+fn digit(byte: u8) -> u64 {
+    if byte.is_ascii_digit() {
+        (byte - b'0') as u64
+    } else {
+        0
+    }
+}
+
+/// The number that the digits of a text are.
+pub(super) fn number_in(text: &str) -> u64 {
+    let mut number = 0u64;
+    for byte in text.as_bytes() {
+        if byte.is_ascii_digit() {
+            number = number.saturating_mul(10).saturating_add(digit(*byte));
+        }
+    }
+    number
+}
+
+/// The letters of a run's events, and that of its answer.
+fn told_over<T: Tree, D: Disk, O: Sink>(
+    rt: &impl Abort,
+    alloc: Global,
+    words: &TextList,
+    tree: &mut T,
+    disk: &mut D,
+    out: &mut O,
+) -> Result<Vec<u8>, NoMemory> {
+    let mut procs = LoopProcs::new(alloc, Positions::new(alloc), Numbers::new(alloc));
+    let mut input = MemSource::new(Text::new(alloc), Numbers::new(alloc));
+    let mut reports = MemReports::new(alloc, Numbers::new(alloc));
+    assert!(rt; procs.running().is_empty());
+    let answer = run_once(
+        alloc,
+        words,
+        &mut input,
+        tree,
+        disk,
+        &mut procs,
+        out,
+        &mut reports,
+    );
+    let mut told = letters(alloc, procs.journal().as_slice())?;
+    told.push(answer)?;
+    Ok(told)
+}
+
+/// The same with an output of its own.
+fn told_in<D: Disk>(
+    rt: &impl Abort,
+    alloc: Global,
+    tree: &mut MemTree,
+    disk: &mut D,
+    text: &str,
+) -> Result<Vec<u8>, NoMemory> {
+    let words = words_of(alloc, text)?;
+    let mut out = MemSink::new(alloc, Numbers::new(alloc));
+    told_over(rt, alloc, &words, tree, disk, &mut out)
+}
+
+/// The same of a run with these words over the project of a stage.
+pub(super) fn told_on<D: Disk>(
+    rt: &impl Abort,
+    alloc: Global,
+    disk: &mut D,
+    stage: u8,
+    text: &str,
+) -> Result<Vec<u8>, NoMemory> {
+    let mut tree = project(rt, alloc, stage, Numbers::new(alloc))?;
+    told_in(rt, alloc, &mut tree, disk, text)
 }

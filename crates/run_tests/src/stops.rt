@@ -1,76 +1,27 @@
 //! Runs over what a stop at any moment of a run leaves.
 
-use crate::parts::{letters, project, run_once, words_of};
+use crate::parts::{number_in, part, told_on};
 use crate::records::stale_on;
-use loop_procs::LoopProcs;
-use memory_reports::MemReports;
 use std::alloc::Global;
 use std::process::Abort;
 use std::test::Fail;
-use vr_base::{NoMemory, Numbers, Positions, Text, TextList};
-use vr_memory::{MemDisk, MemSink, MemSource, MemTree};
-use vr_outside::{Disk, Sink, Tree};
+use vr_base::{NoMemory, Numbers};
+use vr_memory::MemDisk;
 
 const LONG: u64 = (1 << 63) - 1;
 
-/// The calls of the disk of a first run: opening an empty disk takes 14, and each of its five commits 4.
-const FIRST: u64 = 34;
-
-/// Those of the second run after it: opening a live side takes 7. The four files whose views have changed and the bench are
-/// committed.
-const SECOND: u64 = 27;
-
-/// The letter of a run's answer, and those of its events.
-fn told_over<T: Tree, D: Disk, O: Sink>(
-    rt: &impl Abort,
-    alloc: Global,
-    words: &TextList,
-    tree: &mut T,
-    disk: &mut D,
-    out: &mut O,
-) -> Result<Vec<u8>, NoMemory> {
-    let mut procs = LoopProcs::new(alloc, Positions::new(alloc), Numbers::new(alloc));
-    let mut input = MemSource::new(Text::new(alloc), Numbers::new(alloc));
-    let mut reports = MemReports::new(alloc, Numbers::new(alloc));
-    assert!(rt; procs.running().is_empty());
-    let answer = run_once(
-        alloc,
-        words,
-        &mut input,
-        tree,
-        disk,
-        &mut procs,
-        out,
-        &mut reports,
-    );
-    let mut told = letters(alloc, procs.journal().as_slice())?;
-    told.push(answer)?;
-    Ok(told)
-}
-
-/// The same with the words of a stage: a build alone in stage 1, and a run with tests in stage 2.
-fn told_in<D: Disk>(
-    rt: &impl Abort,
-    alloc: Global,
-    tree: &mut MemTree,
-    disk: &mut D,
-    stage: u8,
-) -> Result<Vec<u8>, NoMemory> {
-    let words = words_of(alloc, if stage == b'1' { "--compile" } else { "" })?;
-    let mut out = MemSink::new(alloc, Numbers::new(alloc));
-    told_over(rt, alloc, &words, tree, disk, &mut out)
-}
-
-/// The same over the project of a stage.
-fn told_on<D: Disk>(
-    rt: &impl Abort,
-    alloc: Global,
-    disk: &mut D,
-    stage: u8,
-) -> Result<Vec<u8>, NoMemory> {
-    let mut tree = project(rt, alloc, stage, Numbers::new(alloc))?;
-    told_in(rt, alloc, &mut tree, disk, stage)
-}
+/// A row a line: the run before, if any; the run that is stopped; and how many calls of the disk each makes. A run is its stage
+/// and its words. Opening an empty disk takes 14 calls and a live side 7, a commit 4, and emptying a store 12. In stage 1
+/// five files are compiled; after that in stage 2 the four whose views have changed, and the bench.
+static ROWS: &str = "\
+|1--compile|0|34
+|2|0|38
+|2-p 3 -x out.xml|0|38
+1--compile|2|34|27
+1--compile|2-p 3 -k|34|27
+1--compile|2--clean|34|43
+2|2--clean --compile -p 3|38|43
+2|1--compile|38|23";
 
 /// What a run is to tell that compiles these files one after the other, and then runs the tests of its stage.
 fn wanted(alloc: Global, stale: &[u8], stage: u8) -> Result<Vec<u8>, NoMemory> {
@@ -95,7 +46,8 @@ fn goes_on(
 ) -> Result<bool, NoMemory> {
     let stale = stale_on(alloc, disk, stage)?;
     let wanted = wanted(alloc, stale.as_slice(), stage)?;
-    let told = told_on(rt, alloc, disk, stage)?;
+    let words = if stage == b'1' { "--compile" } else { "" };
+    let told = told_on(rt, alloc, disk, stage, words)?;
     Ok(told.as_slice() == wanted.as_slice())
 }
 
@@ -168,37 +120,70 @@ fn ends_at(alloc: Global, disk: &MemDisk, end: u64, stage: u8) -> Result<bool, N
     )
 }
 
-fn stops_first(rt: &impl Abort, alloc: Global, disk: &mut MemDisk) -> Result<bool, NoMemory> {
+/// The stage of a run.
+fn stage_of(run: &str) -> u8 {
+    if run.as_bytes().first() == Some(&b'1') {
+        b'1'
+    } else {
+        b'2'
+    }
+}
+
+/// The words of a run, after its stage.
+fn words_in(run: &str) -> &str {
+    run.split_at_checked(1).map_or("", |parts| parts.1)
+}
+
+/// Whether a run is done, or there is none.
+fn is_done(
+    rt: &impl Abort,
+    alloc: Global,
+    disk: &mut MemDisk,
+    run: &str,
+) -> Result<bool, NoMemory> {
+    if run.is_empty() {
+        return Ok(true);
+    }
+    let told = told_on(rt, alloc, disk, stage_of(run), words_in(run))?;
+    Ok(told.as_slice().ends_with(b"d"))
+}
+
+/// Whether a run that is stopped at any moment leaves what another one goes on from, where it made the calls of the disk
+/// from one up to another.
+fn stops(
+    rt: &impl Abort,
+    alloc: Global,
+    disk: &MemDisk,
+    stage: u8,
+    first: u64,
+    end: u64,
+) -> Result<bool, NoMemory> {
     Ok(
-        goes_on(rt, alloc, disk, b'1')?
-            && ends_at(alloc, disk, FIRST, b'1')?
-            && leaves_each(rt, alloc, disk, 0, FIRST + 1, b'1')?,
+        ends_at(alloc, disk, end, stage)?
+            && leaves_each(rt, alloc, disk, first, end.saturating_add(1), stage)?,
     )
 }
 
-#[test]
-fn a_stop_of_a_first_run_leaves_what_the_next_one_goes_on_from(
-    rt: HostRuntime,
-) -> Result<(), Fail> {
-    let mut disk = MemDisk::new(rt.alloc(), Numbers::new(rt.alloc()));
-    assert!(rt; stops_first(&rt, rt.alloc(), &mut disk)?);
-    Ok(())
+/// The same of the runs of a row.
+fn passes(rt: &impl Abort, alloc: Global, disk: &mut MemDisk, row: &str) -> Result<bool, NoMemory> {
+    if !is_done(rt, alloc, disk, part(row, 0))? || !is_done(rt, alloc, disk, part(row, 1))? {
+        return Ok(false);
+    }
+    let first = number_in(part(row, 2));
+    let end = first.saturating_add(number_in(part(row, 3)));
+    stops(rt, alloc, disk, stage_of(part(row, 1)), first, end)
 }
 
-fn stops_second(rt: &impl Abort, alloc: Global, disk: &mut MemDisk) -> Result<bool, NoMemory> {
-    Ok(
-        goes_on(rt, alloc, disk, b'1')?
-            && goes_on(rt, alloc, disk, b'2')?
-            && ends_at(alloc, disk, FIRST + SECOND, b'2')?
-            && leaves_each(rt, alloc, disk, FIRST, FIRST + SECOND + 1, b'2')?,
-    )
+fn passes_row(rt: &impl Abort, alloc: Global, row: &str) -> Result<bool, NoMemory> {
+    let mut disk = MemDisk::new(alloc, Numbers::new(alloc));
+    passes(rt, alloc, &mut disk, row)
 }
 
 #[test]
-fn a_stop_of_a_run_with_tests_leaves_what_the_next_one_goes_on_from(
-    rt: HostRuntime,
-) -> Result<(), Fail> {
-    let mut disk = MemDisk::new(rt.alloc(), Numbers::new(rt.alloc()));
-    assert!(rt; stops_second(&rt, rt.alloc(), &mut disk)?);
+fn a_stop_at_any_moment_leaves_what_the_next_run_goes_on_from(rt: HostRuntime) -> Result<(), Fail> {
+    for row in ROWS.lines() {
+        let passed = passes_row(&rt, rt.alloc(), row)?;
+        assert!(rt; passed, "{row}");
+    }
     Ok(())
 }
