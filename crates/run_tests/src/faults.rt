@@ -15,7 +15,8 @@ use vr_outside::{Source, Tree};
 
 /// A row a line: the words; what runs do (`c` compiles, `n` compiles all anew, `t` runs the two tests), and `1` where a build
 /// of stage 1 came before; the letter of their answer; how many calls are made of the tree, the disk, the output, the reports
-/// and the input, by letters; which texts are put; and the starts and waits, in order. Of the tree the project file, the
+/// and the input, by letters; which texts are put; the starts and waits, in order; and the report that is there in the end, if
+/// one is. Of the tree the project file, the
 /// listing and six files are asked for. Opening an empty disk takes 14 calls and a live side 7, a commit 4, and emptying a
 /// store 12. With three slots p, t and the bench start first, and each end of one of them lets a user of p start.
 static ROWS: &str = "\
@@ -29,18 +30,18 @@ static ROWS: &str = "\
 -p 1|ct|d|t8 k38 o1|CT|swswswswswswswsw
 -p 1|ct1|d|t8 k27 o1|ET|swswswswswswsw
 -p 3 -k|ct|d|t8 k38 o1|CT|ssswswswswwwssww
--x out.xml|ct|d|t8 k38 o1 p1|CT|swswswswswswswsw
--p 3 -x out.xml|ct1|d|t8 k27 o1 p1|ET|sswsswswwwssww
+-x out.xml|ct|d|t8 k38 o1 p1|CT|swswswswswswswsw|out.xml
+-p 3 -x out.xml|ct1|d|t8 k27 o1 p1|ET|sswsswswwwssww|out.xml
 --clean -p 3|nt|d|t8 k50 o1|CT|ssswswswswwwssww
 --clean --fail-fast -q|nt1|d|t8 k43 o1|CT|swswswswswswswsw
 -l||d|t8 o1|L|
 -f||d|t8 o1|F|
---export-json out.json||d|t8 p1||
+--export-json out.json||d|t8 p1|||out.json
 --frob||w|o1|U|
 child-analyse||x|i1 o1|B|
 child-bench||x|i1 o1|B|";
 
-/// The letter of a text, and the text. `~` is a line feed.
+/// The letter of a text, or the path of a report, and the text. `~` is a line feed.
 static TEXTS: &str = "\
 C|Compiling into lib: p.vhd passed~Compiling into lib: q.vhd passed~Compiling into lib: r.vhd passed~Compiling into lib: s.vhd passed~Compiling into lib: t.vhd passed~Compiling into lib: b.vhd passed~Compile passed~
 E|Compiling into lib: p.vhd passed~Compiling into lib: q.vhd passed~Compiling into lib: r.vhd passed~Compiling into lib: s.vhd passed~Compiling into lib: b.vhd passed~Compile passed~
@@ -48,7 +49,9 @@ T|pass lib.b.one~pass lib.b.two~==== Summary~pass 2 of 2~fail 0 of 2~skip 0 of 2
 L|lib.b.one~lib.b.two~Listed 2 tests~
 F|lib, p.vhd~lib, q.vhd~lib, r.vhd~lib, s.vhd~lib, t.vhd~lib, b.vhd~Listed 6 files~
 U|usage: vunit_run [-lfkvq] [--compile] [--fail-fast] [--clean] [--exit-0] [-x FILE] [-p N] [--export-json FILE] [--generate N] [PATTERN ...]~
-B|bad request~";
+B|bad request~
+out.xml|<?xml version=\"1.0\" encoding=\"utf-8\"?>~<testsuite name=\"testsuite\" tests=\"2\" failures=\"0\" skipped=\"0\" errors=\"0\">~  <testcase classname=\"lib.b\" name=\"one\"/>~  <testcase classname=\"lib.b\" name=\"two\"/>~</testsuite>~
+out.json|{\"export_format_version\":{\"major\":1,\"minor\":0,\"patch\":0},\"files\":[{\"file_name\":\"p.vhd\",\"library_name\":\"lib\"},{\"file_name\":\"q.vhd\",\"library_name\":\"lib\"},{\"file_name\":\"r.vhd\",\"library_name\":\"lib\"},{\"file_name\":\"s.vhd\",\"library_name\":\"lib\"},{\"file_name\":\"t.vhd\",\"library_name\":\"lib\"},{\"file_name\":\"b.vhd\",\"library_name\":\"lib\"}],\"tests\":[{\"attributes\":{},\"location\":{\"file_name\":\"b.vhd\",\"length\":3,\"offset\":87},\"name\":\"lib.b.one\"},{\"attributes\":{},\"location\":{\"file_name\":\"b.vhd\",\"length\":3,\"offset\":104},\"name\":\"lib.b.two\"}]}~";
 
 /// The objects whose calls fail: the tree, the disk, children, the output, the reports and the input.
 const OBJECTS: &[u8; 6] = b"tkcopi";
@@ -349,6 +352,24 @@ fn with_tree<R: Reports>(
     with_disk(rt, alloc, words, row, failing, &mut tree, reports)
 }
 
+/// The text of the report that a row has, if any.
+fn report_of(alloc: Global, row: &str) -> Result<Vec<u8>, NoMemory> {
+    let mut text = Vec::new(alloc);
+    for line in TEXTS.lines() {
+        if part(line, 0) == part(row, 6) {
+            push_meant(&mut text, part(line, 1), b'@')?;
+        }
+    }
+    Ok(text)
+}
+
+/// Whether there is the report that a row has.
+fn is_reported(alloc: Global, row: &str, reports: &MemReports) -> Result<bool, NoMemory> {
+    let path = Text::from_slice(alloc, part(row, 6).as_bytes())?;
+    let report = report_of(alloc, row)?;
+    Ok(reports.file(&path).unwrap_or(&[]) == report.as_slice())
+}
+
 fn with_reports(
     rt: &impl Abort,
     alloc: Global,
@@ -357,7 +378,8 @@ fn with_reports(
     failing: Failing,
 ) -> Result<bool, NoMemory> {
     let mut reports = MemReports::new(alloc, of_object(alloc, failing, b'p')?);
-    with_tree(rt, alloc, words, row, failing, &mut reports)
+    let passed = with_tree(rt, alloc, words, row, failing, &mut reports)?;
+    Ok(passed && is_reported(alloc, row, &reports)?)
 }
 
 /// Whether each call of an object fails as it should.

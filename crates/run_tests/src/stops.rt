@@ -10,9 +10,18 @@ use vr_memory::MemDisk;
 
 const LONG: u64 = (1 << 63) - 1;
 
-/// A row a line: the run before, if any; the run that is stopped; and how many calls of the disk each makes. A run is its stage
-/// and its words. Opening an empty disk takes 14 calls and a live side 7, a commit 4, and emptying a store 12. In stage 1
-/// five files are compiled; after that in stage 2 the four whose views have changed, and the bench.
+/// The calls of the disk of a first build, of a run with `--clean` after it, and more than any run over what such a run
+/// leaves makes.
+const FIRST: u64 = 34;
+
+const CLEAN: u64 = 43;
+
+const MANY: u64 = 50;
+
+/// A row a line: the runs before; the run that is stopped; and how many calls of the disk those make, and this one. A run is its
+/// stage and its words. Opening an empty disk takes 14 calls and a live side 7, a commit 4, and emptying a store 12. In stage 1
+/// five files are compiled; after that in stage 2 the four whose views have changed, and the bench. The last row goes back to
+/// views that were recorded before.
 static ROWS: &str = "\
 |1--compile|0|34
 |2|0|38
@@ -21,7 +30,8 @@ static ROWS: &str = "\
 1--compile|2-p 3 -k|34|27
 1--compile|2--clean|34|43
 2|2--clean --compile -p 3|38|43
-2|1--compile|38|23";
+2|1--compile|38|23
+1--compile;2|1--compile|61|23";
 
 /// What a run is to tell that compiles these files one after the other, and then runs the tests of its stage.
 fn wanted(alloc: Global, stale: &[u8], stage: u8) -> Result<Vec<u8>, NoMemory> {
@@ -148,6 +158,20 @@ fn is_done(
     Ok(told.as_slice().ends_with(b"d"))
 }
 
+fn are_done(
+    rt: &impl Abort,
+    alloc: Global,
+    disk: &mut MemDisk,
+    runs: &str,
+) -> Result<bool, NoMemory> {
+    for run in runs.split(';') {
+        if !is_done(rt, alloc, disk, run)? {
+            return Ok(false);
+        }
+    }
+    Ok(true)
+}
+
 /// Whether a run that is stopped at any moment leaves what another one goes on from, where it made the calls of the disk
 /// from one up to another.
 fn stops(
@@ -166,7 +190,7 @@ fn stops(
 
 /// The same of the runs of a row.
 fn passes(rt: &impl Abort, alloc: Global, disk: &mut MemDisk, row: &str) -> Result<bool, NoMemory> {
-    if !is_done(rt, alloc, disk, part(row, 0))? || !is_done(rt, alloc, disk, part(row, 1))? {
+    if !are_done(rt, alloc, disk, part(row, 0))? || !is_done(rt, alloc, disk, part(row, 1))? {
         return Ok(false);
     }
     let first = number_in(part(row, 2));
@@ -177,6 +201,55 @@ fn passes(rt: &impl Abort, alloc: Global, disk: &mut MemDisk, row: &str) -> Resu
 fn passes_row(rt: &impl Abort, alloc: Global, row: &str) -> Result<bool, NoMemory> {
     let mut disk = MemDisk::new(alloc, Numbers::new(alloc));
     passes(rt, alloc, &mut disk, row)
+}
+
+/// The same where the run over what was left is itself stopped at any moment: past its last call a moment is the present.
+fn goes_on_twice(
+    rt: &impl Abort,
+    alloc: Global,
+    disk: &MemDisk,
+    moment: u64,
+    length: u64,
+    fill: u8,
+    stage: u8,
+) -> Result<bool, NoMemory> {
+    let mut image = disk.crash(alloc, moment, length, fill)?;
+    Ok(goes_on(rt, alloc, &mut image, stage)? && leaves_each(rt, alloc, &image, 0, MANY, stage)?)
+}
+
+/// The same of each moment from one up to another, where free bytes are open gates, and each side is as short or as long as it
+/// may be.
+fn leaves_twice(
+    rt: &impl Abort,
+    alloc: Global,
+    disk: &MemDisk,
+    first: u64,
+    end: u64,
+    stage: u8,
+) -> Result<bool, NoMemory> {
+    for moment in first..end {
+        if !goes_on_twice(rt, alloc, disk, moment, 0, 1, stage)?
+            || !goes_on_twice(rt, alloc, disk, moment, LONG, 1, stage)?
+        {
+            return Ok(false);
+        }
+    }
+    Ok(true)
+}
+
+fn stops_twice(rt: &impl Abort, alloc: Global, disk: &mut MemDisk) -> Result<bool, NoMemory> {
+    Ok(
+        is_done(rt, alloc, disk, "1--compile")?
+            && is_done(rt, alloc, disk, "2--clean")?
+            && leaves_twice(rt, alloc, disk, FIRST, FIRST + CLEAN + 1, b'2')?,
+    )
+}
+
+#[test]
+fn a_stop_of_the_run_after_a_stop_leaves_the_same(rt: HostRuntime) -> Result<(), Fail> {
+    let mut disk = MemDisk::new(rt.alloc(), Numbers::new(rt.alloc()));
+    assert!(rt; stops_twice(&rt, rt.alloc(), &mut disk)?);
+    Ok(())
 }
 
 #[test]
