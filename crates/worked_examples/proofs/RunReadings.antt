@@ -1,5 +1,5 @@
 -- The examples of "What a run of the program did", by computation.
-use Rattle.std.proofs.Common.{refl}
+use Rattle.std.proofs.Common.{arith, codes, refl}
 use Rattle.vr_base.specs.Bytes.{text_bytes}
 use Rattle.vr_base.specs.Jobs.{all_built_bytes, built_bytes, name_bytes}
 use Rattle.byte_codec.specs.Names.{name_at}
@@ -10,7 +10,7 @@ use Rattle.job_codec.specs.Reading.{all_built_at, built_at}
 use Rattle.bench_codec.specs.Reading.{bench_at, bench_fields_at}
 use Rattle.child_lines.specs.Ends.{bad_request as child_lines_bad_request}
 use Rattle.child_benches.specs.Benches.{all_done, bench_answer, cases_from, done_line, failed_case, full_name, is_entity_line, is_failure, no_bench, simulation, start_line, whole_bench}
-use Rattle.worked_examples.specs.RunReadings.{ChildrenSay, EndedRuns, OrdersOfReadings}
+use Rattle.worked_examples.specs.RunReadings.{ChildrenSay, EndedRuns, FaultsAnswered, OrdersOfReadings}
 
 pub orders_of_readings : OrdersOfReadings
 orders_of_readings = record { builds = refl; lists = refl; exports = refl; none_of_tests = refl; none_of_refusal = refl; none_of_limit = refl; none_of_words = refl; none_of_child = refl; report = refl; no_plan = refl; risen = refl; not_risen = refl }
@@ -21,3 +21,6 @@ children_say = record { results = refl; no_results = refl; said = refl }
 
 pub ended_runs : EndedRuns
 ended_runs = record { done = tt; refused = tt; out_failed = tt; tree_failed = λ ended. ended; no_memory = λ ended. ended }
+
+pub faults_answered : FaultsAnswered
+faults_answered = record { prefix_put = record { prefix = codes "Comp"; back = codes "ile passed\n"; parts = refl; added = refl }; nothing_put = refl; tree_rose = omega arith; none_rose = refl; none_falls = λ stand. omega (arith, stand.tree) }

@@ -1,17 +1,20 @@
 -- The examples of "The outside".
-use Rattle.std.specs.Prelude.{◌≡◌, ◌-◌, ◌^◌, ◌∷◌, true, false, [], Some, Err, filter, codes}
+use Rattle.std.specs.Prelude.{◌≡◌, ◌-◌, ◌^◌, ◌∷◌, true, false, [], Some, Ok, Err, filter, codes}
 use Rattle.vr_base.specs.declared.child.Event.TheVariants.{Gone}
 use Rattle.vr_outside.specs.Children.{IsFresh, end_event, ended_ticket, started_with, without}
 use Rattle.vr_outside.specs.Counts.{Counted}
-use Rattle.vr_outside.specs.Disks.{SideState, bytes_at, cut_through, cutting, is_touched, settled, synced, writing, written, written_through}
+use Rattle.vr_outside.specs.Disks.{IsEither, SideState, bytes_at, cut_through, cutting, is_touched, settled, synced, writing, written, written_through}
 use Rattle.vr_outside.specs.Records.{latest, with_record}
-use Rattle.vr_outside.specs.Streams.{take_end}
-use Rattle.vr_outside.specs.Trees.{is_listed, names_end, read_end}
+use Rattle.vr_outside.specs.Streams.{Puts, take_end}
+use Rattle.vr_outside.specs.Trees.{Asks, is_listed, names_end, read_end}
+use Rattle.vr_outside.specs.declared.tree.ReadEnd.{ReadEnd}
 use Rattle.fault_causes.specs.Places.{column_after, line_after}
 use Rattle.limited_reading.specs.Prefixes.{IsPrefix}
 use Rattle.worked_examples.specs.Example.{Ra, Rb, Rw, a_name, b_name, b_request, events}
 use Rattle.vr_outside.specs.declared.procs.WaitFault.TheVariants as wait
 use Rattle.vr_outside.specs.declared.tree.ReadEnd.TheVariants as read
+use Rattle.vr_outside.specs.declared.tree.TreeFault.TheVariants as tree
+use Rattle.vr_outside.specs.declared.streams.SinkFault.TheVariants as sink
 use Rattle.vr_outside.specs.declared.tree.NamesEnd.TheVariants as names
 use Rattle.vr_outside.specs.declared.streams.TakeEnd.TheVariants as take
 
@@ -68,3 +71,14 @@ pub record CountsAndReads : Type 0 where
   pub all_three : IsPrefix 3 (Some (codes "abc")) (codes "abc") false
   pub line : line_after (codes "ab\nc") ≡ 2
   pub column : column_after 1 (codes "ab\nc") ≡ 2
+
+-- what was asked for, and what was put
+pub record AskedAndPut : Type 0 where
+  pub asked : Asks (Ok read.Absent) (codes "c") (codes "t" ∷ []) (codes "t" ∷ codes "c" ∷ [])
+  pub left_out : Asks {T = ReadEnd} (Err tree.Failed) (codes "d") (codes "t" ∷ codes "c" ∷ []) (codes "t" ∷ codes "c" ∷ [])
+  pub kept_in : Asks {T = ReadEnd} (Err tree.Failed) (codes "d") (codes "t" ∷ codes "c" ∷ []) (codes "t" ∷ codes "c" ∷ codes "d" ∷ [])
+  pub put_none : Puts {T = ReadEnd} (Err sink.Failed) (codes "ab") (codes "x") (codes "x")
+  pub put_one : Puts {T = ReadEnd} (Err sink.Failed) (codes "ab") (codes "x") (codes "xa")
+  pub put_both : Puts {T = ReadEnd} (Err sink.Failed) (codes "ab") (codes "x") (codes "xab")
+  pub none_or : IsEither [] [] (Ra ∷ [])
+  pub one_or : IsEither (Ra ∷ []) [] (Ra ∷ [])

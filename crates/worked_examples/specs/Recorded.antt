@@ -4,8 +4,9 @@ use Rattle.vr_base.specs.declared.file.FileName.{FileName}
 use Rattle.vr_outside.specs.Records.{IsAllOrLatest, deps_at, latest, latest_alone}
 use Rattle.vr_outside.specs.declared.records.Record.{Record}
 use Rattle.run_spec.specs.Commits.{commits}
+use Rattle.run_spec.specs.Faithful.{IsTrueRecord}
 use Rattle.run_spec.specs.Recorded.{recorded_at}
-use Rattle.worked_examples.specs.Example.{Ra, Rb, Rw, a_name, b_file, b_name, events, exit, file, files, one_slot, with_end_of_b}
+use Rattle.worked_examples.specs.Example.{Ra, Rb, Rw, a_name, accepting, b_file, b_name, events, exit, file, files, one_slot, with_end_of_b}
 
 -- of Ra, Rb and Rw
 abbrev three : List Record
@@ -37,3 +38,8 @@ pub record RecordedFiles : Type 0 where
 pub record BuildCommits : Type 0 where
   pub both : commits one_slot events ≡ Ra ∷ Rb ∷ []
   pub first : commits one_slot (with_end_of_b (exit 3 [])) ≡ Ra ∷ []
+
+-- the records of a and of b are true
+pub record TrueRecords : Type 0 where
+  pub of_a_alone : IsTrueRecord accepting Ra
+  pub of_both : IsTrueRecord accepting Rb

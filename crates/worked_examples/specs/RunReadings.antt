@@ -1,5 +1,5 @@
 -- The examples of "What a run of the program did", and of what a run says.
-use Rattle.std.specs.Prelude.{◌≡◌, true, false, [], Some, None, codes}
+use Rattle.std.specs.Prelude.{◌≡◌, ℕ, true, false, [], Some, None, codes}
 use Rattle.vr_base.specs.declared.child.MaybeText.TheVariants.{Given}
 use Rattle.history_spec.specs.Histories.{Order}
 use Rattle.test_spec.specs.BenchJobs.{bench_input}
@@ -7,7 +7,7 @@ use Rattle.test_spec.specs.declared.jobs.BenchJob.{BenchJob}
 use Rattle.child_benches.specs.Benches.{simulation}
 use Rattle.disk_runs.specs.Building.{has_risen}
 use Rattle.vunit_top.specs.Reading.{Bad, Builds, Child, Compiler, Exports, Lists, ListsTests, Over, Stops}
-use Rattle.vunit_top.specs.Said.{HasEnded, child_results, child_said, order_of, plan_in, report_path_of}
+use Rattle.vunit_top.specs.Said.{Causes, Counts, CountsStand, HasEnded, Said, Says, child_results, child_said, fault_counts, order_of, plan_in, report_path_of}
 use Rattle.worked_examples.specs.Example.{files}
 use Rattle.outcomes.specs.declared.outcome.Outcome.TheVariants as outcome
 use Rattle.outcomes.specs.declared.outcome.Refusal.TheVariants as refusal
@@ -48,3 +48,17 @@ pub record EndedRuns : Type 0 where
   pub out_failed : HasEnded (outcome.OutsideFault which.Out)
   pub tree_failed : HasEnded (outcome.OutsideFault which.Tree) → ⊥
   pub no_memory : HasEnded outcome.NoMemory → ⊥
+
+-- what is put after faults, and their causes
+abbrev passed_said : Said
+passed_said = record { outcome = outcome.Done; text = codes "Compile passed\n" }
+
+abbrev tree_counts : ℕ → Counts
+tree_counts count = fault_counts count 0 0 0 0 0 0
+
+pub record FaultsAnswered : Type 0 where
+  pub prefix_put : Says (outcome.OutsideFault which.Out) passed_said [] (codes "Comp")
+  pub nothing_put : Says (outcome.OutsideFault which.Disk) passed_said (codes "x") (codes "x")
+  pub tree_rose : Causes (outcome.OutsideFault which.Tree) (tree_counts 0) (tree_counts 1)
+  pub none_rose : Causes outcome.Done (tree_counts 1) (tree_counts 1)
+  pub none_falls : CountsStand (tree_counts 1) (tree_counts 0) → ⊥

@@ -7,7 +7,7 @@ use Rattle.vr_base.specs.declared.child.Event.TheVariants.{Ended, Started}
 use Rattle.vr_outside.specs.Records.{latest}
 use Rattle.run_spec.specs.ChildJournal.{Work}
 use Rattle.run_spec.specs.Commits.{work_of}
-use Rattle.run_spec.specs.Marks.{is_refused, marks_of, steady_marks}
+use Rattle.run_spec.specs.Marks.{NoRefusalHalts, is_refused, marks_of, steady_marks}
 use Rattle.run_spec.specs.declared.marks.Mark.TheVariants.{Compiled, Fresh, Left, Refused}
 use Rattle.run_report.specs.Outcomes.{build_outcome}
 use Rattle.run_report.specs.Texts.{build_text, files_list, limit_text, refusal_text, shown_bytes, warning_text}
@@ -48,3 +48,6 @@ pub record OtherTexts : Type 0 where
   pub tests : tests_list (record { library = codes "lib"; name = codes "t"; architecture = codes "a"; file = 0; cases = record { name = codes "one"; file = 0; at = 0; length = 0 } ∷ []; whole = false; same_sim = false } ∷ []) ≡ codes "lib.t.one\nListed 1 tests\n"
   pub warning : warning_text (record { name = a_name; command = command } ∷ []) (record { file = 0; library = codes "other" } ∷ []) ≡ codes "vunit_run: warning: lib, a.vhd: use of other.all gives no dependency\n"
   pub exported : text_data (97 ∷ 255 ∷ []) ≡ string (97 ∷ 239 ∷ 191 ∷ 189 ∷ [])
+
+pub record HaltedBuilds : Type 0 where
+  pub halts : NoRefusalHalts one_slot refused_a → ⊥

@@ -2,7 +2,7 @@
 
 ghost use Rattle.worked_examples.specs.Graphs.{ListedFiles, Orders, Ways, PositionSets, Views};
 ghost use Rattle.worked_examples.specs.Builds.{CompilerRequests, CleanBuilds, CleanRequests};
-ghost use Rattle.worked_examples.specs.Recorded.{LatestRecords, RecordedFiles, BuildCommits};
+ghost use Rattle.worked_examples.specs.Recorded.{LatestRecords, RecordedFiles, BuildCommits, TrueRecords};
 ghost use Rattle.worked_examples.specs.Starts.{Journals, NextStarts, LawfulStarts, SoFar, NextSteps, BuildEvents, CompileParts};
 ghost use Rattle.worked_examples.specs.DesignUnits.{TokenRoles, UnitNumbers};
 ghost use Rattle.worked_examples.specs.UnitReferences.{FoundReferences, GivenArchitectures, Clauses};
@@ -15,12 +15,12 @@ ghost use Rattle.worked_examples.specs.SpelledBytes.{NumbersAndTexts, CompileJob
 ghost use Rattle.worked_examples.specs.JournalSides.{SpelledSides, ImagePayloads, SideHeaders};
 ghost use Rattle.worked_examples.specs.StoredNodes.{Nodes, SpelledPayloads, ShelfRecords, SpannedWords, CompactedRecords};
 ghost use Rattle.worked_examples.specs.NumberedKeys.{NumberedRows, PlacesOfItems};
-ghost use Rattle.worked_examples.specs.SaidTexts.{FileMarks, BuildTexts, OtherTexts};
-ghost use Rattle.worked_examples.specs.OutsideObjects.{EndedChildren, SidesOfDisks, LatestAfter, CountsAndReads};
+ghost use Rattle.worked_examples.specs.SaidTexts.{FileMarks, BuildTexts, OtherTexts, HaltedBuilds};
+ghost use Rattle.worked_examples.specs.OutsideObjects.{EndedChildren, SidesOfDisks, LatestAfter, CountsAndReads, AskedAndPut};
 ghost use Rattle.worked_examples.specs.WordsAndSources.{SettingsOfWords, ListedProjects, PatternsOfFiles, ReadSources, CyclicSources, FittingNames};
 ghost use Rattle.worked_examples.specs.AskedJobs.{JobsOfSettings, WholeReadings};
-ghost use Rattle.worked_examples.specs.RunReadings.{OrdersOfReadings, ChildrenSay, EndedRuns};
-ghost use Rattle.worked_examples.specs.MadeFiles.{MadeInTheEnd, AnsweredFaults, GivenBeforeLosses};
+ghost use Rattle.worked_examples.specs.RunReadings.{OrdersOfReadings, ChildrenSay, EndedRuns, FaultsAnswered};
+ghost use Rattle.worked_examples.specs.MadeFiles.{MadeInTheEnd, AnsweredFaults, GivenBeforeLosses, FirstOfTwoFaults, CountedFaults};
 ghost use Rattle.worked_examples.specs.BuildHistories.{FoundRecords};
 ghost use Rattle.worked_examples.specs.TestedRuns.{TestsSaid, MovesOfTests, EndsOfTests, RunsSaid, ChosenTests, WrittenReports};
 ghost use Rattle.worked_examples.specs.ChildAnswers.{CompilerAnswers, SimulatorAnswers};
@@ -48,6 +48,7 @@ pub fn examples_of_recorded()
     ensures latest_records { LatestRecords }
     ensures recorded_files { RecordedFiles }
     ensures build_commits { BuildCommits }
+    ensures true_records { TrueRecords }
 {}
 
 /// The examples of "What is started".
@@ -142,6 +143,7 @@ pub fn examples_of_said_texts()
     ensures file_marks { FileMarks }
     ensures build_texts { BuildTexts }
     ensures other_texts { OtherTexts }
+    ensures halted_builds { HaltedBuilds }
 {}
 
 /// The examples of "The outside".
@@ -150,6 +152,7 @@ pub fn examples_of_outside_objects()
     ensures sides_of_disks { SidesOfDisks }
     ensures latest_after { LatestAfter }
     ensures counts_and_reads { CountsAndReads }
+    ensures asked_and_put { AskedAndPut }
 {}
 
 /// The examples of "Reading: what words and sources say".
@@ -173,6 +176,7 @@ pub fn examples_of_run_readings()
     ensures orders_of_readings { OrdersOfReadings }
     ensures children_say { ChildrenSay }
     ensures ended_runs { EndedRuns }
+    ensures faults_answered { FaultsAnswered }
 {}
 
 /// The examples of "A build over any store".
@@ -180,6 +184,8 @@ pub fn examples_of_made_files()
     ensures made_in_the_end { MadeInTheEnd }
     ensures answered_faults { AnsweredFaults }
     ensures given_before_losses { GivenBeforeLosses }
+    ensures first_of_two_faults { FirstOfTwoFaults }
+    ensures counted_faults { CountedFaults }
 {}
 
 /// The examples of "Histories".
