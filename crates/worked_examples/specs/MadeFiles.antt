@@ -51,4 +51,6 @@ pub record CountedFaults : Type 0 where
   pub lost : CountsBy (Some ChildLost) true (counts 0 0 0) (counts 0 1 1)
   pub of_disk : CountsBy (Some DiskFailed) true (counts 0 0 0) (counts 0 1 1)
   pub of_start : CountsBy (Some StartFailed) true (counts 0 0 0) (counts 1 1 1)
+  pub of_memory : CountsBy (Some fault.NoMemory) true (counts 0 0 0) (counts 1 1 1)
+  pub not_of_disk : CountsBy (Some DiskFailed) true (counts 0 0 0) (counts 1 1 1) → ⊥
   pub not_lost : CountsBy (Some ChildLost) true (counts 0 0 0) (counts 1 1 1) → ⊥
