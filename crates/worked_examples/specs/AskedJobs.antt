@@ -21,4 +21,5 @@ pub record JobsOfSettings : Type 0 where
 
 -- a build of a and b with one slot, going on after a refusal
 pub record WholeReadings : Type 0 where
-  pub builds : reading finds_nothing (codes "--compile" ∷ codes "-k" ∷ []) (record { file = folder true; listed = [] }) ≡ Builds (record { graph = child_files; slots = 1; keep_going = true; clean = false }) []
+  pub builds : reading finds_nothing (codes "--compile" ∷ codes "-k" ∷ []) (record { file = folder true; listed = [] }) ≡
+      Builds (record { graph = child_files; slots = 1; keep_going = true; clean = false }) []

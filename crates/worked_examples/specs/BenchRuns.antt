@@ -18,13 +18,30 @@ abbrev case : List ℕ → TestCase
 case it = record { name = it; file = 0; at = 0; length = 0 }
 
 abbrev bench : Bool → Bench
-bench same_sim = record { library = codes "tb_lib"; name = codes "tb_x"; architecture = codes "rtl"; file = 0; cases = case (codes "a") ∷ case (codes "b,c") ∷ []; whole = false; same_sim = same_sim }
+bench same_sim = record {
+  library = codes "tb_lib";
+  name = codes "tb_x";
+  architecture = codes "rtl";
+  file = 0;
+  cases = case (codes "a") ∷
+      case (codes "b,c") ∷ [];
+  whole = false;
+  same_sim = same_sim;
+}
 
 abbrev project_files : List ProjectFile
 project_files = record { name = record { library = codes "tb_lib"; path = codes "tb/tb_x.vhd" }; command = command } ∷ []
 
 abbrev run_by : Bool → List (List ℕ) → TestRun
-run_by same_sim cases = record { library = codes "tb_lib"; bench = codes "tb_x"; architecture = codes "rtl"; cases = cases; whole = false; same_sim = same_sim; path = codes "tb/tb_x.vhd" }
+run_by same_sim cases = record {
+  library = codes "tb_lib";
+  bench = codes "tb_x";
+  architecture = codes "rtl";
+  cases = cases;
+  whole = false;
+  same_sim = same_sim;
+  path = codes "tb/tb_x.vhd";
+}
 
 abbrev second : TestRun
 second = run_by false (codes "b,c" ∷ [])
@@ -41,8 +58,10 @@ pub record NamedRuns : Type 0 where
 
 -- what a bench is handed
 pub record BenchTexts : Type 0 where
-  pub pairs : configuration second ≡ codes "active python runner : true,enabled_test_cases : b,,,,c,output path : vunit_out/tests/tb_lib.tb_x.b=2cc/,tb path : tb/,use_color : false"
-  pub built_file : built_bytes (built a_name (codes "x")) ≡ 3 ∷ 0 ∷ 0 ∷ 0 ∷ 108 ∷ 105 ∷ 98 ∷ 5 ∷ 0 ∷ 0 ∷ 0 ∷ 97 ∷ 46 ∷ 118 ∷ 104 ∷ 100 ∷ 1 ∷ 0 ∷ 0 ∷ 0 ∷ 120 ∷ []
+  pub pairs : configuration second ≡
+      codes "active python runner : true,enabled_test_cases : b,,,,c,output path : vunit_out/tests/tb_lib.tb_x.b=2cc/,tb path : tb/,use_color : false"
+  pub built_file : built_bytes (built a_name (codes "x")) ≡ 3 ∷ 0 ∷ 0 ∷ 0 ∷ 108 ∷ 105 ∷ 98 ∷ 5 ∷ 0 ∷ 0 ∷ 0 ∷ 97 ∷ 46 ∷ 118 ∷ 104 ∷ 100 ∷ 1 ∷ 0 ∷
+      0 ∷ 0 ∷ 120 ∷ []
   pub mark : take 14 (bench_input (bench_job second [])) ≡ 86 ∷ 82 ∷ 66 ∷ 49 ∷ 6 ∷ 0 ∷ 0 ∷ 0 ∷ 116 ∷ 98 ∷ 95 ∷ 108 ∷ 105 ∷ 98 ∷ []
 
 abbrev a_and_b : List (List ℕ)

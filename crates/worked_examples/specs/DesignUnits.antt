@@ -23,4 +23,5 @@ pub record UnitNumbers : Type 0 where
   pub alone : units_of entity_text entity_tokens (plain kinds.Entity 4 ∷ []) ≡ entity_unit ∷ []
   -- after a context item the entity begins at token 3, its context part at 0, and its last token is 7
   pub tokens : length library_entity_tokens ≡ 8
-  pub after_item : units_of library_entity_text library_entity_tokens (item 2 ∷ plain kinds.Entity 7 ∷ []) ≡ record { kind = kinds.Entity; name = codes "e"; owner = Nothing; lead = 0; first = 3; last = 7 } ∷ []
+  pub after_item : units_of library_entity_text library_entity_tokens (item 2 ∷ plain kinds.Entity 7 ∷ []) ≡
+      record { kind = kinds.Entity; name = codes "e"; owner = Nothing; lead = 0; first = 3; last = 7 } ∷ []

@@ -17,4 +17,5 @@ pub record HeldThings : Type 0 where
   pub second_call : fails_next (record (no_calls (1 ∷ [])) { made = next_call 0 }) ≡ true
   pub other_child : picked (book (1 ∷ [])) ≡ 7
   pub oldest : picked (book []) ≡ 4
-  pub written_last : file_at (record { path = codes "e.json"; bytes = codes "b" } ∷ record { path = codes "e.json"; bytes = codes "a" } ∷ []) (codes "e.json") ≡ Some (codes "b")
+  pub written_last : file_at (record { path = codes "e.json"; bytes = codes "b" } ∷ record { path = codes "e.json"; bytes = codes "a" } ∷
+      []) (codes "e.json") ≡ Some (codes "b")

@@ -41,7 +41,13 @@ with_d = project false (map project_file_of (97 ∷ 98 ∷ 99 ∷ 100 ∷ []))
 
 -- edges and a warning, a missing unit, and one that is there twice
 pub record LinkedFiles : Type 0 where
-  pub links : link_of (all_three false) three_units ≡ Ok (record { edges = (1 ∷ []) ∷ [] ∷ (1 ∷ []) ∷ []; warnings = record { file = 0; library = codes "lib" } ∷ [] })
+  pub links : link_of (all_three false) three_units ≡ Ok (record {
+    edges = (1 ∷ []) ∷ [] ∷ (1 ∷ []) ∷
+        [];
+    warnings = record { file = 0; library = codes "lib" } ∷ [];
+  })
   pub with_bodies : edges_of (all_three true) three_units ≡ (1 ∷ 2 ∷ []) ∷ [] ∷ (1 ∷ []) ∷ []
-  pub missing : link_of without_b (link_units 0 without_b.files (user_text ∷ body_text ∷ []) (user_scan ∷ body_scan ∷ [])) ≡ Err (MissingUnit (name 97) (codes "lib") (codes "p"))
-  pub twice : link_of with_d (link_units 0 with_d.files (user_text ∷ p_text ∷ body_text ∷ p_text ∷ []) (user_scan ∷ p_scan ∷ body_scan ∷ p_scan ∷ [])) ≡ Err (DuplicateUnit (codes "lib.p") (name 98) (name 100))
+  pub missing : link_of without_b (link_units 0 without_b.files (user_text ∷ body_text ∷ []) (user_scan ∷ body_scan ∷ [])) ≡
+      Err (MissingUnit (name 97) (codes "lib") (codes "p"))
+  pub twice : link_of with_d (link_units 0 with_d.files (user_text ∷ p_text ∷ body_text ∷ p_text ∷ []) (user_scan ∷ p_scan ∷ body_scan ∷ p_scan ∷
+      [])) ≡ Err (DuplicateUnit (codes "lib.p") (name 98) (name 100))

@@ -13,7 +13,15 @@ case it = record { name = it; file = 0; at = 0; length = 0 }
 
 -- the bench tb_x of tb_lib
 abbrev bench : List (List ℕ) → Bench
-bench names = record { library = codes "tb_lib"; name = codes "tb_x"; architecture = codes "a"; file = 0; cases = map case names; whole = false; same_sim = false }
+bench names = record {
+  library = codes "tb_lib";
+  name = codes "tb_x";
+  architecture = codes "a";
+  file = 0;
+  cases = map case names;
+  whole = false;
+  same_sim = false;
+}
 
 abbrev benches : List Bench
 benches = bench (codes "a" ∷ codes "b,c" ∷ []) ∷ []

@@ -34,7 +34,15 @@ pub record OrdersOfReadings : Type 0 where
 
 -- the bench t of lib over no files, with its results at r
 abbrev lone_bench : BenchJob
-lone_bench = record { library = codes "lib"; bench = codes "t"; architecture = codes "a"; cases = []; runner_cfg = []; results = codes "r"; built = [] }
+lone_bench = record {
+  library = codes "lib";
+  bench = codes "t";
+  architecture = codes "a";
+  cases = [];
+  runner_cfg = [];
+  results = codes "r";
+  built = [];
+}
 
 pub record ChildrenSay : Type 0 where
   pub results : child_results (bench_input lone_bench) ≡ Some (record { path = codes "r"; text = [] })

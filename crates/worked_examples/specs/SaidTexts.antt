@@ -34,7 +34,8 @@ pub record FileMarks : Type 0 where
 
 -- what is said of a build
 pub record BuildTexts : Type 0 where
-  pub both : build_text shown_bytes files (Compiled ∷ Compiled ∷ []) ≡ codes "Compiling into lib: a.vhd passed\nCompiling into lib: b.vhd passed\nCompile passed\n"
+  pub both : build_text shown_bytes files (Compiled ∷ Compiled ∷ []) ≡
+      codes "Compiling into lib: a.vhd passed\nCompiling into lib: b.vhd passed\nCompile passed\n"
   pub failed : build_text shown_bytes files (Refused 1 (codes "no") ∷ Left ∷ []) ≡ codes "Compiling into lib: a.vhd failed\nno\nCompile failed\n"
   pub fresh : build_text shown_bytes files (Fresh ∷ Fresh ∷ []) ≡ codes "Re-compile not needed\n"
   pub done : build_outcome files (Compiled ∷ Compiled ∷ []) ≡ outcome.Done
@@ -45,8 +46,18 @@ pub record OtherTexts : Type 0 where
   pub no_project : refusal_text refusal.NoProject ≡ codes "vunit_run: no vunit.toml and no vunit.csv\n"
   pub limit : limit_text limit.Files 4096 ≡ codes "vunit_run: over limit: files 4096\n"
   pub list : files_list (a_file ∷ []) ≡ codes "lib, a.vhd\nListed 1 files\n"
-  pub tests : tests_list (record { library = codes "lib"; name = codes "t"; architecture = codes "a"; file = 0; cases = record { name = codes "one"; file = 0; at = 0; length = 0 } ∷ []; whole = false; same_sim = false } ∷ []) ≡ codes "lib.t.one\nListed 1 tests\n"
-  pub warning : warning_text (record { name = a_name; command = command } ∷ []) (record { file = 0; library = codes "other" } ∷ []) ≡ codes "vunit_run: warning: lib, a.vhd: use of other.all gives no dependency\n"
+  pub tests : tests_list (record {
+    library = codes "lib";
+    name = codes "t";
+    architecture = codes "a";
+    file = 0;
+    cases = record { name = codes "one"; file = 0; at = 0; length = 0 } ∷
+        [];
+    whole = false;
+    same_sim = false;
+  } ∷ []) ≡ codes "lib.t.one\nListed 1 tests\n"
+  pub warning : warning_text (record { name = a_name; command = command } ∷ []) (record { file = 0; library = codes "other" } ∷ []) ≡
+      codes "vunit_run: warning: lib, a.vhd: use of other.all gives no dependency\n"
   pub exported : text_data (97 ∷ 255 ∷ []) ≡ string (97 ∷ 239 ∷ 191 ∷ 189 ∷ [])
 
 pub record HaltedBuilds : Type 0 where

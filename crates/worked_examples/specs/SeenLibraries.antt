@@ -12,8 +12,10 @@ project_file_of library path = record { name = record { library = library; path 
 -- c.vhd and w.vhd of lib, and q.vhd of other
 abbrev units : List ScopeUnit
 units =
-    scope_units (project_file_of (codes "lib") (codes "c.vhd") ∷ project_file_of (codes "lib") (codes "w.vhd") ∷ project_file_of (codes "other") (codes "q.vhd") ∷ [])
-    (ctx_text ∷ w_text ∷ q_text ∷ []) (scan_with ctx_tokens (ctx_unit ∷ []) ∷ scan_with w_tokens (w_unit ∷ []) ∷ scan_with q_tokens (q_unit ∷ []) ∷ [])
+    scope_units (project_file_of (codes "lib") (codes "c.vhd") ∷ project_file_of (codes "lib") (codes "w.vhd") ∷
+    project_file_of (codes "other") (codes "q.vhd") ∷ [])
+    (ctx_text ∷ w_text ∷ q_text ∷ []) (scan_with ctx_tokens (ctx_unit ∷ []) ∷ scan_with w_tokens (w_unit ∷ []) ∷ scan_with q_tokens (q_unit ∷ []) ∷
+    [])
 
 abbrev ctx : ScopeUnit
 ctx = scope_unit (codes "lib") ctx_text (scan_with ctx_tokens (ctx_unit ∷ [])) ctx_unit
@@ -40,7 +42,11 @@ pub record VisibleNames : Type 0 where
 
 -- the sets as callers see them
 abbrev table : Table
-table = record { starts = 0 ∷ 1 ∷ 2 ∷ []; sets = (codes "other" ∷ codes "std" ∷ codes "work" ∷ []) ∷ (codes "other" ∷ codes "std" ∷ codes "work" ∷ []) ∷ (codes "std" ∷ codes "work" ∷ []) ∷ [] }
+table = record {
+  starts = 0 ∷ 1 ∷ 2 ∷ [];
+  sets = (codes "other" ∷ codes "std" ∷ codes "work" ∷ []) ∷ (codes "other" ∷ codes "std" ∷ codes "work" ∷
+      []) ∷ (codes "std" ∷ codes "work" ∷ []) ∷ [];
+}
 
 pub record TableNames : Type 0 where
   pub sees_other : table_sees table (record { file = 1; unit = 0 }) (codes "other") ≡ true

@@ -21,7 +21,8 @@ job = a_request.input
 
 -- the file a with the command word cc and the artefact y
 abbrev spelled_record : List ℕ
-spelled_record = 1 ∷ 0 ∷ 0 ∷ 0 ∷ name_spelling ++ (1 ∷ 0 ∷ 0 ∷ 0 ∷ 2 ∷ 0 ∷ 0 ∷ 0 ∷ 99 ∷ 99 ∷ 1 ∷ 0 ∷ 0 ∷ 0 ∷ 120 ∷ 0 ∷ 0 ∷ 0 ∷ 0 ∷ 1 ∷ 0 ∷ 0 ∷ 0 ∷ 121 ∷ [])
+spelled_record = 1 ∷ 0 ∷ 0 ∷ 0 ∷ name_spelling ++ (1 ∷ 0 ∷ 0 ∷ 0 ∷ 2 ∷ 0 ∷ 0 ∷ 0 ∷ 99 ∷ 99 ∷ 1 ∷ 0 ∷ 0 ∷ 0 ∷ 120 ∷ 0 ∷ 0 ∷ 0 ∷ 0 ∷ 1 ∷ 0 ∷ 0 ∷ 0 ∷
+    121 ∷ [])
 
 -- numbers, texts and names
 pub record NumbersAndTexts : Type 0 where
@@ -33,7 +34,8 @@ pub record NumbersAndTexts : Type 0 where
 
 -- jobs of compilers
 pub record CompileJobs : Type 0 where
-  pub begun_b : (begun b_file 1).input ≡ 86 ∷ 82 ∷ 67 ∷ 49 ∷ 3 ∷ 0 ∷ 0 ∷ 0 ∷ 108 ∷ 105 ∷ 98 ∷ 5 ∷ 0 ∷ 0 ∷ 0 ∷ 98 ∷ 46 ∷ 118 ∷ 104 ∷ 100 ∷ 1 ∷ 0 ∷ 0 ∷ 0 ∷ 121 ∷ 1 ∷ 0 ∷ 0 ∷ 0 ∷ []
+  pub begun_b : (begun b_file 1).input ≡ 86 ∷ 82 ∷ 67 ∷ 49 ∷ 3 ∷ 0 ∷ 0 ∷ 0 ∷ 108 ∷ 105 ∷ 98 ∷ 5 ∷ 0 ∷ 0 ∷ 0 ∷ 98 ∷ 46 ∷ 118 ∷ 104 ∷ 100 ∷ 1 ∷ 0 ∷
+      0 ∷ 0 ∷ 121 ∷ 1 ∷ 0 ∷ 0 ∷ 0 ∷ []
   pub with_a : (with_file (begun b_file 1) a_built).input ≡ (begun b_file 1).input ++ (name_spelling ++ (1 ∷ 0 ∷ 0 ∷ 0 ∷ 49 ∷ []))
   pub count : length job ≡ 29
   pub is_job : job_at job ≡ Some (record { name = a_name; text = codes "x"; deps = [] })
@@ -42,10 +44,20 @@ pub record CompileJobs : Type 0 where
 
 -- of a run of tests
 abbrev run_of_one : TestRun
-run_of_one = record { library = codes "lib"; bench = codes "t"; architecture = codes "a"; cases = codes "one" ∷ []; whole = false; same_sim = false; path = [] }
+run_of_one = record {
+  library = codes "lib";
+  bench = codes "t";
+  architecture = codes "a";
+  cases = codes "one" ∷
+      [];
+  whole = false;
+  same_sim = false;
+  path = [];
+}
 
 pub record BenchJobs : Type 0 where
-  pub begins : take 32 (begun_run run_of_one [] 0).input ≡ 86 ∷ 82 ∷ 66 ∷ 49 ∷ 3 ∷ 0 ∷ 0 ∷ 0 ∷ 108 ∷ 105 ∷ 98 ∷ 1 ∷ 0 ∷ 0 ∷ 0 ∷ 116 ∷ 1 ∷ 0 ∷ 0 ∷ 0 ∷ 97 ∷ 1 ∷ 0 ∷ 0 ∷ 0 ∷ 3 ∷ 0 ∷ 0 ∷ 0 ∷ 111 ∷ 110 ∷ 101 ∷ []
+  pub begins : take 32 (begun_run run_of_one [] 0).input ≡ 86 ∷ 82 ∷ 66 ∷ 49 ∷ 3 ∷ 0 ∷ 0 ∷ 0 ∷ 108 ∷ 105 ∷ 98 ∷ 1 ∷ 0 ∷ 0 ∷ 0 ∷ 116 ∷ 1 ∷ 0 ∷ 0 ∷
+      0 ∷ 97 ∷ 1 ∷ 0 ∷ 0 ∷ 0 ∷ 3 ∷ 0 ∷ 0 ∷ 0 ∷ 111 ∷ 110 ∷ 101 ∷ []
 
 -- records of a store
 pub record SpelledRecords : Type 0 where

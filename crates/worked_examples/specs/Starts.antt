@@ -102,7 +102,8 @@ pub record BuildEvents : Type 0 where
 
 -- events of compilers and of tests
 abbrev with_test : List Event
-with_test = Started 1 a_request ∷ Started 2 (record { command = command; input = []; results = Given (codes "r") }) ∷ Ended 2 (exit 0 []) ∷ Gone 1 ∷ []
+with_test = Started 1 a_request ∷ Started 2 (record { command = command; input = []; results = Given (codes "r") }) ∷ Ended 2 (exit 0 []) ∷
+    Gone 1 ∷ []
 
 pub record CompileParts : Type 0 where
   pub compilers : compile_part with_test ≡ Started 1 a_request ∷ Gone 1 ∷ []

@@ -15,5 +15,9 @@ holding form payloads = record { a = side_bytes form 1 payloads; b = [] }
 pub record StoredRecords : Type 0 where
   pub empty : records_in (record { a = []; b = [] }) ≡ []
   pub both : records_in (holding 1 (record_bytes (a_file ∷ []) (codes "1") ∷ record_bytes files (codes "2") ∷ [])) ≡ Ra ∷ Rb ∷ []
-  pub of_nodes : node_records_in (holding 2 (first ∷ second ∷ [])) ≡ record { view = a_file ∷ []; artefact = codes "y" } ∷ record { view = a_file ∷ same_text ∷ []; artefact = codes "z" } ∷ []
+  pub of_nodes : node_records_in (holding 2 (first ∷ second ∷ [])) ≡ record { view = a_file ∷ []; artefact = codes "y" } ∷ record {
+    view = a_file ∷
+        same_text ∷ [];
+    artefact = codes "z";
+  } ∷ []
   pub other_form : node_records_in (holding 1 (first ∷ second ∷ [])) ≡ []

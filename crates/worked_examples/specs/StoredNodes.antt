@@ -16,10 +16,12 @@ use Rattle.worked_examples.specs.Example.{Rw, a_file, a_name, b_name, command, f
 
 -- the two payloads of the example in FORMATS.md, of a.vhd with the artefact y, and of b.vhd over it with the artefact z
 abbrev pub first : List ℕ
-first = 1 ∷ 3 ∷ 0 ∷ 0 ∷ 0 ∷ 108 ∷ 105 ∷ 98 ∷ 5 ∷ 0 ∷ 0 ∷ 0 ∷ 97 ∷ 46 ∷ 118 ∷ 104 ∷ 100 ∷ 1 ∷ 0 ∷ 0 ∷ 0 ∷ 2 ∷ 0 ∷ 0 ∷ 0 ∷ 99 ∷ 99 ∷ 1 ∷ 1 ∷ 0 ∷ 0 ∷ 0 ∷ 120 ∷ 0 ∷ 0 ∷ 0 ∷ 0 ∷ 1 ∷ 0 ∷ 0 ∷ 0 ∷ 121 ∷ []
+first = 1 ∷ 3 ∷ 0 ∷ 0 ∷ 0 ∷ 108 ∷ 105 ∷ 98 ∷ 5 ∷ 0 ∷ 0 ∷ 0 ∷ 97 ∷ 46 ∷ 118 ∷ 104 ∷ 100 ∷ 1 ∷ 0 ∷ 0 ∷ 0 ∷ 2 ∷ 0 ∷ 0 ∷ 0 ∷ 99 ∷ 99 ∷ 1 ∷ 1 ∷ 0 ∷ 0 ∷
+    0 ∷ 120 ∷ 0 ∷ 0 ∷ 0 ∷ 0 ∷ 1 ∷ 0 ∷ 0 ∷ 0 ∷ 121 ∷ []
 
 abbrev pub second : List ℕ
-second = 1 ∷ 3 ∷ 0 ∷ 0 ∷ 0 ∷ 108 ∷ 105 ∷ 98 ∷ 5 ∷ 0 ∷ 0 ∷ 0 ∷ 98 ∷ 46 ∷ 118 ∷ 104 ∷ 100 ∷ 1 ∷ 0 ∷ 0 ∷ 0 ∷ 2 ∷ 0 ∷ 0 ∷ 0 ∷ 99 ∷ 99 ∷ 0 ∷ 0 ∷ 0 ∷ 0 ∷ 0 ∷ 0 ∷ 0 ∷ 0 ∷ 0 ∷ 1 ∷ 0 ∷ 0 ∷ 0 ∷ 0 ∷ 0 ∷ 0 ∷ 0 ∷ 0 ∷ 0 ∷ 0 ∷ 0 ∷ 1 ∷ 0 ∷ 0 ∷ 0 ∷ 122 ∷ []
+second = 1 ∷ 3 ∷ 0 ∷ 0 ∷ 0 ∷ 108 ∷ 105 ∷ 98 ∷ 5 ∷ 0 ∷ 0 ∷ 0 ∷ 98 ∷ 46 ∷ 118 ∷ 104 ∷ 100 ∷ 1 ∷ 0 ∷ 0 ∷ 0 ∷ 2 ∷ 0 ∷ 0 ∷ 0 ∷ 99 ∷ 99 ∷ 0 ∷ 0 ∷ 0 ∷ 0 ∷
+    0 ∷ 0 ∷ 0 ∷ 0 ∷ 0 ∷ 1 ∷ 0 ∷ 0 ∷ 0 ∷ 0 ∷ 0 ∷ 0 ∷ 0 ∷ 0 ∷ 0 ∷ 0 ∷ 0 ∷ 1 ∷ 0 ∷ 0 ∷ 0 ∷ 122 ∷ []
 
 -- b with the text x too
 abbrev pub same_text : Entry
@@ -53,7 +55,11 @@ pub record SpelledPayloads : Type 0 where
 
 -- the texts, nodes and records of payloads
 pub record ShelfRecords : Type 0 where
-  pub both : (shelf_of (first ∷ second ∷ [])).records ≡ record { view = a_file ∷ []; artefact = codes "y" } ∷ record { view = a_file ∷ same_text ∷ []; artefact = codes "z" } ∷ []
+  pub both : (shelf_of (first ∷ second ∷ [])).records ≡ record { view = a_file ∷ []; artefact = codes "y" } ∷ record {
+    view = a_file ∷ same_text ∷
+        [];
+    artefact = codes "z";
+  } ∷ []
   pub nodes : (shelf_of (first ∷ second ∷ [])).nodes ≡ two_nodes
   pub repeated : (shelf_of (first ∷ first ∷ [])).records ≡ record { view = a_file ∷ []; artefact = codes "y" } ∷ []
   pub there : is_draft empty_shelf (draft a_name (New (codes "x")) []) ≡ true

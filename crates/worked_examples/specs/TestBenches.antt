@@ -15,14 +15,27 @@ abbrev bench_scan : Scan
 bench_scan = scan_with bench_tokens bench_units
 
 abbrev sources : ScannedFiles
-sources = record { files = record { name = record { library = codes "lib"; path = codes "tb.vhd" }; command = command } ∷ []; texts = bench_text ∷ []; scans = bench_scan ∷ [] }
+sources = record {
+  files = record { name = record { library = codes "lib"; path = codes "tb.vhd" }; command = command } ∷ [];
+  texts = bench_text ∷
+      [];
+  scans = bench_scan ∷ [];
+}
 
 abbrev case : List ℕ → TestCase
 case it = record { name = it; file = 0; at = 0; length = 0 }
 
 -- a bench t with cases of these names
 abbrev named_bench : List (List ℕ) → Bench
-named_bench names = record { library = codes "lib"; name = codes "t"; architecture = codes "a"; file = 0; cases = map case names; whole = false; same_sim = false }
+named_bench names = record {
+  library = codes "lib";
+  name = codes "t";
+  architecture = codes "a";
+  file = 0;
+  cases = map case names;
+  whole = false;
+  same_sim = false;
+}
 
 -- which entities are benches
 pub record BenchEntities : Type 0 where
@@ -31,7 +44,8 @@ pub record BenchEntities : Type 0 where
 
 -- the cases that are called
 pub record CalledCases : Type 0 where
-  pub call : map (string_case 0 call_text) (run_strings call_text call_tokens 0 8) ≡ record { name = codes "say \"hi\""; file = 0; at = 10; length = 10 } ∷ []
+  pub call : map (string_case 0 call_text) (run_strings call_text call_tokens 0 8) ≡
+      record { name = codes "say \"hi\""; file = 0; at = 10; length = 10 } ∷ []
   pub no_call : run_strings other_calls_text other_calls_tokens 0 12 ≡ []
   pub kept : bench_token bench_text bench_tokens (design_unit sources (unit_number 0 0)) ≡ Some (token_at bench_tokens 1)
   pub string_kept : map (λ token. slice_range bench_text token.start token.end) (unit_strings bench_text bench_tokens (design_unit sources (unit_number 0 1))) ≡ codes "\"one\"" ∷ []
@@ -45,6 +59,16 @@ pub record SameSimComments : Type 0 where
 -- the tests of a project, and what is wrong with them
 pub record ProjectTests : Type 0 where
   -- at offset 87 with 3 bytes
-  pub tests : tests_of sources ≡ Ok (record { library = codes "lib"; name = codes "t"; architecture = codes "a"; file = 0; cases = record { name = codes "one"; file = 0; at = 87; length = 3 } ∷ []; whole = false; same_sim = false } ∷ [])
-  pub twice : first_bench_fault [] (Ok (named_bench (codes "a" ∷ codes "a" ∷ [])) ∷ Err (NoArchitecture (codes "lib.u")) ∷ []) ≡ Some (DuplicateTest (codes "lib.t.a"))
+  pub tests : tests_of sources ≡ Ok (record {
+    library = codes "lib";
+    name = codes "t";
+    architecture = codes "a";
+    file = 0;
+    cases = record { name = codes "one"; file = 0; at = 87; length = 3 } ∷
+        [];
+    whole = false;
+    same_sim = false;
+  } ∷ [])
+  pub twice : first_bench_fault [] (Ok (named_bench (codes "a" ∷ codes "a" ∷ [])) ∷ Err (NoArchitecture (codes "lib.u")) ∷ []) ≡
+      Some (DuplicateTest (codes "lib.t.a"))
   pub bad_name : first_bench_fault [] (Ok (named_bench (codes "a" ∷ codes "a" ∷ [] ∷ [])) ∷ []) ≡ Some (BadName (codes "lib.t"))

@@ -37,8 +37,10 @@ abbrev boom : RunEnd
 boom = record { names = codes "lib.t.a" ∷ codes "lib.t.b" ∷ []; verdicts = Passed ∷ Failed ∷ []; output = codes "boom" }
 
 pub record TestsSaid : Type 0 where
-  pub text : test_text false false (boom ∷ []) ≡ codes "boom\npass lib.t.a\nfail lib.t.b\n==== Summary\npass 1 of 2\nfail 1 of 2\nskip 0 of 2\nSome failed!\n"
-  pub quiet : test_text false true (boom ∷ []) ≡ codes "pass lib.t.a\nfail lib.t.b\n==== Summary\npass 1 of 2\nfail 1 of 2\nskip 0 of 2\nSome failed!\n"
+  pub text : test_text false false (boom ∷ []) ≡
+      codes "boom\npass lib.t.a\nfail lib.t.b\n==== Summary\npass 1 of 2\nfail 1 of 2\nskip 0 of 2\nSome failed!\n"
+  pub quiet : test_text false true (boom ∷ []) ≡
+      codes "pass lib.t.a\nfail lib.t.b\n==== Summary\npass 1 of 2\nfail 1 of 2\nskip 0 of 2\nSome failed!\n"
   pub failed : tests_outcome (boom ∷ []) false ≡ outcome.TestsFailed
   pub ignored : tests_outcome (boom ∷ []) true ≡ outcome.Done
   pub none : tests_outcome [] false ≡ outcome.Done
@@ -47,10 +49,28 @@ pub record TestsSaid : Type 0 where
 
 -- two runs of a bench, one at once
 abbrev run_of_case : List ℕ → TestRun
-run_of_case it = record { library = codes "lib"; bench = codes "t"; architecture = codes "a"; cases = it ∷ []; whole = false; same_sim = false; path = codes "t.vhd" }
+run_of_case it = record {
+  library = codes "lib";
+  bench = codes "t";
+  architecture = codes "a";
+  cases = it ∷
+      [];
+  whole = false;
+  same_sim = false;
+  path = codes "t.vhd";
+}
 
 abbrev two_runs : Bool → TestSetting
-two_runs fail_fast = record { plan = record { runs = run_of_case (codes "a") ∷ run_of_case (codes "b") ∷ []; simulator = command; fail_fast = fail_fast }; built = a_built ∷ []; slots = 1 }
+two_runs fail_fast = record {
+  plan = record {
+    runs = run_of_case (codes "a") ∷ run_of_case (codes "b") ∷
+        [];
+    simulator = command;
+    fail_fast = fail_fast;
+  };
+  built = a_built ∷ [];
+  slots = 1;
+}
 
 abbrev end_of_first : Exit → List Event
 end_of_first it = Started 7 (bench_request (run_of_case (codes "a")) command (a_built ∷ [])) ∷ Ended 7 it ∷ []
@@ -86,14 +106,24 @@ abbrev words_with : Bool → TestWords
 words_with exit_0 = record { verbose = false; quiet = false; exit_0 = exit_0; report = false }
 
 pub record RunsSaid : Type 0 where
-  pub outcome_of : (run_said [] files (Compiled ∷ Compiled ∷ []) [] (words_with false) (Some (record { runs = boom ∷ [] }))).outcome ≡ outcome.TestsFailed
+  pub outcome_of : (run_said [] files (Compiled ∷ Compiled ∷ []) [] (words_with false) (Some (record { runs = boom ∷ [] }))).outcome ≡
+      outcome.TestsFailed
   pub ignored : (run_said [] files (Compiled ∷ Compiled ∷ []) [] (words_with true) (Some (record { runs = boom ∷ [] }))).outcome ≡ outcome.Done
-  pub build_first : take 27 (run_said [] files (Compiled ∷ Compiled ∷ []) [] (words_with false) (Some (record { runs = boom ∷ [] }))).text ≡ codes "Compiling into lib: a.vhd p"
+  pub build_first : take 27 (run_said [] files (Compiled ∷ Compiled ∷ []) [] (words_with false) (Some (record { runs = boom ∷ [] }))).text ≡
+      codes "Compiling into lib: a.vhd p"
   pub made : libraries refusing_b files ≡ a_built ∷ []
 
 -- a bench t of lib with these cases
 abbrev bench_of_cases : List (List ℕ) → Bench
-bench_of_cases its = record { library = codes "lib"; name = codes "t"; architecture = codes "a"; file = 0; cases = map (λ it. record { name = it; file = 0; at = 0; length = 0 }) its; whole = false; same_sim = false }
+bench_of_cases its = record {
+  library = codes "lib";
+  name = codes "t";
+  architecture = codes "a";
+  file = 0;
+  cases = map (λ it. record { name = it; file = 0; at = 0; length = 0 }) its;
+  whole = false;
+  same_sim = false;
+}
 
 -- which tests patterns select, and which fault is answered
 pub record ChosenTests : Type 0 where
@@ -103,7 +133,16 @@ pub record ChosenTests : Type 0 where
 
 -- the report of three cases of the example in FORMATS.md
 abbrev three_cases : TestRun
-three_cases = record { library = codes "lib"; bench = codes "t"; architecture = codes "rtl"; cases = codes "a" ∷ codes "b" ∷ codes "c" ∷ []; whole = false; same_sim = true; path = [] }
+three_cases = record {
+  library = codes "lib";
+  bench = codes "t";
+  architecture = codes "rtl";
+  cases = codes "a" ∷ codes "b" ∷ codes "c" ∷
+      [];
+  whole = false;
+  same_sim = true;
+  path = [];
+}
 
 pub record WrittenReports : Type 0 where
   pub report : junit (three_cases ∷ []) (record { names = case_names three_cases; verdicts = Passed ∷ Failed ∷ Skipped ∷ []; output = [] } ∷ []) ≡

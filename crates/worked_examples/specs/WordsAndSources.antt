@@ -43,7 +43,8 @@ plain = record {
 }
 
 pub record SettingsOfWords : Type 0 where
-  pub compiling : setting_of (codes "-p" ∷ codes "8" ∷ codes "-k" ∷ codes "--compile" ∷ []) ≡ Some (record plain { compile = true; keep_compiling = true; num_threads = 8 })
+  pub compiling : setting_of (codes "-p" ∷ codes "8" ∷ codes "-k" ∷ codes "--compile" ∷ []) ≡
+      Some (record plain { compile = true; keep_compiling = true; num_threads = 8 })
   pub zero : setting_of (codes "-p" ∷ codes "0" ∷ []) ≡ None
   pub twice : setting_of (codes "--compile" ∷ codes "--compile" ∷ []) ≡ None
   pub unknown : setting_of (codes "--frob" ∷ []) ≡ None
@@ -89,20 +90,42 @@ child_files = child_file a_name (codes "x") [] ∷ child_file b_name (codes "y")
 
 pub record ReadSources : Type 0 where
   pub asked : project_paths (folder true) [] ≡ codes "vunit.toml" ∷ codes "vunit.csv" ∷ codes "a.vhd" ∷ codes "b.vhd" ∷ []
-  pub found : project_reading finds_nothing (folder true) [] false ≡ sources.Found (record { project = listed_project (a_name ∷ b_name ∷ []); graph = child_files; warnings = []; tests = [] })
+  pub found : project_reading finds_nothing (folder true) [] false ≡ sources.Found (record {
+    project = listed_project (a_name ∷ b_name ∷
+        []);
+    graph = child_files;
+    warnings = [];
+    tests = [];
+  })
   pub absent : project_reading finds_nothing (folder false) [] false ≡ sources.Stops (refusal.AbsentFile a_name)
-  pub second_refused : scans_of refuses_foo (map listed_file_of (a_name ∷ b_name ∷ name 99 ∷ [])) (codes "x" ∷ codes "foo" ∷ codes "foo" ∷ []) ≡ Err (sources.Stops (refusal.Units b_name (NotUnit 0)))
+  pub second_refused : scans_of refuses_foo (map listed_file_of (a_name ∷ b_name ∷ name 99 ∷ [])) (codes "x" ∷ codes "foo" ∷ codes "foo" ∷ []) ≡
+      Err (sources.Stops (refusal.Units b_name (NotUnit 0)))
 
 -- a.vhd uses a package of b.vhd, and b.vhd one of a.vhd
 abbrev cyclic : Bool → Project
-cyclic is_listed = record { files = map listed_file_of (a_name ∷ b_name ∷ []); simulator = listed_simulator; external = []; bodies = false; depends = []; listed = is_listed }
+cyclic is_listed = record {
+  files = map listed_file_of (a_name ∷ b_name ∷
+      []);
+  simulator = listed_simulator;
+  external = [];
+  bodies = false;
+  depends = [];
+  listed = is_listed;
+}
 
 abbrev cyclic_reading : Bool → SourceReading
-cyclic_reading is_listed = scanned_reading false (cyclic is_listed) (uses_q_text ∷ uses_p_text ∷ []) (scan_with uses_q_tokens (uses_q_unit ∷ []) ∷ scan_with uses_p_tokens (uses_p_unit ∷ []) ∷ [])
+cyclic_reading is_listed = scanned_reading false (cyclic is_listed) (uses_q_text ∷ uses_p_text ∷ []) (scan_with uses_q_tokens (uses_q_unit ∷ []) ∷
+    scan_with uses_p_tokens (uses_p_unit ∷ []) ∷ [])
 
 pub record CyclicSources : Type 0 where
   pub linked : cyclic_reading false ≡ sources.Stops (refusal.Cycle (a_name ∷ b_name ∷ []))
-  pub in_listed_order : cyclic_reading true ≡ sources.Found (record { project = cyclic true; graph = child_file a_name uses_q_text [] ∷ child_file b_name uses_p_text (0 ∷ []) ∷ []; warnings = []; tests = [] })
+  pub in_listed_order : cyclic_reading true ≡ sources.Found (record {
+    project = cyclic true;
+    graph = child_file a_name uses_q_text [] ∷
+        child_file b_name uses_p_text (0 ∷ []) ∷ [];
+    warnings = [];
+    tests = [];
+  })
 
 -- ## Names
 
