@@ -4,7 +4,8 @@ use Rattle.vr_base.specs.Bytes.{text_bytes}
 use Rattle.vr_base.specs.Jobs.{all_built_bytes, built_bytes, compile_input, name_bytes}
 use Rattle.vr_base.specs.View.{part, viewed}
 use Rattle.vr_outside.specs.Records.{latest, latest_alone}
-use Rattle.run_spec.specs.ChildJournal.{after, after_all, artefact_so_far, output_at}
+use Rattle.run_spec.specs.ChildJournal.{after, after_all, artefact_by, built_at, has_all, output_at}
+use Rattle.run_spec.specs.Folds.{upto}
 use Rattle.run_spec.specs.CleanBuild.{results_after}
 use Rattle.run_spec.specs.Moves.{first_from, is_startable, next_start}
 use Rattle.run_spec.specs.Recorded.{is_same_view, recorded_at}
@@ -20,7 +21,7 @@ unfolding part viewed latest is_same_view recorded_at
 recorded_files = record { first = refl; second = refl; third = refl; deps = refl }
 
 pub build_commits : BuildCommits
-unfolding text_bytes all_built_bytes built_bytes compile_input name_bytes part viewed after after_all artefact_so_far output_at first_from is_startable next_start
+unfolding text_bytes all_built_bytes built_bytes compile_input name_bytes part viewed after after_all artefact_by built_at has_all upto output_at first_from is_startable next_start
 build_commits = record { both = refl; first = refl }
 
 pub true_records : TrueRecords

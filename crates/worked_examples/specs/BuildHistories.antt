@@ -4,7 +4,7 @@ use Rattle.vr_outside.specs.Commits.{last_state}
 use Rattle.vr_outside.specs.Disks.{DiskState, Image, settled_disk}
 use Rattle.vr_outside.specs.declared.records.Record.{Record}
 use Rattle.history_spec.specs.Histories.{Order, empty_image, latest_over, work_over}
-use Rattle.worked_examples.specs.Example.{Ra, a_name, files}
+use Rattle.worked_examples.specs.Example.{Ra, a_built, a_name, files}
 
 abbrev order : Bool → Order
 order clean = record { graph = files; slots = 1; keep_going = false; clean = clean }
@@ -18,8 +18,8 @@ empty_disk = settled_disk empty_image
 
 -- what a build finds recorded
 pub record FoundRecords : Type 0 where
-  pub first : (work_over has_a (order false) empty_disk).recorded 0 ≡ Some (codes "1")
-  pub second : (work_over has_a (order false) empty_disk).recorded 1 ≡ None
-  pub emptied : (work_over has_a (order true) empty_disk).recorded 0 ≡ None
+  pub first : (work_over has_a (order false) empty_disk).current 0 [] ≡ Some (codes "1")
+  pub second : (work_over has_a (order false) empty_disk).current 1 (a_built ∷ []) ≡ None
+  pub emptied : (work_over has_a (order true) empty_disk).current 0 [] ≡ None
   pub kept : latest_over has_a false empty_disk a_name ≡ Some Ra
   pub last : last_state empty_disk (empty_disk ∷ []) ≡ empty_disk

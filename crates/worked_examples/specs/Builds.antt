@@ -1,16 +1,15 @@
 -- The examples of "The compiler and the clean build".
 use Rattle.std.specs.Prelude.{◌≡◌, ℕ, zero, suc, ◌∷◌, List, [], Option, Some, None, codes}
 use Rattle.vr_base.specs.declared.child.MaybeText.TheVariants.{Nothing}
-use Rattle.run_spec.specs.CleanBuild.{Blocked, Made, Refused, built_of, clean_build, clean_request, request_unless, stale_requests}
+use Rattle.vr_base.specs.declared.graph.BuiltFile.{BuiltFile}
+use Rattle.run_spec.specs.CleanBuild.{Blocked, Made, Refused, built_of, clean_build, clean_request}
+use Rattle.run_spec.specs.Settled.{none_current, request_unless, stale_requests}
 use Rattle.worked_examples.specs.Example.{a_built, a_request, accepting, b_built, b_request, command, files, refusing}
 
--- 1 recorded of a alone
-abbrev a_recorded : ℕ → Option (List ℕ)
-a_recorded zero = Some (codes "1")
-a_recorded (suc position) = None
-
-abbrev none_recorded : ℕ → Option (List ℕ)
-none_recorded position = None
+-- 1 is current of a alone, whatever was built below it
+abbrev a_current : ℕ → List BuiltFile → Option (List ℕ)
+a_current zero built = Some (codes "1")
+a_current (suc position) built = None
 
 -- what a compiler is started with
 pub record CompilerRequests : Type 0 where
@@ -30,7 +29,7 @@ pub record CleanBuilds : Type 0 where
 pub record CleanRequests : Type 0 where
   pub second : clean_request accepting files 1 ≡ Some b_request
   pub blocked : clean_request refusing files 1 ≡ None
-  pub recorded : request_unless accepting files a_recorded 0 ≡ None
-  pub stale : stale_requests accepting files none_recorded ≡ a_request ∷ b_request ∷ []
-  pub second_alone : stale_requests accepting files a_recorded ≡ b_request ∷ []
-  pub first_alone : stale_requests refusing files none_recorded ≡ a_request ∷ []
+  pub recorded : request_unless accepting files a_current 0 ≡ None
+  pub stale : stale_requests accepting files none_current ≡ a_request ∷ b_request ∷ []
+  pub second_alone : stale_requests accepting files a_current ≡ b_request ∷ []
+  pub first_alone : stale_requests refusing files none_current ≡ a_request ∷ []

@@ -1,7 +1,7 @@
 -- The example that most sections use: the files a.vhd and b.vhd of the library lib, listed in this order, with the texts x
 -- and y, so that b depends on a. Their compiler answers a with code 0 and the output 1, and b over a's 1 with code 0 and
 -- the output 2.
-use Rattle.std.specs.Prelude.{ℕ, ◌∷◌, Bool, false, List, [], None, codes, if◌then◌else◌, bytes_eq}
+use Rattle.std.specs.Prelude.{ℕ, ◌∷◌, Bool, false, List, [], codes, if◌then◌else◌, bytes_eq}
 use Rattle.vr_base.specs.Jobs.{compile_request}
 use Rattle.vr_base.specs.declared.child.Event.{Event}
 use Rattle.vr_base.specs.declared.child.Event.TheVariants.{Ended, Started}
@@ -13,6 +13,7 @@ use Rattle.vr_base.specs.declared.graph.BuiltFile.{BuiltFile}
 use Rattle.vr_base.specs.declared.graph.Entry.{Entry}
 use Rattle.vr_outside.specs.declared.records.Record.{Record}
 use Rattle.run_spec.specs.ChildJournal.{Work}
+use Rattle.run_spec.specs.Settled.{none_current}
 
 abbrev pub name : ℕ → FileName
 name letter = record { library = codes "lib"; path = letter ∷ codes ".vhd" }
@@ -80,7 +81,7 @@ Rw = record { view = file a_name (codes "w") [] ∷ []; artefact = codes "8" }
 
 -- the build of a and b, nothing recorded, with so many slots
 abbrev pub work_with : ℕ → Bool → Work
-work_with slots keep_going = record { graph = files; recorded = λ position. None; slots = slots; keep_going = keep_going }
+work_with slots keep_going = record { graph = files; current = none_current; slots = slots; keep_going = keep_going }
 
 abbrev pub one_slot : Work
 one_slot = work_with 1 false

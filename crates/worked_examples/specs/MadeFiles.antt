@@ -3,6 +3,7 @@ use Rattle.std.specs.Prelude.{◌≡◌, ℕ, ◌++◌, ◌∷◌, true, false, 
 use Rattle.vr_base.specs.declared.child.Event.{Event}
 use Rattle.vr_base.specs.declared.child.Event.TheVariants.{Ended, Gone, Started}
 use Rattle.run_spec.specs.ChildJournal.{Work}
+use Rattle.run_spec.specs.Settled.{none_current}
 use Rattle.compile_loop.specs.Faults.{CountsBy, FaultCounts, IsDiskFirst, IsLossFirst, before_loss, given_before_loss, is_all_committed}
 use Rattle.compile_loop.specs.Ran.{built_by, whole_of}
 use Rattle.compile_loop.specs.declared.faults.BuildFault.TheVariants.{ChildLost, DiskFailed, StartFailed}
@@ -28,7 +29,7 @@ pub record AnsweredFaults : Type 0 where
 
 -- three files that depend on nothing, all of them running
 abbrev apart : Work
-apart = record { graph = map (λ letter. file (name letter) [] []) (97 ∷ 98 ∷ 99 ∷ []); recorded = λ position. None; slots = 3; keep_going = false }
+apart = record { graph = map (λ letter. file (name letter) [] []) (97 ∷ 98 ∷ 99 ∷ []); current = none_current; slots = 3; keep_going = false }
 
 abbrev all_start : List Event
 all_start = Started 1 a_request ∷ Started 2 a_request ∷ Started 3 a_request ∷ []

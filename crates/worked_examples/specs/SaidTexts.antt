@@ -29,7 +29,7 @@ a_recorded = work_of (λ it. latest it (Ra ∷ [])) files 1 false
 pub record FileMarks : Type 0 where
   pub refused : marks_of one_slot refused_a ≡ Refused 1 (codes "no") ∷ Left ∷ []
   pub compiled : marks_of a_recorded (Started 8 b_request ∷ Ended 8 (exit 0 (codes "2")) ∷ []) ≡ Fresh ∷ Compiled ∷ []
-  pub steady : steady_marks accepting files a_recorded.recorded ≡ Fresh ∷ Compiled ∷ []
+  pub steady : steady_marks accepting files a_recorded.current ≡ Fresh ∷ Compiled ∷ []
   pub some_refused : list_any is_refused (marks_of one_slot refused_a) ≡ true
 
 -- what is said of a build
