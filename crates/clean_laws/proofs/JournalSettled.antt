@@ -189,9 +189,11 @@ module _ (answer : Request → Exit) (work : Work) (graph : IsGraph work.graph) 
           some_from : (o : Option (List ℕ)) → is_none o ≡ false → is_some o ≡ true
           some_from None h = absurd (true≢false h)
           some_from (Some x) h = refl
+
           right : (a : Bool) {b : Bool} → b ≡ true → (a || b) ≡ true
           right true h = refl
           right false h = h
+
           left : {a : Bool} (b : Bool) → a ≡ true → (a || b) ≡ true
           left {a} b h = ap (λ c. c || b) h
 
@@ -211,13 +213,16 @@ module _ (answer : Request → Exit) (work : Work) (graph : IsGraph work.graph) 
           asked_test : (k : ℕ) (request : Request) (test : Bool) (o : Option Request) → cond test o None ≡ Some request → test ≡ true
           asked_test k request true o h = refl
           asked_test k request false o h = absurd (none-some request h)
+
           in_graph : (k : ℕ) → is_asked (settle answer work.graph work.current k) ≡ true → k < length work.graph
           in_graph k is = elim (cases_lt k (length work.graph)) [
             | inl lt ↦ lt
             | inr le ↦ absurd (false≢true (sym (ap is_asked (settled_past answer work.graph work.current k le)) ∙ is))
           ]
+
           end_taken : (k : ℕ) (xs : List End) → All (λ end. was_taken book end.position ≡ true) xs → has_ended xs k ≡ true → was_taken book k ≡ true
           end_taken k xs all has = taken_of_end book k xs all has
+
           taken_from : (k : ℕ) (request : Request) → request_unless answer work.graph work.current k ≡ Some request → was_taken book k ≡ true
           taken_from k request is =
               let stale : is_asked (settle answer work.graph work.current k) ≡ true = asked_test k request (is_asked (settle answer work.graph work.current k)) _ is in
@@ -230,7 +235,7 @@ module _ (answer : Request → Exit) (work : Work) (graph : IsGraph work.graph) 
       settled_mark_free keep (settled.Refused code output) k a b = absurd (true≢false a)
 
       mark_ended : (k : ℕ) (exit : Exit) → mark_of work.keep_going (Some exit) (settled_artefact (settled_by_exit exit)) ≡ steady_mark (settled_by_exit exit)
-      mark_ended k exit = elim (cases_Bool (exit.code == 0)) [ | inl good ↦ rw good refl | inr bad ↦ rw bad refl ]
+      mark_ended k exit = elim (cases_Bool (exit.code == 0)) [ inl good ↦ rw good refl | inr bad ↦ rw bad refl ]
 
       pub mark_is : (k : ℕ) → k < length work.graph → (settle answer work.graph work.current k ≡ settled.Blocked → work.keep_going ≡ true) → mark_at work book.ends k ≡ steady_mark (settle answer work.graph work.current k)
       mark_is k lt blocked = from (exit_at book.ends k) refl
