@@ -1,7 +1,7 @@
 -- The settled build makes what a clean build makes, where nothing is recorded, and where what is recorded is what a clean build makes.
 use Rattle.std.proofs.Common.{◌≡◌, ℕ, ◌<◌, ◌==◌, Bool, true, false, cond, List, [], length, get_or, Option, Some, None, refl, sym, ap, ap₂, subst, ◌∙◌, arith, inl, inr, is_some}
 use Rattle.std.specs.Prelude.{All, slice_get}
-use Rattle.std.specs.Option.{option_map, option_map_or}
+use Rattle.std.specs.Option.{option_map, option_map_or, option_and_then}
 use Rattle.std.specs.List.{list_all, filter_map}
 use Rattle.std.proofs.lemmas.Bool.{cases_Bool, cond-true, cond-false}
 use Rattle.std.proofs.lemmas.Option.{none-some, same_Some, slice_get_within, slice_get_cases, slice_get_past}
@@ -152,3 +152,41 @@ module _ (answer : Request → Exit) (graph : List Entry) (valid : IsGraph graph
             rw (here.2, free) (sym (ap (λ (b : List BuiltFile). Some (compile_request entry b)) built) ∙ sym (ap (option_map (λ e. compile_request e (built_at graph all (deps_at graph at)))) here.2) ∙ asks)
       ]
     ]
+
+    -- so that what becomes of a file follows from what a clean build makes below it
+    module _ (at : ℕ) (entry : Entry) (found : slice_get graph at ≡ Some entry) where
+      abbrev all : ℕ → Option (List ℕ)
+      all = artefact_settled answer graph current
+
+      abbrev asks : Request
+      asks = compile_request entry (built_below clean entry)
+
+      all_below : has_all all (deps_at graph at) ≡ is_free clean entry
+      all_below = has_all_same all bare (deps_at graph at) (λ k d l. records_settled current records (get_or (deps_at graph at) k d)) ∙ same_free at entry found (λ dep less. bare_clean dep)
+
+      files_below : built_at graph all (deps_at graph at) ≡ built_below clean entry
+      files_below = built_same graph all bare (deps_at graph at) (λ k d l. records_settled current records (get_or (deps_at graph at) k d)) ∙ same_below at entry found (λ dep less. bare_clean dep)
+
+      pub settle_is_clean : settle answer graph current at ≡ cond (is_free clean entry) (settled_by (current at (built_below clean entry)) (Some (answer asks))) settled.Blocked
+      settle_is_clean =
+          settle_at answer graph current (deps_before graph valid) at (slice_get_within graph at entry found)
+          ∙ ap₂ (λ (free : Bool) (built : List BuiltFile). cond free (settled_by (current at built) (option_map answer (request_over graph at built))) settled.Blocked) all_below files_below
+          ∙ ap (λ (o : Option Entry). cond (is_free clean entry) (settled_by (current at (built_below clean entry)) (option_map answer (option_map (λ e. compile_request e (built_below clean entry)) o))) settled.Blocked) found
+
+      exit_asked : (exit : Exit) → is_asked (settled_by_exit exit) ≡ true
+      exit_asked exit = elim (cases_Bool (exit.code == 0)) [ inl good ↦ rw good refl | inr bad ↦ rw bad refl ]
+
+      asked_where : (free : Bool) (kept : Option (List ℕ)) (exit : Exit) (request : Request) →
+          cond (is_asked (cond free (settled_by kept (Some exit)) settled.Blocked)) (Some request) None ≡ cond (is_some kept) None (cond free (Some request) None)
+      asked_where true None exit request = cond-true (is_asked (settled_by_exit exit)) (Some request) None (exit_asked exit)
+      asked_where true (Some artefact) exit request = refl
+      asked_where false None exit request = refl
+      asked_where false (Some artefact) exit request = refl
+
+      -- and it asks what a clean build asks, of the files that have no current record over what a clean build makes below them
+      pub request_is_clean : request_unless answer graph current at ≡ cond (is_some (current at (built_below clean entry))) None (clean_request answer graph at)
+      request_is_clean =
+          ap₂ (λ (s : Settled) (built : List BuiltFile). cond (is_asked s) (request_over graph at built) None) settle_is_clean files_below
+          ∙ ap (λ (o : Option Entry). cond (is_asked (cond (is_free clean entry) (settled_by (current at (built_below clean entry)) (Some (answer asks))) settled.Blocked)) (option_map (λ e. compile_request e (built_below clean entry)) o) None) found
+          ∙ asked_where (is_free clean entry) (current at (built_below clean entry)) (answer asks) asks
+          ∙ ap (λ (o : Option Entry). cond (is_some (current at (built_below clean entry))) None (option_and_then (λ e. cond (is_free clean e) (Some (compile_request e (built_below clean e))) None) o)) (sym found)

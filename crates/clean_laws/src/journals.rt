@@ -1,6 +1,6 @@
 //! The laws of the journals of builds, with any number of children at once, whether a build keeps going or not.
 
-ghost use Rattle.std.specs.Prelude.{◌≡◌, ◌≢◌, ◌↔◌, ℕ, ◌<◌, ◌++◌, [], ◌∷◌, true, false, List, length, slice_get, Some, None, is_some, All, AllPairs, Contains};
+ghost use Rattle.std.specs.Prelude.{◌≡◌, ◌≢◌, ◌↔◌, if◌then◌else◌, ℕ, ◌<◌, ◌++◌, [], ◌∷◌, true, false, List, length, slice_get, Some, None, is_some, All, AllPairs, Contains};
 ghost use Rattle.std.specs.List.{list_any};
 ghost use Rattle.vr_base.specs.declared.graph.Entry.{Entry};
 ghost use Rattle.vr_base.specs.declared.child.Request.{Request};
@@ -12,7 +12,7 @@ ghost use Rattle.run_spec.specs.ChildJournal.{Work, Lawful, Answered, IsWhole, a
 ghost use Rattle.run_spec.specs.Commits.{commits};
 ghost use Rattle.run_spec.specs.Faithful.{IsTrueRecord};
 ghost use Rattle.run_spec.specs.JournalParts.{compile_part, test_part};
-ghost use Rattle.run_spec.specs.CleanBuild.{Made, clean_build, clean_request, RecordsClean};
+ghost use Rattle.run_spec.specs.CleanBuild.{Made, built_below, clean_build, clean_request, RecordsClean};
 ghost use Rattle.run_spec.specs.Settled.{artefact_settled, request_unless};
 ghost use Rattle.run_spec.specs.Marks.{marks_of, steady_marks, is_refused, NoRefusalHalts};
 
@@ -65,6 +65,15 @@ pub fn laws_of_journals()
         RecordsClean answer setting.graph setting.current → (position : ℕ) (request : Request) →
         request_unless answer setting.graph setting.current position ≡ Some request →
         clean_request answer setting.graph position ≡ Some request }
+    // and there is one for exactly the files that a clean build doesn't block and that have no current record over what
+    // it makes below them;
+    ensures clean_exactly { (answer : Request → Exit) (setting : Work) → IsGraph setting.graph →
+        RecordsClean answer setting.graph setting.current → (position : ℕ) (entry : Entry) →
+        slice_get setting.graph position ≡ Some entry →
+        let below = built_below (clean_build answer setting.graph) entry in
+        request_unless answer setting.graph setting.current position
+        ≡ (if is_some (setting.current position below) then None
+        else clean_request answer setting.graph position) }
     // what the settled build makes of a file is what a clean build makes of it,
     ensures clean_made { (answer : Request → Exit) (setting : Work) → IsGraph setting.graph →
         RecordsClean answer setting.graph setting.current →
