@@ -10,9 +10,11 @@ use vr_memory::MemDisk;
 
 const LONG: u64 = (1 << 63) - 1;
 
-/// The calls of the disk of a first build, of a run with `--clean` after it, and more than any run over what such a run
-/// leaves makes.
+/// The calls of the disk of a first build, of a first run in stage 2, and of one with `--clean` after the build; and more than
+/// any run makes over what such a run leaves.
 const FIRST: u64 = 34;
+
+const WHOLE: u64 = 38;
 
 const CLEAN: u64 = 43;
 
@@ -249,6 +251,37 @@ fn stops_twice(rt: &impl Abort, alloc: Global, disk: &mut MemDisk) -> Result<boo
 fn a_stop_of_the_run_after_a_stop_leaves_the_same(rt: HostRuntime) -> Result<(), Fail> {
     let mut disk = MemDisk::new(rt.alloc(), Numbers::new(rt.alloc()));
     assert!(rt; stops_twice(&rt, rt.alloc(), &mut disk)?);
+    Ok(())
+}
+
+/// Whether a run whose call of the disk fails says so, another one goes on, and a stop at any moment of both leaves what the
+/// next one goes on from.
+fn fails_and_stops(
+    rt: &impl Abort,
+    alloc: Global,
+    disk: &mut MemDisk,
+    call: u64,
+) -> Result<bool, NoMemory> {
+    let told = told_on(rt, alloc, disk, b'2', "")?;
+    Ok(
+        told.as_slice().ends_with(b"k")
+            && goes_on(rt, alloc, disk, b'2')?
+            && leaves_each(rt, alloc, disk, 0, call.saturating_add(MANY), b'2')?,
+    )
+}
+
+fn stops_after_fault(rt: &impl Abort, alloc: Global, call: u64) -> Result<bool, NoMemory> {
+    let mut failing = Numbers::new(alloc);
+    failing.push(call)?;
+    let mut disk = MemDisk::new(alloc, failing);
+    fails_and_stops(rt, alloc, &mut disk, call)
+}
+
+#[test]
+fn a_stop_of_the_run_after_a_failed_disk_call_leaves_the_same(rt: HostRuntime) -> Result<(), Fail> {
+    for call in 0..WHOLE {
+        assert!(rt; stops_after_fault(&rt, rt.alloc(), call)?, "{call}");
+    }
     Ok(())
 }
 
