@@ -17,23 +17,23 @@ use vr_outside::{Source, Tree};
 /// of stage 1 came before; the letter of their answer; how many calls are made of the tree, the disk, the output, the reports
 /// and the input, by letters; which texts are put; the starts and waits, in order; and the report that is there in the end, if
 /// one is. Of the tree the project file, the
-/// listing and six files are asked for. Opening an empty disk takes 14 calls and a live side 7, a commit 4, and emptying a
-/// store 12. With three slots p, t and the bench start first, and each end of one of them lets a user of p start.
+/// listing and six files are asked for. Opening an empty disk takes 14 calls and a live side 7, and a commit 4; emptying an empty
+/// disk takes 16, and one with a live side 18. With three slots p, t and the bench start first, and each end of one of them lets a user of p start.
 static ROWS: &str = "\
 --compile|c|d|t8 k38 o1|C|swswswswswsw
 --compile|c1|d|t8 k27 o1|E|swswswswsw
 --compile -p 3|c|d|t8 k38 o1|C|ssswswswswww
 --compile -p 3|c1|d|t8 k27 o1|E|sswsswswww
 --compile -k|c|d|t8 k38 o1|C|swswswswswsw
---compile --clean|n|d|t8 k50 o1|C|swswswswswsw
---compile --clean|n1|d|t8 k43 o1|C|swswswswswsw
+--compile --clean|n|d|t8 k40 o1|C|swswswswswsw
+--compile --clean|n1|d|t8 k42 o1|C|swswswswswsw
 -p 1|ct|d|t8 k38 o1|CT|swswswswswswswsw
 -p 1|ct1|d|t8 k27 o1|ET|swswswswswswsw
 -p 3 -k|ct|d|t8 k38 o1|CT|ssswswswswwwssww
 -x out.xml|ct|d|t8 k38 o1 p1|CT|swswswswswswswsw|out.xml
 -p 3 -x out.xml|ct1|d|t8 k27 o1 p1|ET|sswsswswwwssww|out.xml
---clean -p 3|nt|d|t8 k50 o1|CT|ssswswswswwwssww
---clean --fail-fast -q|nt1|d|t8 k43 o1|CT|swswswswswswswsw
+--clean -p 3|nt|d|t8 k40 o1|CT|ssswswswswwwssww
+--clean --fail-fast -q|nt1|d|t8 k42 o1|CT|swswswswswswswsw
 -l||d|t8 o1|L|
 -f||d|t8 o1|F|
 --export-json out.json||d|t8 p1|||out.json

@@ -30,8 +30,8 @@ static ROWS: &str = "\
 |2-p 3 -x out.xml|0|38
 1--compile|2|34|27
 1--compile|2-p 3 -k|34|27
-1--compile|2--clean|34|43
-2|2--clean --compile -p 3|38|43
+1--compile|2--clean|34|42
+2|2--clean --compile -p 3|38|42
 2|1--compile|38|23
 1--compile;2|1--compile|61|23";
 
