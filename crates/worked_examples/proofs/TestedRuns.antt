@@ -9,7 +9,7 @@ use Rattle.vr_outside.specs.Records.{latest}
 use Rattle.run_spec.specs.ChildJournal.{EachAfter}
 use Rattle.run_spec.specs.CleanBuild.{results_after}
 use Rattle.run_spec.specs.Marks.{refused_files}
-use Rattle.run_spec.specs.Moves.{LawfulMoves, after_move, first_from, is_startable, next_start}
+use Rattle.run_spec.specs.Moves.{LawfulMoves, after_move, first_from, has_ended_well, is_startable, next_start}
 use Rattle.test_select.specs.Fits.{fits_pieces}
 use Rattle.test_select.specs.Patterns.{before_closing, first_piece, opened_set, pieces_after, pieces_of, ranges_of, set_after, set_length}
 use Rattle.test_spec.specs.BenchJobs.{bench_input, texts_bytes}
@@ -30,11 +30,11 @@ unfolding digits value_after value_byte xml_byte count_line no_tests summary_lin
 tests_said = record { text = refl; quiet = refl; failed = refl; ignored = refl; none = refl; name_value = refl; no_character = refl }
 
 pub moves_of_tests : MovesOfTests
-unfolding text_bytes all_built_bytes built_bytes name_bytes EachAfter LawfulMoves after_move first_from is_startable next_start bench_input texts_bytes configuration pairs_of escaped_byte output_path results_path run_name started_name verdicts step_at AreTestsRequested after_test after_tests test_moves
+unfolding text_bytes all_built_bytes built_bytes name_bytes EachAfter LawfulMoves after_move first_from has_ended_well is_startable next_start bench_input texts_bytes configuration pairs_of escaped_byte output_path results_path run_name started_name verdicts step_at AreTestsRequested after_test after_tests test_moves
 moves_of_tests = record { count = refl; lawful = refl; taken = refl; ended = refl; next = refl; last = refl; is_lawful = record { moves = (refl, (refl, tt)); requests = (refl, (tt, tt)); tickets = (refl, (tt, tt)) }; waits = refl; at_first = refl; second_step = refl }
 
 pub ends_of_tests : EndsOfTests
-unfolding text_bytes all_built_bytes built_bytes name_bytes below part viewed latest after_move first_from is_startable next_start bench_input texts_bytes configuration pairs_of escaped_byte output_path results_path run_name started_name verdicts after_test after_tests lent_at run_exit
+unfolding text_bytes all_built_bytes built_bytes name_bytes below part viewed latest after_move first_from has_ended_well is_startable next_start bench_input texts_bytes configuration pairs_of escaped_byte output_path results_path run_name started_name verdicts after_test after_tests lent_at run_exit
 ends_of_tests = record { verdicts_of = refl; lent = refl }
 
 pub runs_said : RunsSaid

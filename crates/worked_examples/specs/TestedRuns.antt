@@ -1,5 +1,5 @@
 -- The examples of "Runs of tests".
-use Rattle.std.specs.Prelude.{◌≡◌, ℕ, ◌∷◌, Bool, true, false, List, [], Some, None, length, map, take, codes}
+use Rattle.std.specs.Prelude.{◌≡◌, ℕ, ◌∷◌, Bool, true, false, List, [], Some, None, map, take, codes}
 use Rattle.vr_base.specs.declared.child.Event.{Event}
 use Rattle.vr_base.specs.declared.child.Event.TheVariants.{Ended, Started}
 use Rattle.vr_base.specs.declared.child.Exit.{Exit}
