@@ -47,12 +47,12 @@ def on_terminal(term, goes_away=False):
     return child.returncode, said, b"".join(got)
 
 
-def shown(done, running, title):
-    return BEGIN + EMPTY + b"[%d done, %d running] %s" % (done, running, title) + END
+def shown(done, due, title):
+    return BEGIN + EMPTY + b"[%d/%d] %s" % (done, due, title) + END
 
 
 make()
-wanted = shown(0, 1, b"lib, a.vhd") + EMPTY + shown(1, 1, b"lib, b?.vhd") + EMPTY
+wanted = shown(0, 2, b"lib, a.vhd") + EMPTY + shown(1, 2, b"lib, b?.vhd") + EMPTY
 for term in "xterm", "vt100":
     make()
     ran = on_terminal(term)
@@ -69,7 +69,7 @@ for term in "dumb", "", None:
 make("cat >/dev/null; exit 75")
 ran = on_terminal("xterm")
 lost = b"vunit_run: fault of child\r\nvunit_run: lib, a.vhd: end: its code, 75, says that it has no answer\r\n"
-if ran != (3, b"", shown(0, 1, b"lib, a.vhd") + EMPTY + lost):
+if ran != (3, b"", shown(0, 2, b"lib, a.vhd") + EMPTY + lost):
     fail("a fault on a terminal", f"it is {ran}")
 make("cat >/dev/null; sleep 0.5")
 ran = on_terminal("xterm", goes_away=True)

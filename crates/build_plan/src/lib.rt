@@ -4,4 +4,4 @@
 
 mod plans;
 
-pub use plans::{BuildPlan, Need, Needs, plan};
+pub use plans::{Need, Needs, plan};

@@ -12,8 +12,9 @@ ghost use Rattle.run_spec.specs.ChildJournal.{Work, Lawful, Answered, IsWhole, a
 ghost use Rattle.run_spec.specs.Commits.{commits};
 ghost use Rattle.run_spec.specs.Faithful.{IsTrueRecord};
 ghost use Rattle.run_spec.specs.JournalParts.{compile_part, test_part};
-ghost use Rattle.run_spec.specs.CleanBuild.{Made, built_below, clean_build, clean_request, RecordsClean};
-ghost use Rattle.run_spec.specs.Settled.{artefact_settled, request_unless};
+ghost use Rattle.vr_base.specs.Jobs.{compile_request};
+ghost use Rattle.run_spec.specs.CleanBuild.{Made, built_below, is_free, clean_build, clean_request, RecordsClean};
+ghost use Rattle.run_spec.specs.Settled.{Blocked, settle, settled_by, artefact_settled, request_unless};
 ghost use Rattle.run_spec.specs.Marks.{marks_of, steady_marks, is_refused, NoRefusalHalts};
 
 /// What lawful journals of builds ask for and make, by what the settled build does; and where what is recorded is what a
@@ -74,6 +75,15 @@ pub fn laws_of_journals()
         request_unless answer setting.graph setting.current position
         ≡ (if is_some (setting.current position below) then None
         else clean_request answer setting.graph position) }
+    // what becomes of a file follows from what a clean build makes below it,
+    ensures clean_settled { (answer : Request → Exit) (setting : Work) → IsGraph setting.graph →
+        RecordsClean answer setting.graph setting.current → (position : ℕ) (entry : Entry) →
+        slice_get setting.graph position ≡ Some entry →
+        let clean = clean_build answer setting.graph in
+        let below = built_below clean entry in
+        settle answer setting.graph setting.current position
+        ≡ (if is_free clean entry then settled_by (setting.current position below)
+        (Some (answer (compile_request entry below))) else Blocked) }
     // what the settled build makes of a file is what a clean build makes of it,
     ensures clean_made { (answer : Request → Exit) (setting : Work) → IsGraph setting.graph →
         RecordsClean answer setting.graph setting.current →

@@ -13,33 +13,20 @@ use Rattle.vr_base.specs.PresentGraph.{below}
 use Rattle.run_spec.specs.declared.marks.Mark.{Mark}
 use Rattle.vr_base.proofs.Below.{map-below_is}
 use Rattle.vr_outside.specs.declared.records.Record.{Record}
-use Rattle.vr_outside.specs.declared.records.Need as records
-use Rattle.vr_outside.specs.declared.records.Need.TheVariants as recorded
-use Rattle.vr_outside.specs.Records.{AreNeeds, deps_at}
+use Rattle.vr_outside.specs.Records.{IsRecorded, deps_at}
 use Rattle.build_plan.specs.declared.plans.Need.{Need}
 use Rattle.build_plan.specs.declared.plans.Need.TheVariants.{Fresh, Stale, Later}
-use Rattle.build_plan.specs.Plans.{is_fresh, is_later, need_at, recorded_need, is_recorded_at, ArePlanned}
+use Rattle.build_plan.specs.Plans.{is_fresh, is_later, need_at, ArePlanned}
 use Rattle.run_spec.specs.ChildJournal.{Work, job_of, or_else, has_all, output_at, exit_at, artefact_by, artefact_so_far}
 use Rattle.run_spec.specs.Marks.{mark_of, mark_at}
 use Rattle.run_spec.specs.Recorded.{recorded_at}
 use Rattle.run_spec.specs.Commits.{work_of}
 use Rattle.run_spec.proofs.Artefacts.{deps_before, artefact_free, stepwise}
-use Rattle.run_spec.proofs.RecordedArtefacts.{recorded_of_record, none_recorded}
+use Rattle.compile_loop.proofs.Lent.{item_at}
+use Rattle.compile_loop.proofs.Unchecked.{fits_as}
 use Rattle.slot_machine.specs.declared.slots.Slots.{Slots}
 use Rattle.slot_machine.specs.Machines.{IsJobOf, is_checked}
 use Rattle.compile_loop.specs.Marks.{waiting_mark, first_mark, known_mark, known_marks}
-
-stale_fresh : recorded.Stale ≡ recorded.Fresh → ⊥
-stale_fresh h = cc
-
--- the store's answer for a file says whether it has a record of its present view
-pub recorded_same : (latest_of : FileName → Option Record) (graph : List Entry) (needs : List records.Need) → AreNeeds latest_of graph needs → (at : ℕ) → at < length graph → is_recorded_at needs at ≡ is_some (recorded_at latest_of graph at)
-recorded_same latest_of graph needs are at lt = by_need (get_or needs at recorded.Stale) refl
-  where
-    by_need : (need : records.Need) → get_or needs at recorded.Stale ≡ need → recorded_need need ≡ is_some (recorded_at latest_of graph at)
-    by_need recorded.Fresh is = sym (ap is_some (recorded_of_record latest_of graph at ((are.fresh at recorded.Stale lt).0 is)))
-    by_need recorded.Stale is =
-        sym (ap is_some ((none_recorded latest_of graph at).1 (λ kept. stale_fresh (sym is ∙ (are.fresh at recorded.Stale lt).1 kept))))
 
 nothing_ended : (at : ℕ) → output_at [] at ≡ None
 unfolding output_at
@@ -69,8 +56,8 @@ list_all_then p q end then (x ∷ xs) below h =
     let parts = and_parts (p x) (list_all p xs) h in
     ap (λ (b : Bool). b && list_all q xs) (then x (All-head (λ y. y < end) x xs below) parts.0) ∙ list_all_then p q end then xs (All-tail (λ y. y < end) x xs below) parts.1
 
-module _ (latest_of : FileName → Option Record) (graph : List Entry) (is : IsGraph graph) (recorded_needs : List records.Need) (are : AreNeeds latest_of graph recorded_needs) (needs : List Need)
-    (plan : ArePlanned graph (is_recorded_at recorded_needs) needs) (slots : ℕ) (keep_going : Bool) where
+module _ (latest_of : FileName → Option Record) (graph : List Entry) (is : IsGraph graph) (needs : List Need)
+    (plan : ArePlanned graph (IsRecorded latest_of graph) needs) (slots : ℕ) (keep_going : Bool) where
   abbrev s : Work
   s = work_of latest_of graph slots keep_going
 
@@ -87,8 +74,9 @@ module _ (latest_of : FileName → Option Record) (graph : List Entry) (is : IsG
 
   made_free : (at : ℕ) → at < length graph → has_all (artefact_by s []) (deps_at graph at) ≡ true → is_later (need_at needs at) ≡ false → is_some (artefact_by s [] at) ≡ is_fresh (need_at needs at)
   made_free at lt all sure =
+      let entry = item_at graph at lt in
       ap is_some (artefact_free s ordered [] at lt all ∙ ap (or_else (recorded_at latest_of graph at)) (nothing_ended at) ∙ or_nothing (recorded_at latest_of graph at))
-      ∙ sym (recorded_same latest_of graph recorded_needs are at lt) ∙ sym (plan.fresh at lt sure)
+      ∙ sym (fits_as latest_of latest_of graph at entry.0 entry.1 refl (is_fresh (need_at needs at)) (plan.fresh at lt sure))
 
   made_to : (end : ℕ) (k : ℕ) → k < end → k < length graph → is_fresh (need_at needs k) ≡ true → is_some (artefact_by s [] k) ≡ true
   made_to zero k less lt h = absurd (omega (arith, less))

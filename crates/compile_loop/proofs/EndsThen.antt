@@ -87,7 +87,7 @@ module _ (told : Type 0) (records_of : Image → List Record) (graph : List Entr
         record {
           acknowledged = acknowledged;
           under_way = ended_under_way graph from events acknowledged state is ticket at exit there inside runs greedy (Refused exit.code exit.output)
-              (sym (cond-false (eqb exit.code 0) Compiled (Refused exit.code exit.output) code)) acknowledged machine' state.noted state.latest_of state.broken here checked ready (λ n. stopped ∙ is.goes_on n) (λ n. (n, is.usable n)) in_step
+              (sym (cond-false (eqb exit.code 0) Compiled (Refused exit.code exit.output) code)) acknowledged machine' state.noted state.latest_of state.broken here checked ready (stopped ∙ is.halts) (λ n. (n, is.usable n)) in_step
               (acknowledges_left s events all from.latest_of state.latest_of acknowledged is.committed ended [] all tt none (λ on. (on, refl)))
               (first_kept s events acknowledged state.broken state.noted ended is.comes_first);
           images = λ t. subst (λ (l : List Record). HoldsFirst acknowledged state.broken l records_of from.moments moments) (sym (none ∙ append-nil (commits s events))) (holds t);
@@ -107,7 +107,7 @@ module _ (told : Type 0) (records_of : Image → List Record) (graph : List Entr
       takes_uncommitted off = record {
         acknowledged = acknowledged;
         under_way = ended_under_way graph from events acknowledged state is ticket at exit there inside runs greedy Compiled compiled_is
-            acknowledged machine' state.noted state.latest_of state.broken here checked ready (λ n. stopped ∙ is.goes_on n) (λ n. (n, is.usable n)) in_step
+            acknowledged machine' state.noted state.latest_of state.broken here checked ready (stopped ∙ is.halts) (λ n. (n, is.usable n)) in_step
             (acknowledges_left s events all from.latest_of state.latest_of acknowledged is.committed ended (one ∷ []) all tt commits_one_more (λ on. no_both (sym off ∙ on)))
             (first_kept s events acknowledged state.broken state.noted ended is.comes_first);
         images = λ t. subst (λ (l : List Record). HoldsFirst acknowledged state.broken l records_of from.moments moments) (sym commits_one_more)
@@ -116,7 +116,7 @@ module _ (told : Type 0) (records_of : Image → List Record) (graph : List Entr
 
       pub takes_commit : all ≡ true → (ok : Bool) (machine'' : Slots) (noted' : Option BuildFault) (later : FileName → Option Record) (broken' : Bool) (last : Moments) →
           (noted' ≡ None → (state.noted ≡ None) × (broken' ≡ false)) → (is_all_committed noted' broken' ≡ true → ok ≡ true) →
-          ((k : ℕ) → is_checked machine'' k ≡ is_checked machine' k) → (noted' ≡ None → is_stopped_in machine'' ≡ false) →
+          ((k : ℕ) → is_checked machine'' k ≡ is_checked machine' k) → is_stopped_in machine'' ≡ is_some noted' →
           ((job : Job) (c : Core) → IsMachineOf machine' job (halted_if (is_some state.noted) c) → IsMachineOf machine'' job (halted_if (is_some noted') c)) →
           ((name : FileName) → later name ≡ latest_after (take (one_if ok) (one ∷ [])) state.latest_of name) → (told → HoldsFirst (one_if ok) broken' (one ∷ []) records_of moments last) →
           ComesFirst noted' s (events ++ ended ∷ []) (acknowledged + one_if ok) broken' → TakesEnd told records_of graph from (events ++ ended ∷ []) (record { machine = machine''; marks = set state.marks at Compiled; noted = noted'; latest_of = later; broken = broken' }) last

@@ -3,6 +3,7 @@ pub mod Latest
 mod Orderly
 mod MarksThen
 mod RecordsThen
+mod Unchecked
 mod EventsThen
 mod Lent
 mod Acknowledging

@@ -1,6 +1,6 @@
 -- A build that is under way, and one event more.
 use Rattle.std.proofs.Common.{◌≡◌, ℕ, ◌<◌, ◌≤◌, Bool, true, false, not, ◌||◌, eqb, cond, List, map, [], ◌∷◌, ◌++◌, length, get_or, Option, Some, None, Err, refl, sym, ap, subst, ◌∙◌, arith, inl, inr}
-use Rattle.std.specs.Prelude.{All, is_some, unwrap_or}
+use Rattle.std.specs.Prelude.{◌↔◌, All, IsTrue, is_some, slice_get, unwrap_or}
 use Rattle.std.specs.Option.{option_and_then}
 use Rattle.std.specs.Bool.{OnTrue}
 use Rattle.std.specs.List.{list_all, list_any}
@@ -50,6 +50,7 @@ use Rattle.clean_laws.proofs.JournalSettled.{map-below_same}
 use Rattle.compile_loop.proofs.Lent.{item_at, All-from_test, made_recorded, request_is}
 use Rattle.compile_loop.proofs.MarksThen.{mark_of_exit, marks_then, marks_same, mark_checked, marks_fresh, marks_stale}
 use Rattle.compile_loop.proofs.RecordsThen.{commits_then, records_then}
+use Rattle.compile_loop.proofs.Unchecked.{uncommitted, fits_as}
 use Rattle.compile_loop.proofs.Acknowledging.{knows_all, all_few, acknowledges_left}
 use Rattle.compile_loop.proofs.FirstFaults.{first_of_none, first_lost}
 
@@ -192,12 +193,16 @@ module _ (graph : List Entry) (from : Origin) (events : List Event) (acknowledge
         none_lost = λ none. none_lost_then s events event (is.none_lost none) refl;
         usable = is.usable;
         in_step = machine_then s events machine' (is_some state.noted) event (Starts at ticket) move_is step;
-        goes_on = λ none. stopped ∙ is.goes_on none;
+        halts = stopped ∙ is.halts;
         marked = is.marked ∙ marks_same s book.ends state.machine machine' checked ∙ ap (λ (ends : List End). known_marks s ends machine') (sym ends_same);
         recorded = subst (HasRecords graph from) (sym ends_same) is.recorded;
         committed = acknowledges_left s events all from.latest_of state.latest_of acknowledged is.committed event [] all in_time (commits_started ∙ sym (append-nil (commits s events))) (λ on. (on, refl));
         comes_first = first_of_none s (events ++ event ∷ []) acknowledged state.broken state.noted nothing_noted;
       }
+
+  -- what a file depends on that is checked is recorded
+  pub check_recorded : state.noted ≡ None → (at : ℕ) → at < length graph → list_all (is_made_so_far (job_of s) core) (deps_at graph at) ≡ true → All (IsRecorded state.latest_of graph) (deps_at graph at)
+  check_recorded going at inside made = recorded_deps (all_while state.noted state.broken going is.usable) at inside made
 
   -- a file is checked that wasn't started and has all that it depends on
   module _ (at : ℕ) (inside : at < length graph) (untaken : is_taken core at ≡ false) (made : list_all (is_made_so_far (job_of s) core) (deps_at graph at) ≡ true) where
@@ -215,6 +220,18 @@ module _ (graph : List Entry) (from : Origin) (events : List Event) (acknowledge
         some_or None = refl
         some_or (Some x) = refl
 
+    module _ (entry : Entry) (found : slice_get graph at ≡ Some entry) (going : state.noted ≡ None) where
+      -- its latest record is still the one from before the build
+      pub latest_still : state.latest_of entry.name ≡ from.latest_of entry.name
+      latest_still =
+          knows (all_while state.noted state.broken going is.usable) entry.name ∙ uncommitted graph is.is_graph at entry found book.ends from.latest_of no_end_here
+
+    -- so that it fits exactly where it did then
+    pub still_recorded : state.noted ≡ None → (fits : Bool) → (IsTrue fits ↔ IsRecorded state.latest_of graph at) → fits ≡ is_some (recorded_at from.latest_of graph at)
+    still_recorded going fits says =
+        let entry = item_at graph at inside in
+        fits_as from.latest_of state.latest_of graph at entry.0 entry.1 (latest_still entry.0 entry.1 going) fits says
+
     pub checked_under_way : (machine' : Slots) (fresh : Bool) (marks' : List Mark) → fresh ≡ is_some (recorded_at from.latest_of graph at) → is_checked state.machine at ≡ false → ((k : ℕ) → is_checked machine' k ≡ (is_checked state.machine k || eqb at k))
         → is_stopped_in machine' ≡ is_stopped_in state.machine → marks' ≡ cond fresh (set state.marks at Fresh) state.marks → IsMachineOf machine' (job_of s) (halted_if (is_some state.noted) core)
         → IsUnderWay graph from events acknowledged (record { machine = machine'; marks = marks'; noted = state.noted; latest_of = state.latest_of; broken = state.broken })
@@ -226,7 +243,7 @@ module _ (graph : List Entry) (from : Origin) (events : List Event) (acknowledge
       none_lost = is.none_lost;
       usable = is.usable;
       in_step = step;
-      goes_on = λ none. stopped ∙ is.goes_on none;
+      halts = stopped ∙ is.halts;
       marked = changed ∙ marked_by fresh refl;
       recorded = is.recorded;
       committed = is.committed;
@@ -259,9 +276,9 @@ module _ (graph : List Entry) (from : Origin) (events : List Event) (acknowledge
       ]
 
   -- a fault halts it
-  pub halted_under_way : (machine' : Slots) (fault : BuildFault) → ((k : ℕ) → is_checked machine' k ≡ is_checked state.machine k) → IsMachineOf machine' (job_of s) (halted_if true core) → (is_all_committed (Some fault) state.broken ≡ true → all ≡ true) → ComesFirst (Some fault) s events acknowledged state.broken →
+  pub halted_under_way : (machine' : Slots) (fault : BuildFault) → ((k : ℕ) → is_checked machine' k ≡ is_checked state.machine k) → is_stopped_in machine' ≡ true → IsMachineOf machine' (job_of s) (halted_if true core) → (is_all_committed (Some fault) state.broken ≡ true → all ≡ true) → ComesFirst (Some fault) s events acknowledged state.broken →
       IsUnderWay graph from events acknowledged (with_machine machine' (Some fault) state)
-  halted_under_way machine' fault checked step still first = record {
+  halted_under_way machine' fault checked stopped step still first = record {
     is_graph = is.is_graph;
     moves = is.moves;
     requests = is.requests;
@@ -269,7 +286,7 @@ module _ (graph : List Entry) (from : Origin) (events : List Event) (acknowledge
     none_lost = not_noted fault;
     usable = not_noted fault;
     in_step = step;
-    goes_on = not_noted fault;
+    halts = stopped;
     marked = is.marked ∙ marks_same s book.ends state.machine machine' checked;
     recorded = is.recorded;
     committed = record {
@@ -285,9 +302,9 @@ module _ (graph : List Entry) (from : Origin) (events : List Event) (acknowledge
     weaker_all false h = tt
 
   -- the end of a child is lost
-  pub lost_under_way : (ticket : ℕ) (machine' : Slots) (fault : BuildFault) → ((k : ℕ) → is_checked machine' k ≡ is_checked state.machine k) → is_of_disk fault ≡ false → is_running core ticket ≡ true → IsMachineOf machine' (job_of s) (after_move (job_of s) (halted_if (is_some state.noted) core) (Loses ticket)) →
+  pub lost_under_way : (ticket : ℕ) (machine' : Slots) (fault : BuildFault) → ((k : ℕ) → is_checked machine' k ≡ is_checked state.machine k) → is_stopped_in machine' ≡ true → is_of_disk fault ≡ false → is_running core ticket ≡ true → IsMachineOf machine' (job_of s) (after_move (job_of s) (halted_if (is_some state.noted) core) (Loses ticket)) →
       IsUnderWay graph from (events ++ Gone ticket ∷ []) acknowledged (with_machine machine' (Some (noted_with state.noted fault)) state)
-  lost_under_way ticket machine' why checked kind runs step =
+  lost_under_way ticket machine' why checked stopped kind runs step =
       let fault : BuildFault = noted_with state.noted why in
       let still : is_all_committed (Some fault) state.broken ≡ true → all ≡ true = still_all state.noted why state.broken in
       let same : (book_of s (events ++ Gone ticket ∷ [])).ends ≡ book.ends = ends_gone s events ticket in
@@ -299,7 +316,7 @@ module _ (graph : List Entry) (from : Origin) (events : List Event) (acknowledge
         none_lost = not_noted fault;
         usable = not_noted fault;
         in_step = machine_lost s events machine' (is_some state.noted) true ticket step;
-        goes_on = not_noted fault;
+        halts = stopped;
         marked = is.marked ∙ marks_same s book.ends state.machine machine' checked ∙ ap (λ (ends : List End). known_marks s ends machine') (sym same);
         recorded = subst (HasRecords graph from) (sym same) is.recorded;
         committed = acknowledges_left s events all from.latest_of state.latest_of acknowledged is.committed (Gone ticket) [] (is_all_committed (Some fault) state.broken) tt (ap (commits_of graph) same ∙ sym (append-nil (commits s events))) (λ on. (still on, refl));
@@ -382,7 +399,7 @@ module _ (graph : List Entry) (from : Origin) (events : List Event) (acknowledge
     -- after its end
     pub ended_under_way : (runs : is_running core ticket ≡ true) (greedy : start_now (job_of s) (halted_if (is_some state.noted) core) ≡ None) (mark : Mark) → mark ≡ mark_of_exit exit →
         (acknowledged' : ℕ) (machine' : Slots) (noted' : Option BuildFault) (later : FileName → Option Record) (broken' : Bool) → is_checked state.machine at ≡ true → ((k : ℕ) → is_checked machine' k ≡ is_checked state.machine k) →
-        ((k : ℕ) → k < length graph → is_checked state.machine k ≡ true → list_all (is_made_so_far (job_of s) core) (deps_at graph k) ≡ true) → (noted' ≡ None → is_stopped_in machine' ≡ false) →
+        ((k : ℕ) → k < length graph → is_checked state.machine k ≡ true → list_all (is_made_so_far (job_of s) core) (deps_at graph k) ≡ true) → is_stopped_in machine' ≡ is_some noted' →
         (noted' ≡ None → (state.noted ≡ None) × (broken' ≡ false)) →
         IsMachineOf machine' (job_of s) (halted_if (is_some noted') (core_of (book_of s (events ++ ended ∷ [])))) →
         Acknowledges s (events ++ ended ∷ []) (is_all_committed noted' broken') from.latest_of later acknowledged' → ComesFirst noted' s (events ++ ended ∷ []) acknowledged' broken' →
@@ -395,7 +412,7 @@ module _ (graph : List Entry) (from : Origin) (events : List Event) (acknowledge
       none_lost = λ n. none_lost_then s events ended (is.none_lost (none n).0) refl;
       usable = λ n. (none n).1;
       in_step = step;
-      goes_on = on;
+      halts = on;
       marked = marks_ended machine' here checked ready mark mark_is;
       recorded = records_ended;
       committed = committed;

@@ -65,8 +65,8 @@ HasRecords graph from ends =
     latest_after (commits_of graph ends) from.latest_of entry.name ≡ Some (record_at graph position artefact)
 
 -- What holds after these events, whatever objects tell: they are lawful moves with their requests, the machine is that of
--- what has happened and the marks are what is known of it, the first so many commits are acknowledged, the fault that is
--- noted came first, and while none is noted no end was waited for too early and none is lost.
+-- what has happened and has stopped once a fault is noted, the marks are what is known of it, the first so many commits are
+-- acknowledged, the fault that is noted came first, and while none is noted no end was waited for too early and none is lost.
 pub record IsUnderWay (graph : List Entry) (from : Origin) (events : List Event) (acknowledged : ℕ) (state : BuildState) : Type 0 where
   pub is_graph : IsGraph graph
   pub moves : LawfulMoves (job_of (work_from graph from)) empty_core (moves_of (work_from graph from) events)
@@ -75,7 +75,7 @@ pub record IsUnderWay (graph : List Entry) (from : Origin) (events : List Event)
   pub none_lost : state.noted ≡ None → list_any is_gone events ≡ false
   pub usable : state.noted ≡ None → state.broken ≡ false
   pub in_step : IsMachineOf state.machine (job_of (work_from graph from)) (halted_if (is_some state.noted) (core_of (book_of (work_from graph from) events)))
-  pub goes_on : state.noted ≡ None → is_stopped_in state.machine ≡ false
+  pub halts : is_stopped_in state.machine ≡ is_some state.noted
   pub marked : state.marks ≡ known_marks (work_from graph from) (book_of (work_from graph from) events).ends state.machine
   pub recorded : HasRecords graph from (book_of (work_from graph from) events).ends
   pub committed : Acknowledges (work_from graph from) events (is_all_committed state.noted state.broken) from.latest_of state.latest_of acknowledged

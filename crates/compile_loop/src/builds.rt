@@ -7,9 +7,8 @@ ghost use Rattle.std.specs.List.{filter_map, list_all};
 ghost use Rattle.vr_base.specs.Graphs.{IsGraph};
 ghost use Rattle.vr_base.specs.PresentGraph.{below};
 ghost use Rattle.run_spec.specs.declared.marks.Mark.{Mark};
-ghost use Rattle.vr_outside.specs.Records.{AreNeeds, IsRecorded};
+ghost use Rattle.vr_outside.specs.Records.{IsRecorded};
 ghost use Rattle.run_spec.specs.Moves.{Job, empty_core};
-ghost use Rattle.build_plan.specs.Plans.{is_recorded_at};
 ghost use Rattle.slot_machine.specs.Machines.{IsJobOf, IsMachineOf, is_stopped_in, tickets_of, files_of};
 ghost use Rattle.run_spec.specs.Marks.{marks_of};
 ghost use Rattle.run_spec.specs.ChildJournal.{job_of};
@@ -22,7 +21,7 @@ ghost use Rattle.compile_loop.specs.Ran.{BuildRan, SaysEnd, is_made};
 use crate::checks::check_one;
 use crate::ends::end_one;
 use crate::faults::BuildFault;
-use crate::marks::{are_made, first_marks};
+use crate::marks::{are_made, due_files, first_marks};
 use crate::requests::built_files;
 use crate::starts::start_one;
 use build_plan::plan;
@@ -31,7 +30,7 @@ use run_spec::{Mark, MarkList};
 use slot_machine::{BuildStep, Slots};
 use std::alloc::Global;
 use vr_base::{Built, FILE_LIMIT, Graph, Items, NoMemory, SLOT_LIMIT};
-use vr_outside::{Disk, Needs, Procs, Records};
+use vr_outside::{Disk, Procs, Records};
 
 /// How a build ended that no fault ended.
 #[derive(Drop)]
@@ -47,8 +46,8 @@ pub struct BuildEnd {
 struct Begun {
     slots: Slots,
     marks: Vec<Mark>,
-    /// Whether the store has a record of the present view of each file.
-    recorded: Needs,
+    /// How many files are stale, or checked later.
+    due: u64,
 }
 
 /// The machine of a build and the marks of its files, where nothing has happened yet.
@@ -56,10 +55,12 @@ fn begin<K: Records>(
     alloc: Global,
     graph: &Graph,
     store: &K,
+    seats: &K::Seats,
     limit: u32,
     keep_going: bool,
 ) -> Result<Begun, NoMemory>
-    requires { (1 ≤ limit) × (limit ≤ SLOT_LIMIT) }
+    requires limit { (1 ≤ limit) × (limit ≤ SLOT_LIMIT) }
+    requires seated { K.is_seated store.now graph.now seats.now }
     ensures graph { IfOk result (λ begun. IsGraph graph.now) }
     ensures files { IfOk result (λ begun. files_of begun.slots ≡ length graph.now) }
     ensures tickets { IfOk result (λ begun. tickets_of begun.slots ≡ []) }
@@ -68,18 +69,102 @@ fn begin<K: Records>(
     ensures marked { let setting = work_of (K.latest_of store.now) graph.now limit keep_going in
         IfOk result (λ begun. begun.marks.items ≡ known_marks setting [] begun.slots) }
     ensures stopped { IfOk result (λ begun. is_stopped_in begun.slots ≡ false) }
-    ensures recorded { IfOk result (λ begun.
-        AreNeeds (K.latest_of store.now) graph.now begun.recorded) }
 {
     prove!(graph.len() <= FILE_LIMIT as u64);
-    let plan = plan(alloc, graph, store)?;
-    let slots = Slots::new(alloc, graph, &plan, limit, keep_going)?;
-    let marks = first_marks(alloc, plan.needs.as_slice(), keep_going)?;
-    Ok(Begun {
-        slots,
-        marks,
-        recorded: plan.recorded,
-    })
+    let plan = plan(alloc, graph, store, seats)?;
+    let slots = Slots::new(alloc, graph, plan.as_slice(), limit, keep_going)?;
+    let marks = first_marks(alloc, plan.as_slice(), keep_going)?;
+    let due = due_files(plan.as_slice());
+    Ok(Begun { slots, marks, due })
+}
+
+/// The same over the seats of the files in the store.
+fn build_seated<K: Records, D: Disk, P: Procs>(
+    alloc: Global,
+    graph: &Graph,
+    store: &mut K,
+    disk: &mut D,
+    procs: &mut P,
+    seats: &K::Seats,
+    limit: u32,
+    keep_going: bool,
+) -> Result<MarkList, BuildFault>
+    requires limit { (1 ≤ limit) × (limit ≤ SLOT_LIMIT) }
+    requires seated { K.is_seated store.old graph.now seats.now }
+    requires idle { P.running procs.old ≡ [] }
+    requires usable { K.broken store.old ≡ false }
+    requires in_step { D.tells → K.in_step store.old (D.moments disk.old).now }
+    ensures running { P.running procs.new ≡ [] }
+    ensures same { P.answer procs.new ≡ P.answer procs.old }
+    ensures count { IfOk result (λ marks. length marks ≡ length graph.now) }
+    ensures ran { let setting = work_of (K.latest_of store.old) graph.now limit keep_going in
+        BuildRan P.tells D.tells (P.answer procs.old) K.records_of setting
+        (record {
+          latest_of = K.latest_of store.old;
+          journal = P.journal procs.old;
+          moments = D.moments disk.old;
+        })
+        (record {
+          latest_of = K.latest_of store.new;
+          journal = P.journal procs.new;
+          moments = D.moments disk.new;
+        })
+        (record { ended = is_ok result; fault = fault_of result; broken = K.broken store.new })
+        (λ events. IfOk result (λ marks. marks ≡ marks_of setting events)) }
+    // Of each file that is fresh or compiled the store has a record of its present view.
+    ensures recorded { IfOk result (λ marks. (position : ℕ) (mark : Mark) →
+        slice_get marks position ≡ Some mark → is_made mark ≡ true →
+        IsRecorded (K.latest_of store.new) graph.now position) }
+    ensures in_step { D.tells →
+        OnFalse (K.broken store.new) (K.in_step store.new (D.moments disk.new).now) }
+    ensures usable { OnOk result (K.broken store.new ≡ false) }
+    ensures counts { CountsBy (fault_of result) (K.broken store.new)
+        (record {
+          starts = P.failed_starts procs.old;
+          losses = P.lost_children procs.old;
+          disks = D.failed_disk_calls disk.old;
+        })
+        (record {
+          starts = P.failed_starts procs.new;
+          losses = P.lost_children procs.new;
+          disks = D.failed_disk_calls disk.new;
+        }) }
+{
+    let Ok(
+        Begun {
+            mut slots,
+            mut marks,
+            due,
+        },
+    ) = begin(alloc, graph, store, seats, limit, keep_going)
+    else {
+        return Err(BuildFault::NoMemory);
+    };
+    procs.expects(due);
+    let mut noted = None;
+    loop {
+        match slots.next() {
+            BuildStep::Check(at) => {
+                let fresh = check_one(graph, at, store, seats, &mut slots, &mut marks);
+                if fresh {
+                    procs.spares();
+                }
+            }
+            BuildStep::Run(Step::Start(at)) => {
+                start_one(
+                    alloc, graph, at, store, seats, &mut slots, &mut noted, procs,
+                )
+            }
+            BuildStep::Run(Step::Wait) => end_one(
+                alloc, graph, &mut slots, &mut marks, &mut noted, store, seats, disk, procs,
+            ),
+            BuildStep::Run(Step::Finished) => break,
+        }
+    }
+    match noted {
+        None => Ok(Items::from_vec(marks)),
+        Some(fault) => Err(fault),
+    }
 }
 
 /// Builds the graph over a store of records, and gives one mark for each file: a file whose record is current over
@@ -137,32 +222,9 @@ pub fn build_marks<K: Records, D: Disk, P: Procs>(
           disks = D.failed_disk_calls disk.new;
         }) }
 {
-    let Ok(
-        Begun {
-            mut slots,
-            mut marks,
-            recorded,
-        },
-    ) = begin(alloc, graph, store, limit, keep_going)
-    else {
-        return Err(BuildFault::NoMemory);
-    };
-    let mut noted = None;
-    loop {
-        match slots.next() {
-            BuildStep::Check(at) => check_one(at, recorded.as_slice(), &mut slots, &mut marks),
-            BuildStep::Run(Step::Start(at)) => {
-                start_one(alloc, graph, at, store, &mut slots, &mut noted, procs)
-            }
-            BuildStep::Run(Step::Wait) => end_one(
-                alloc, graph, &mut slots, &mut marks, &mut noted, store, disk, procs,
-            ),
-            BuildStep::Run(Step::Finished) => break,
-        }
-    }
-    match noted {
-        None => Ok(Items::from_vec(marks)),
-        Some(fault) => Err(fault),
+    match store.seats(alloc, graph) {
+        Ok(seats) => build_seated(alloc, graph, store, disk, procs, &seats, limit, keep_going),
+        Err(NoMemory) => Err(BuildFault::NoMemory),
     }
 }
 

@@ -1,9 +1,10 @@
 //! The way of an artefact into the store.
 
-ghost use Rattle.std.specs.Prelude.{◌≡◌, ◌<◌, ◌≤◌, ◌∷◌, [], false, true, take, length, All};
+ghost use Rattle.std.specs.Prelude.{◌≡◌, ◌<◌, ◌≤◌, ◌∷◌, [], false, true, take, List, length, All};
 ghost use Rattle.std.specs.Bool.{OnFalse};
 ghost use Rattle.std.specs.Result.{is_ok};
 ghost use Rattle.vr_base.specs.declared.file.FileName.{FileName};
+ghost use Rattle.vr_base.specs.declared.graph.Entry.{Entry};
 ghost use Rattle.vr_outside.specs.Records.{IsRecorded, deps_at};
 ghost use Rattle.vr_outside.specs.Commits.{one_if};
 ghost use Rattle.run_spec.specs.Commits.{record_at};
@@ -33,6 +34,8 @@ fn commit_ready<K: Records, D: Disk>(
         (D.moments disk.new) }
     ensures in_step { D.tells →
         OnFalse (K.broken store.new) (K.in_step store.new (D.moments disk.new).now) }
+    ensures seats { (graph : List Entry) (seats : K.Seats) →
+        K.is_seated store.old graph seats → K.is_seated store.new graph seats }
     ensures broken { K.broken store.new ≡ is_disk_failed result }
     ensures cause { CountsCommit result (D.failed_disk_calls disk.old)
         (D.failed_disk_calls disk.new) }
@@ -50,9 +53,11 @@ pub(crate) fn commit_made<K: Records, D: Disk>(
     at: u32,
     artefact: &Text,
     store: &mut K,
+    seats: &K::Seats,
     disk: &mut D,
 ) -> Result<(), BuildFault>
     requires position { at < length graph.now }
+    requires seated { K.is_seated store.old graph.now seats.now }
     requires artefact { length artefact.now ≤ ARTEFACT_LIMIT }
     requires recorded { All (IsRecorded (K.latest_of store.old) graph.now) (deps_at graph.now at) }
     requires usable { K.broken store.old ≡ false }
@@ -66,11 +71,12 @@ pub(crate) fn commit_made<K: Records, D: Disk>(
         (D.moments disk.old) (D.moments disk.new) }
     ensures in_step { D.tells →
         OnFalse (K.broken store.new) (K.in_step store.new (D.moments disk.new).now) }
+    ensures seated { K.is_seated store.new graph.now seats.now }
     ensures broken { K.broken store.new ≡ is_disk_failed result }
     ensures cause { CountsCommit result (D.failed_disk_calls disk.old)
         (D.failed_disk_calls disk.new) }
 {
-    match store.prepare(alloc, graph, at, artefact) {
+    match store.prepare(alloc, seats, graph, at, artefact) {
         Ok(prepared) => commit_ready(store, disk, prepared),
         Err(NoMemory) => Err(BuildFault::NoMemory),
     }

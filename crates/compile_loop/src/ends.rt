@@ -86,8 +86,10 @@ fn take_exit<K: Records, D: Disk>(
     marks: &mut Vec<Mark>,
     noted: &mut Option<BuildFault>,
     store: &mut K,
+    seats: &K::Seats,
     disk: &mut D,
 )
+    requires seated { K.is_seated store.old graph.now seats.now }
     requires runs { Contains (tickets_of slots.old) ticket }
     requires step { next_of slots.old ≡ Run Wait }
     requires size { FitsExit exit }
@@ -107,6 +109,7 @@ fn take_exit<K: Records, D: Disk>(
     ensures nearer { to_come slots.new < to_come slots.old }
     ensures in_step { D.tells →
         OnFalse (K.broken store.new) (K.in_step store.new (D.moments disk.new).now) }
+    ensures seated { K.is_seated store.new graph.now seats.now }
     ensures runs { (job : Job) (core : Core) → IsMachineOf slots.old job core →
         IsTrue (is_running core ticket) }
     ensures goes { (from : Origin) (events : List Event) (acknowledged : ℕ) →
@@ -156,7 +159,7 @@ fn take_exit<K: Records, D: Disk>(
     if !is_committing(*noted, store.is_broken()) {
         return;
     }
-    match commit_made(alloc, graph, at, &output, store, disk) {
+    match commit_made(alloc, graph, at, &output, store, seats, disk) {
         Ok(()) => {}
         Err(fault) => halt(slots, noted, fault),
     }
@@ -170,9 +173,11 @@ pub(crate) fn end_one<K: Records, D: Disk, P: Procs>(
     marks: &mut Vec<Mark>,
     noted: &mut Option<BuildFault>,
     store: &mut K,
+    seats: &K::Seats,
     disk: &mut D,
     procs: &mut P,
 )
+    requires seated { K.is_seated store.old graph.now seats.now }
     requires running { P.running procs.old ≡ tickets_of slots.old }
     requires some { 0 < length (tickets_of slots.old) }
     requires step { next_of slots.old ≡ Run Wait }
@@ -193,6 +198,7 @@ pub(crate) fn end_one<K: Records, D: Disk, P: Procs>(
     ensures nearer { to_come slots.new < to_come slots.old }
     ensures in_step { D.tells →
         OnFalse (K.broken store.new) (K.in_step store.new (D.moments disk.new).now) }
+    ensures seated { K.is_seated store.new graph.now seats.now }
     ensures goes { (from : Origin) →
         let before : BuildState = record {
           machine = slots.old;
@@ -228,7 +234,9 @@ pub(crate) fn end_one<K: Records, D: Disk, P: Procs>(
 {
     match procs.wait_any(alloc) {
         Ok(Ended { ticket, exit }) => {
-            take_exit(alloc, graph, ticket, exit, slots, marks, noted, store, disk)
+            take_exit(
+                alloc, graph, ticket, exit, slots, marks, noted, store, seats, disk,
+            )
         }
         Err(fault) => lose_by(slots, noted, fault),
     }

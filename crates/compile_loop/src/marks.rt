@@ -1,7 +1,8 @@
 //! The marks of files before any child has ended.
 
-ghost use Rattle.std.specs.Prelude.{◌≡◌, map, length, IfOk};
+ghost use Rattle.std.specs.Prelude.{◌≡◌, map, not, count_by, length, IfOk};
 ghost use Rattle.std.specs.List.{list_all};
+ghost use Rattle.build_plan.specs.Plans.{is_fresh};
 ghost use Rattle.compile_loop.specs.Ran.{is_made};
 ghost use Rattle.compile_loop.specs.Marks.{waiting_mark, first_mark};
 
@@ -43,6 +44,29 @@ pub(crate) fn first_marks(
         marks.push(first_mark(*need, keep_going))?;
     }
     Ok(marks)
+}
+
+/// Nothing is to be done with a file.
+fn is_fresh_need(need: Need) -> bool
+    ensures { result ≡ is_fresh need }
+{
+    match need {
+        Need::Fresh => true,
+        Need::Stale | Need::Later => false,
+    }
+}
+
+/// How many files are stale, or checked later.
+pub(crate) fn due_files(needs: &[Need]) -> u64
+    ensures { result ≡ count_by (λ need. not (is_fresh need)) needs.now }
+{
+    let mut due = 0;
+    for need in needs {
+        if !is_fresh_need(*need) {
+            due += 1;
+        }
+    }
+    due
 }
 
 fn is_made(mark: &Mark) -> bool

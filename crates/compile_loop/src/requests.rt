@@ -18,15 +18,17 @@ fn add_lent<K: Records>(
     graph: &Graph,
     dep: u32,
     store: &K,
+    seats: &K::Seats,
 ) -> Result<(), NoMemory>
     requires position { dep < length graph.now }
+    requires seated { K.is_seated store.now graph.now seats.now }
     requires recorded { IsRecorded (K.latest_of store.now) graph.now dep }
     ensures words { OnOk result (writer.new.command ≡ writer.old.command) }
     ensures input { OnOk result (writer.new.input ≡ writer.old.input ++
         flat_map built_bytes (filter_map (lent_at (K.latest_of store.now) graph.now) (dep ∷ []))) }
 {
     let entry = graph.get(dep as u64);
-    match store.artefact(&entry.name) {
+    match store.artefact_at(seats, graph, dep) {
         Some(artefact) => writer.add(&entry.name, artefact),
         None => unreachable!(),
     }
@@ -38,8 +40,10 @@ pub(crate) fn request_of<K: Records>(
     graph: &Graph,
     at: u32,
     store: &K,
+    seats: &K::Seats,
 ) -> Result<Request, NoMemory>
     requires position { at < length graph.now }
+    requires seated { K.is_seated store.now graph.now seats.now }
     requires recorded { All (IsRecorded (K.latest_of store.now) graph.now) (deps_at graph.now at) }
     ensures { IfOk result
         (λ request. lent_request (K.latest_of store.now) graph.now at ≡ Some request) }
@@ -48,7 +52,7 @@ pub(crate) fn request_of<K: Records>(
     let deps = entry.deps.as_slice();
     let mut writer = RequestWriter::new(alloc, entry, deps.len() as u32)?;
     for dep in deps {
-        add_lent(&mut writer, graph, *dep, store)?;
+        add_lent(&mut writer, graph, *dep, store, seats)?;
     }
     Ok(writer.finish())
 }

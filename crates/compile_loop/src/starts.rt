@@ -1,6 +1,6 @@
 //! The start of one child, and a build that is halted by a fault.
 
-ghost use Rattle.std.specs.Prelude.{◌≡◌, ◌<◌, ◌≤◌, ◌++◌, ◌∷◌, [], ℕ, Bool, List, Some, None, length, All, IfOk, OnErr, is_some};
+ghost use Rattle.std.specs.Prelude.{◌≡◌, ◌<◌, ◌≤◌, ◌++◌, ◌∷◌, [], ℕ, Bool, true, List, Some, None, length, All, IfOk, OnErr, is_some};
 ghost use Rattle.vr_base.specs.declared.file.FileName.{FileName};
 ghost use Rattle.vr_base.specs.declared.graph.Entry.{Entry};
 ghost use Rattle.vr_base.specs.declared.child.Event.{Event};
@@ -13,7 +13,7 @@ ghost use Rattle.vr_outside.specs.Records.{IsRecorded, deps_at};
 ghost use Rattle.run_spec.specs.Moves.{Job, Core};
 ghost use Rattle.child_steps.specs.declared.step.Step.TheVariants.{Start};
 ghost use Rattle.slot_machine.specs.declared.step.BuildStep.TheVariants.{Run};
-ghost use Rattle.slot_machine.specs.Machines.{IsMachineOf, is_checked, next_of, tickets_of, files_of, to_come};
+ghost use Rattle.slot_machine.specs.Machines.{IsMachineOf, is_checked, is_stopped_in, next_of, tickets_of, files_of, to_come};
 ghost use Rattle.compile_loop.specs.Requests.{lent_request};
 ghost use Rattle.compile_loop.specs.Faults.{FaultCounts, CountsBy, CountsStart, noted_with};
 ghost use Rattle.compile_loop.specs.UnderWay.{Origin, BuildState, with_machine, work_from, IsUnderWay, IsJournalled, GoesOn};
@@ -34,6 +34,7 @@ pub(crate) fn halt(slots: &mut Slots, noted: &mut Option<BuildFault>, fault: Bui
         IsMachineOf slots.old job (halted_if halts core) →
         IsMachineOf slots.new job (halted_if (is_some noted.new) core) }
     ensures checked { (k : ℕ) → is_checked slots.new k ≡ is_checked slots.old k }
+    ensures stopped { is_stopped_in slots.new ≡ true }
     ensures files { files_of slots.new ≡ files_of slots.old }
     ensures tickets { tickets_of slots.new ≡ tickets_of slots.old }
     ensures nearer { to_come slots.new ≤ to_come slots.old }
@@ -50,9 +51,11 @@ fn try_start<K: Records, P: Procs>(
     graph: &Graph,
     at: u32,
     store: &K,
+    seats: &K::Seats,
     procs: &mut P,
 ) -> Result<u64, BuildFault>
     requires position { at < length graph.now }
+    requires seated { K.is_seated store.now graph.now seats.now }
     requires recorded { All (IsRecorded (K.latest_of store.now) graph.now) (deps_at graph.now at) }
     ensures running { IfOk result (λ ticket.
         P.running procs.new ≡ P.running procs.old ++ ticket ∷ []) }
@@ -66,7 +69,7 @@ fn try_start<K: Records, P: Procs>(
     ensures starts { CountsStart result (P.failed_starts procs.old) (P.failed_starts procs.new) }
     ensures losses { P.lost_children procs.new ≡ P.lost_children procs.old }
 {
-    let request = request_of(alloc, graph, at, store)?;
+    let request = request_of(alloc, graph, at, store, seats)?;
     match procs.start(alloc, &request) {
         Ok(ticket) => Ok(ticket),
         Err(StartFault::NoMemory) => Err(BuildFault::NoMemory),
@@ -80,11 +83,13 @@ pub(crate) fn start_one<K: Records, P: Procs>(
     graph: &Graph,
     at: u32,
     store: &K,
+    seats: &K::Seats,
     slots: &mut Slots,
     noted: &mut Option<BuildFault>,
     procs: &mut P,
 )
     requires position { at < length graph.now }
+    requires seated { K.is_seated store.now graph.now seats.now }
     requires recorded { All (IsRecorded (K.latest_of store.now) graph.now) (deps_at graph.now at) }
     requires step { next_of slots.old ≡ Run (Start at) }
     requires running { P.running procs.old ≡ tickets_of slots.old }
@@ -119,7 +124,7 @@ pub(crate) fn start_one<K: Records, P: Procs>(
           disks = disks;
         }) }
 {
-    match try_start(alloc, graph, at, store, procs) {
+    match try_start(alloc, graph, at, store, seats, procs) {
         Ok(ticket) => slots.started(at, ticket),
         Err(fault) => halt(slots, noted, fault),
     }

@@ -1,11 +1,10 @@
 -- The plan that keeps the latest records of what is held.
 use Rattle.std.proofs.Common.{◌≡◌, ℕ, ◌<◌, List, length, map, get_or, sym, ap, subst, ◌∙◌, arith}
 use Rattle.std.specs.Prelude.{All}
-use Rattle.std.proofs.lemmas.List.{get_or-map, get_or_default, length-map}
-use Rattle.vr_outside.specs.declared.records.Record.{Record}
+use Rattle.std.proofs.lemmas.List.{get_or-map, length-map}
 use Rattle.vr_outside.specs.Records.{latest_alone}
 use Rattle.clean_laws.proofs.TrueRecords.{All-latest_alone}
-use Rattle.node_codec.specs.Forms.{HasPayloadSpelling, NodePayload, node_payload_bytes}
+use Rattle.node_codec.specs.Forms.{HasPayloadSpelling, node_payload_bytes}
 use Rattle.node_codec.specs.Nodes.{AreNodes}
 use Rattle.node_codec.specs.Shelves.{Shelf, shelf_of}
 use Rattle.node_codec.proofs.Taking.{nodes_of}

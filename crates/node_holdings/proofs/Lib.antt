@@ -5,5 +5,6 @@ pub mod Fresh
 pub mod Adding
 pub mod Parts
 pub mod NodesAt
+pub mod Seats
 pub mod Preparing
 pub mod Compacting

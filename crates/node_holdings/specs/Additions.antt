@@ -11,7 +11,6 @@ use Rattle.numbering.specs.Numbers.{IsPlaceOf}
 use Rattle.node_table.specs.declared.rows.Row.{Row}
 use Rattle.node_table.specs.Rows.{IsRowIn, node_of}
 use Rattle.node_shelf.specs.Drafts.{draft_by}
-use Rattle.vr_outside.specs.declared.records.Record.{Record}
 use Rattle.node_holdings.specs.Held.{AreNodesAt, HoldingState}
 use Rattle.node_holdings.specs.declared.additions.Addition.{Addition}
 use Rattle.node_holdings.specs.declared.additions.Addition.TheVariants.{Known, New}

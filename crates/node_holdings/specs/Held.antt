@@ -1,12 +1,12 @@
 -- Payloads with what they stand for.
-use Rattle.std.specs.Prelude.{◌≡◌, ◌≢◌, ◌↔◌, map, slice_index, slice_index_or, ℕ, ◌<◌, ◌-◌, min, List, length, Option, None, Some, slice_get}
+use Rattle.std.specs.Prelude.{◌≡◌, slice_index, slice_index_or, ℕ, ◌<◌, ◌-◌, min, List, length, Option, None, Some, slice_get}
 use Rattle.std.specs.Vec.{vec_len, vec_capacity}
 use Rattle.vr_base.specs.declared.file.FileName.{FileName}
 use Rattle.vr_base.specs.declared.graph.Entry.{Entry}
 use Rattle.vr_base.specs.View.{view}
 use Rattle.vr_outside.specs.declared.records.Record.{Record}
 use Rattle.vr_outside.specs.Records.{latest, latest_alone}
-use Rattle.node_codec.specs.Nodes.{unfolded}
+use Rattle.node_codec.specs.Nodes.{Node, unfolded}
 use Rattle.node_codec.specs.Shelves.{Shelf, shelf_of}
 use Rattle.node_shelf.specs.declared.shelf.ShelfPlaces.{ShelfPlaces}
 use Rattle.node_carry.specs.declared.plan.Plan.{Plan}
@@ -37,22 +37,19 @@ IsLatestAt records name (Some number) = (number < length records) × (latest nam
 -- A node is that of the latest record of a name.
 pub record HasNode (shelf : Shelf) (name : FileName) (number : ℕ) : Type 0 where
   pub there : number < length shelf.nodes
+  pub name_is : (other : Node) → (slice_index_or shelf.nodes number other).name ≡ name
   pub artefact : List ℕ
   pub latest_is : latest name shelf.records ≡ Some (record { view = unfolded shelf.texts shelf.nodes number; artefact = artefact })
+
+-- The file at each position of a graph has the number of its name.
+pub record AreSeats (names : List FileName) (graph : List Entry) (seats : List ℕ) : Type 0 where
+  pub count : length seats ≡ length graph
+  pub each : (at : ℕ) (entry : Entry) → slice_get graph at ≡ Some entry → slice_get names (slice_index seats at) ≡ Some entry.name
 
 -- such a node, or that the name has no record
 abbrev pub IsLatestNode : Shelf → FileName → Option ℕ → Type 0
 IsLatestNode shelf name None = latest name shelf.records ≡ None
 IsLatestNode shelf name (Some number) = HasNode shelf name number
-
--- these numbers are at the positions of a table, or one of them lacks a number
-abbrev pub ArePlacedBy : List (Option ℕ) → List ℕ → Option (List ℕ) → Type 0
-ArePlacedBy known positions None = (numbers : List ℕ) → map (λ n. Some n) numbers ≢ map (λ position. slice_index_or known position None) positions
-ArePlacedBy known positions (Some numbers) = map (λ n. Some n) numbers ≡ map (λ position. slice_index_or known position None) positions
-
--- the number of the node that unfolds to the present view of a file, if one does
-abbrev pub IsNumberOfView : Shelf → List Entry → ℕ → Option ℕ → Type 0
-IsNumberOfView shelf graph at number = (n : ℕ) → (number ≡ Some n) ↔ ((n < length shelf.nodes) × (unfolded shelf.texts shelf.nodes n ≡ view graph at))
 
 -- a node unfolds to the present view of a file
 abbrev pub IsNodeAt : Shelf → List Entry → ℕ → ℕ → Type 0

@@ -1,31 +1,33 @@
 //! Payloads, and the texts, nodes and records that they stand for.
 
-ghost use Rattle.std.specs.Prelude.{◌≡◌, ◌↔◌, ◌<◌, ◌≤◌, ◌^◌, ◌++◌, ◌∷◌, [], length, All, IsTrue, IfOk, IfSome, OnOk, option_map};
+ghost use Rattle.std.specs.Prelude.{◌≡◌, ◌↔◌, ◌<◌, ◌≤◌, ◌^◌, ◌++◌, ◌∷◌, [], Some, length, All, IsTrue, IfOk, IfSome, OnOk, option_map, slice_get, slice_index_or};
 ghost use Rattle.vr_base.specs.declared.limits.TheConstants.{ARTEFACT_LIMIT};
+ghost use Rattle.vr_base.specs.declared.file.FileName.{FileName};
+ghost use Rattle.vr_base.specs.declared.graph.Entry.{Entry};
 ghost use Rattle.vr_base.specs.View.{view};
-ghost use Rattle.vr_outside.specs.Records.{AreNeeds, IsRecorded, deps_at, latest, latest_alone};
+ghost use Rattle.vr_outside.specs.Records.{IsRecorded, deps_at, latest, latest_alone};
 ghost use Rattle.node_carry.specs.Carrying.{compacted};
 ghost use Rattle.numbering.specs.Numbers.{IsPlaceOf};
-ghost use Rattle.vr_outside.specs.declared.records.Need.TheVariants.{Fresh};
-ghost use Rattle.node_codec.specs.Known.{AreKnown, IsKnown};
+ghost use Rattle.node_codec.specs.Nodes.{numbered_text};
 ghost use Rattle.node_codec.specs.Shelves.{draft_node, shelf_of};
 ghost use Rattle.node_codec.specs.Writing.{draft_of};
 ghost use Rattle.node_table.specs.Rows.{IsRowIn, node_of};
 ghost use Rattle.node_holdings.specs.Additions.{AddsNode, AddsOne, AddsRecord, IsAddition, IsRowOfFile};
-ghost use Rattle.node_holdings.specs.Held.{AreNodesAt, IsLatestAt, IsLatestNode, IsNodeAt, IsNumberOfView, KeepsLatest};
+ghost use Rattle.node_shelf.specs.Drafts.{HasMoreNames};
+ghost use Rattle.node_holdings.specs.Held.{AreNodesAt, AreSeats, IsLatestAt, IsLatestNode, IsNodeAt, KeepsLatest};
 
 use crate::additions::{next_of_node, next_of_row, piece_of_draft, piece_of_node};
-use crate::files::{file_number, row_of_file, text_number};
+use crate::files::{row_of_file, seat_of, text_number};
 use crate::{Addition, KnownNode, NewNode, NextPiece};
 use gate_journal::{Payloads, Ready};
 use node_carry::{Plan, carried_payloads, plan_latest};
 use node_codec::bytes_of;
-use node_shelf::{Pieces, ShelfPlaces, put_node, put_record, shelf_of};
+use node_shelf::{Pieces, ShelfPlaces, put_node, put_record, shelf_of, text_at};
 use node_table::Row;
+use source_view::same_words;
 use std::alloc::Global;
 use std::marker::Model;
-use vr_base::{Entry, FileName, Graph, Items, NoMemory, Text};
-use vr_outside::{Need, Needs};
+use vr_base::{Entry, FileName, Graph, Items, NoMemory, Text, TextList};
 
 /// Payloads, in order, with what they stand for. Contracts see the payloads, the names and commands that are numbered,
 /// and for how many more payloads there is room.
@@ -55,21 +57,38 @@ impl Holdings {
         Ok(Holdings { pieces, shelf })
     }
 
+    /// The number of the latest record of a name that has a number.
+    fn latest_numbered(&self, seat: usize) -> Option<usize>
+        ensures latest { (name : FileName) → slice_get self.now.names seat ≡ Some name →
+            IsLatestAt (shelf_of self.now.payloads).records name result }
+        ensures there { IfSome result
+            (λ number. number < length (shelf_of self.now.payloads).records) }
+    {
+        // No two names are the same.
+        let _names = self.shelf.table.names();
+        self.shelf.records.names.last(seat as u64)
+    }
+
     /// The number of the latest record of a name.
     fn latest_record(&self, name: &FileName) -> Option<usize>
         ensures { IsLatestAt (shelf_of self.now.payloads).records name.now result }
     {
-        let Some(number) = self.shelf.table.name_number(name) else {
+        let Some(seat) = self.shelf.table.name_number(name) else {
             return None;
         };
-        self.shelf.records.names.last(number as u64)
+        self.latest_numbered(seat)
     }
 
-    /// The node of the latest record of a name.
-    pub fn latest_node(&self, name: &FileName) -> Option<usize>
-        ensures { IsLatestNode (shelf_of self.now.payloads) name.now result }
+    /// The node of the latest record of a name that has a number.
+    fn latest_node(&self, seat: usize) -> Option<usize>
+        ensures latest { (name : FileName) → slice_get self.now.names seat ≡ Some name →
+            IsLatestNode (shelf_of self.now.payloads) name result }
+        ensures there { IfSome result
+            (λ node. node < length (shelf_of self.now.payloads).nodes) }
     {
-        let Some(number) = self.latest_record(name) else {
+        // No two names are the same.
+        let _names = self.shelf.table.names();
+        let Some(number) = self.latest_numbered(seat) else {
             return None;
         };
         Some(self.shelf.records.places[number].node)
@@ -90,112 +109,144 @@ impl Holdings {
         Some(bytes_of(self.pieces.get(place.payload), place.artefact))
     }
 
-    /// The number of the text of the latest record of a name.
-    fn likely_text(&self, name: &FileName) -> Option<usize>
-        ensures { IfSome result
-            (λ number. number < length (shelf_of self.now.payloads).texts) }
+    /// What the compiler gave by the latest record of the file at a position, lent, as `artefact` does.
+    pub fn artefact_at(&self, seats: &[usize], graph: &Graph, at: u32) -> Option<&[u8]>
+        requires at { at < length graph.now }
+        requires seated { AreSeats self.now.names graph.now seats.now }
+        ensures bytes { (entry : Entry) → slice_get graph.now at ≡ Some entry →
+            option_map (λ bytes. bytes.now) result
+            ≡ option_map (λ kept. kept.artefact)
+            (latest entry.name (shelf_of self.now.payloads).records) }
+        ensures size { IfSome result (λ bytes. length bytes.now ≤ ARTEFACT_LIMIT) }
     {
-        let Some(node) = self.latest_node(name) else {
+        let entry = graph.get(at as u64);
+        let Some(number) = self.latest_numbered(seats[at as usize]) else {
             return None;
         };
-        Some(self.shelf.table.row(node).text)
+        let place = self.shelf.records.places[number];
+        Some(bytes_of(self.pieces.get(place.payload), place.artefact))
     }
 
-    /// The number of the node that a file is, if one is. The nodes of the files that it depends on are known.
-    fn file_number(
-        &self,
-        alloc: Global,
-        entry: &Entry,
-        known: &[Option<usize>],
-    ) -> Result<Option<usize>, NoMemory>
-        requires { All (λ dep. dep < length known.now) entry.now.deps }
-        ensures { IfOk result
-            (IsKnown (shelf_of self.now.payloads).texts (shelf_of self.now.payloads).nodes
-            known.now entry.now) }
+    /// The number of the name of a file, which is added where it has none.
+    fn seat(&mut self, alloc: Global, entry: &Entry) -> Result<usize, NoMemory>
+        ensures payloads { self.new.payloads ≡ self.old.payloads }
+        ensures names { HasMoreNames self.old.names self.new.names }
+        ensures seat { IfOk result (λ seat. slice_get self.new.names seat ≡ Some entry.now.name) }
     {
-        let likely = self.likely_text(&entry.name);
-        file_number(alloc, &self.pieces, &self.shelf, entry, likely, known)
+        seat_of(alloc, &mut self.shelf.table, entry)
     }
 
-    /// The number of the node that each file of a graph is, if one is.
-    fn known_numbers(&self, alloc: Global, graph: &Graph) -> Result<Vec<Option<usize>>, NoMemory>
-        ensures { IfOk result
-            (λ known.
-            AreKnown (shelf_of self.now.payloads).texts (shelf_of self.now.payloads).nodes
-            graph.now known.items) }
+    /// The numbers of the names of all files of a graph, which are added where they have none. What is held is unchanged.
+    pub fn seats(&mut self, alloc: Global, graph: &Graph) -> Result<Items<usize>, NoMemory>
+        ensures payloads { self.new.payloads ≡ self.old.payloads }
+        ensures names { HasMoreNames self.old.names self.new.names }
+        ensures seated { IfOk result (AreSeats self.new.names graph.now) }
     {
-        let mut known = Vec::new(alloc);
+        let mut seats = Items::new(alloc);
         for at in 0..graph.len() {
-            let number = self.file_number(alloc, graph.get(at), &known)?;
-            known.push(number)?;
+            seats.push(self.seat(alloc, graph.get(at))?)?;
         }
-        Ok(known)
-    }
-
-    /// Whether the latest record of a file has its present view, which is that of the node of a number.
-    fn is_fresh(&self, graph: &Graph, at: u64, number: Option<usize>) -> bool
-        requires at { at < length graph.now }
-        requires number { IsNumberOfView (shelf_of self.now.payloads) graph.now at number }
-        ensures { IsTrue result
-            ↔ IsRecorded (λ name. latest name (shelf_of self.now.payloads).records) graph.now at }
-    {
-        let Some(latest) = self.latest_node(&graph.get(at).name) else {
-            return false;
-        };
-        let Some(number) = number else {
-            return false;
-        };
-        latest == number
-    }
-
-    /// The need of a file, by the number of the node that unfolds to its present view.
-    fn need(&self, graph: &Graph, at: u64, number: Option<usize>) -> Need
-        requires at { at < length graph.now }
-        requires number { IsNumberOfView (shelf_of self.now.payloads) graph.now at number }
-        ensures { (result ≡ Fresh)
-            ↔ IsRecorded (λ name. latest name (shelf_of self.now.payloads).records) graph.now at }
-    {
-        if self.is_fresh(graph, at, number) {
-            Need::Fresh
-        } else {
-            Need::Stale
-        }
-    }
-
-    /// For each file of a graph, whether its latest record has its present view.
-    pub fn needs(&self, alloc: Global, graph: &Graph) -> Result<Needs, NoMemory>
-        ensures { IfOk result
-            (AreNeeds (λ name. latest name (shelf_of self.now.payloads).records) graph.now) }
-    {
-        let known = self.known_numbers(alloc, graph)?;
-        let mut needs = Needs::new(alloc);
-        for at in 0..graph.len() {
-            let number = known[at as usize];
-            needs.push(self.need(graph, at, number))?;
-        }
-        Ok(needs)
+        Ok(seats)
     }
 
     /// The node of the present view of a file, which is recorded.
-    fn recorded_node(&self, graph: &Graph, at: u64) -> usize
+    fn recorded_node(&self, seats: &[usize], graph: &Graph, at: u32) -> usize
         requires at { at < length graph.now }
+        requires seated { AreSeats self.now.names graph.now seats.now }
         requires recorded { IsRecorded (λ name. latest name (shelf_of self.now.payloads).records)
             graph.now at }
         ensures { IsNodeAt (shelf_of self.now.payloads) graph.now at result }
     {
-        let Some(node) = self.latest_node(&graph.get(at).name) else {
+        let _entry = graph.get(at as u64);
+        let Some(node) = self.latest_node(seats[at as usize]) else {
             unreachable!();
         };
         node
+    }
+
+    /// Whether these nodes are those of the present views of files, which are recorded.
+    fn are_nodes(&self, seats: &[usize], graph: &Graph, places: &[u32], nodes: &[usize]) -> bool
+        requires seated { AreSeats self.now.names graph.now seats.now }
+        requires places { All (λ at. at < length graph.now) places.now }
+        requires nodes { All (λ node. node < length (shelf_of self.now.payloads).nodes) nodes.now }
+        requires recorded { All
+            (IsRecorded (λ name. latest name (shelf_of self.now.payloads).records) graph.now)
+            places.now }
+        ensures { IsTrue result
+            ↔ AreNodesAt (shelf_of self.now.payloads) graph.now places.now nodes.now }
+    {
+        if nodes.len() != places.len() {
+            return false;
+        }
+        for i in 0..places.len() {
+            if self.recorded_node(seats, graph, places[i]) != nodes[i] {
+                return false;
+            }
+        }
+        true
+    }
+
+    /// Whether the text of a number is this one.
+    fn has_text(&self, number: usize, text: &[u8]) -> bool
+        requires { number < length (shelf_of self.now.payloads).texts }
+        ensures { IsTrue result
+            ↔ (numbered_text (shelf_of self.now.payloads).texts number ≡ text.now) }
+    {
+        text_at(&self.pieces, self.shelf.texts.places[number]) == text
+    }
+
+    /// A node as a row, with what is known of it.
+    fn row(&self, node: usize) -> &Row
+        requires { node < length (shelf_of self.now.payloads).nodes }
+        ensures in_table { IsRowIn self.now.names self.now.commands result.now }
+        ensures node { slice_get (shelf_of self.now.payloads).nodes node
+            ≡ Some (node_of self.now.names self.now.commands result.now) }
+    {
+        self.shelf.table.row(node)
+    }
+
+    /// Whether the command of a number has these words.
+    fn has_command(&self, number: usize, words: &TextList) -> bool
+        requires { number < length self.now.commands }
+        ensures { IsTrue result ↔ (slice_index_or self.now.commands number [] ≡ words.now) }
+    {
+        same_words(self.shelf.table.command(number), words)
+    }
+
+    /// Whether the latest record of a file has its present view, where that of each file that it depends on has. It takes no
+    /// memory, and time in proportion to the file's text and list.
+    pub fn fits(&self, seats: &[usize], graph: &Graph, at: u32) -> bool
+        requires at { at < length graph.now }
+        requires seated { AreSeats self.now.names graph.now seats.now }
+        requires recorded { All
+            (IsRecorded (λ name. latest name (shelf_of self.now.payloads).records) graph.now)
+            (deps_at graph.now at) }
+        ensures { IsTrue result
+            ↔ IsRecorded (λ name. latest name (shelf_of self.now.payloads).records) graph.now at }
+    {
+        let entry = graph.get(at as u64);
+        let Some(node) = self.latest_node(seats[at as usize]) else {
+            return false;
+        };
+        let row = self.row(node);
+        if !self.has_command(row.command, &entry.command) {
+            return false;
+        }
+        if !self.has_text(row.text, entry.text.bytes()) {
+            return false;
+        }
+        self.are_nodes(seats, graph, entry.deps.as_slice(), row.deps.as_slice())
     }
 
     /// The nodes of the present views of files, which are recorded.
     fn nodes_at(
         &self,
         alloc: Global,
+        seats: &[usize],
         graph: &Graph,
         places: &[u32],
     ) -> Result<Items<usize>, NoMemory>
+        requires seated { AreSeats self.now.names graph.now seats.now }
         requires places { All (λ at. at < length graph.now) places.now }
         requires recorded { All
             (IsRecorded (λ name. latest name (shelf_of self.now.payloads).records) graph.now)
@@ -205,16 +256,28 @@ impl Holdings {
     {
         let mut nodes = Items::new(alloc);
         for at in places {
-            nodes.push(self.recorded_node(graph, *at as u64))?;
+            nodes.push(self.recorded_node(seats, graph, *at))?;
         }
         Ok(nodes)
     }
 
-    /// The number of the text of a file, if it is there. It is first compared with that of the latest record of its name.
-    fn file_text(&self, entry: &Entry) -> Option<usize>
+    /// The number of the text of the latest record of a name that has a number.
+    fn likely_text(&self, seat: usize) -> Option<usize>
+        ensures { IfSome result
+            (λ number. number < length (shelf_of self.now.payloads).texts) }
+    {
+        let Some(node) = self.latest_node(seat) else {
+            return None;
+        };
+        Some(self.shelf.table.row(node).text)
+    }
+
+    /// The number of the text of a file whose name has a number, if it is there. It is first compared with that of the latest
+    /// record of its name.
+    fn file_text(&self, seat: usize, entry: &Entry) -> Option<usize>
         ensures { IsPlaceOf (shelf_of self.now.payloads).texts entry.now.text result }
     {
-        let likely = self.likely_text(&entry.name);
+        let likely = self.likely_text(seat);
         text_number(&self.pieces, &self.shelf.texts, likely, entry.text.bytes())
     }
 
@@ -227,6 +290,7 @@ impl Holdings {
         deps: Items<usize>,
     ) -> Result<Row, NoMemory>
         ensures payloads { self.new.payloads ≡ self.old.payloads }
+        ensures names { HasMoreNames self.old.names self.new.names }
         ensures row { IfOk result
             (IsRowIn self.new.names self.new.commands) }
         ensures node { IfOk result
@@ -270,23 +334,26 @@ impl Holdings {
     pub fn prepare(
         &mut self,
         alloc: Global,
+        seats: &[usize],
         graph: &Graph,
         at: u32,
         artefact: &Text,
     ) -> Result<NextPiece, NoMemory>
         requires at { at < length graph.now }
+        requires seated { AreSeats self.old.names graph.now seats.now }
         requires artefact { length artefact.now ≤ ARTEFACT_LIMIT }
         requires recorded { All
             (IsRecorded (λ name. latest name (shelf_of self.old.payloads).records) graph.now)
             (deps_at graph.now at) }
         ensures payloads { self.new.payloads ≡ self.old.payloads }
+        ensures names { HasMoreNames self.old.names self.new.names }
         ensures adds { IfOk result (AddsOne self.new (view graph.now at) artefact.now) }
         ensures small { IfOk result (λ next. length next.bytes < 2 ^ 32) }
         ensures room { OnOk result (0 < self.new.room) }
     {
         let entry = graph.get(at as u64);
-        let deps = self.nodes_at(alloc, graph, entry.deps.as_slice())?;
-        let known = self.file_text(entry);
+        let deps = self.nodes_at(alloc, seats, graph, entry.deps.as_slice())?;
+        let known = self.file_text(seats[at as usize], entry);
         let row = self.row_of_file(alloc, entry, known, deps)?;
         self.reserve()?;
         self.next_piece(alloc, graph, at, known, row, artefact)
@@ -328,7 +395,8 @@ impl Holdings {
     pub fn put(&mut self, addition: Addition, piece: Ready)
         requires ready { IsAddition self.old piece addition }
         requires room { 0 < self.old.room }
-        ensures { self.new.payloads ≡ self.old.payloads ++ piece ∷ [] }
+        ensures payloads { self.new.payloads ≡ self.old.payloads ++ piece ∷ [] }
+        ensures names { self.new.names ≡ self.old.names }
     {
         match addition {
             Addition::Known(known) => self.put_known(known, piece),
@@ -340,7 +408,8 @@ impl Holdings {
     fn put_known(&mut self, known: KnownNode, piece: Ready)
         requires ready { AddsRecord self.old piece known }
         requires room { 0 < self.old.room }
-        ensures { self.new.payloads ≡ self.old.payloads ++ piece ∷ [] }
+        ensures payloads { self.new.payloads ≡ self.old.payloads ++ piece ∷ [] }
+        ensures names { self.new.names ≡ self.old.names }
     {
         let at = self.pieces.len();
         self.pieces.put(piece);
@@ -357,7 +426,8 @@ impl Holdings {
     fn put_new(&mut self, new: NewNode, piece: Ready)
         requires ready { AddsNode self.old piece new }
         requires room { 0 < self.old.room }
-        ensures { self.new.payloads ≡ self.old.payloads ++ piece ∷ [] }
+        ensures payloads { self.new.payloads ≡ self.old.payloads ++ piece ∷ [] }
+        ensures names { self.new.names ≡ self.old.names }
     {
         let NewNode {
             row,

@@ -81,12 +81,13 @@ records_still payloads texts more_texts nodes more places are kept =
     map_same (record_in payloads (texts ++ more_texts) (nodes ++ more)) (record_in payloads texts nodes) places no_place
     (λ k l. ap (λ (view : _). record { view = view; artefact = artefact_in payloads (get_or places k no_place) }) (unfolded_grown texts more_texts nodes more (get_or places k no_place).node are (kept k no_place l).node))
 
-names_more : (table new : NodesByNumber) → HasMoreNames table.names new.names → (k : ℕ) (name : FileName) → slice_get table.names k ≡ Some name → slice_get new.names k ≡ Some name
-names_more table new names k name at =
-    let l : k < length table.names = slice_get_within table.names k name at in
-    let longer : k < length new.names = omega (arith, ap length names.grown, length-append table.names names.more) in
-    let same : get_or new.names k no_name ≡ name = ap (λ (ns : List FileName). get_or ns k no_name) names.grown ∙ get_or_append_left table.names names.more no_name k l ∙ get_or_from_slice_get table.names k name no_name at in
-    slice_get-get_or new.names k no_name longer ∙ ap (λ (n : FileName). Some n) same
+-- a name keeps its number where names are added
+pub name_stays : (old new : List FileName) (number : ℕ) (name : FileName) → HasMoreNames old new → slice_get old number ≡ Some name → slice_get new number ≡ Some name
+name_stays old new number name grown at =
+    let low : number < length old = slice_get_within old number name at in
+    let longer : number < length new = omega (arith, ap length grown.grown, length-append old grown.more) in
+    let same : get_or new number no_name ≡ name = ap (λ (ns : List FileName). get_or ns number no_name) grown.grown ∙ get_or_append_left old grown.more no_name number low ∙ get_or_from_slice_get old number name no_name at in
+    slice_get-get_or new number no_name longer ∙ ap (λ (n : FileName). Some n) same
 
 pub records_kept : (payloads : List (List ℕ)) (table new : NodesByNumber) (more : List Node) (records : RecordPlaces) → HasMoreNames table.names new.names → new.nodes ≡ table.nodes ++ more → AreRecords payloads table records → AreRecords payloads new records
 records_kept payloads table new more records names nodes are = record {
@@ -98,7 +99,7 @@ records_kept payloads table new more records names nodes are = record {
       let place : RecordPlace = get_or records.places.items k other in
       let kept = are.kept k other l in
       let same : get_or new.nodes place.node blank_node ≡ get_or table.nodes place.node blank_node = ap (λ (ns : List Node). get_or ns place.node blank_node) nodes ∙ get_or_append_left table.nodes more blank_node place.node kept.node in
-      names_more table new names (get_or records.names.marks k 0) (get_or table.nodes place.node blank_node).name (are.named k other l) ∙ ap (λ (n : Node). Some n.name) (sym same);
+      name_stays table.names new.names (get_or records.names.marks k 0) (get_or table.nodes place.node blank_node).name names (are.named k other l) ∙ ap (λ (n : Node). Some n.name) (sym same);
 }
 
 -- a draft that was taken up

@@ -7,7 +7,7 @@ ghost use Rattle.vr_outside.specs.Records.{HasRecordsOf, IsAllOrLatest, latest_a
 ghost use Rattle.gate_journal.specs.Journals.{CountsAs, IsHealthy, Rests, other_side};
 ghost use Rattle.gate_journal.specs.Payloads.{payloads};
 ghost use Rattle.node_carry.specs.Carrying.{compacted, side_length};
-ghost use Rattle.node_holdings.specs.Held.{KeepsLatest};
+ghost use Rattle.node_holdings.specs.Held.{AreSeats, KeepsLatest};
 ghost use Rattle.node_store.specs.Stored.{AsksAt, AsksCompaction, HasCompacted, HasManyDead, ImageAsks, IsAtRest, LeavesAll, IsNodeReady, IsNodeStoreInStep, OnNoMemory, added_record, capped_length, generation_in, has_disk_failed, latest_among, node_records_among, node_records_in};
 ghost use Rattle.node_store.specs.StoreLaws.{node_store_durable, node_store_held};
 
@@ -15,8 +15,8 @@ use gate_journal::{Journal, Opened, Payloads, Ready, ReadySide};
 use node_holdings::{Addition, Holdings, NextPiece, Plan};
 use std::alloc::Global;
 use std::mem;
-use vr_base::{DiskFailed, FileName, Graph, NoMemory, Text};
-use vr_outside::{Disk, Needs, Records, StoreFault};
+use vr_base::{DiskFailed, FileName, Graph, Items, NoMemory, Text};
+use vr_outside::{Disk, Records, StoreFault};
 
 /// The form of the payloads of this store.
 const FORM: u8 = 2;
@@ -335,6 +335,8 @@ fn discard(_held: Holdings) {}
 impl Records for NodeStore {
     type Prepared = PreparedNode;
 
+    type Seats = Items<usize>;
+
     ghost records_of = { node_records_in };
 
     ghost latest_of = { λ store. latest_among store.held.payloads };
@@ -348,6 +350,8 @@ impl Records for NodeStore {
     ghost is_ready = { λ store prepared.
         IsNodeReady store.held prepared.ready prepared.addition };
 
+    ghost is_seated = { λ store graph seats. AreSeats store.held.names graph seats };
+
     fn from_disk<D: Disk>(alloc: Global, disk: &mut D) -> Result<NodeStore, StoreFault> {
         NodeStore::open(alloc, disk)
     }
@@ -358,8 +362,16 @@ impl Records for NodeStore {
         Ok(NodeStore { journal, held })
     }
 
-    fn needs(&self, alloc: Global, graph: &Graph) -> Result<Needs, NoMemory> {
-        self.held.needs(alloc, graph)
+    fn seats(&mut self, alloc: Global, graph: &Graph) -> Result<Items<usize>, NoMemory> {
+        self.held.seats(alloc, graph)
+    }
+
+    fn fits(&self, seats: &Items<usize>, graph: &Graph, at: u32) -> bool {
+        self.held.fits(seats.as_slice(), graph, at)
+    }
+
+    fn artefact_at(&self, seats: &Items<usize>, graph: &Graph, at: u32) -> Option<&[u8]> {
+        self.held.artefact_at(seats.as_slice(), graph, at)
     }
 
     fn artefact(&self, name: &FileName) -> Option<&[u8]> {
@@ -369,11 +381,14 @@ impl Records for NodeStore {
     fn prepare(
         &mut self,
         alloc: Global,
+        seats: &Items<usize>,
         graph: &Graph,
         at: u32,
         artefact: &Text,
     ) -> Result<PreparedNode, NoMemory> {
-        let NextPiece { bytes, addition } = self.held.prepare(alloc, graph, at, artefact)?;
+        let NextPiece { bytes, addition } = self
+            .held
+            .prepare(alloc, seats.as_slice(), graph, at, artefact)?;
         let ready = self.journal.prepare(alloc, bytes.bytes())?;
         Ok(PreparedNode { ready, addition })
     }

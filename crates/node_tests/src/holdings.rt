@@ -7,7 +7,7 @@ use std::alloc::Global;
 use std::process::Abort;
 use std::test::Fail;
 use vr_base::{Graph, NoMemory};
-use vr_outside::{Need, Record};
+use vr_outside::Record;
 
 /// The file as a record of its view, whose form is another.
 const VIEW: [u8; 44] = [
@@ -31,36 +31,41 @@ fn held(alloc: Global, second: &[u8]) -> Result<Holdings, NoMemory> {
     Holdings::of(alloc, opened)
 }
 
-/// The need of the one file of a graph as a letter.
-fn need(alloc: Global, held: &Holdings, graph: &Graph) -> Result<u8, NoMemory> {
-    let needs = held.needs(alloc, graph)?;
-    match needs.as_slice() {
-        [Need::Fresh] => Ok(b'f'),
-        [_] => Ok(b's'),
-        _ => Ok(b'?'),
-    }
-}
-
-/// The artefact of the first file, of which one byte is given, or `-` where none is lent.
-fn lent(held: &Holdings, graph: &Graph) -> u8 {
-    if graph.is_empty() {
-        return b'-';
-    }
-    match held.artefact(&graph.get(0).name) {
+/// The first byte of an artefact of one byte, or `-`.
+fn letter(artefact: Option<&[u8]>) -> u8 {
+    match artefact {
         Some([byte]) => *byte,
         _ => b'-',
     }
 }
 
-/// Both after `A` and another payload. This function alone owns what is held.
-fn seen_after(alloc: Global, second: &[u8], graph: &Graph) -> Result<[u8; 2], NoMemory> {
-    let held = held(alloc, second)?;
-    Ok([need(alloc, &held, graph)?, lent(&held, graph)])
+/// Whether the record of the one file of a graph fits, as a letter, and the artefact that is lent by its seat and by its
+/// name.
+fn seen_of(alloc: Global, held: &mut Holdings, graph: &Graph) -> Result<[u8; 3], NoMemory> {
+    if graph.is_empty() {
+        return Ok(*b"???");
+    }
+    if !graph.get(0).deps.is_empty() {
+        return Ok(*b"???");
+    }
+    let seats = held.seats(alloc, graph)?;
+    let fits = held.fits(seats.as_slice(), graph, 0);
+    Ok([
+        if fits { b'f' } else { b's' },
+        letter(held.artefact_at(seats.as_slice(), graph, 0)),
+        letter(held.artefact(&graph.get(0).name)),
+    ])
+}
+
+/// The same after `A` and another payload. This function alone owns what is held.
+fn seen_after(alloc: Global, second: &[u8], graph: &Graph) -> Result<[u8; 3], NoMemory> {
+    let mut held = held(alloc, second)?;
+    seen_of(alloc, &mut held, graph)
 }
 
 /// Whether the latest record of the file has its present view, where this is its text, `f` where it has, and else `s`; and
-/// the artefact that is lent.
-fn seen(alloc: Global, second: &[u8], text: u8) -> Result<[u8; 2], Fail> {
+/// the artefact that is lent by its seat and by its name.
+fn seen(alloc: Global, second: &[u8], text: u8) -> Result<[u8; 3], Fail> {
     let graph = graph(alloc, text)?;
     Ok(seen_after(alloc, second, &graph)?)
 }
@@ -76,13 +81,13 @@ fn the_recorded_view_is_fresh(rt: HostRuntime) -> Result<(), Fail> {
 fn only_the_latest_record_counts(rt: HostRuntime) -> Result<(), Fail> {
     let mut bytes = A;
     bytes[32] = b'w';
-    assert!(rt; seen(rt.alloc(), &bytes, b'w')? == *b"fy");
-    assert!(rt; seen(rt.alloc(), &bytes, b'x')? == *b"sy");
+    assert!(rt; seen(rt.alloc(), &bytes, b'w')? == *b"fyy");
+    assert!(rt; seen(rt.alloc(), &bytes, b'x')? == *b"syy");
     Ok(())
 }
 
 #[test]
 fn the_latest_artefact_is_lent(rt: HostRuntime) -> Result<(), Fail> {
-    assert!(rt; seen(rt.alloc(), &AGAIN, b'x')? == *b"fz");
+    assert!(rt; seen(rt.alloc(), &AGAIN, b'x')? == *b"fzz");
     Ok(())
 }

@@ -7,4 +7,4 @@ mod pairs;
 mod store;
 
 pub use pairs::{keep, keep_both};
-pub use store::{PreparedRecord, RecordStore};
+pub use store::{NoSeats, PreparedRecord, RecordStore};

@@ -47,7 +47,8 @@ pub fn keep<K: Records, D: Disk>(
     ensures cause { StoreCounts result (D.failed_disk_calls disk.old)
         (D.failed_disk_calls disk.new) }
 {
-    let prepared = store.prepare(alloc, graph, at, artefact)?;
+    let seats = store.seats(alloc, graph)?;
+    let prepared = store.prepare(alloc, &seats, graph, at, artefact)?;
     store.commit(disk, prepared)?;
     Ok(())
 }

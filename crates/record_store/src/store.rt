@@ -1,10 +1,9 @@
 //! The store of records over a journal.
 
-ghost use Rattle.std.specs.Prelude.{◌≡◌, ◌↔◌, ◌<◌, ◌≤◌, IsSome, length};
+ghost use Rattle.std.specs.Prelude.{◌≡◌, ◌↔◌, ◌<◌, ◌≤◌, IsSome, IsTrue, length};
 ghost use Rattle.indexmap.specs.IndexMap.{get};
 ghost use Rattle.vr_base.specs.Names.{is_same_name};
 ghost use Rattle.vr_outside.specs.Records.{IsRecorded};
-ghost use Rattle.vr_outside.specs.declared.records.Need.TheVariants.{Fresh};
 ghost use Rattle.record_store.specs.Stored.{records_in, record_of_payload, IsStoreInStep, IsPrepared};
 ghost use Rattle.record_store.specs.StoreLaws.{store_durable, store_held};
 
@@ -15,7 +14,7 @@ use record_codec::record_bytes;
 use source_view::{is_view_of, view_of};
 use std::alloc::Global;
 use vr_base::{DiskFailed, FileName, Graph, NoMemory, Text};
-use vr_outside::{Disk, Need, Needs, Record, Records, StoreFault};
+use vr_outside::{Disk, Record, Records, StoreFault};
 
 /// The form of the payloads of this store.
 const FORM: u8 = 1;
@@ -35,21 +34,27 @@ pub struct PreparedRecord {
     ready: Ready,
 }
 
+/// This store looks each file up by its name.
+#[derive(Drop)]
+pub struct NoSeats;
+
 impl RecordStore {
     /// Whether the latest record of a file has its present view.
-    fn need(&self, graph: &Graph, at: u32) -> Need
+    fn is_recorded(&self, graph: &Graph, at: u32) -> bool
         requires { at < length graph.now }
-        ensures { (result ≡ Fresh) ↔ IsRecorded (record_of_payload self.now.index) graph.now at }
+        ensures { IsTrue result ↔ IsRecorded (record_of_payload self.now.index) graph.now at }
     {
         match record_of(&self.index, &graph.get(at as u64).name) {
-            Some(record) if is_view_of(record.view(), graph, at) => Need::Fresh,
-            _ => Need::Stale,
+            Some(record) if is_view_of(record.view(), graph, at) => true,
+            _ => false,
         }
     }
 }
 
 impl Records for RecordStore {
     type Prepared = PreparedRecord;
+
+    type Seats = NoSeats;
 
     ghost records_of = { records_in };
 
@@ -64,6 +69,8 @@ impl Records for RecordStore {
     ghost is_ready = { λ store prepared. IsPrepared prepared.name prepared.kept prepared.ready
         × IsSome (get is_same_name store.index prepared.name) };
 
+    ghost is_seated = { λ store graph seats. Unit {0} };
+
     fn from_disk<D: Disk>(alloc: Global, disk: &mut D) -> Result<RecordStore, StoreFault> {
         let Opened { journal, payloads } = Journal::from_disk(alloc, disk, FORM)?;
         let index = index_of(alloc, &payloads)?;
@@ -76,12 +83,16 @@ impl Records for RecordStore {
         Ok(RecordStore { journal, index })
     }
 
-    fn needs(&self, alloc: Global, graph: &Graph) -> Result<Needs, NoMemory> {
-        let mut needs = Needs::new(alloc);
-        for at in 0..graph.len() as u32 {
-            needs.push(self.need(graph, at))?;
-        }
-        Ok(needs)
+    fn seats(&mut self, _alloc: Global, _graph: &Graph) -> Result<NoSeats, NoMemory> {
+        Ok(NoSeats)
+    }
+
+    fn fits(&self, _seats: &NoSeats, graph: &Graph, at: u32) -> bool {
+        self.is_recorded(graph, at)
+    }
+
+    fn artefact_at(&self, _seats: &NoSeats, graph: &Graph, at: u32) -> Option<&[u8]> {
+        self.artefact(&graph.get(at as u64).name)
     }
 
     fn artefact(&self, name: &FileName) -> Option<&[u8]> {
@@ -94,6 +105,7 @@ impl Records for RecordStore {
     fn prepare(
         &mut self,
         alloc: Global,
+        _seats: &NoSeats,
         graph: &Graph,
         at: u32,
         artefact: &Text,

@@ -1,21 +1,16 @@
 -- What is recorded of a file, and the record that it is of.
-use Rattle.std.proofs.Common.{◌≡◌, ℕ, ◌<◌, List, length, get_or, Option, Some, None, refl, sym, ap, ◌∙◌, inl, inr, arith}
+use Rattle.std.proofs.Common.{◌≡◌, ℕ, List, Option, Some, None, refl, sym, ap, ◌∙◌, inl, inr}
 use Rattle.std.specs.Prelude.{slice_get, ◌↔◌}
 use Rattle.std.specs.Option.{option_and_then}
 use Rattle.std.proofs.lemmas.Bool.{cases_Bool, cond-true, cond-false}
-use Rattle.std.proofs.lemmas.Option.{slice_get-get_or, get_or_from_slice_get, none-some, same_Some}
+use Rattle.std.proofs.lemmas.Option.{none-some, same_Some}
 use Rattle.vr_base.specs.declared.file.FileName.{FileName}
 use Rattle.vr_base.specs.declared.graph.Entry.{Entry}
 use Rattle.vr_base.specs.View.{view}
 use Rattle.vr_outside.specs.declared.records.Record.{Record}
-use Rattle.vr_outside.specs.declared.records.Need.{Need}
-use Rattle.vr_outside.specs.declared.records.Need.TheVariants.{Fresh, Stale}
-use Rattle.vr_outside.specs.Records.{IsRecorded, AreNeeds}
+use Rattle.vr_outside.specs.Records.{IsRecorded}
 use Rattle.run_spec.specs.Recorded.{is_same_view, artefact_for, recorded_at}
 use Rattle.run_spec.proofs.SameViews.{same_views}
-
-not_both : Stale ≡ Fresh → ⊥
-not_both h = cc
 
 -- a record that an artefact is taken from has this view
 of_view : (present : List Entry) (kept : Record) (artefact : List ℕ) → artefact_for present kept ≡ Some artefact → kept ≡ record { view = present; artefact = artefact }
@@ -64,18 +59,3 @@ module _ (latest_of : FileName → Option Record) (graph : List Entry) (at : ℕ
     λ none recorded. none-some recorded.artefact (sym none ∙ recorded_of_record recorded),
     λ h. none_from (recorded_at latest_of graph at) refl h,
   )
-
-  -- nothing is recorded exactly where the need is stale
-  module _ (needs : List Need) (are : AreNeeds latest_of graph needs) (lt : at < length graph) where
-    here : slice_get needs at ≡ Some (get_or needs at Fresh)
-    here = slice_get-get_or needs at Fresh (omega (arith, are.each, lt))
-
-    need_from : (need : Need) → get_or needs at Fresh ≡ need → (IsRecorded latest_of graph at → ⊥) → need ≡ Stale
-    need_from Fresh is h = absurd (h ((are.fresh at Fresh lt).0 is))
-    need_from Stale is h = refl
-
-    pub none_at_stale : (slice_get needs at ≡ Some Stale) ↔ (recorded_at latest_of graph at ≡ None)
-    none_at_stale = (
-      λ stale. none_recorded.1 (λ recorded. not_both (sym (get_or_from_slice_get needs at Stale Fresh stale) ∙ (are.fresh at Fresh lt).1 recorded)),
-      λ none. here ∙ ap (λ (need : Need). Some need) (need_from (get_or needs at Fresh) refl (none_recorded.0 none)),
-    )

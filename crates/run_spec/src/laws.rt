@@ -1,13 +1,11 @@
 //! The laws of what is recorded, and of the artefacts of a build.
 
-ghost use Rattle.std.specs.Prelude.{◌≡◌, ◌↔◌, ℕ, ◌<◌, ◌++◌, List, [], ◌∷◌, length, slice_get, Option, Some, None};
+ghost use Rattle.std.specs.Prelude.{◌≡◌, ◌↔◌, ℕ, ◌<◌, ◌++◌, List, [], ◌∷◌, Option, Some, None};
 ghost use Rattle.std.specs.Bool.{Decides};
 ghost use Rattle.vr_base.specs.declared.file.FileName.{FileName};
 ghost use Rattle.vr_base.specs.declared.graph.Entry.{Entry};
 ghost use Rattle.vr_outside.specs.declared.records.Record.{Record};
-ghost use Rattle.vr_outside.specs.declared.records.Need.{Need};
-ghost use Rattle.vr_outside.specs.declared.records.Need.TheVariants.{Stale};
-ghost use Rattle.vr_outside.specs.Records.{IsRecorded, AreNeeds};
+ghost use Rattle.vr_outside.specs.Records.{IsRecorded};
 ghost use Rattle.vr_base.specs.Graphs.{IsGraph};
 ghost use Rattle.run_spec.specs.Moves.{IsStepwise};
 ghost use Rattle.run_spec.specs.ChildJournal.{Work, End, artefact_so_far, job_of};
@@ -26,12 +24,9 @@ pub fn laws_of_recorded()
     ensures all { (latest_of : FileName → Option Record) (graph : List Entry) (at : ℕ)
         (recorded : IsRecorded latest_of graph at) → recorded_at latest_of graph at ≡ Some
         recorded.artefact }
-    // so that nothing is recorded exactly of the stale files.
+    // so that nothing is recorded exactly of a file without one.
     ensures none { (latest_of : FileName → Option Record) (graph : List Entry) (at : ℕ) →
         (recorded_at latest_of graph at ≡ None) ↔ (IsRecorded latest_of graph at → ⊥) }
-    ensures stale { (latest_of : FileName → Option Record) (graph : List Entry) (needs : List Need)
-        (at : ℕ) → AreNeeds latest_of graph needs → at < length graph →
-        (slice_get needs at ≡ Some Stale) ↔ (recorded_at latest_of graph at ≡ None) }
 {}
 
 /// The artefacts of a build as its children end, over any notion of what is current.

@@ -11,7 +11,7 @@ use Rattle.child_steps.specs.declared.step.Step.TheVariants.{Start, Wait, Finish
 use Rattle.child_steps.proofs.PlainSteps.{step_starts, step_waits, step_ends}
 use Rattle.slot_machine.specs.declared.slots.Slots.{Slots}
 use Rattle.slot_machine.specs.declared.step.BuildStep.TheVariants.{Check, Run}
-use Rattle.slot_machine.specs.Machines.{check_before, check_of, candidate_of, next_of, files_of}
+use Rattle.slot_machine.specs.Machines.{is_stopped_in, check_before, check_of, candidate_of, next_of, files_of}
 use Rattle.slot_machine.proofs.Passing.{first_is}
 
 runs_when : (o : Option ℕ) (own step : Step) → check_before o own ≡ Run step → (o ≡ None) × (own ≡ step)
@@ -42,6 +42,11 @@ check_is machine at h =
           let found = first_is (is_listed machine.later) 0 (files_of machine) at (sym (cond-false machine.is_stopped None (first_from (is_listed machine.later) 0 (files_of machine)) on) ∙ is) in
           record { within = omega (arith, found.1); listed = found.0; goes_on = on }
     ]
+
+-- a machine that checks hasn't stopped
+pub check_goes_on : (machine : Slots) (at : ℕ) → next_of machine ≡ Check at → is_stopped_in machine ≡ false
+unfolding is_stopped_in
+check_goes_on machine at h = (check_is machine at h).goes_on
 
 -- what a start says of the machine
 pub record IsStart (machine : Slots) (at : ℕ) : Type 0 where

@@ -8,7 +8,7 @@ ghost use Rattle.ready_files.specs.Waits.{file_count};
 
 use crate::lists::{checked_files, count_files, fresh_files, later_files, note_made, stale_files};
 use crate::step::BuildStep;
-use build_plan::BuildPlan;
+use build_plan::Need;
 use child_steps::{Child, Step, has_ticket, index_of};
 use position_set::PositionSet;
 use ready_files::ReadyFiles;
@@ -56,29 +56,28 @@ impl Slots {
     ghost use Rattle.slot_machine.specs.declared.step.BuildStep.TheVariants.{Check, Run};
     ghost use Rattle.slot_machine.specs.Machines.{IsJobOf, IsMachineOf, is_checked, is_stopped_in, check_of, candidate_of, next_of, tickets_of, files_of, to_come};
 
-    /// The machine for a build of a graph by a plan, with 1 to 64 slots, that goes on after a refusal or not. Nothing has
-    /// happened yet.
+    /// The machine for a build of a graph by a plan, which has one need for each file, with 1 to 64 slots, that goes on
+    /// after a refusal or not. Nothing has happened yet.
     pub fn new(
         alloc: Global,
         graph: &Graph,
-        plan: &BuildPlan,
+        needs: &[Need],
         limit: u32,
         keep_going: bool,
     ) -> Result<Slots, NoMemory>
-        requires needs { length plan.now.needs ≡ length graph.now }
+        requires needs { length needs.now ≡ length graph.now }
         requires limit { (1 ≤ limit) × (limit ≤ SLOT_LIMIT) }
         ensures files { IfOk result (λ machine. files_of machine ≡ length graph.now) }
         ensures tickets { IfOk result (λ machine. tickets_of machine ≡ []) }
         ensures checked { IfOk result (λ machine. (at : ℕ) → at < length graph.now →
-            is_checked machine at ≡ not (is_later (need_at plan.now.needs at))) }
+            is_checked machine at ≡ not (is_later (need_at needs.now at))) }
         ensures stopped { IfOk result (λ machine. is_stopped_in machine ≡ false) }
         ensures in_step { IfOk result (λ machine. (job : Job) →
-            IsJobOf job graph.now plan.now.needs limit keep_going →
+            IsJobOf job graph.now needs.now limit keep_going →
             IsMachineOf machine job empty_core) }
     {
         let few = graph.len();
         prove!(few <= FILE_LIMIT as u64);
-        let needs = plan.needs.as_slice();
         let checked = checked_files(alloc, needs)?;
         let made = fresh_files(alloc, needs)?;
         let waiting = later_files(alloc, needs)?;
@@ -177,6 +176,8 @@ impl Slots {
             is_stopped_in self.now ≡ false → (step : Step) → result ≡ Run step → (at : ℕ) →
             at < files_of self.now → is_checked self.now at ≡ false →
             (is_taken core at ≡ false) × (is_made_so_far job core at ≡ false) }
+        // nothing is checked once the machine was stopped;
+        ensures goes_on { (at : ℕ) → result ≡ Check at → is_stopped_in self.now ≡ false }
         // whatever was checked has all that it depends on made, and whatever runs was checked;
         ensures ready { (job : Job) (core : Core) → IsMachineOf self.now job core → (at : ℕ) →
             at < files_of self.now → is_checked self.now at ≡ true →
@@ -280,6 +281,7 @@ impl Slots {
         ensures checked { (k : ℕ) → is_checked self.new k ≡ is_checked self.old k }
         ensures files { files_of self.new ≡ files_of self.old }
         ensures tickets { tickets_of self.new ≡ tickets_of self.old }
+        ensures stopped { is_stopped_in self.new ≡ true }
         ensures no_check { (at : ℕ) → next_of self.new ≢ Check at }
         ensures over { (at : ℕ) → next_of self.new ≢ Run (Start at) }
         ensures nearer { to_come self.new ≤ to_come self.old }
@@ -356,6 +358,7 @@ impl Slots {
         ensures checked { (k : ℕ) → is_checked self.new k ≡ is_checked self.old k }
         ensures files { files_of self.new ≡ files_of self.old }
         ensures tickets { tickets_of self.new ≡ without ticket (tickets_of self.old) }
+        ensures stopped { is_stopped_in self.new ≡ true }
         ensures no_check { (at : ℕ) → next_of self.new ≢ Check at }
         ensures over { (at : ℕ) → next_of self.new ≢ Run (Start at) }
         ensures nearer { to_come self.new < to_come self.old }

@@ -1,7 +1,7 @@
 //! Builds of six files, whose children end in many orders, and whose later files are checked meanwhile.
 
 use crate::{BuildStep, Slots};
-use build_plan::{BuildPlan, Need, Needs};
+use build_plan::Need;
 use child_steps::Step;
 use record_codec::read_record;
 use std::alloc::Global;
@@ -226,18 +226,6 @@ fn graph(alloc: Global) -> Result<Graph, Fail> {
     Ok(view)
 }
 
-/// The plan of these needs.
-fn plan_of(alloc: Global, needs: &[Need]) -> Result<BuildPlan, NoMemory> {
-    let mut all = Needs::new(alloc);
-    for need in needs {
-        all.push(*need)?;
-    }
-    Ok(BuildPlan {
-        needs: all,
-        recorded: vr_outside::Needs::new(alloc),
-    })
-}
-
 /// The ticket of a file's child.
 fn ticket_of(at: u32) -> u64 {
     at as u64 * 7 + 1
@@ -290,11 +278,11 @@ fn go(rt: &impl Abort, slots: &mut Slots, call: Call) {
 
 fn build(rt: &impl Abort, alloc: Global, row: &Row) -> Result<(), Fail> {
     let graph = graph(alloc)?;
-    let plan = plan_of(alloc, row.needs.as_slice())?;
-    assert!(rt; plan.needs.len() == graph.len());
+    let needs = row.needs.as_slice();
+    assert!(rt; needs.len() as u64 == graph.len());
     assert!(rt; row.limit >= 1);
     assert!(rt; row.limit <= 64);
-    let mut slots = Slots::new(alloc, &graph, &plan, row.limit, row.keep_going)?;
+    let mut slots = Slots::new(alloc, &graph, needs, row.limit, row.keep_going)?;
     for call in row.calls {
         go(rt, &mut slots, *call);
     }

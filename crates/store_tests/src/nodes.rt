@@ -1,11 +1,12 @@
 //! Tests of a store over a disk in memory: its bytes, stops inside its calls, calls that fail, and when it is compacted.
 
-ghost use Rattle.std.specs.Prelude.{◌≡◌, ◌<◌, ◌≤◌, [], ◌∷◌, false, length, All, IfOk, IsTrue, OnOk, slice_index_or};
+ghost use Rattle.std.specs.Prelude.{◌≡◌, ◌<◌, ◌≤◌, [], ◌∷◌, false, length, All, IfOk, IsTrue, OnOk};
 ghost use Rattle.vr_base.specs.declared.limits.TheConstants.{ARTEFACT_LIMIT};
 ghost use Rattle.vr_outside.specs.Records.{IsRecorded, deps_at};
-ghost use Rattle.vr_outside.specs.declared.records.Need.TheVariants as need;
+ghost use Rattle.node_holdings.specs.Held.{AreSeats};
 ghost use Rattle.node_store.specs.Stored.{IsNodeStoreInStep, latest_among};
 
+use build_plan::{Need, plan};
 use gate_journal::{Journal, Opened, Payloads};
 use node_store::NodeStore;
 use record_codec::read_record;
@@ -13,7 +14,7 @@ use std::alloc::Global;
 use std::test::Fail;
 use vr_base::{ARTEFACT_LIMIT, FileName, Graph, Items, NoMemory, Numbers, Text};
 use vr_memory::MemDisk;
-use vr_outside::{Disk, Need, Record, Records, Side, StoreFault, write_durably};
+use vr_outside::{Disk, Record, Records, Side, StoreFault, write_durably};
 
 const LONG: u64 = (1 << 63) - 1;
 
@@ -73,7 +74,8 @@ fn keep<D: Disk>(
         OnOk result
         (IsNodeStoreInStep store.new.journal store.new.held (D.moments disk.new).now) }
 {
-    let prepared = store.prepare(alloc, graph, at, artefact)?;
+    let seats = store.seats(alloc, graph)?;
+    let prepared = store.prepare(alloc, &seats, graph, at, artefact)?;
     store.commit(disk, prepared)?;
     Ok(())
 }
@@ -482,16 +484,6 @@ fn both(alloc: Global, first: u8, second: u8) -> Result<Graph, StoreFault>
     Ok(view)
 }
 
-/// Whether the first of some needs is fresh.
-fn begins_fresh(needs: &[Need]) -> bool
-    ensures { IsTrue result → slice_index_or needs.now 0 need.Stale ≡ need.Fresh }
-{
-    match needs {
-        [Need::Fresh, ..] => true,
-        _ => false,
-    }
-}
-
 /// Whether some positions are the first alone.
 fn is_first(deps: &[u32]) -> bool
     ensures { IsTrue result → deps.now ≡ 0 ∷ [] }
@@ -502,24 +494,22 @@ fn is_first(deps: &[u32]) -> bool
     }
 }
 
-/// Whether the second file of a graph depends on the first alone, and that has a record of its present view.
-fn may_follow(alloc: Global, store: &NodeStore, graph: &Graph) -> Result<bool, NoMemory>
-    requires { 1 < length graph.now }
-    ensures { IfOk result
-        (λ may. IsTrue may →
-        All (IsRecorded (latest_among store.now.held.payloads) graph.now) (deps_at graph.now 1)) }
+/// Whether the second file of a graph depends on the first alone, which depends on none and has a record of its present
+/// view.
+fn may_follow(store: &NodeStore, seats: &Items<usize>, graph: &Graph) -> bool
+    requires both { 1 < length graph.now }
+    requires seated { AreSeats store.now.held.names graph.now seats.now }
+    ensures { IsTrue result →
+        All (IsRecorded (latest_among store.now.held.payloads) graph.now) (deps_at graph.now 1) }
 {
-    let needs = store.needs(alloc, graph)?;
-    let listed = needs.as_slice();
-    if !begins_fresh(listed) {
-        return Ok(false);
+    if !graph.get(0).deps.is_empty() {
+        return false;
+    }
+    if !store.fits(seats, graph, 0) {
+        return false;
     }
     let second = graph.get(1);
-    let deps = second.deps.as_slice();
-    if !is_first(deps) {
-        return Ok(false);
-    }
-    Ok(true)
+    is_first(second.deps.as_slice())
 }
 
 /// Adds records of both files.
@@ -535,7 +525,8 @@ fn keep_both<D: Disk>(
         IsNodeStoreInStep store.old.journal store.old.held (D.moments disk.old).now }
 {
     keep_first(alloc, store, disk, graph)?;
-    if !may_follow(alloc, store, graph)? {
+    let seats = store.seats(alloc, graph)?;
+    if !may_follow(store, &seats, graph) {
         return Err(StoreFault::NoMemory);
     }
     let artefact = Text::from_slice(alloc, b"z")?;
@@ -574,15 +565,21 @@ fn make_change<D: Disk>(
     }
 }
 
-/// The needs of both files as letters, `f` or `s`, and then the artefacts that are lent.
-fn seen(alloc: Global, store: &NodeStore, graph: &Graph) -> Result<[u8; 4], NoMemory>
+/// What is to be done with both files as letters, `f` for nothing, `s` for a compilation and `l` for a later check, and then
+/// the artefacts that are lent.
+fn seen(alloc: Global, store: &mut NodeStore, graph: &Graph) -> Result<[u8; 4], NoMemory>
     requires { 1 < length graph.now }
 {
-    let needs = store.needs(alloc, graph)?;
+    let seats = store.seats(alloc, graph)?;
+    let needs = plan(alloc, graph, store, &seats)?;
     let mut letters = [b'?'; 4];
     for (i, need) in needs.as_slice().iter().enumerate() {
         if i < 2 {
-            letters[i] = if *need == Need::Fresh { b'f' } else { b's' };
+            letters[i] = match need {
+                Need::Fresh => b'f',
+                Need::Stale => b's',
+                Need::Later => b'l',
+            };
         }
     }
     letters[2] = letter(store, &graph.get(0).name);
@@ -622,7 +619,7 @@ fn seen_on<D: Disk>(
 }
 
 /// What is seen in a store.
-fn seen_in(alloc: Global, store: &NodeStore, graph: &Graph) -> Result<[u8; 4], StoreFault>
+fn seen_in(alloc: Global, store: &mut NodeStore, graph: &Graph) -> Result<[u8; 4], StoreFault>
     requires { 1 < length graph.now }
 {
     Ok(seen(alloc, store, graph)?)
@@ -632,8 +629,8 @@ fn seen_in(alloc: Global, store: &NodeStore, graph: &Graph) -> Result<[u8; 4], S
 fn seen_empty<D: Disk>(alloc: Global, disk: &mut D, graph: &Graph) -> Result<[u8; 4], StoreFault>
     requires { 1 < length graph.now }
 {
-    let store = NodeStore::emptied(alloc, disk)?;
-    seen_in(alloc, &store, graph)
+    let mut store = NodeStore::emptied(alloc, disk)?;
+    seen_in(alloc, &mut store, graph)
 }
 
 /// Adds a record of the first file, and empties the disk.
@@ -664,7 +661,7 @@ fn example(alloc: Global, first: u8, second: u8) -> Result<[u8; 4], StoreFault> 
 fn the_example_is_opened_and_its_files_are_needed(rt: HostRuntime) -> Result<(), Fail> {
     assert!(rt; example(rt.alloc(), b'x', b'x')? == *b"ffyz");
     assert!(rt; example(rt.alloc(), b'x', b'w')? == *b"fsyz");
-    assert!(rt; example(rt.alloc(), b'w', b'x')? == *b"ssyz");
+    assert!(rt; example(rt.alloc(), b'w', b'x')? == *b"slyz");
     Ok(())
 }
 

@@ -5,12 +5,12 @@ ghost use Rattle.vr_memory.specs.Disks.{moments_of};
 ghost use Rattle.record_store.specs.Stored.{IsStoreInStep};
 
 use record_codec::read_record;
-use record_store::{RecordStore, keep};
+use record_store::{NoSeats, RecordStore, keep};
 use std::alloc::Global;
 use std::test::Fail;
 use vr_base::{Graph, Items, NoMemory, Numbers, Text};
 use vr_memory::MemDisk;
-use vr_outside::{Need, Record, Records, Side, StoreFault, write_durably};
+use vr_outside::{Record, Records, Side, StoreFault, write_durably};
 
 const LONG: u64 = (1 << 63) - 1;
 
@@ -54,19 +54,21 @@ fn graph(alloc: Global, text: u8) -> Result<Graph, Fail>
 }
 
 /// Whether the store has a record of the file at its present view, with the artefact `y`.
-fn is_fresh(alloc: Global, store: &RecordStore, graph: &Graph) -> Result<bool, NoMemory>
+fn is_fresh(store: &RecordStore, graph: &Graph) -> bool
     requires { 0 < length graph.now }
 {
-    let needs = store.needs(alloc, graph)?;
-    let artefact = store.artefact(&graph.get(0).name);
-    Ok(needs.as_slice() == [Need::Fresh].as_slice() && artefact == Some(b"y".as_slice()))
+    if !graph.get(0).deps.is_empty() {
+        return false;
+    }
+    let artefact = store.artefact_at(&NoSeats, graph, 0);
+    store.fits(&NoSeats, graph, 0) && artefact == Some(b"y".as_slice())
 }
 
 /// Whether the store of a disk has a record of the file.
 fn holds(alloc: Global, disk: &mut MemDisk) -> Result<bool, Fail> {
     let graph = graph(alloc, b'x')?;
     let store = RecordStore::from_disk(alloc, disk)?;
-    Ok(is_fresh(alloc, &store, &graph)?)
+    Ok(is_fresh(&store, &graph))
 }
 
 /// Opens the store of a disk, and keeps the artefact `y` of the file, which depends on no other.
@@ -98,7 +100,7 @@ fn with_x(alloc: Global, disk: &mut MemDisk) -> Result<RecordStore, Fail>
 /// Whether a store has a record of the file with this text.
 fn has(alloc: Global, store: &RecordStore, text: u8) -> Result<bool, Fail> {
     let graph = graph(alloc, text)?;
-    Ok(is_fresh(alloc, store, &graph)?)
+    Ok(is_fresh(store, &graph))
 }
 
 /// Whether a record that is kept is found, also on the disk.
@@ -218,7 +220,7 @@ fn keeps(alloc: Global, disk: &mut MemDisk, graph: &Graph) -> Result<bool, Fail>
     requires { 0 < length graph.now }
 {
     let store = with_record(alloc, disk, graph)?;
-    Ok(is_fresh(alloc, &store, graph)?)
+    Ok(is_fresh(&store, graph))
 }
 
 /// Whether a disk call that fails is answered, and the store that is then opened again can keep the record.

@@ -108,6 +108,7 @@ pub fn run_tests<K: Records, P: Procs>(
     else {
         return Err(TestRunFault::NoMemory);
     };
+    procs.expects(runs.len() as u64);
     let mut noted = None;
     loop {
         match row.next() {

@@ -1,4 +1,4 @@
-//! The line that a screen shows: how many children have ended, how many run, and the oldest of these.
+//! The line that a screen shows: how many children have ended, of how many that may be started, and the oldest that runs.
 
 use fault_causes::push_visible;
 use std::alloc::Global;
@@ -42,15 +42,10 @@ fn text_of(bytes: &[u8]) -> Option<(&[u8], &[u8])> {
 }
 
 /// The line. The terminal cuts it, since it isn't to wrap, and the cursor is left at its start.
-pub fn line_of(
-    alloc: Global,
-    ended: u64,
-    running: usize,
-    title: &[u8],
-) -> Result<Vec<u8>, NoMemory> {
+pub fn line_of(alloc: Global, ended: u64, due: u64, title: &[u8]) -> Result<Vec<u8>, NoMemory> {
     let mut line = Vec::from_slice(alloc, b"\x1b[?7l")?;
     line.extend_from_slice(EMPTY_LINE)?;
-    let counts = format!(in alloc; "[{ended} done, {running} running] ")?;
+    let counts = format!(in alloc; "[{ended}/{due}] ")?;
     line.extend_from_slice(counts.as_bytes())?;
     line.extend_from_slice(title)?;
     line.extend_from_slice(b"\x1b[?7h\r")?;

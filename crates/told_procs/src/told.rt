@@ -24,6 +24,8 @@ pub struct ToldProcs<P: Procs, W: Write> {
     screen: Option<W>,
     running: Vec<Shown>,
     ended: u64,
+    /// How many may be started in all.
+    due: u64,
     lost: Option<Vec<u8>>,
 }
 
@@ -37,6 +39,7 @@ impl<P: Procs + Drop, W: Write + Drop> ToldProcs<P, W> {
             screen,
             running: Vec::new(alloc),
             ended: 0,
+            due: 0,
             lost: None,
         }
     }
@@ -90,7 +93,7 @@ impl<P: Procs + Drop, W: Write + Drop> ToldProcs<P, W> {
             return;
         };
         let title = oldest.title.as_slice();
-        if let Ok(line) = line_of(alloc, self.ended, self.running.len(), title) {
+        if let Ok(line) = line_of(alloc, self.ended, self.due, title) {
             let _ = screen.write_all(line.as_slice());
         }
     }
@@ -121,5 +124,15 @@ impl<P: Procs + Drop, W: Write + Drop> Procs for ToldProcs<P, W> {
         let end = self.procs.wait_any(alloc);
         self.note_end(alloc, &end);
         end
+    }
+
+    fn expects(&mut self, starts: u64) {
+        self.procs.expects(starts);
+        self.due = self.due.saturating_add(starts);
+    }
+
+    fn spares(&mut self) {
+        self.procs.spares();
+        self.due = self.due.saturating_sub(1);
     }
 }

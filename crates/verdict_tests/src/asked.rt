@@ -3,13 +3,14 @@
 ghost use Rattle.std.specs.Prelude.{◌≡◌, ◌≤◌, ◌<◌, ℕ, All, IfOk, IsTrue, length, sum_by};
 ghost use Rattle.vr_base.specs.declared.limits.TheConstants.{TEXT_LIMIT};
 ghost use Rattle.vr_outside.specs.Records.{IsRecorded};
-ghost use Rattle.vr_outside.specs.declared.records.Need.TheVariants.{Fresh};
+ghost use Rattle.build_plan.specs.declared.plans.Need.TheVariants.{Fresh};
 ghost use Rattle.test_spec.specs.Runs.{FitsRun};
 
+use build_plan::{Need, plan};
 use std::alloc::Global;
 use test_spec::{TestRun, TestRunList};
 use vr_base::{CASE_LIMIT, Graph, NoMemory, PATH_LIMIT, TEXT_LIMIT, Text};
-use vr_outside::{Need, Records};
+use vr_outside::Records;
 
 /// Whether names have at most 4,194,304 bytes together.
 fn are_short(names: &[Text]) -> bool
@@ -80,6 +81,7 @@ fn is_fresh(need: &Need) -> bool
     match need {
         Need::Fresh => true,
         Need::Stale => false,
+        Need::Later => false,
     }
 }
 
@@ -100,10 +102,12 @@ pub(super) fn are_recorded<K: Records>(
     alloc: Global,
     graph: &Graph,
     store: &K,
+    seats: &K::Seats,
 ) -> Result<bool, NoMemory>
+    requires { K.is_seated store.now graph.now seats.now }
     ensures { IfOk result (λ are. IsTrue are → (position : ℕ) → position < length graph.now →
         IsRecorded (K.latest_of store.now) graph.now position) }
 {
-    let needs = store.needs(alloc, graph)?;
+    let needs = plan(alloc, graph, store, seats)?;
     Ok(all_fresh(needs.as_slice()))
 }

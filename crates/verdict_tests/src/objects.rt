@@ -4,7 +4,7 @@ use crate::asked::{all_fit, are_recorded};
 use crate::lines::{answers_of, inputs_of, runs_of, simulator};
 use crate::way::{NEVER, Way, pick_of};
 use record_codec::read_record;
-use record_store::RecordStore;
+use record_store::{NoSeats, RecordStore};
 use std::alloc::Global;
 use std::process::Abort;
 use std::test::Fail;
@@ -77,7 +77,7 @@ fn store_of(alloc: Global, both: bool) -> Result<RecordStore, StoreFault> {
 /// Whether each file of a graph has a record of its present view in a store of both files, or of the first alone.
 pub(super) fn is_recorded(alloc: Global, graph: &Graph, both: bool) -> Result<bool, Fail> {
     let store = store_of(alloc, both)?;
-    Ok(are_recorded(alloc, graph, &store)?)
+    Ok(are_recorded(alloc, graph, &store, &NoSeats)?)
 }
 
 /// The calls that are to fail.
@@ -118,13 +118,16 @@ fn run_over<K: Records>(
     alloc: Global,
     graph: &Graph,
     store: &K,
+    seats: &K::Seats,
     runs: &TestRunList,
     words: &TextList,
     procs: &mut ScriptProcs,
     way: &Way,
-) -> Result<TestEnd, TestRunFault> {
+) -> Result<TestEnd, TestRunFault>
+    requires { K.is_seated store.now graph.now seats.now }
+{
     let limit = way.limit;
-    let recorded = are_recorded(alloc, graph, store)?;
+    let recorded = are_recorded(alloc, graph, store, seats)?;
     assert!(rt; recorded);
     assert!(rt; procs.running().is_empty());
     assert!(rt; limit >= 1);
@@ -268,7 +271,7 @@ fn told_by(
 ) -> Result<Told, NoMemory> {
     let runs = runs_of(alloc, lines)?;
     let words = simulator(alloc)?;
-    let end = run_over(rt, alloc, graph, store, &runs, &words, procs, way);
+    let end = run_over(rt, alloc, graph, store, &NoSeats, &runs, &words, procs, way);
     tell(alloc, procs, &inputs_of(alloc, lines)?, &end)
 }
 

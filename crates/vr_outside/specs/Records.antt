@@ -1,5 +1,5 @@
 -- Records of compiled files, the latest record of a name, and which files have one of their present view.
-use Rattle.std.specs.Prelude.{◌≡◌, ◌⊎◌, ◌↔◌, ℕ, ◌-◌, ◌<◌, Bool, false, List, [], ◌∷◌, length, slice_get, slice_index_or, Option, Some, None, Result, Ok, Err, if◌then◌else◌}
+use Rattle.std.specs.Prelude.{◌≡◌, ◌⊎◌, ℕ, ◌-◌, Bool, false, List, [], ◌∷◌, length, slice_get, Option, Some, None, Result, Ok, Err, if◌then◌else◌}
 use Rattle.std.specs.Option.{option_or, option_map_or}
 use Rattle.std.specs.List.{list_any}
 use Rattle.vr_base.specs.declared.file.FileName.{FileName}
@@ -8,8 +8,6 @@ use Rattle.vr_base.specs.declared.memory.DiskFailed.{DiskFailed}
 use Rattle.vr_base.specs.Names.{is_same_name}
 use Rattle.vr_base.specs.View.{view}
 use Rattle.vr_outside.specs.declared.records.Record.{Record}
-use Rattle.vr_outside.specs.declared.records.Need.{Need}
-use Rattle.vr_outside.specs.declared.records.Need.TheVariants.{Fresh}
 use Rattle.vr_outside.specs.Disks.{DiskState, Image, IsImage}
 
 -- the file that a view is of: its last
@@ -50,11 +48,6 @@ pub record IsRecorded (latest_of : FileName → Option Record) (graph : List Ent
   pub is_entry : slice_get graph at ≡ Some entry
   pub artefact : List ℕ
   pub is : latest_of entry.name ≡ Some (record { view = view graph at; artefact = artefact })
-
--- one need for each file, which is fresh exactly where the latest record of its name has its present view
-pub record AreNeeds (latest_of : FileName → Option Record) (graph : List Entry) (needs : List Need) : Type 0 where
-  pub each : length needs ≡ length graph
-  pub fresh : (at : ℕ) (other : Need) → at < length graph → (slice_index_or needs at other ≡ Fresh) ↔ IsRecorded latest_of graph at
 
 -- the positions that the file at a place depends on
 abbrev pub deps_at : List Entry → ℕ → List ℕ

@@ -73,4 +73,22 @@ pub trait Procs {
         ensures same { answer self.new ≡ answer self.old }
         ensures cause { ChildCounts result (lost_children self.old) (lost_children self.new) }
         ensures starts { failed_starts self.new ≡ failed_starts self.old };
+
+    /// So many starts more may come, which only what shows progress looks at.
+    fn expects(&mut self, _starts: u64)
+        ensures running { running self.new ≡ running self.old }
+        ensures journal { journal self.new ≡ journal self.old }
+        ensures same { answer self.new ≡ answer self.old }
+        ensures starts { failed_starts self.new ≡ failed_starts self.old }
+        ensures children { lost_children self.new ≡ lost_children self.old }
+    {}
+
+    /// One of these starts isn't needed.
+    fn spares(&mut self)
+        ensures running { running self.new ≡ running self.old }
+        ensures journal { journal self.new ≡ journal self.old }
+        ensures same { answer self.new ≡ answer self.old }
+        ensures starts { failed_starts self.new ≡ failed_starts self.old }
+        ensures children { lost_children self.new ≡ lost_children self.old }
+    {}
 }

@@ -1,16 +1,17 @@
 //! Records of compiled files on a disk, as those who build with them see the store.
-ghost use Rattle.std.specs.Prelude.{◌≡◌, ◌<◌, ◌≤◌, ◌++◌, [], ◌∷◌, List, Bool, false, None, Option, option_map, length, All, IfOk, IfSome, OnOk, is_err};
+ghost use Rattle.std.specs.Prelude.{◌≡◌, ◌↔◌, ◌<◌, ◌≤◌, ◌++◌, [], ◌∷◌, List, Bool, false, None, Some, Option, option_map, length, All, IsTrue, IfOk, IfSome, OnOk, is_err, slice_get};
 ghost use Rattle.vr_base.specs.View.{view};
 ghost use Rattle.vr_base.specs.declared.file.FileName.{FileName};
+ghost use Rattle.vr_base.specs.declared.graph.Entry.{Entry};
 ghost use Rattle.vr_outside.specs.Counts.{DiskCounts, StoreCounts};
 ghost use Rattle.vr_outside.specs.Disks.{DiskState, Image, reads_of, IsDurable, IsEither, AtAnyMoment, NeverLoses, OpensWith};
-ghost use Rattle.vr_outside.specs.Records.{latest, deps_at, IsRecorded, AreNeeds, HasRecordsOf, IsAllOrLatest, after_commit};
+ghost use Rattle.vr_outside.specs.Records.{latest, deps_at, IsRecorded, HasRecordsOf, IsAllOrLatest, after_commit};
 ghost use Rattle.vr_outside.specs.declared.records.Record.{Record};
 ghost use Rattle.vr_outside.specs.declared.records.StoreFault.TheVariants as fault;
 
 use crate::Disk;
 use std::alloc::{AllocError, AllocFailed, Global};
-use vr_base::{ARTEFACT_LIMIT, DiskFailed, FileName, Graph, Items, NoMemory, Text};
+use vr_base::{ARTEFACT_LIMIT, DiskFailed, FileName, Graph, NoMemory, Text};
 
 /// Why records can't be read or committed.
 #[derive(Clone, Copy, Debug, PartialEq, Eq)]
@@ -58,22 +59,14 @@ pub struct Record {
     pub artefact: Text,
 }
 
-/// Whether a file has a record of its present view.
-#[derive(Clone, Copy, Debug, PartialEq, Eq)]
-pub enum Need {
-    /// It has: nothing is to be done.
-    Fresh,
-    Stale,
-}
-
-/// One need for each file of a graph, in order.
-pub type Needs = Items<Need>;
-
 /// Records of compiled files on a disk: of each the view that was compiled, and what the compiler gave. The last
 /// record of a name counts. After `DiskFailed` a store is broken until it is opened again.
 pub trait Records: Sized {
     /// A record that is ready to be committed.
     type Prepared;
+
+    /// Where a store has the files of a graph, by position.
+    type Seats: Drop;
 
     /// The records that an image of a disk holds, in order.
     ghost records_of: { Image → List Record };
@@ -91,6 +84,9 @@ pub trait Records: Sized {
 
     /// The store has room for the record, and prepared nothing and changed nothing since.
     ghost is_ready: { Self → Self.Prepared → Type 0 };
+
+    /// These are the seats of the files of a graph in the store.
+    ghost is_seated: { Self → List Entry → Self.Seats → Type 0 };
 
     /// Opens the records of a disk. Whatever a disk holds denotes some records, possibly none. It first syncs
     /// both sides.
@@ -131,9 +127,30 @@ pub trait Records: Sized {
         ensures cause { StoreCounts result (D.failed_disk_calls disk.old)
             (D.failed_disk_calls disk.new) };
 
-    /// For each file of a graph, whether its latest record has its present view.
-    fn needs(&self, alloc: Global, graph: &Graph) -> Result<Needs, NoMemory>
-        ensures { IfOk result (λ needs. AreNeeds (latest_of self.now) graph.now needs) };
+    /// Where the store has the files of a graph, looked up once. It keeps the names of those that it doesn't know yet; its
+    /// records are unchanged.
+    fn seats(&mut self, alloc: Global, graph: &Graph) -> Result<Self::Seats, NoMemory>
+        ensures seated { IfOk result (is_seated self.new graph.now) }
+        ensures latest { (name : FileName) → latest_of self.new name ≡ latest_of self.old name }
+        ensures broken { broken self.new ≡ broken self.old }
+        ensures in_step { (disk : DiskState) → in_step self.old disk → in_step self.new disk };
+
+    /// Whether the latest record of a file has its present view, where that of each file that it depends on has. It takes no
+    /// memory, and time in proportion to the file's text and list.
+    fn fits(&self, seats: &Self::Seats, graph: &Graph, at: u32) -> bool
+        requires place { at < length graph.now }
+        requires seated { is_seated self.now graph.now seats.now }
+        requires recorded { All (IsRecorded (latest_of self.now) graph.now) (deps_at graph.now at) }
+        ensures { IsTrue result ↔ IsRecorded (latest_of self.now) graph.now at };
+
+    /// What the compiler gave by the latest record of the file at a position, lent from the store, as `artefact` does.
+    fn artefact_at(&self, seats: &Self::Seats, graph: &Graph, at: u32) -> Option<&[u8]>
+        requires place { at < length graph.now }
+        requires seated { is_seated self.now graph.now seats.now }
+        ensures bytes { (entry : Entry) → slice_get graph.now at ≡ Some entry →
+            option_map (λ bytes. bytes.now) result
+            ≡ option_map (λ kept. kept.artefact) (latest_of self.now entry.name) }
+        ensures size { IfSome result (λ bytes. length bytes.now ≤ ARTEFACT_LIMIT) };
 
     /// What the compiler gave by the latest record of a name, lent from the store; `None` exactly where the name
     /// has no record. It takes no memory.
@@ -146,11 +163,13 @@ pub trait Records: Sized {
     fn prepare(
         &mut self,
         alloc: Global,
+        seats: &Self::Seats,
         graph: &Graph,
         at: u32,
         artefact: &Text,
     ) -> Result<Self::Prepared, NoMemory>
         requires place { at < length graph.now }
+        requires seated { is_seated self.old graph.now seats.now }
         requires artefact { length artefact.now ≤ ARTEFACT_LIMIT }
         requires recorded { All (IsRecorded (latest_of self.old) graph.now) (deps_at graph.now at) }
         ensures record { IfOk result (λ prepared.
@@ -158,6 +177,8 @@ pub trait Records: Sized {
             ≡ record { view = view graph.now at; artefact = artefact.now }) }
         ensures ready { IfOk result (λ prepared. is_ready self.new prepared) }
         ensures latest { (name : FileName) → latest_of self.new name ≡ latest_of self.old name }
+        ensures seats { (graph : List Entry) (seats : Self.Seats) →
+            is_seated self.old graph seats → is_seated self.new graph seats }
         ensures broken { broken self.new ≡ broken self.old }
         ensures in_step { (disk : DiskState) → in_step self.old disk → in_step self.new disk };
 
@@ -169,6 +190,8 @@ pub trait Records: Sized {
         ensures latest { (name : FileName) →
             latest_of self.new name
             ≡ after_commit result (record_of self.old prepared) (latest_of self.old) name }
+        ensures seats { (graph : List Entry) (seats : Self.Seats) →
+            is_seated self.old graph seats → is_seated self.new graph seats }
         ensures in_step { D.tells → OnOk result (in_step self.new (D.moments disk.new).now) }
         ensures added { D.tells →
             let before = records_of (reads_of (D.moments disk.old).now) in

@@ -2,7 +2,7 @@
 use Rattle.run_spec.proofs.Parts.{no_event, build_parts, all_compiled}
 use Rattle.run_spec.proofs.Prefixes.{lawful_prefix}
 use Rattle.clean_laws.proofs.CleanCommits.{commits_true}
-use Rattle.clean_laws.proofs.CleanSettled.{request_clean, request_is_clean, made_settled}
+use Rattle.clean_laws.proofs.CleanSettled.{request_clean, request_is_clean, made_settled, settle_is_clean}
 use Rattle.clean_laws.proofs.JournalStarted.{nothing_due, started_once}
 use Rattle.clean_laws.proofs.JournalSettled.{made_settled_so_far, asked, started_stale}
 use Rattle.clean_laws.proofs.journals.laws_of_journals.Goals as goal
@@ -48,3 +48,6 @@ returns-clause-commits c = commits_true
 
 pub returns-clause-clean_exactly : goal.returns-clause-clean_exactly
 returns-clause-clean_exactly c = λ answer setting graph records. request_is_clean answer setting.graph graph setting.current records
+
+pub returns-clause-clean_settled : goal.returns-clause-clean_settled
+returns-clause-clean_settled c = λ answer setting graph records. settle_is_clean answer setting.graph graph setting.current records

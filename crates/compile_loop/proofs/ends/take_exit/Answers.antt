@@ -1,5 +1,6 @@
 -- Answers to the goals of `take_exit`.
 use Rattle.std.proofs.Common.{◌≡◌, ◌+◌, ◌++◌, ◌∷◌, [], true, false, Option, refl, sym, ap, subst, ◌∙◌, arith}
+use Rattle.std.specs.Prelude.{is_some}
 use Rattle.std.proofs.lemmas.Bool.{eq-eqb, ne_eqb}
 use Rattle.compile_loop.specs.declared.faults.BuildFault.{BuildFault}
 use Rattle.vr_base.specs.declared.child.Event.TheVariants.{Ended}
@@ -37,7 +38,7 @@ returns-in-Ok-clause-goes g c = λ from events acknowledged is holds.
     takes_commit g.D.Disk.tells g.K.Records.records_of c.args.graph.now from events acknowledged _ (g.D.Disk.moments c.args.disk.now) is holds c.args.ticket c.ended-at.result c.args.exit (omega (arith, c.ended-at.ensures.within, c.requires.files)) c.ended-at.new.self
     (c.ended-at.ensures.position _ _ is.in_step) (c.ended-at.ensures.lawful _ _ c.args.exit.output is.in_step) (c.ended-at.ensures.greedy _ _ c.args.exit.output is.in_step c.requires.step) (c.ended-at.ensures.in_step _ _ c.args.exit.output is.in_step) (c.ended-at.ensures.here _ _ is.in_step) c.ended-at.ensures.checked c.ended-at.ensures.stopped is.in_step.free
     (eq-eqb c.args.exit.code 0 c.if-code-ne0.false) (sym (ap (is_all_committed c.args.noted.now) c.is_broken.ensures) ∙ sym c.is_committing.ensures ∙ c.if-not-is_committing.false) true c.ended-at.new.self c.args.noted.now (g.K.Records.latest_of c.commit_made.new.store) (g.K.Records.broken c.commit_made.new.store) (g.D.Disk.moments c.commit_made.new.disk)
-    (λ n. (n, c.in-Ok.ensures.broken)) (λ all. refl) (λ k. refl) (λ n. c.ended-at.ensures.stopped ∙ is.goes_on n) (λ job core step. step) c.in-Ok.ensures.latest c.in-Ok.ensures.images
+    (λ n. (n, c.in-Ok.ensures.broken)) (λ all. refl) (λ k. refl) (c.ended-at.ensures.stopped ∙ is.halts) (λ job core step. step) c.in-Ok.ensures.latest c.in-Ok.ensures.images
     (first_committed g.D.Disk.tells g.K.Records.records_of c.args.graph.now from events acknowledged _ (g.D.Disk.moments c.args.disk.now) is holds c.args.ticket c.ended-at.result c.args.exit (omega (arith, c.ended-at.ensures.within, c.requires.files)) c.ended-at.new.self
     (c.ended-at.ensures.position _ _ is.in_step) (c.ended-at.ensures.lawful _ _ c.args.exit.output is.in_step) (c.ended-at.ensures.greedy _ _ c.args.exit.output is.in_step c.requires.step) (c.ended-at.ensures.in_step _ _ c.args.exit.output is.in_step) (c.ended-at.ensures.here _ _ is.in_step) c.ended-at.ensures.checked c.ended-at.ensures.stopped is.in_step.free
     (eq-eqb c.args.exit.code 0 c.if-code-ne0.false) (sym (ap (is_all_committed c.args.noted.now) c.is_broken.ensures) ∙ sym c.is_committing.ensures ∙ c.if-not-is_committing.false) (g.K.Records.broken c.commit_made.new.store))
@@ -49,7 +50,7 @@ returns-clause-goes g c = λ from events acknowledged is holds.
     (eq-eqb c.args.exit.code 0 c.if-code-ne0.false) (sym (ap (is_all_committed c.args.noted.now) c.is_broken.ensures) ∙ sym c.is_committing.ensures ∙ c.if-not-is_committing.false) false c.halt.new.slots c.halt.new.noted (g.K.Records.latest_of c.commit_made.new.store) (g.K.Records.broken c.commit_made.new.store) (g.D.Disk.moments c.commit_made.new.disk)
     (λ n. not_noted _ (sym c.halt.ensures.noted ∙ n))
     (λ all. failed_commit c.args.noted.now c.in-Err.fault _ _ c.in-Err.ensures.cause (g.K.Records.broken c.commit_made.new.store) c.in-Err.ensures.broken (subst (λ (o : Option BuildFault). is_all_committed o (g.K.Records.broken c.commit_made.new.store) ≡ true) c.halt.ensures.noted all))
-    c.halt.ensures.checked (λ n. not_noted _ (sym c.halt.ensures.noted ∙ n))
+    c.halt.ensures.checked (c.halt.ensures.stopped ∙ sym (ap is_some c.halt.ensures.noted))
     (λ job core step. c.halt.ensures.in_step job core _ step) c.in-Err.ensures.latest c.in-Err.ensures.images
     (subst (λ (o : Option BuildFault). ComesFirst o (work_from c.args.graph.now from) (events ++ Ended c.args.ticket c.args.exit ∷ []) (acknowledged + 0) (g.K.Records.broken c.commit_made.new.store)) (sym c.halt.ensures.noted)
     (first_failed g.D.Disk.tells g.K.Records.records_of c.args.graph.now from events acknowledged _ (g.D.Disk.moments c.args.disk.now) is holds c.args.ticket c.ended-at.result c.args.exit (omega (arith, c.ended-at.ensures.within, c.requires.files)) c.ended-at.new.self

@@ -13,7 +13,7 @@ use Rattle.compile_loop.proofs.requests.add_lent.Goals as goal
 pub returns-clause-input : goal.returns-clause-input
 returns-clause-input g c =
     let file : BuiltFile = record { name = c.get-entry.result.now.name; artefact = c.in-Some.artefact.now } in
-    let lent : lent_at (g.K.Records.latest_of c.args.store.now) c.args.graph.now c.args.dep ≡ Some file = lent_of _ c.args.graph.now c.args.dep c.get-entry.result.now c.in-Some.artefact.now c.get-entry.ensures.entry c.in-Some.ensures.bytes in
+    let lent : lent_at (g.K.Records.latest_of c.args.store.now) c.args.graph.now c.args.dep ≡ Some file = lent_of _ c.args.graph.now c.args.dep c.get-entry.result.now c.in-Some.artefact.now c.get-entry.ensures.entry (c.in-Some.ensures.bytes c.get-entry.result.now c.get-entry.ensures.entry) in
     on_ok_weaker c.add.result
     (λ is.
     ap (λ (w : Written). w.input) is

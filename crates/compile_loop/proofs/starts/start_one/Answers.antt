@@ -37,7 +37,7 @@ returns-in-Err-clause-goes g c = λ from events acknowledged marks broken is jou
     let none : events ++ [] ≡ events = append-nil events in
     let halted : IsUnderWay c.args.graph.now from events acknowledged (with_machine c.halt.new.slots c.halt.new.noted before) =
     subst (λ (o : Option BuildFault). IsUnderWay c.args.graph.now from events acknowledged (with_machine c.halt.new.slots o before)) (sym c.halt.ensures.noted)
-    (halted_under_way c.args.graph.now from events acknowledged before is c.halt.new.slots _ c.halt.ensures.checked
+    (halted_under_way c.args.graph.now from events acknowledged before is c.halt.new.slots _ c.halt.ensures.checked c.halt.ensures.stopped
     (subst (λ (o : Option BuildFault). IsMachineOf c.halt.new.slots (job_of (work_from c.args.graph.now from)) (halted_if (is_some o) (core_of (book_of (work_from c.args.graph.now from) events)))) c.halt.ensures.noted (c.halt.ensures.in_step _ _ _ is.in_step))
     (still_all c.args.noted.now c.in-Err.fault broken)
     (first_start (work_from c.args.graph.now from) events acknowledged broken c.args.noted.now c.in-Err.fault _ _ c.requires.unnoted c.in-Err.ensures.starts)) in

@@ -1,11 +1,12 @@
 -- Answers to the goals of `run_tests`.
-use Rattle.std.proofs.Common.{length, refl, sym, ap, ◌∙◌}
+use Rattle.std.proofs.Common.{ℕ, None, length, refl, sym, ap, subst, subst₂, ◌∙◌}
 use Rattle.std.specs.Prelude.{is_some}
 use Rattle.std.proofs.lemmas.List.{length-map}
 use Rattle.test_spec.specs.Verdicts.{unstarted_run}
 use Rattle.test_journal.specs.TestJournal.{TestSetting, test_job}
 use Rattle.test_loop.specs.Requests.{lent_files}
-use Rattle.test_loop.specs.UnderWay.{tests_with}
+use Rattle.test_loop.specs.Faults.{TestsCountBy}
+use Rattle.test_loop.specs.UnderWay.{Goes, tests_with}
 use Rattle.test_loop.proofs.Counting.{counts_at_first}
 use Rattle.test_loop.proofs.TestsThen.{nothing_noted}
 use Rattle.test_loop.proofs.WholeTests.{first_going, none_if, started_at, ran_nothing, ran_fault, ran_done}
@@ -18,19 +19,21 @@ pub loop-at-init : goal.loop-at-init
 loop-at-init g c =
     let setting : TestSetting = tests_with c.args.runs.now c.args.simulator.now (lent_files (g.K.Records.latest_of c.args.store.now) c.args.graph.now) c.args.limit c.args.fail_fast in
     record {
-      going = first_going g.P.Procs.tells (g.P.Procs.answer c.args.procs.now) setting (g.P.Procs.journal c.args.procs.now) _ _
+      going = subst (Goes g.P.Procs.tells (g.P.Procs.answer c.args.procs.now) setting (g.P.Procs.journal c.args.procs.now) _ _ _) (sym c.expects.ensures.journal)
+          (first_going g.P.Procs.tells (g.P.Procs.answer c.args.procs.now) setting (g.P.Procs.journal c.args.procs.now) _ _
           (c.in-Ok.ensures.in_step (test_job setting) (record {
             count = refl;
             deps = λ at. refl;
             is_made = λ ended at. refl;
             slots = refl;
             keep_going = refl;
-          })) c.in-Ok.ensures.found;
-      running = c.requires.idle ∙ sym c.in-Ok.ensures.tickets;
-      same = refl;
+          })) c.in-Ok.ensures.found);
+      running = c.expects.ensures.running ∙ c.requires.idle ∙ sym c.in-Ok.ensures.tickets;
+      same = c.expects.ensures.same;
       runs = c.in-Ok.ensures.runs;
       found = ap length c.in-Ok.ensures.found ∙ length-map c.args.runs.now unstarted_run;
-      counts = counts_at_first _;
+      counts = subst₂ (λ (starts losses : ℕ). TestsCountBy None (record { starts = g.P.Procs.failed_starts c.args.procs.now; losses = g.P.Procs.lost_children c.args.procs.now }) (record { starts = starts; losses = losses }))
+          (sym c.expects.ensures.starts) (sym c.expects.ensures.children) (counts_at_first _);
     }
 
 pub start_one-requires-clause-unnoted : goal.start_one-requires-clause-unnoted

@@ -2,8 +2,8 @@
 use Rattle.std.proofs.Common.{◌≡◌, ◌≤◌, length, All, subst, arith}
 use Rattle.std.proofs.lemmas.List.{take_all}
 use Rattle.std.proofs.lemmas.List.Elements.{All-more}
-use Rattle.vr_outside.specs.declared.records.Need.{Need}
-use Rattle.vr_outside.specs.declared.records.Need.TheVariants.{Fresh}
+use Rattle.build_plan.specs.declared.plans.Need.{Need}
+use Rattle.build_plan.specs.declared.plans.Need.TheVariants.{Fresh}
 use Rattle.verdict_tests.proofs.asked.all_fresh.Goals as goal
 
 abbrev IsMet : Need → Type 0

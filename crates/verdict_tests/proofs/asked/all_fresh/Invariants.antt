@@ -1,6 +1,6 @@
 -- So far each is met.
 use Rattle.std.proofs.Common.{◌≡◌, All, take}
-use Rattle.vr_outside.specs.declared.records.Need.TheVariants.{Fresh}
+use Rattle.build_plan.specs.declared.plans.Need.TheVariants.{Fresh}
 use Rattle.verdict_tests.proofs.asked.all_fresh.Given as goal
 
 abbrev pub invariant-loop-need : goal.invariant-loop-need

@@ -1,7 +1,7 @@
 -- Each need is met.
 use Rattle.std.proofs.Common.{◌≡◌, All, subst, List}
-use Rattle.vr_outside.specs.declared.records.Need.{Need}
-use Rattle.vr_outside.specs.declared.records.Need.TheVariants.{Fresh}
+use Rattle.build_plan.specs.declared.plans.Need.{Need}
+use Rattle.build_plan.specs.declared.plans.Need.TheVariants.{Fresh}
 use Rattle.verdict_tests.proofs.Recorded.{all_recorded}
 use Rattle.verdict_tests.proofs.asked.are_recorded.Goals as goal
 

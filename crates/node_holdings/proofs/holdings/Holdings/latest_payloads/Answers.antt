@@ -1,4 +1,4 @@
-use Rattle.std.proofs.Common.{◌≡◌, List, ℕ, map, sym, subst}
+use Rattle.std.proofs.Common.{◌≡◌, map, sym, subst}
 use Rattle.std.specs.Prelude.{All}
 use Rattle.vr_outside.specs.Records.{latest_alone}
 use Rattle.node_codec.specs.Forms.{HasPayloadSpelling, node_payload_bytes}

@@ -5,7 +5,6 @@ use Rattle.vr_base.specs.View.{view}
 use Rattle.node_codec.specs.Shelves.{Shelf, shelf_of}
 use Rattle.node_codec.specs.Writing.{IsSmallFile}
 use Rattle.node_table.specs.Rows.{node_of}
-use Rattle.node_holdings.specs.declared.additions.NextPiece.{NextPiece}
 use Rattle.node_holdings.specs.Additions.{AddsOne, IsPieceOfDraft}
 use Rattle.node_holdings.specs.Held.{HoldingState}
 use Rattle.node_holdings.proofs.Preparing.{file_small, next_known, next_new}

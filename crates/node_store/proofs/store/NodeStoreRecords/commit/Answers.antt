@@ -43,7 +43,7 @@ pub returns-clause-latest : goal.returns-clause-latest
 returns-clause-latest g c = λ name.
     let piece = c.args.prepared.ready in
     let held = c.args.self.now.held.payloads in
-    latest_added held c.put.new.self.payloads piece (added_record held piece) name c.put.ensures c.requires.ready.one_more
+    latest_added held c.put.new.self.payloads piece (added_record held piece) name c.put.ensures.payloads c.requires.ready.one_more
 
 pub returns-clause-in_step : goal.returns-clause-in_step
 returns-clause-in_step g c = λ told.
@@ -56,7 +56,7 @@ returns-clause-in_step g c = λ told.
     record {
       journal_in_step = c.in_ok-commit.ensures.in_step told;
       form = c.commit.ensures.form ∙ stood.form;
-      payloads_are = c.put.ensures ∙ ap (λ (ps : List (List ℕ)). ps ++ piece ∷ []) stood.payloads_are ∙ sym added;
+      payloads_are = c.put.ensures.payloads ∙ ap (λ (ps : List (List ℕ)). ps ++ piece ∷ []) stood.payloads_are ∙ sym added;
     }
 
 pub returns-clause-added : goal.returns-clause-added

@@ -1,7 +1,6 @@
 -- What remains to be proved of `new`.
 use Rattle.std.proofs.Common.{arith, refl, sym, ap, subst₂, ◌∙◌, ◌≡◌, Bool, true, false, not, List, length, map}
-use Rattle.build_plan.specs.declared.plans.Need.{Need}
-use Rattle.build_plan.specs.Plans.{is_fresh, is_stale, is_later, need_at}
+use Rattle.build_plan.specs.Plans.{is_later, need_at}
 use Rattle.slot_machine.specs.Counts.{AreCountedTo}
 use Rattle.slot_machine.specs.Machines.{is_checked, is_stopped_in, files_of, tickets_of}
 use Rattle.child_steps.specs.declared.child.Child.{Child}
@@ -10,11 +9,11 @@ use Rattle.slot_machine.proofs.slots.Slots.new.Goals as goal
 
 pub count_files-requires-clause-counted : goal.count_files-requires-clause-counted
 count_files-requires-clause-counted c =
-    let count : length c.as_slice-needs.result.now ≡ length c.args.graph.now = ap (λ (xs : List Need). length xs) c.as_slice-needs.ensures ∙ c.requires.needs in
+    let count : length c.args.needs.now ≡ length c.args.graph.now = c.requires.needs in
     let many : length c.in_ok-waiting.waiting.items ≡ length c.args.graph.now = c.in_ok-waiting.ensures.count ∙ count in
     subst₂ (λ (checked made : List Bool). AreCountedTo c.args.graph.now checked made c.in_ok-later.later 0) (sym c.as_slice.ensures.value) (sym c.as_slice-2.ensures.value)
     (counted_first c.args.graph.now c.in_ok-checked.checked.items c.in_ok-made.made.items c.in_ok-waiting.waiting.items c.in_ok-later.later many
-    (λ k lt. c.in_ok-waiting.ensures.later k (omega (arith, lt, count)) ∙ twice (is_later (need_at c.as_slice-needs.result.now k)) ∙ ap not (sym (c.in_ok-checked.ensures.checked k (omega (arith, lt, count)))))
+    (λ k lt. c.in_ok-waiting.ensures.later k (omega (arith, lt, count)) ∙ twice (is_later (need_at c.args.needs.now k)) ∙ ap not (sym (c.in_ok-checked.ensures.checked k (omega (arith, lt, count)))))
     c.in_ok-later.ensures.waits)
   where
     twice : (b : Bool) → b ≡ not (not b)
@@ -23,7 +22,7 @@ count_files-requires-clause-counted c =
 
 pub returns-clause-files : goal.returns-clause-files
 unfolding files_of
-returns-clause-files c = c.in_ok-made.ensures.count ∙ ap (λ (xs : List Need). length xs) c.as_slice-needs.ensures ∙ c.requires.needs
+returns-clause-files c = c.in_ok-made.ensures.count ∙ c.requires.needs
 
 pub returns-clause-tickets : goal.returns-clause-tickets
 unfolding tickets_of
@@ -31,18 +30,17 @@ returns-clause-tickets c = ap (λ (xs : List Child). map (λ (child : Child). ch
 
 pub returns-clause-in_step : goal.returns-clause-in_step
 returns-clause-in_step c job of_job =
-    let needs : c.as_slice-needs.result.now ≡ c.args.plan.now.needs = c.as_slice-needs.ensures in
-    let count : length c.as_slice-needs.result.now ≡ length c.args.graph.now = ap (λ (xs : List Need). length xs) needs ∙ c.requires.needs in
-    in_step_new _ c.args.graph.now c.args.plan.now.needs c.args.limit c.args.keep_going job refl refl refl refl c.in_ok-children.ensures.items
+    let count : length c.args.needs.now ≡ length c.args.graph.now = c.requires.needs in
+    in_step_new _ c.args.graph.now c.args.needs.now c.args.limit c.args.keep_going job refl refl refl refl c.in_ok-children.ensures.items
     (c.in_ok-made.ensures.count ∙ count)
-    (λ at lt. c.in_ok-checked.ensures.checked at (omega (arith, lt, count)) ∙ ap (λ (xs : List Need). not (is_later (need_at xs at))) needs)
-    (λ at lt. c.in_ok-made.ensures.fresh at (omega (arith, lt, count)) ∙ ap (λ (xs : List Need). is_fresh (need_at xs at)) needs)
-    (λ at lt. c.stale_files-ready.ensures.stale at (omega (arith, lt, count)) ∙ ap (λ (xs : List Need). is_stale (need_at xs at)) needs)
+    (λ at lt. c.in_ok-checked.ensures.checked at (omega (arith, lt, count)))
+    (λ at lt. c.in_ok-made.ensures.fresh at (omega (arith, lt, count)))
+    (λ at lt. c.stale_files-ready.ensures.stale at (omega (arith, lt, count)))
     (subst₂ (λ (checked made : List Bool). AreCountedTo c.args.graph.now checked made c.count_files.new.later (length c.args.graph.now)) c.as_slice.ensures.value c.as_slice-2.ensures.value c.in_ok-count_files.ensures) of_job
 
 pub returns-clause-checked : goal.returns-clause-checked
 unfolding is_checked
-returns-clause-checked c = λ at lt. c.in_ok-checked.ensures.checked at (omega (arith, lt, ap (λ (xs : List Need). length xs) c.as_slice-needs.ensures, c.requires.needs)) ∙ ap (λ (xs : List Need). not (is_later (need_at xs at))) c.as_slice-needs.ensures
+returns-clause-checked c = λ at lt. c.in_ok-checked.ensures.checked at (omega (arith, lt, c.requires.needs))
 
 pub returns-clause-stopped : goal.returns-clause-stopped
 unfolding is_stopped_in

@@ -2,7 +2,7 @@
 use Rattle.std.proofs.Common.{arith, sym, ◌∙◌}
 use Rattle.std.proofs.lemmas.List.{length-map}
 use Rattle.child_steps.proofs.ChildLists.{no_children}
-use Rattle.slot_machine.specs.Machines.{tickets_of}
+use Rattle.slot_machine.specs.Machines.{is_stopped_in, tickets_of}
 use Rattle.slot_machine.proofs.NextSteps.{check_is, start_is, wait_runs, end_runs}
 use Rattle.slot_machine.proofs.MachineSteps.{check_free, run_in_step, finished_is, unchecked_idle}
 use Rattle.slot_machine.proofs.slots.Slots.next.Goals as goal
@@ -35,3 +35,7 @@ returns-clause-unchecked c job core step on is h at lt new = unchecked_idle c.ar
 
 pub returns-clause-ready : goal.returns-clause-ready
 returns-clause-ready c job core step at lt is = step.free at (omega (arith, lt, step.count)) is
+
+pub returns-clause-goes_on : goal.returns-clause-goes_on
+unfolding is_stopped_in
+returns-clause-goes_on c at h = (check_is c.args.self.now at (sym c.step.ensures ∙ h)).goes_on

@@ -1,7 +1,7 @@
 -- What remains to be proved of `stop`.
 use Rattle.std.proofs.Common.{arith, refl, sym}
 use Rattle.run_spec.specs.Moves.{Halts, after_move}
-use Rattle.slot_machine.specs.Machines.{is_checked, files_of, tickets_of}
+use Rattle.slot_machine.specs.Machines.{is_checked, is_stopped_in, files_of, tickets_of}
 use Rattle.slot_machine.proofs.NextSteps.{start_is, no_check, no_start, on_from}
 use Rattle.slot_machine.proofs.MachineSteps.{in_step_as, nearer_by, nearer_stop, stopped_last, or_true}
 use Rattle.slot_machine.proofs.slots.Slots.stop.Goals as goal
@@ -37,3 +37,7 @@ returns-clause-ends c at is =
 pub returns-clause-checked : goal.returns-clause-checked
 unfolding is_checked
 returns-clause-checked c = λ k. refl
+
+pub returns-clause-stopped : goal.returns-clause-stopped
+unfolding is_stopped_in
+returns-clause-stopped c = refl

@@ -1,11 +1,10 @@
--- What holds at each turn of the loop of `build_marks`: the build is under way.
+-- What holds at each turn of the loop of `build_seated`: the build is under way.
 use Rattle.std.proofs.Common.{◌≡◌, length}
 use Rattle.std.specs.Bool.{OnFalse}
-use Rattle.vr_outside.specs.Records.{AreNeeds}
 use Rattle.slot_machine.specs.Machines.{tickets_of, files_of, to_come}
 use Rattle.compile_loop.specs.Faults.{CountsBy}
 use Rattle.compile_loop.specs.UnderWay.{Goes}
-use Rattle.compile_loop.proofs.builds.build_marks.Given as goal
+use Rattle.compile_loop.proofs.builds.build_seated.Given as goal
 
 abbrev pub invariant-loop-at : goal.invariant-loop-at
 invariant-loop-at g l = record {
@@ -17,7 +16,7 @@ invariant-loop-at g l = record {
   same : g.P.Procs.answer l.procs ≡ g.P.Procs.answer l.fn.procs;
   files : files_of l.slots ≡ length l.graph;
   in_step : g.D.Disk.tells → OnFalse (g.K.Records.broken l.store) (g.K.Records.in_step l.store (g.D.Disk.moments l.disk).now);
-  recorded : AreNeeds (g.K.Records.latest_of l.fn.store) l.graph l.recorded;
+  seated : g.K.Records.is_seated l.store l.graph l.seats;
   counts : CountsBy l.noted (g.K.Records.broken l.store)
       (record { starts = g.P.Procs.failed_starts l.fn.procs; losses = g.P.Procs.lost_children l.fn.procs; disks = g.D.Disk.failed_disk_calls l.fn.disk })
       (record { starts = g.P.Procs.failed_starts l.procs; losses = g.P.Procs.lost_children l.procs; disks = g.D.Disk.failed_disk_calls l.disk });
