@@ -17,7 +17,7 @@ pub(super) fn plain_marks(
 ) -> Result<Vec<u8>, NoMemory> {
     let mut marks = Vec::new(alloc);
     for at in 0..shape.count {
-        marks.push(mark_of(plain, stale, keep_going, at))?;
+        marks.push(mark_of(plain, shape, stale, keep_going, at))?;
     }
     Ok(marks)
 }

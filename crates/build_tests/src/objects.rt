@@ -3,6 +3,7 @@
 use crate::plain::{NEVER, Way, pick_of};
 use crate::sets::has;
 use crate::shapes::{Shape, file_of, graph_of, input_of, letter, text};
+use build_plan::{Need, plan};
 use compile_loop::{BuildEnd, BuildFault, build, build_marks};
 use record_store::RecordStore;
 use run_report::build_text;
@@ -304,4 +305,35 @@ pub(super) fn told_marks(
     let graph = graph_of(alloc, shape, 0)?;
     let mut procs = script(rt, alloc, shape, 0, way)?;
     marks_over(rt, alloc, &graph, disk, &mut procs, way.limit)
+}
+
+/// The plan over a store as letters: fresh, stale, or to be checked later.
+fn plan_letters<K: Records>(
+    alloc: Global,
+    graph: &Graph,
+    store: &mut K,
+) -> Result<Vec<u8>, NoMemory> {
+    let seats = store.seats(alloc, graph)?;
+    let needs = plan(alloc, graph, store, &seats)?;
+    let mut letters = Vec::new(alloc);
+    for need in needs.as_slice() {
+        letters.push(match need {
+            Need::Fresh => b'f',
+            Need::Stale => b's',
+            Need::Later => b'l',
+        })?;
+    }
+    Ok(letters)
+}
+
+/// The plan of a build of a shape over a disk, of which some files have changed.
+pub(super) fn told_plan(
+    alloc: Global,
+    shape: &Shape,
+    changed: u8,
+    disk: &mut MemDisk,
+) -> Result<Vec<u8>, Fail> {
+    let graph = graph_of(alloc, shape, changed)?;
+    let mut store = RecordStore::from_disk(alloc, disk)?;
+    Ok(plan_letters(alloc, &graph, &mut store)?)
 }

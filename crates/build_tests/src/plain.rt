@@ -182,14 +182,16 @@ pub(super) fn plain_build(
     Ok(plain)
 }
 
-/// The mark of a file, as a letter: fresh, compiled, refused, skipped or left.
-pub(super) fn mark_of(plain: &Plain, stale: u8, keep_going: bool, at: u8) -> u8 {
-    if !has(stale, at) {
-        b'f'
-    } else if has(plain.compiled, at) {
+/// The mark of a file, as a letter: fresh, compiled, refused, skipped or left. A file that isn't stale is fresh once all that it
+/// depends on is made.
+pub(super) fn mark_of(plain: &Plain, shape: &Shape, stale: u8, keep_going: bool, at: u8) -> u8 {
+    let unmade = stale & !plain.compiled;
+    if has(plain.compiled, at) {
         b'c'
     } else if has(plain.refused, at) {
         b'r'
+    } else if !has(stale, at) && deps_of(shape, at) & unmade == 0 {
+        b'f'
     } else if keep_going {
         b's'
     } else {

@@ -1,6 +1,6 @@
 //! Builds of small projects, event by event, for each number of slots.
 
-use crate::objects::{Told, build_fault, empty_disk, told_build, told_marks};
+use crate::objects::{Told, build_fault, empty_disk, told_build, told_marks, told_plan};
 use crate::parts::{USERS, way};
 use crate::plain::{NEVER, Way};
 use crate::shapes::Shape;
@@ -193,4 +193,75 @@ fn marks_alone_are_those_of_the_build(rt: HostRuntime) -> Result<(), Fail> {
     let marks = told_marks(&rt, rt.alloc(), &REFUSED, &way(2, true, 0b1, 0), &mut disk)?;
     assert!(rt; marks.as_slice() == b"rscss".as_slice());
     Ok(())
+}
+
+/// Builds the users, changes the package, and stops once it is compiled.
+fn stops_after_the_package(rt: &impl Abort, alloc: Global, disk: &mut MemDisk) -> Result<(), Fail> {
+    build_users(rt, alloc, disk)?;
+    let mut stopping = way(1, false, 0, 0);
+    stopping.failing = 2;
+    let told = told_build(rt, alloc, &USERS, 0b1, &stopping, disk)?;
+    assert!(rt; is(&told, b"+0-0", b""));
+    assert!(rt; told.fault == Some(BuildFault::StartFailed));
+    Ok(())
+}
+
+/// The build after that, of the package as it was at first.
+fn undone_goes(
+    rt: &impl Abort,
+    alloc: Global,
+    way: &Way,
+    events: &str,
+    marks: &str,
+) -> Result<(), Fail> {
+    let mut disk = empty_disk(alloc, NEVER)?;
+    stops_after_the_package(rt, alloc, &mut disk)?;
+    let wanted = (events.as_bytes(), marks.as_bytes());
+    assert!(rt; goes_over(rt, alloc, &USERS, way, wanted, &mut disk)?);
+    Ok(())
+}
+
+#[test]
+fn an_undone_change_compiles_the_package_alone(rt: HostRuntime) -> Result<(), Fail> {
+    for limit in [1, 2, 3, 64] {
+        undone_goes(&rt, rt.alloc(), &way(limit, false, 0, 0), "+0-0", "cfffff")?;
+    }
+    Ok(())
+}
+
+#[test]
+fn what_waits_for_a_refused_package_is_not_fresh(rt: HostRuntime) -> Result<(), Fail> {
+    for limit in [1, 2, 3, 64] {
+        undone_goes(
+            &rt,
+            rt.alloc(),
+            &way(limit, false, 0b1, 0),
+            "+0!0",
+            "rlflll",
+        )?;
+        undone_goes(&rt, rt.alloc(), &way(limit, true, 0b1, 0), "+0!0", "rsfsss")?;
+    }
+    Ok(())
+}
+
+#[test]
+fn no_check_comes_after_a_loss(rt: HostRuntime) -> Result<(), Fail> {
+    let mut losing = way(3, false, 0, 0);
+    losing.failing = 1;
+    undone_goes(&rt, rt.alloc(), &losing, "+0?0", "")
+}
+
+/// Whether the plan of the users is this one once the package was compiled after a change, where these files have changed.
+fn plans(rt: &impl Abort, alloc: Global, changed: u8, letters: &str) -> Result<(), Fail> {
+    let mut disk = empty_disk(alloc, NEVER)?;
+    stops_after_the_package(rt, alloc, &mut disk)?;
+    assert!(rt; told_plan(alloc, &USERS, changed, &mut disk)?.as_slice() == letters.as_bytes());
+    Ok(())
+}
+
+#[test]
+fn what_depends_on_a_stale_file_is_planned_for_later(rt: HostRuntime) -> Result<(), Fail> {
+    plans(&rt, rt.alloc(), 0, "slflll")?;
+    plans(&rt, rt.alloc(), 0b1, "fsfsll")?;
+    plans(&rt, rt.alloc(), 0b101, "fsssll")
 }

@@ -3,8 +3,8 @@
 use crate::compare::{agree, plain_marks, recorded_after};
 use crate::objects::{empty_disk, told_build};
 use crate::plain::{NEVER, Plain, Way, plain_build};
-use crate::sets::{has, upto, with};
-use crate::shapes::{Shape, stale_files};
+use crate::sets::{has, upto};
+use crate::shapes::{Shape, deps_of, stale_files, touched};
 use std::alloc::Global;
 use std::process::Abort;
 use std::test::Fail;
@@ -159,5 +159,58 @@ fn random_builds_go_as_plain_ones(rt: HostRuntime) -> Result<(), Fail> {
     for seed in 0..ROWS {
         row(&rt, rt.alloc(), seed, seed % 2 == 0)?;
     }
+    Ok(())
+}
+
+/// Builds once more after files have changed, of which some may be refused, and gives what is stale once they are as they
+/// were: a file that was compiled then, and one that has no record.
+fn change_and_undo(
+    rt: &impl Abort,
+    alloc: Global,
+    seed: u32,
+    shape: &Shape,
+    recorded: u8,
+    disk: &mut MemDisk,
+) -> Result<u8, Fail> {
+    let changed = few(seed, 40) & upto(shape.count);
+    let stale = stale_files(shape, recorded, changed);
+    let way = way_of(seed ^ 0x3333, 2, seed % 3 == 0);
+    let plain = build_alike(rt, alloc, shape, stale, changed, &way, disk)?;
+    let none = upto(shape.count) & !(recorded | plain.compiled);
+    Ok(touched(shape, changed) & plain.compiled | none)
+}
+
+/// Whether a file that isn't stale depends on one that is: whether it is fresh shows in the middle of the build.
+fn has_late_fresh(shape: &Shape, stale: u8) -> bool {
+    for at in 0..shape.count {
+        if !has(stale, at) && deps_of(shape, at) & stale != 0 {
+            return true;
+        }
+    }
+    false
+}
+
+/// Builds a row, changes files, and then builds it as it was at first, with each number of slots. Says whether there is a
+/// file to be found fresh in the middle.
+fn undone(rt: &impl Abort, alloc: Global, seed: u32, keep_going: bool) -> Result<bool, Fail> {
+    let shape = shape_of(seed);
+    let First { mut disk, recorded } = first_build(rt, alloc, seed, &shape)?;
+    let stale = change_and_undo(rt, alloc, seed, &shape, recorded, &mut disk)?;
+    for limit in [1, 2, 3, 64] {
+        let way = way_of(seed ^ 0x7777, limit, keep_going);
+        build_copy(rt, alloc, &shape, stale, 0, &way, &disk)?;
+    }
+    Ok(has_late_fresh(&shape, stale))
+}
+
+#[test]
+fn random_builds_find_files_fresh_in_the_middle(rt: HostRuntime) -> Result<(), Fail> {
+    let mut found = 0u32;
+    for seed in 0..ROWS {
+        if undone(&rt, rt.alloc(), seed, seed % 2 == 0)? {
+            found = found.wrapping_add(1);
+        }
+    }
+    assert!(rt; found > 0);
     Ok(())
 }

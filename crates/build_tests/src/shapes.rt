@@ -1,6 +1,6 @@
 //! Graphs of at most 8 files, the last of which depends on all others, and what their compilers are asked.
 
-use crate::sets::{has, upto};
+use crate::sets::{has, upto, with};
 use record_codec::read_record;
 use std::alloc::Global;
 use std::test::Fail;
@@ -121,13 +121,18 @@ pub(super) fn file_of(input: &[u8]) -> u8 {
     input[15] - b'a'
 }
 
-/// The files that aren't recorded, and those of which something has changed since.
-pub(super) fn stale_files(shape: &Shape, recorded: u8, changed: u8) -> u8 {
-    let mut stale = upto(shape.count) & !recorded;
+/// The files that have changed, and those that depend on one.
+pub(super) fn touched(shape: &Shape, changed: u8) -> u8 {
+    let mut all = changed;
     for at in 0..8u8 {
-        if has(changed, at) || deps_of(shape, at) & changed != 0 {
-            stale = crate::sets::with(stale, at);
+        if deps_of(shape, at) & changed != 0 {
+            all = with(all, at);
         }
     }
-    stale & upto(shape.count)
+    all & upto(shape.count)
+}
+
+/// The files that aren't recorded, and those of which something has changed since.
+pub(super) fn stale_files(shape: &Shape, recorded: u8, changed: u8) -> u8 {
+    upto(shape.count) & !recorded | touched(shape, changed)
 }
