@@ -26,9 +26,11 @@ def file_system(folder):
 
 
 def needs_of(at, kind, chance):
-    """The files that a file uses: up to four before it in its group of 64, or four of all before it."""
+    """The files that a file uses: up to four before it in its group of 64, four of all before it, or in a chain the one before."""
     if kind == "near":
         return list(range(max(at // 64 * 64, at - 4), at))
+    if kind == "chain":
+        return list(range(max(0, at - 1), at))
     return sorted(chance.sample(range(at), min(at, 4)))
 
 

@@ -103,13 +103,13 @@ module _ (scan : List ℕ → Finding) (answer : Request → Exit) (run : Progra
       (unrecorded answer (work_over records_in_image order first) build.graph position asked.0 asked.1).1
 
   -- a run that is done has started exactly the files that nothing was recorded of
-  exact_starts : (r : Reading) (last : DiskState) → RunsAs scan answer r run first last → IsFaithfulDisk answer records_in_image first → HasBuilt run.outcome → (position : ℕ) → position < length (order_in r).graph →
+  exact_starts : (r : Reading) (last : DiskState) → RunsAs scan answer r run first last → HasBuilt run.outcome → (position : ℕ) → position < length (order_in r).graph →
       Contains (book_of (work_over records_in_image (order_in r) first) run.events).taken position ↔ (recorded_at (latest_over records_in_image (order_in r).clean first) (order_in r).graph position ≡ None)
-  exact_starts r last did faithful done position inside =
+  exact_starts r last did done position inside =
       let setting : Work = work_over records_in_image (order_in r) first in
       let lawful : Lawful setting run.events = (did.whole (built_ended run.outcome done)).lawful in
       let answered : Answered answer run.events = answered_in (order_of r) did.step in
-      let made : is_some (artefact_after setting run.events position) ≡ true = did.made faithful done position inside in (
+      let made : is_some (artefact_after setting run.events position) ≡ true = did.made done position inside in (
         λ contains. not_recorded (order_of r) did.step position contains,
         λ none. elim (cases_Bool (was_taken (book_of setting run.events) position)) [
           | inl taken ↦ held (book_of setting run.events).taken position taken
@@ -146,18 +146,18 @@ module _ (scan : List ℕ → Finding) (answer : Request → Exit) (words : List
   Second middle last = RunsAs scan answer r (run_by words two after) middle last
 
   -- after a run that is done each file has a current record
-  each_recorded : (first middle : DiskState) → IsReadable middle → First first middle → IsFaithfulDisk answer records_in_image first → (order_in r).clean ≡ false → HasBuilt one → (position : ℕ) → position < length (order_in r).graph
+  each_recorded : (first middle : DiskState) → IsReadable middle → First first middle → (order_in r).clean ≡ false → HasBuilt one → (position : ℕ) → position < length (order_in r).graph
       → recorded_at (latest_over records_in_image (order_in r).clean middle) (order_in r).graph position ≡ None → ⊥
-  each_recorded first middle readable did faithful kept_store done position inside none =
-      let kept = did.recorded (built_ended one done) position inside (did.made faithful done position inside) (reads_of middle) readable in
+  each_recorded first middle readable did kept_store done position inside none =
+      let kept = did.recorded (built_ended one done) position inside (did.made done position inside) (reads_of middle) readable in
       none-some kept.artefact (sym (subst (λ (clean : Bool). recorded_at (latest_over records_in_image clean middle) (order_in r).graph position ≡ None) kept_store none) ∙ recorded_of_record (latest_over records_in_image false middle) (order_in r).graph position kept)
 
   pub ran_twice : (first middle last : DiskState) (old new : List Event) → IsReadable middle → First first middle → Second middle last → new ≡ (old ++ before.events) ++ after.events → TestsOf answer r before.events first → TestsOf answer r after.events middle → RanTwice scan answer words sources (record { first = one; second = two }) (record { disk = first; journal = old }) (record { disk = last; journal = new })
   unfolding IsHistory IsTestedHistory
   ran_twice first middle last old new readable did next journal tests again =
       let kept_at : RunStep (world_of scan answer) (order_of r) (run_by words two after) (last_state first before.later) = subst (RunStep (world_of scan answer) (order_of r) (run_by words two after)) (sym did.ends) next.step in
-      let none : IsFaithfulDisk answer records_in_image first → (order_in r).clean ≡ false → HasBuilt one → compile_part after.events ≡ [] = λ faithful kept done.
-      nothing_started scan answer (run_by words two after) middle (order_of r) next.step (each_recorded first middle readable did faithful kept done) in
+      let none : (order_in r).clean ≡ false → HasBuilt one → compile_part after.events ≡ [] = λ kept done.
+      nothing_started scan answer (run_by words two after) middle (order_of r) next.step (each_recorded first middle readable did kept done) in
       record {
         before = before;
         after = after;
@@ -176,7 +176,7 @@ module _ (scan : List ℕ → Finding) (answer : Request → Exit) (words : List
         ends = ap (λ (disk : DiskState). last_state disk after.later) did.ends ∙ next.ends;
         journal = journal;
         fresh = none;
-        idle = λ faithful kept done unplanned. sym (all_compiled after.events (again.untested unplanned)) ∙ none faithful kept done;
+        idle = λ kept done unplanned. sym (all_compiled after.events (again.untested unplanned)) ∙ none kept done;
       }
 
   -- a stop at a moment of the first run has left what the second finds
@@ -202,12 +202,6 @@ module _ (scan : List ℕ → Finding) (answer : Request → Exit) (words : List
         (stopped_spares (world_of scan answer) sources first (run_by words one before) (record { events = compile_part before.events; moment = moment; disk = left }) (Ran (run_by words two after) ∷ []) name kept
         (two_runs (compile_part before.events) [] (sym (append-nil (compile_part before.events)))) here).0
 
-    still_true : IsReadable first → IsFaithfulDisk answer records_in_image first → IsFaithfulDisk answer records_in_image left
-    unfolding IsHistory AllRight
-    still_true readable faithful =
-        (all_right (world_of scan answer) (Stopped (run_by words one before) (record { events = compile_part before.events; moment = moment; disk = left }) ∷ []) sources first readable faithful
-        (did.step, record { rest = []; prefix = sym (append-nil (compile_part before.events)); moment = is; left = stop }, tt)).1
-
     pub ran_after_stop : (old new : List Event) → IsReadable first → new ≡ (old ++ before.events) ++ after.events → TestsOf answer r before.events first → TestsOf answer r after.events left →
         RanAfterStop scan answer words sources (record { first = one; second = two }) (record { failed = before.disk_failed; first = first; later = before.later; moment = moment }) (record { disk = left; journal = old }) (record { disk = last; journal = new })
     ran_after_stop old new readable journal tests again = record {
@@ -218,7 +212,7 @@ module _ (scan : List ℕ → Finding) (answer : Request → Exit) (words : List
       ends = next.ends;
       journal = journal;
       spares = spares;
-      exact = λ faithful done position inside. exact_starts scan answer (run_by words two after) left r last next (still_true readable faithful) done position inside;
+      exact = λ done position inside. exact_starts scan answer (run_by words two after) left r last next done position inside;
     }
 
 -- from an empty disk each run of the program is right

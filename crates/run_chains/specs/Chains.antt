@@ -50,7 +50,7 @@ pub record StoppedDisk : Type 0 where
   pub moment : DiskState
 
 -- Two runs over one disk are a history, also with their tests, which ends at the last moment of the disk; the journal has what
--- both did. After a first one that is done, or whose tests failed, from a disk of true records, the second starts no compiler,
+-- both did. After a first one that is done, or whose tests failed, the second starts no compiler,
 -- unless it is to build all anew; and nothing at all, where no tests are to be run.
 pub record RanTwice (scan : List ℕ → Finding) (answer : Request → Exit) (words : List (List ℕ)) (sources : Sources) (outcomes : Outcomes) (old new : ChainState) : Type 0 where
   pub before : Deeds
@@ -59,13 +59,12 @@ pub record RanTwice (scan : List ℕ → Finding) (answer : Request → Exit) (w
   pub tested : IsTestedHistory (tested_world_of scan answer) sources old.disk (tested.Ran (tested_by words outcomes.first before) ∷ tested.Ran (tested_by words outcomes.second after) ∷ [])
   pub ends : last_state (last_state old.disk before.later) after.later ≡ new.disk
   pub journal : new.journal ≡ (old.journal ++ before.events) ++ after.events
-  pub fresh : IsFaithfulDisk answer records_in_image old.disk → (order_in (reading scan words sources)).clean ≡ false → HasBuilt outcomes.first → compile_part after.events ≡ []
-  pub idle : IsFaithfulDisk answer records_in_image old.disk → (order_in (reading scan words sources)).clean ≡ false → HasBuilt outcomes.first → plan_in (reading scan words sources) ≡ None → after.events ≡ []
+  pub fresh : (order_in (reading scan words sources)).clean ≡ false → HasBuilt outcomes.first → compile_part after.events ≡ []
+  pub idle : (order_in (reading scan words sources)).clean ≡ false → HasBuilt outcomes.first → plan_in (reading scan words sources) ≡ None → after.events ≡ []
 
 -- A run is stopped at a moment of its disk, and another run finds what that stop has left. Whatever prefix of its events the
 -- stop leaves, the two are a history, also with their tests. The second run starts no file at the view of a record that was
--- acknowledged at that moment. Where it is done, or its tests failed, and the first disk had true records, it starts exactly the files that the disk that is left
--- has no current record of; where it is to build all anew, no record counts.
+-- acknowledged at that moment. Where it is done, or its tests failed, it starts exactly the files that the disk that is left has no current record of; where it is to build all anew, no record counts.
 pub record RanAfterStop (scan : List ℕ → Finding) (answer : Request → Exit) (words : List (List ℕ)) (sources : Sources) (outcomes : Outcomes) (stopped : StoppedDisk) (old new : ChainState) : Type 0 where
   pub before : List Event
   pub after : Deeds
@@ -80,5 +79,5 @@ pub record RanAfterStop (scan : List ℕ → Finding) (answer : Request → Exit
   pub journal : new.journal ≡ (old.journal ++ before) ++ after.events
   pub spares : (name : FileName) (kept : Record) → IsAcknowledged (world_of scan answer) name kept stopped.moment →
       SparesFile (world_of scan answer) (order_of (reading scan words sources)) name kept.view (run_by words outcomes.second after) old.disk
-  pub exact : IsFaithfulDisk answer records_in_image stopped.first → HasBuilt outcomes.second → (position : ℕ) → position < length (order_in (reading scan words sources)).graph →
+  pub exact : HasBuilt outcomes.second → (position : ℕ) → position < length (order_in (reading scan words sources)).graph →
       Contains (book_of (work_over records_in_image (order_in (reading scan words sources)) old.disk) (compile_part after.events)).taken position ↔ (recorded_at (latest_over records_in_image (order_in (reading scan words sources)).clean old.disk) (order_in (reading scan words sources)).graph position ≡ None)

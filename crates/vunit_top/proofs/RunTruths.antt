@@ -124,11 +124,11 @@ module _ (scan : List ℕ → Finding) (answer : Request → Exit) (order : Orde
           emptied = λ is. moved (λ l. order.clean ≡ true → EachImage (λ image. records_in_image image ≡ commits s l) new.now)
               (subst (λ (r : Result (List Mark) BuildFault). OnOk r (order.clean ≡ true → EachImage (λ image. records_in_image image ≡ commits s events) new.now)) (ends is).1 over.emptied);
           right = right_step scan answer (Some order) run old.now (readable_now old sound) build_step;
-          exact = λ faithful is none. record {
+          exact = λ is none. record {
             started = all_started answer s over.graph_form (compile_part events) (moved (λ l. IsWhole s l) (whole is)) (moved (λ l. Answered answer l) over.answered) none;
             steady = all_steady answer s over.graph_form (compile_part events) (moved (λ l. IsWhole s l) (whole is)) (moved (λ l. Answered answer l) over.answered) none;
           };
-          made = λ faithful is. all_files_made answer s over.graph_form (compile_part events) (moved (λ l. IsWhole s l) (whole (built_ended said is))) (moved (λ l. Answered answer l) over.answered)
+          made = λ is. all_files_made answer s over.graph_form (compile_part events) (moved (λ l. IsWhole s l) (whole (built_ended said is))) (moved (λ l. Answered answer l) over.answered)
               (moved (λ l. list_any is_refused (marks_of s l) ≡ false) (done is));
         }
 
@@ -192,11 +192,11 @@ module _ (scan : List ℕ → Finding) (answer : Request → Exit) (r : Reading)
         recorded = λ is position inside. absurd (no_file is position inside);
         emptied = λ is clean. absurd (false≢true (sym (ap (λ (o : Option Order). (unwrap_or o no_order).clean) (unordered is)) ∙ clean));
         right = right_step scan answer (order_of r) rest moments.now (readable_now moments sound) step;
-        exact = λ faithful is halts. record {
+        exact = λ is halts. record {
           started = all_started answer s (empty is) (compile_part (since journal journal)) (subst (IsWhole s) (sym nothing) (whole is)) (subst (Answered answer) (sym nothing) tt) halts;
           steady = all_steady answer s (empty is) (compile_part (since journal journal)) (subst (IsWhole s) (sym nothing) (whole is)) (subst (Answered answer) (sym nothing) tt) halts;
         };
-        made = λ faithful is position inside. absurd (no_file (built_ended said is) position inside);
+        made = λ is position inside. absurd (no_file (built_ended said is) position inside);
       }
 
 -- the empty disk holds no record of the program's store

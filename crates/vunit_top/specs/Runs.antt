@@ -41,10 +41,10 @@ pub record IsExact (answer : Request → Exit) (setting : Work) (events : List E
 
 -- What a run did, over the moment of the disk before it and the last one. It is the step of a history, which goes on from
 -- that last moment. Where it has ended its build did so by itself, and each file that is made has a record of its present
--- view in whatever a stop can leave; with a store that is to be emptied that has the records of this build alone. From a
--- disk of true records it is right: at each of its moments a stop can leave true records alone, and each compiler is asked
--- what a clean build asks it; where it has ended and no refusal halted it, it is exact; and where it is done, or its tests
--- failed, each file is made.
+-- view in whatever a stop can leave; with a store that is to be emptied that has the records of this build alone. Where it
+-- has ended and no refusal halted it, it is exact; and where it is done, or its tests failed, each file is made. From a disk
+-- of true records it is right: at each of its moments a stop can leave true records alone, and each compiler is asked what a
+-- clean build asks it.
 pub record RunsAs (scan : List ℕ → Finding) (answer : Request → Exit) (r : Reading) (run : ProgramRun) (first last : DiskState) : Type 0 where
   pub step : RunStep (world_of scan answer) (order_of r) run first
   pub ends : last_state first run.later ≡ last
@@ -52,5 +52,5 @@ pub record RunsAs (scan : List ℕ → Finding) (answer : Request → Exit) (r :
   pub recorded : HasEnded run.outcome → (position : ℕ) → position < length (order_in r).graph → is_some (artefact_after (work_over records_in_image (order_in r) first) run.events position) ≡ true → IsDurablyRecorded records_in_image last (order_in r).graph position
   pub emptied : HasEnded run.outcome → (order_in r).clean ≡ true → EachImage (λ image. records_in_image image ≡ commits (work_over records_in_image (order_in r) first) run.events) last
   pub right : IsFaithfulDisk answer records_in_image first → IsRightStep (world_of scan answer) (order_of r) run first
-  pub exact : IsFaithfulDisk answer records_in_image first → HasEnded run.outcome → NoRefusalHalts (work_over records_in_image (order_in r) first) run.events → IsExact answer (work_over records_in_image (order_in r) first) run.events
-  pub made : IsFaithfulDisk answer records_in_image first → HasBuilt run.outcome → (position : ℕ) → position < length (order_in r).graph → is_some (artefact_after (work_over records_in_image (order_in r) first) run.events position) ≡ true
+  pub exact : HasEnded run.outcome → NoRefusalHalts (work_over records_in_image (order_in r) first) run.events → IsExact answer (work_over records_in_image (order_in r) first) run.events
+  pub made : HasBuilt run.outcome → (position : ℕ) → position < length (order_in r).graph → is_some (artefact_after (work_over records_in_image (order_in r) first) run.events position) ≡ true
