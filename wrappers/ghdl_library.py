@@ -9,20 +9,19 @@ An artefact is the lines that GHDL's library file has of one file, what its user
 
 The words are those of GHDL without which the source can't be read again. The libraries are named by clauses of the file, and
 nothing of them was there when it was compiled: GHDL wants a library file all the same.
+
+A start of GHDL takes some 20 ms, and so would the modules re and signal (for its names of numbers): what every start does is
+written without them.
 """
 
-import errno, os, re, select, signal, sys, zlib
+import _signal as signal
+import errno, os, select, sys, zlib
 
 ARTEFACT_LIMIT, SOURCE_LIMIT = 262_144, 4_194_304
 ENDING = {signal.SIGINT, signal.SIGTERM, signal.SIGHUP}
-# A unit in a library file, with its number in the order of analysis. An artefact has 0 for it.
-UNIT = rb"  [a-z][^\n]* at \d+\( *\d+\) \+ \d+ on (?:%s)(?: body)?;\n"
-HEAD = re.compile(rb"ghdl_analyse 2 (\d\dc?) ([0-9a-f]{40})((?: [!-~]+)*)\n((?:" + UNIT % rb"0" + rb")*)\n")
-NUMBER = re.compile(rb" on \d+( body)?;\n")
-# The name by which other files reach a unit: of an architecture that of its entity.
-NAME = rb"(?:\\(?:[^\\\n]|\\\\)*\\|[^ \n]+)"
-NAMED = re.compile(rb"  (?:architecture " + NAME + rb" of |package body |[a-z]+ )(" + NAME + rb") at ")
-LIBRARY = re.compile(rb"[A-Za-z][A-Za-z0-9_]{0,63}")
+HEX = b"0123456789abcdef"
+# What is visible, without the mark of an escape; and the same with all else that GHDL takes in a name.
+PLAIN = bytes(byte for byte in range(33, 127) if byte != ord("="))
 # What a byte is in a word, of which case counts for nothing; a blank where it is in none.
 IN_WORDS = bytes(ord(letter.lower()) if letter.isalnum() or letter == "_" else 32 for letter in map(chr, range(256)))
 # The folder of libraries of which there is nothing. It comes last of all folders with libraries, so it hides none.
@@ -37,6 +36,56 @@ class Refused(Exception):
 
     def __init__(self, text, code=1):
         self.text, self.code = text, code
+
+
+def is_library(name):
+    return len(name) <= 64 and name[:1].isalpha() and name.replace(b"_", b"0").isalnum()
+
+
+def is_checksum(text):
+    return len(text) == 40 and not text.strip(HEX)
+
+
+def unit_of(line, number=None):
+    """Where the number of a unit begins and ends in its line of a library file, `  KIND NAME at LINE( OFFSET) + COLUMN on
+    NUMBER;` with ` body` behind the number of some: its place in the order of analysis, which is 0 in an artefact. None where
+    the line is none of a unit, or where its number isn't the one that is given."""
+    end = line[: -len(b" body;")] if line.endswith(b" body;") else line[:-1]
+    head, on, found = end.rpartition(b" on ")
+    head, plus, column = head.rpartition(b" + ")
+    head, at, place = head.rpartition(b" at ")
+    row, bracket, offset = place[:-1].partition(b"(")
+    if (line.endswith(b";") and head.startswith(b"  ") and b"a" <= head[2:3] <= b"z" and found.isdigit() and column.isdigit()
+            and row.isdigit() and offset.lstrip(b" ").isdigit() and place.endswith(b")") and number in (None, found)):
+        return len(end) - len(found), len(end)
+    return None
+
+
+def with_number(line, number):
+    begin, end = unit_of(line)
+    return b"%s%d%s" % (line[:begin], number, line[end:])
+
+
+def name_end(text):
+    """Where the name ends that a text begins with: an extended one has its mark twice inside."""
+    if not text.startswith(b"\\"):
+        return text.find(b" ")
+    at = 1
+    while (at := text.find(b"\\", at)) >= 0 and text[at + 1 : at + 2] == b"\\":
+        at += 2
+    return at + 1
+
+
+def name_of(unit):
+    """The name by which other files reach a unit: of an architecture that of its entity."""
+    if unit.startswith(b"  architecture "):
+        rest = unit[len(b"  architecture ") :]
+        rest = rest[name_end(rest) + len(b" of ") :]
+    elif unit.startswith(b"  package body "):
+        rest = unit[len(b"  package body ") :]
+    else:
+        rest = unit[2:].partition(b" ")[2]
+    return rest[: name_end(rest)]
 
 
 class Request:
@@ -61,7 +110,7 @@ class Request:
 
     def library(self):
         name = self.text()
-        if not LIBRARY.fullmatch(name):
+        if not is_library(name):
             raise Refused(b"bad request\n", 2)
         return name.lower()
 
@@ -83,12 +132,14 @@ class Built:
         self.library, self.path, self.name = library, path, None
         if not artefact.startswith(b"ghdl_analyse 2 "):
             raise Refused(self.refusal(program, by_number(artefact)))
-        if not (head := HEAD.match(artefact)):
+        head, source = parts_of(artefact)
+        if not head:
             raise Refused(self.refusal(program, OTHER))
-        self.standard, self.checksum, words, self.units = head.groups()
-        self.words = [unescaped(word) for word in words.split() if not word.startswith(b"+")]
-        self.unseen = [word[1:] for word in words.split() if LIBRARY.fullmatch(word[1:]) and word.startswith(b"+")]
-        self.offset, self.source = offset, artefact[head.end() :]
+        self.standard, self.checksum, *words = head[0].split(b" ")[2:]
+        self.units = head[1:]
+        self.words = [unescaped(word) for word in words if not word.startswith(b"+")]
+        self.unseen = [word[1:] for word in words if word.startswith(b"+") and is_library(word[1:])]
+        self.offset, self.source = offset, source
         self.length = len(self.source)
 
     def refusal(self, program, why):
@@ -98,17 +149,34 @@ class Built:
 OTHER = b"made by another compiler, or with another --std"
 
 
+def parts_of(artefact):
+    """The lines of the head of an artefact of today, the first and those of units, and its source; no lines where it is none."""
+    lines, at = [], 0
+    while (end := artefact.find(b"\n", at)) > at:
+        lines.append(artefact[at:end])
+        at = end + 1
+    first = lines[0].split(b" ") if lines else []
+    is_head = (end == at and len(first) >= 4 and first[:2] == [b"ghdl_analyse", b"2"] and first[2] in STANDARDS
+               and is_checksum(first[3]) and all(word and not word.translate(None, PLAIN + b"=") for word in first[4:])
+               and all(unit_of(line, b"0") for line in lines[1:]))
+    return (lines, artefact[end + 1 :]) if is_head else ([], b"")
+
+
 def by_number(artefact):
-    return b"made by an earlier ghdl_analyse: run once with --clean" if re.match(rb"ghdl_analyse \d+ ", artefact) else OTHER
+    number, blank, _ = artefact[len(b"ghdl_analyse ") :].partition(b" ")
+    is_ours = artefact.startswith(b"ghdl_analyse ") and number.isdigit() and blank
+    return b"made by an earlier ghdl_analyse: run once with --clean" if is_ours else OTHER
 
 
-def escaped(data, plain=rb"[^!-<>-~]"):
+def escaped(data, plain=PLAIN):
     """These bytes with `=` and two digits for each that isn't plain."""
-    return re.sub(plain, lambda found: b"=%02x" % found[0][0], data)
+    return b"".join([bytes((byte,)) if byte in plain else b"=%02x" % byte for byte in data])
 
 
 def unescaped(word):
-    return re.sub(rb"=([0-9a-f]{2})", lambda found: bytes([int(found[1], 16)]), word)
+    first, *rest = word.split(b"=")
+    return first + b"".join([bytes((int(part[:2], 16),)) + part[2:] if len(part) >= 2 and not part[:2].strip(HEX)
+                             else b"=" + part for part in rest])
 
 
 class Restored:
@@ -171,8 +239,8 @@ class Restored:
             quoted = tuple(name.replace(b'"', b'""') for name in (folder, built.name))
             lines.append(b'file %s "%s" "99991231235959.000":\n' % (
                 (b'"%s" "%s"' if folder != b"." else b'%s "%s"') % quoted, built.checksum))
-            for number, unit in enumerate(built.units.splitlines(True), number + 1):
-                lines.append(NUMBER.sub(rb" on %d\1;\n" % number, unit))
+            for number, unit in enumerate(built.units, number + 1):
+                lines.append(with_number(unit, number) + b"\n")
             built.name = os.path.join(folder, built.name)
         for library, lines in libraries.items():
             write(os.path.join(self.room.folder, b"%s-obj%s.cf" % (library, self.standard)), *lines)
@@ -183,7 +251,7 @@ class Restored:
         GHDL reads no other, and a library of many files isn't unpacked for each of its benches."""
         plain, extended = {}, {}
         for built in self.files:
-            for name in NAMED.findall(built.units):
+            for name in map(name_of, built.units):
                 if name.startswith(b"\\"):
                     extended.setdefault(name, []).append(built)
                 else:
