@@ -2,4 +2,4 @@
 mod Paths
 mod Builds
 mod Tests
-mod Parts
+pub mod Parts

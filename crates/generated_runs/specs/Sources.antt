@@ -1,5 +1,5 @@
 -- What the sources of the generated project say is to be done, and what is built of them.
-use Rattle.std.specs.Prelude.{ℕ, Bool, false, true, List, [], Option, None}
+use Rattle.std.specs.Prelude.{ℕ, Bool, false, true, List, [], ◌∷◌, codes, Option, None}
 use Rattle.vr_base.specs.declared.file.FileName.{FileName}
 use Rattle.vr_base.specs.declared.file.NamedText.{NamedText}
 use Rattle.vr_base.specs.declared.graph.Entry.{Entry}
@@ -9,6 +9,7 @@ use Rattle.vr_outside.specs.Records.{latest}
 use Rattle.vr_memory.specs.Trees.{file_at, listed_of}
 use Rattle.run_spec.specs.ChildJournal.{Work}
 use Rattle.run_spec.specs.Commits.{work_of, commits}
+use Rattle.test_select.specs.Patterns.{pieces_of}
 use Rattle.test_select.specs.Selection.{selection}
 use Rattle.test_spec.specs.declared.runs.TestRun.{TestRun}
 use Rattle.test_spec.specs.Runs.{test_runs}
@@ -46,9 +47,13 @@ first_records options graph events = commits (first_work options graph) events
 abbrev pub second_work : GenerateOptions → List Record → List Entry → Work
 second_work options records graph = work_of (λ name. latest name records) graph options.slots false
 
+-- the pattern that each full name matches
+unfoldable pub any_name : List ℕ
+any_name = codes "*"
+
 -- the runs of all tests of a project
 abbrev pub runs_in : ReadProject → List TestRun
-runs_in read = test_runs read.project.files (selection [] read.tests)
+runs_in read = test_runs read.project.files (selection (pieces_of any_name ∷ []) read.tests)
 
 -- the plan of these runs
 abbrev pub plan_of : ReadProject → TestPlan

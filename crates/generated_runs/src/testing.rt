@@ -1,13 +1,14 @@
 //! The second build of the generated project, over the records of the first, and its tests.
 
-ghost use Rattle.std.specs.Prelude.{◌≡◌, ◌≤◌, ◌++◌, [], ℕ, List, true, All, length, IfOk};
+ghost use Rattle.std.specs.Prelude.{◌≡◌, ◌≤◌, ◌++◌, [], ◌∷◌, ℕ, List, true, All, length, IfOk};
 ghost use Rattle.vr_outside.specs.declared.records.Record.{Record};
 ghost use Rattle.vr_memory.specs.Disks.{moments_of};
 ghost use Rattle.run_spec.specs.ChildJournal.{since};
 ghost use Rattle.compile_loop.specs.Faults.{Explains, NoneFell, fault_of};
+ghost use Rattle.test_select.specs.Patterns.{pieces_of};
 ghost use Rattle.test_spec.specs.Runs.{FitsRun};
 ghost use Rattle.project_reading.specs.Sources.{IsReadProject};
-ghost use Rattle.generated_runs.specs.Sources.{runs_in, second_work};
+ghost use Rattle.generated_runs.specs.Sources.{any_name, runs_in, second_work};
 ghost use Rattle.generated_runs.specs.Ran.{RanTested, records_on};
 
 use crate::building::own_fault;
@@ -18,12 +19,22 @@ use node_store::NodeStore;
 use planned_tests::planned_runs;
 use project_reading::ReadProject;
 use std::alloc::Global;
-use test_select::{PatternList, select};
+use test_select::{PatternList, read_pattern, select};
 use test_spec::TestRunList;
 use tested_runs::{Tested, test_over};
 use vr_base::{CASE_LIMIT, NoMemory, SLOT_LIMIT};
 use vr_memory::MemDisk;
 use vr_outside::Procs;
+
+/// The patterns that each test of a project matches.
+#[tactic(auto, unfolding(crate::specs::Sources::any_name))]
+fn any_patterns(alloc: Global) -> Result<PatternList, NoMemory>
+    ensures { IfOk result (λ patterns. patterns ≡ pieces_of any_name ∷ []) }
+{
+    let mut patterns = PatternList::new(alloc);
+    patterns.push(read_pattern(alloc, b"*")?)?;
+    Ok(patterns)
+}
 
 /// The runs of all tests of a project.
 pub fn all_runs(alloc: Global, read: &ReadProject) -> Result<TestRunList, NoMemory>
@@ -32,7 +43,7 @@ pub fn all_runs(alloc: Global, read: &ReadProject) -> Result<TestRunList, NoMemo
     ensures few { IfOk result (λ runs. length runs ≤ CASE_LIMIT) }
     ensures fits { IfOk result (λ runs. All FitsRun runs) }
 {
-    let patterns = PatternList::new(alloc);
+    let patterns = any_patterns(alloc)?;
     let tests = select(alloc, &read.tests, &patterns)?;
     planned_runs(alloc, read, &tests)
 }
