@@ -14,6 +14,15 @@ SIZE = 16384
 SMALL_SIZE = 4000
 
 
+def program_itself():
+    """The program that a launcher starts, which is what its children are."""
+    current = os.path.join(os.path.dirname(BENCH), "out", "current")
+    if os.path.basename(os.path.dirname(PROGRAM)) != "bin" or not os.path.exists(current):
+        return PROGRAM
+    with open(current) as file:
+        return os.path.join(os.path.dirname(current), file.readline().strip())
+
+
 def new_room():
     """A folder that lasts as long as the bench: in TMPDIR, where that is given, else in memory, where that can be had."""
     memory = "/dev/shm"

@@ -1,5 +1,5 @@
 # Words that are no command line of the program give status 2 and the usage text, before anything is looked at. A number
-# of children that is too high comes next, then the mode that isn't built yet, and then the project.
+# of children that is too high comes next, and then the project.
 . "$TOP/tests/support/program.sh"
 
 # a project that is refused
@@ -42,15 +42,6 @@ done <<'ROWS'
 --list --num-threads=65
 --compile -p 18446744073709551615
 --generate 3 -p 65
-ROWS
-
-while IFS= read -r words; do
-    # shellcheck disable=SC2086
-    expect "a mode that comes later: $words" 1 "vunit_run: not built yet" $words
-done <<'ROWS'
---generate 3
---generate 3 -f
---generate 3 --export-json e.json -l
 ROWS
 
 while IFS= read -r words; do

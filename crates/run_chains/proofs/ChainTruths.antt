@@ -41,7 +41,7 @@ use Rattle.tested_histories.specs.Histories as tested
 use Rattle.tested_histories.specs.Rights.{AllTestedRight}
 use Rattle.tested_histories.proofs.TestedRights.{all_tested_right_from_empty}
 use Rattle.vunit_top.specs.Store.{records_in_image}
-use Rattle.vunit_top.specs.Reading.{Reading, Testing, Bad, Child, Stops, Over, Lists, ListsTests, Exports, Builds, Runs, reading}
+use Rattle.vunit_top.specs.Reading.{Reading, Testing, Bad, Child, Stops, Over, Lists, ListsTests, Exports, Builds, Runs, reading, Generates}
 use Rattle.vunit_top.specs.Runs.{world_of, tested_world_of, RunsAs}
 use Rattle.vunit_top.specs.Said.{HasBuilt, no_order, order_of, order_in, plan_in}
 use Rattle.vunit_top.proofs.RunTruths.{built_ended, none_in_empty_image}
@@ -134,6 +134,7 @@ tests_step answer compiled tests first (ListsTests tests_there) none some = none
 tests_step answer compiled tests first (Exports path text) none some = none refl
 tests_step answer compiled tests first (Builds order warnings) none some = none refl
 tests_step answer compiled tests first (Runs asked) none some = some asked refl
+tests_step answer compiled tests first (Generates options) none some = none refl
 
 module _ (scan : List ℕ → Finding) (answer : Request → Exit) (words : List (List ℕ)) (sources : Sources) (one two : Outcome) (before after : Deeds) where
   abbrev r : Reading

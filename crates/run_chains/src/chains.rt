@@ -1,11 +1,12 @@
 //! Two runs of the program, one after the other.
 
-ghost use Rattle.std.specs.Prelude.{◌≡◌, [], ℕ, List};
+ghost use Rattle.std.specs.Prelude.{◌≡◌, [], ℕ, List, false};
 ghost use Rattle.vr_outside.specs.Disks.{DiskState, added_since};
 ghost use Rattle.run_spec.specs.ChildJournal.{since};
 ghost use Rattle.history_spec.specs.Histories.{IsMoment, IsLeft};
 ghost use Rattle.scan_spec.specs.Scans.{Finding, IsScanner};
 ghost use Rattle.disk_runs.specs.Building.{has_risen};
+ghost use Rattle.vunit_top.specs.Reading.{generates, words_job};
 ghost use Rattle.run_chains.specs.Chains.{RanTwice, RanAfterStop};
 
 use outcomes::Outcome;
@@ -22,7 +23,8 @@ pub struct Outcomes {
     pub second: Outcome,
 }
 
-/// Runs the program twice with the same words over the same objects.
+/// Runs the program twice with the same words over the same objects. What is said of both is so of all words but those that
+/// generate a project, whose builds are over a disk of their own.
 pub fn run_twice<I: Source, T: Tree, D: Disk, P: Procs, O: Sink, R: Reports>(
     alloc: Global,
     words: &TextList,
@@ -39,6 +41,7 @@ pub fn run_twice<I: Source, T: Tree, D: Disk, P: Procs, O: Sink, R: Reports>(
     ensures sources { T.file tree.new ≡ T.file tree.old }
     ensures listed { T.listed tree.new ≡ T.listed tree.old }
     ensures ran { (scan : List ℕ → Finding) → IsScanner scan → T.tells → D.tells → P.tells →
+        generates (words_job words.now) ≡ false →
         RanTwice scan (P.answer procs.old) words.now
         (record { file = T.file tree.old; listed = T.listed tree.old })
         result
@@ -51,7 +54,7 @@ pub fn run_twice<I: Source, T: Tree, D: Disk, P: Procs, O: Sink, R: Reports>(
 }
 
 /// Runs the program over a disk, and then with the same words and sources over another disk, which may be what a stop of
-/// the first run has left.
+/// the first run has left. Of words that generate a project nothing more is said.
 pub fn run_after_stop<I: Source, T: Tree, D: Disk, E: Disk, P: Procs, O: Sink, R: Reports>(
     alloc: Global,
     words: &TextList,
@@ -69,7 +72,7 @@ pub fn run_after_stop<I: Source, T: Tree, D: Disk, E: Disk, P: Procs, O: Sink, R
     ensures sources { T.file tree.new ≡ T.file tree.old }
     ensures listed { T.listed tree.new ≡ T.listed tree.old }
     ensures ran { (scan : List ℕ → Finding) → IsScanner scan → T.tells → D.tells → E.tells →
-        P.tells → (moment : DiskState) →
+        P.tells → generates (words_job words.now) ≡ false → (moment : DiskState) →
         IsMoment moment (D.moments disk.old).now
         (added_since (D.moments disk.old) (D.moments disk.new)) →
         IsLeft moment (E.moments left.old).now →

@@ -10,5 +10,6 @@ mod xml;
 
 pub use answer::tests_outcome;
 pub use laws::laws_of_values;
+pub use tally::{Tally, tally_of};
 pub use texts::test_text;
 pub use xml::junit;

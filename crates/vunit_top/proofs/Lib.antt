@@ -3,3 +3,4 @@ pub mod Tops
 pub mod RunTruths
 mod TestTruths
 mod ActTruths
+mod GenerateTruths

@@ -2,11 +2,10 @@
 use Rattle.std.proofs.Common.{◌≡◌, ℕ, Bool, leb, List, [], ◌∷◌, ◌++◌, length, ◌<◌, ◌≤◌, Option, Some, None, Result, Ok, Err, true, false, sym, ap, ◌∙◌, inl, inr, refl}
 use Rattle.std.specs.Prelude.{if◌then◌else◌, codes}
 use Rattle.std.proofs.Math.Dec.{ltb}
-use Rattle.std.proofs.lemmas.Bool.{cases_Bool, cond-true, cond-false, lt-ltb, le-ltb}
+use Rattle.std.proofs.lemmas.Bool.{cases_Bool, cond-true, cond-false, lt-ltb, le-ltb, false≢true}
 use Rattle.outcomes.specs.declared.outcome.Outcome.TheVariants as outcome
 use Rattle.outcomes.specs.declared.outcome.Limit.TheVariants as limits
-use Rattle.vr_base.specs.declared.limits.TheConstants.{SLOT_LIMIT}
-use Rattle.outcomes.specs.declared.outcome.Refusal.TheVariants as refusal
+use Rattle.vr_base.specs.declared.limits.TheConstants.{FILE_LIMIT, SLOT_LIMIT}
 use Rattle.vr_base.specs.declared.child.Exit.{Exit}
 use Rattle.bench_codec.specs.Reading.{bench_at}
 use Rattle.child_benches.specs.Benches.{simulation}
@@ -18,8 +17,11 @@ use Rattle.command_line.specs.declared.setting.Setting.{Setting}
 use Rattle.command_line.specs.declared.setting.WordsFault.TheVariants as words
 use Rattle.command_line.specs.Words.{setting_of, ReadsWords}
 use Rattle.vunit_top.specs.declared.words.Job.{Job}
-use Rattle.vunit_top.specs.Reading.{Reading, Bad, Child, Compiler, Simulator, Stops, Over, begins_as_compiler, begins_as_simulator, job_of, built_job, setting_job, maybe_job, words_job, full_reading}
-use Rattle.vunit_top.specs.Said.{Said, order_of, child_said, child_results, exit_said, left_results, input_bytes}
+use Rattle.generated_runs.specs.declared.options.GenerateOptions.{GenerateOptions}
+use Rattle.history_spec.specs.Histories.{Order}
+use Rattle.std.proofs.lemmas.Option.{none-some}
+use Rattle.vunit_top.specs.Reading.{Reading, Testing, Bad, Child, Compiler, Simulator, Over, Builds, Runs, Exports, Generates, begins_as_compiler, begins_as_simulator, job_of, generate_job, generate_options_of, generates, may_test, setting_job, maybe_job, words_job, full_reading}
+use Rattle.vunit_top.specs.Said.{Said, order_of, plain_said, child_said, child_results, exit_said, left_results, input_bytes}
 
 got_is_short : (input : List ℕ) → TooLong ≡ Got input → ⊥
 got_is_short input e = cc
@@ -84,14 +86,73 @@ module _ (setting : Setting) where
   over_slots over = rw (lt-ltb SLOT_LIMIT setting.num_threads over) refl
 
   module _ (few : setting.num_threads ≤ SLOT_LIMIT) where
-    within : setting_job setting ≡ built_job (job_of setting)
-    within = cond-false (ltb SLOT_LIMIT setting.num_threads) (Err (Over limits.Slots SLOT_LIMIT)) (built_job (job_of setting)) (le-ltb SLOT_LIMIT setting.num_threads few)
+    abbrev settled : Job → Result Job Reading
+    settled j = Ok j
 
-    pub known_job : (j : Job) → job_of setting ≡ Some j → setting_job setting ≡ Ok j
-    known_job j is = within ∙ ap built_job is
+    abbrev by_mode : Result Job Reading
+    by_mode = if ltb 0 setting.generate then generate_job setting else Ok (job_of setting)
 
-    pub no_job : job_of setting ≡ None → setting_job setting ≡ Err (Stops refusal.NotBuilt)
-    no_job is = within ∙ ap built_job is
+    within : setting_job setting ≡ by_mode
+    within = cond-false (ltb SLOT_LIMIT setting.num_threads) (Err (Over limits.Slots SLOT_LIMIT)) by_mode (le-ltb SLOT_LIMIT setting.num_threads few)
+
+    pub known_job : (j : Job) → setting.generate ≤ 0 → j ≡ job_of setting → setting_job setting ≡ Ok j
+    known_job j none is = within ∙ cond-false (ltb 0 setting.generate) (generate_job setting) (Ok (job_of setting)) (le-ltb 0 setting.generate none) ∙ ap settled (sym is)
+
+    named : 0 < setting.generate → setting_job setting ≡ generate_job setting
+    named some = within ∙ cond-true (ltb 0 setting.generate) (generate_job setting) (Ok (job_of setting)) (lt-ltb 0 setting.generate some)
+
+    pub to_generate : 0 < setting.generate → setting.generate < FILE_LIMIT → setting_job setting ≡ Err (Generates (generate_options_of setting))
+    to_generate some fits = named some ∙ cond-true (ltb setting.generate FILE_LIMIT) (Err (Generates (generate_options_of setting))) (Err (Over limits.Files FILE_LIMIT)) (lt-ltb setting.generate FILE_LIMIT fits)
+
+    pub over_files : 0 < setting.generate → FILE_LIMIT ≤ setting.generate → setting_job setting ≡ Err (Over limits.Files FILE_LIMIT)
+    over_files some over = named some ∙ cond-false (ltb setting.generate FILE_LIMIT) (Err (Generates (generate_options_of setting))) (Err (Over limits.Files FILE_LIMIT)) (le-ltb setting.generate FILE_LIMIT over)
+
+    -- what names the mode and generates nothing passes the limit
+    pub over_if_plain : 0 < setting.generate → generates (setting_job setting) ≡ false → setting_job setting ≡ Err (Over limits.Files FILE_LIMIT)
+    over_if_plain some plain =
+        elim (cases_Bool (ltb setting.generate FILE_LIMIT)) [
+          | inl fits ↦ absurd (false≢true (sym plain ∙ ap generates (named some ∙ cond-true (ltb setting.generate FILE_LIMIT) (Err (Generates (generate_options_of setting))) (Err (Over limits.Files FILE_LIMIT)) fits)))
+          | inr over ↦ named some ∙ cond-false (ltb setting.generate FILE_LIMIT) (Err (Generates (generate_options_of setting))) (Err (Over limits.Files FILE_LIMIT)) over
+        ]
+
+-- ## Words that generate a project
+
+module _ (j : Result Job Reading) (options : GenerateOptions) (is : j ≡ Err (Generates options)) where
+  pub not_plain : generates j ≡ false → ⊥
+  not_plain plain = false≢true (sym plain ∙ ap generates is)
+
+  pub not_untested : may_test j ≡ false → ⊥
+  not_untested none = false≢true (sym none ∙ ap may_test is)
+
+  pub reads_generated : (s : Bool → SourceReading) → full_reading j s ≡ Generates options
+  reads_generated s = ap (λ (i : Result Job Reading). full_reading i s) is
+
+  pub no_text : (r : Reading) → j ≡ Err r → (what : Said) → plain_said r ≡ Some what → ⊥
+  no_text r other what said = none-some what (sym (ap plain_said (same_reading (sym is ∙ other))) ∙ said) where
+    same_reading : {a b : Reading} → ◌≡◌ {A = Result Job Reading} (Err a) (Err b) → b ≡ a
+    same_reading e = cc
+
+  pub no_plain_text : (s : Bool → SourceReading) (what : Said) → plain_said (full_reading j s) ≡ Some what → ⊥
+  no_plain_text s what said = none-some what (sym (ap plain_said (reads_generated s)) ∙ said)
+
+  pub no_job : (k : Job) → j ≡ Ok k → ⊥
+  no_job k other = let both : Err (Generates options) ≡ Ok k = sym is ∙ other in let nothing : ⊥ = cc in nothing
+
+  pub no_build : (s : Bool → SourceReading) (order : Order) (warnings : List ℕ) → full_reading j s ≡ Builds order warnings → ⊥
+  no_build s order warnings other = let both : Generates options ≡ Builds order warnings = sym (reads_generated s) ∙ other in let nothing : ⊥ = cc in nothing
+
+  pub no_run : (s : Bool → SourceReading) (asked : Testing) → full_reading j s ≡ Runs asked → ⊥
+  no_run s asked other = let both : Generates options ≡ Runs asked = sym (reads_generated s) ∙ other in let nothing : ⊥ = cc in nothing
+
+  pub same_options : (other : GenerateOptions) → j ≡ Err (Generates other) → options ≡ other
+  same_options other asked = let both : Err (Generates options) ≡ Err (Generates other) = sym is ∙ asked in cc
+
+  pub no_export : (s : Bool → SourceReading) (path text : List ℕ) → full_reading j s ≡ Exports path text → ⊥
+  no_export s path text other = let both : Generates options ≡ Exports path text = sym (reads_generated s) ∙ other in let nothing : ⊥ = cc in nothing
+
+-- words that don't say so
+pub no_generated : (j : Result Job Reading) (options : GenerateOptions) → generates j ≡ false → j ≡ Err (Generates options) → ⊥
+no_generated j options plain is = not_plain j options is plain
 
 module _ (all : List (List ℕ)) where
   pub child_job : begins_as_compiler all ≡ true → words_job all ≡ Err (Child Compiler)

@@ -3,13 +3,12 @@ use Rattle.std.specs.Prelude.{ℕ, ◌≤◌, nat_lt, Bool, true, false, ◌||�
 use Rattle.std.specs.Str.{bytes_eq}
 use Rattle.vr_base.specs.declared.graph.Entry.{Entry}
 use Rattle.outcomes.specs.declared.outcome.Refusal.{Refusal}
-use Rattle.outcomes.specs.declared.outcome.Refusal.TheVariants as refusal
 use Rattle.outcomes.specs.declared.outcome.Limit.{Limit}
 use Rattle.outcomes.specs.declared.outcome.Limit.TheVariants as limit
 use Rattle.vhdl_benches.specs.declared.bench.Bench.{Bench}
 use Rattle.vr_base.specs.declared.child.MaybeText.{MaybeText}
 use Rattle.vr_base.specs.declared.child.MaybeText.TheVariants.{Given, Nothing}
-use Rattle.vr_base.specs.declared.limits.TheConstants.{SLOT_LIMIT}
+use Rattle.vr_base.specs.declared.limits.TheConstants.{FILE_LIMIT, SLOT_LIMIT}
 use Rattle.history_spec.specs.Histories.{Sources, Order}
 use Rattle.run_spec.specs.JournalParts.{is_given}
 use Rattle.run_report.specs.Texts.{warning_text}
@@ -28,6 +27,7 @@ use Rattle.test_spec.specs.declared.runs.TestRun.{TestRun}
 use Rattle.test_spec.specs.Runs.{test_runs}
 use Rattle.test_journal.specs.TestJournal.{TestPlan}
 use Rattle.tested_report.specs.declared.said.TestWords.{TestWords}
+use Rattle.generated_runs.specs.declared.options.GenerateOptions.{GenerateOptions}
 use Rattle.vunit_top.specs.declared.words.RunOptions.{RunOptions}
 use Rattle.vunit_top.specs.declared.words.Job.{Job}
 use Rattle.vunit_top.specs.declared.words.Job.TheVariants as job
@@ -48,7 +48,8 @@ pub record Testing : Type 0 where
 
 -- The words are no command line; the program is a child; words or sources are refused; a quantity is over its limit, which is
 -- this number; these files are to be listed, in compile order; these tests are to be listed; this text is to be written to
--- the file of this path; this is to be built, with this text of warnings; or it is to be built and tested.
+-- the file of this path; this is to be built, with this text of warnings; or it is to be built and tested; or a project is
+-- to be generated, built and tested.
 pub data Reading : Type 0 where
   Bad : Reading
   Child : Tool → Reading
@@ -59,6 +60,7 @@ pub data Reading : Type 0 where
   Exports : (path : List ℕ) → (text : List ℕ) → Reading
   Builds : Order → (warnings : List ℕ) → Reading
   Runs : Testing → Reading
+  Generates : GenerateOptions → Reading
 
 abbrev pub begins_with : List ℕ → List (List ℕ) → Bool
 begins_with first [] = false
@@ -89,19 +91,22 @@ run_options_of setting = record {
 }
 
 -- what is done by the first of the modes list, files and compile that is named, and else a run
-abbrev pub job_but_export : Setting → Option Job
+abbrev pub job_but_export : Setting → Job
 job_but_export setting =
-    if setting.list then Some (job.ListTests setting.patterns) else if setting.files then Some job.ListFiles
-    else if setting.compile then Some (job.Build (options_of setting)) else Some (job.Run (run_options_of setting))
+    if setting.list then job.ListTests setting.patterns else if setting.files then job.ListFiles
+    else if setting.compile then job.Build (options_of setting) else job.Run (run_options_of setting)
 
-abbrev pub job_but_generate : MaybeText → Setting → Option Job
-job_but_generate (Given path) setting = Some (job.Export path setting.patterns)
-job_but_generate Nothing setting = job_but_export setting
+abbrev pub job_or_export : MaybeText → Setting → Job
+job_or_export (Given path) setting = job.Export path setting.patterns
+job_or_export Nothing setting = job_but_export setting
 
--- What is done with the sources by the first of the modes generate, export, list, files and compile that is named, and else
--- a run. Generate isn't built yet.
-abbrev pub job_of : Setting → Option Job
-job_of setting = if nat_lt 0 setting.generate then None else job_but_generate setting.export_json setting
+-- what is done with the sources by the first of the modes export, list, files and compile that is named, and else a run
+abbrev pub job_of : Setting → Job
+job_of setting = job_or_export setting.export_json setting
+
+-- how a setting says that a project is generated
+abbrev pub generate_options_of : Setting → GenerateOptions
+generate_options_of setting = record { packages = setting.generate; slots = setting.num_threads; exit_0 = setting.exit_0 }
 
 -- whether a job looks for tests in the sources
 abbrev pub reads_tests : Job → Bool
@@ -130,7 +135,14 @@ is_run _ = false
 -- whether words may
 abbrev pub may_test : Result Job Reading → Bool
 may_test (Ok job) = is_run job
+may_test (Err (Generates options)) = true
 may_test (Err reading) = false
+
+-- whether words say that a project is to be generated
+abbrev pub generates : Result Job Reading → Bool
+generates (Ok job) = false
+generates (Err (Generates options)) = true
+generates (Err reading) = false
 
 -- a build has from 1 to 64 children at once
 abbrev pub HasSlots : Job → Type 0
@@ -138,13 +150,13 @@ HasSlots (job.Build options) = (1 ≤ options.slots) × (options.slots ≤ SLOT_
 HasSlots (job.Run options) = (1 ≤ options.build.slots) × (options.build.slots ≤ SLOT_LIMIT)
 HasSlots _ = Unit {0}
 
-abbrev pub built_job : Option Job → Result Job Reading
-built_job None = Err (Stops refusal.NotBuilt)
-built_job (Some job) = Ok job
+-- what a setting says that names the mode generate: the project has one file more than packages, and no more than may be
+abbrev pub generate_job : Setting → Result Job Reading
+generate_job setting = if nat_lt setting.generate FILE_LIMIT then Err (Generates (generate_options_of setting)) else Err (Over limit.Files FILE_LIMIT)
 
--- what a setting says is done with the sources, or what it says alone
+-- What a setting says is done with the sources, or what it says alone. The mode generate comes before all others.
 abbrev pub setting_job : Setting → Result Job Reading
-setting_job setting = if nat_lt SLOT_LIMIT setting.num_threads then Err (Over limit.Slots SLOT_LIMIT) else built_job (job_of setting)
+setting_job setting = if nat_lt SLOT_LIMIT setting.num_threads then Err (Over limit.Slots SLOT_LIMIT) else if nat_lt 0 setting.generate then generate_job setting else Ok (job_of setting)
 
 abbrev pub maybe_job : Option Setting → Result Job Reading
 maybe_job None = Err Bad

@@ -3,6 +3,7 @@
 
 mod children;
 mod ends;
+mod generating;
 mod tests;
 mod top;
 mod words;

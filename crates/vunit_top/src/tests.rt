@@ -45,7 +45,7 @@ pub fn chosen(alloc: Global, tests: &Tests, patterns: &TextList) -> Result<Tests
 }
 
 /// The answer of a run after a fault of its build or of its tests.
-fn fault_outcome(fault: BuildFault) -> Outcome
+pub fn fault_outcome(fault: BuildFault) -> Outcome
     ensures { result ≡ fault_outcome fault }
 {
     match fault {

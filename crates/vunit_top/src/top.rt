@@ -20,9 +20,11 @@ ghost use Rattle.test_report.specs.Listing.{tests_list};
 ghost use Rattle.test_report.specs.Export.{export_text};
 ghost use Rattle.vunit_top.specs.Store.{records_in_image};
 ghost use Rattle.vunit_top.specs.Acts.{Acts, RunsTests, of_each, seen};
+ghost use Rattle.generated_runs.specs.declared.options.GenerateOptions.{GenerateOptions};
+ghost use Rattle.vunit_top.specs.Generated.{GeneratesAs};
 ghost use Rattle.vunit_top.specs.Ends.{StopCounts, OutCauses, ReportCauses, Writes, WritesReport, WritesResults};
 ghost use Rattle.disk_runs.specs.Orders.{order_by};
-ghost use Rattle.vunit_top.specs.Reading.{Reading, Testing, Builds, Exports, Runs, HasSlots, reading, full_reading, job_reading, setting_job, words_job, begins_as_child, begins_as_compiler, begins_as_simulator, chosen, reads_tests, is_build, is_run, may_test, may_write};
+ghost use Rattle.vunit_top.specs.Reading.{Reading, Testing, Builds, Exports, Runs, HasSlots, reading, full_reading, job_reading, setting_job, words_job, begins_as_child, begins_as_compiler, begins_as_simulator, chosen, reads_tests, is_build, is_run, may_test, may_write, generates, Generates};
 ghost use Rattle.disk_runs.specs.Building.{has_risen};
 ghost use Rattle.vunit_top.specs.Runs.{RunsAs, run_of};
 ghost use Rattle.vunit_top.specs.Said.{Said, Says, SaysRun, IsSaid, HasEnded, Causes, IsAccounted, fault_counts, report_path_of, order_of, plan_in, plain_said, build_said, child_said, child_results};
@@ -31,6 +33,7 @@ use crate::children::{run_as_compiler, run_as_simulator};
 use crate::ends::{
     say, say_build, say_files, say_limit, say_refusal, say_tests, say_usage, write_report,
 };
+use crate::generating::{generated_by, say_generated};
 use crate::tests::{chosen, test_project};
 use crate::words::{Job, begins_with, job_of, reads_tests};
 use command_line::{Setting, WordsFault, read_words};
@@ -43,7 +46,7 @@ use report_files::Reports;
 use run_report::warning_text;
 use std::alloc::Global;
 use test_report::export_json;
-use vr_base::{Graph, NoMemory, SLOT_LIMIT, Text, TextList};
+use vr_base::{FILE_LIMIT, Graph, NoMemory, SLOT_LIMIT, Text, TextList};
 use vr_outside::{Disk, Procs, Sink, Source, Tree};
 
 /// Builds a graph over the records of a disk, and puts warnings and what became of its files.
@@ -344,7 +347,7 @@ fn run_sources<T: Tree, D: Disk, P: Procs, O: Sink, R: Reports>(
     }
 }
 
-/// Does what a setting says.
+/// Does what a setting says that generates no project.
 fn run_setting<T: Tree, D: Disk, P: Procs, O: Sink, R: Reports>(
     alloc: Global,
     setting: Setting,
@@ -355,6 +358,7 @@ fn run_setting<T: Tree, D: Disk, P: Procs, O: Sink, R: Reports>(
     reports: &mut R,
 ) -> Outcome
     requires some { 1 ≤ setting.num_threads }
+    requires plain { generates (setting_job setting) ≡ false }
     requires idle { P.running procs.old ≡ [] }
     ensures running { P.running procs.new ≡ [] }
     ensures same { P.answer procs.new ≡ P.answer procs.old }
@@ -405,10 +409,11 @@ fn run_setting<T: Tree, D: Disk, P: Procs, O: Sink, R: Reports>(
     if setting.num_threads > SLOT_LIMIT as u64 {
         return say_limit(alloc, Limit::Slots, SLOT_LIMIT as u64, out);
     }
-    match job_of(setting) {
-        Some(job) => run_sources(alloc, job, tree, disk, procs, out, reports),
-        None => say_refusal(alloc, Refusal::NotBuilt, out),
+    if setting.generate > 0 {
+        return say_limit(alloc, Limit::Files, FILE_LIMIT as u64, out);
     }
+    let job = job_of(setting);
+    run_sources(alloc, job, tree, disk, procs, out, reports)
 }
 
 /// Runs the program: reads the words, and does what they and the sources say.
@@ -424,6 +429,9 @@ fn run_setting<T: Tree, D: Disk, P: Procs, O: Sink, R: Reports>(
 /// one of the patterns matches are run over exactly them, with as many children at once; with `--fail-fast` none is started
 /// after one that didn't pass has ended. What became of both is put in one call, and after that, with `-x`, written to a file
 /// as JUnit XML.
+///
+/// With `--generate` none of this is done: a project of the size that the words say is made in memory, built over an empty
+/// disk in memory, edited, and built again with its tests, and how many files each build compiled is put.
 ///
 /// From every object's answers the call answers what the clauses below say; where an object tells nothing, it is
 /// still safe, its answer still has its cause, and no child runs when it returns.
@@ -451,8 +459,9 @@ pub fn run_vunit<I: Source, T: Tree, D: Disk, P: Procs, O: Sink, R: Reports>(
     ensures no_tests { P.tells → may_test (words_job words.now) ≡ false →
         test_part (since (P.journal procs.old) (P.journal procs.new)) ≡ [] }
 
-    // What the run did is a step of a history, and right from a disk of true records.
+    // What the run did is a step of a history, and right from a disk of true records; but for one that generates a project.
     ensures ran { (scan : List ℕ → Finding) → IsScanner scan → T.tells → D.tells → P.tells →
+        generates (words_job words.now) ≡ false →
         RunsAs scan (P.answer procs.old)
         (reading scan words.now (record { file = T.file tree.old; listed = T.listed tree.old }))
         (run_of words.now result
@@ -463,7 +472,7 @@ pub fn run_vunit<I: Source, T: Tree, D: Disk, P: Procs, O: Sink, R: Reports>(
 
     // Each source is asked for once, in project order: all of them, or the first ones, and then neither the disk nor
     // children are touched.
-    ensures asked { T.tells →
+    ensures asked { T.tells → generates (words_job words.now) ≡ false →
         let paths = project_paths (T.file tree.old) (T.listed tree.old) in
         (T.asked tree.new ≡ T.asked tree.old ++ paths)
         ⊎ (AsksFirst paths (T.asked tree.old) (T.asked tree.new)
@@ -475,12 +484,14 @@ pub fn run_vunit<I: Source, T: Tree, D: Disk, P: Procs, O: Sink, R: Reports>(
         (disk.new ≡ disk.old) × (procs.new ≡ procs.old) × (reports.new ≡ reports.old) }
 
     // What isn't needed isn't touched: input but by a child of the program; tree, disk, children and reports where the words
-    // alone say what is done, but for the results of a simulator child; disk and children where nothing is to be built, by the
-    // words, and where the sources give nothing to build; reports where none is to be written, and where the sources give
-    // none; the output where nothing is said. All this on every answer.
+    // alone say what is done, but for the results of a simulator child and the children of a generated project; disk and
+    // children where nothing is to be built, by the words, and where the sources give nothing to build; reports where none is
+    // to be written, and where the sources give none; the output where nothing is said. All this on every answer.
     ensures no_input { begins_as_child words.now ≡ false → input.new ≡ input.old }
     ensures words_alone { (r : Reading) → words_job words.now ≡ Err r →
-        (tree.new ≡ tree.old) × (disk.new ≡ disk.old) × (procs.new ≡ procs.old) }
+        (tree.new ≡ tree.old) × (disk.new ≡ disk.old) }
+    ensures words_idle { (r : Reading) → words_job words.now ≡ Err r →
+        generates (words_job words.now) ≡ false → procs.new ≡ procs.old }
     ensures words_unwritten { (r : Reading) → words_job words.now ≡ Err r →
         begins_as_simulator words.now ≡ false → reports.new ≡ reports.old }
     ensures unbuilt { (job : Job) → words_job words.now ≡ Ok job → is_build job ≡ false →
@@ -493,6 +504,7 @@ pub fn run_vunit<I: Source, T: Tree, D: Disk, P: Procs, O: Sink, R: Reports>(
         (record { file = T.file tree.old; listed = T.listed tree.old })) ≡ Nothing →
         reports.new ≡ reports.old }
     ensures untouched { (scan : List ℕ → Finding) → IsScanner scan → T.tells →
+        generates (words_job words.now) ≡ false →
         order_of (reading scan words.now
         (record { file = T.file tree.old; listed = T.listed tree.old })) ≡ None →
         (disk.new ≡ disk.old) × (procs.new ≡ procs.old) }
@@ -560,9 +572,18 @@ pub fn run_vunit<I: Source, T: Tree, D: Disk, P: Procs, O: Sink, R: Reports>(
         (O.contents out.new) (R.report reports.new)) }
     // No test is started where words and sources give no runs of tests.
     ensures untested { (scan : List ℕ → Finding) → IsScanner scan → T.tells → P.tells →
+        generates (words_job words.now) ≡ false →
         plan_in (reading scan words.now
         (record { file = T.file tree.old; listed = T.listed tree.old })) ≡ None →
         test_part (since (P.journal procs.old) (P.journal procs.new)) ≡ [] }
+
+    // What a run did and said that generates a project: two builds with an edit between, over a tree and a disk of its own, and
+    // the tests of the second.
+    ensures generated { (scan : List ℕ → Finding) → IsScanner scan → P.tells →
+        (options : GenerateOptions) → words_job words.now ≡ Err (Generates options) →
+        GeneratesAs scan (P.answer procs.old) options result O.tells
+        (since (P.journal procs.old) (P.journal procs.new))
+        (O.contents out.old) (O.contents out.new) }
 
     // The report that is written by an export: the file of its path has exactly the text after `Done`, and no other file is
     // changed.
@@ -589,7 +610,10 @@ pub fn run_vunit<I: Source, T: Tree, D: Disk, P: Procs, O: Sink, R: Reports>(
         return run_as_simulator(alloc, input, out, reports);
     }
     match read_words(alloc, words) {
-        Ok(setting) => run_setting(alloc, setting, tree, disk, procs, out, reports),
+        Ok(setting) => match generated_by(&setting) {
+            Some(options) => say_generated(alloc, options, procs, out),
+            None => run_setting(alloc, setting, tree, disk, procs, out, reports),
+        },
         Err(WordsFault::Bad) => say_usage(out),
         Err(WordsFault::NoMemory) => Outcome::NoMemory,
     }

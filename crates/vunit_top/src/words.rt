@@ -1,6 +1,6 @@
 //! What the words of the command line say is to be done.
 
-ghost use Rattle.std.specs.Prelude.{◌≡◌, ◌≤◌, ◌<◌, ◌^◌, length, map, IfOk, IfSome};
+ghost use Rattle.std.specs.Prelude.{◌≡◌, ◌≤◌, ◌<◌, ◌^◌, length, map, IfOk};
 ghost use Rattle.std.specs.Str.{bytes_eq};
 ghost use Rattle.run_spec.specs.JournalParts.{is_given};
 ghost use Rattle.test_select.specs.Patterns.{pieces_of};
@@ -78,12 +78,12 @@ fn is_given(path: &MaybeText) -> bool
     }
 }
 
-/// What a setting says is done with the sources; `None` where that isn't built yet.
-pub fn job_of(setting: Setting) -> Option<Job>
+/// What a setting says is done with the sources.
+pub fn job_of(setting: Setting) -> Job
     requires some { 1 ≤ setting.num_threads }
     requires few { setting.num_threads ≤ SLOT_LIMIT }
     ensures job { result ≡ job_of setting }
-    ensures slots { IfSome result HasSlots }
+    ensures slots { HasSlots result }
 {
     let Setting {
         list,
@@ -98,20 +98,17 @@ pub fn job_of(setting: Setting) -> Option<Job>
         verbose,
         quiet,
         export_json,
-        generate,
+        generate: _,
         patterns,
     } = setting;
-    if generate > 0 {
-        return None;
-    }
     if let MaybeText::Given(path) = export_json {
-        return Some(Job::Export(path, patterns));
+        return Job::Export(path, patterns);
     }
     if list {
-        return Some(Job::ListTests(patterns));
+        return Job::ListTests(patterns);
     }
     if files {
-        return Some(Job::ListFiles);
+        return Job::ListFiles;
     }
     let build = BuildOptions {
         slots: num_threads as u32,
@@ -119,10 +116,10 @@ pub fn job_of(setting: Setting) -> Option<Job>
         clean,
     };
     if compile {
-        return Some(Job::Build(build));
+        return Job::Build(build);
     }
     let report = is_given(&xunit_xml);
-    Some(Job::Run(RunOptions {
+    Job::Run(RunOptions {
         build,
         fail_fast,
         words: TestWords {
@@ -133,7 +130,7 @@ pub fn job_of(setting: Setting) -> Option<Job>
         },
         report: xunit_xml,
         patterns,
-    }))
+    })
 }
 
 /// The patterns that these words are.

@@ -1,13 +1,12 @@
 -- What a run did, by its setting.
-use Rattle.std.proofs.Common.{◌≡◌, Ok, Err, refl, sym, ◌∙◌}
-use Rattle.vr_base.specs.declared.limits.TheConstants.{SLOT_LIMIT}
+use Rattle.std.proofs.Common.{◌≡◌, Ok, Err, refl}
+use Rattle.vr_base.specs.declared.limits.TheConstants.{FILE_LIMIT, SLOT_LIMIT}
 use Rattle.outcomes.specs.declared.outcome.Limit.TheVariants as limits
-use Rattle.outcomes.specs.declared.outcome.Refusal.TheVariants as refusal
 use Rattle.project_reading.specs.Reading.{project_reading}
 use Rattle.vunit_top.specs.Acts.{of_each}
-use Rattle.vunit_top.specs.Reading.{Stops, Over, setting_job}
+use Rattle.vunit_top.specs.Reading.{Over, setting_job}
 use Rattle.disk_runs.proofs.OverStore.{no_test_since}
-use Rattle.vunit_top.proofs.Tops.{over_slots, known_job, no_job}
+use Rattle.vunit_top.proofs.Tops.{over_slots, known_job, over_if_plain}
 use Rattle.vunit_top.proofs.ActTruths.{acts_said, acts_by}
 use Rattle.vunit_top.proofs.top.run_setting.Goals as goal
 
@@ -21,23 +20,23 @@ returns-then-setting-clause-acts g c = λ scan is t words.
     (g.D.Disk.failed_disk_calls c.args.disk.now) (g.O.Sink.contents c.args.out.now) (g.O.Sink.contents c.say_limit.new.out) (g.R.Reports.report c.args.reports.now)
     refl refl refl refl refl c.say_limit.ensures.said)
 
-pub returns-in-Some-clause-acts : goal.returns-in-Some-clause-acts
-returns-in-Some-clause-acts g c = λ scan is t words.
-    acts_by _ _ scan _ (setting_job c.args.setting) (Ok c.in-Some.job) (project_reading scan (g.T.Tree.file c.args.tree.now) (g.T.Tree.listed c.args.tree.now)) (known_job c.args.setting c.if-setting.false c.in-Some.job (sym c.job_of.ensures.job ∙ c.in-Some.is))
-    (c.run_sources.ensures.acts scan is t words)
-
-pub returns-in-None-clause-acts : goal.returns-in-None-clause-acts
-returns-in-None-clause-acts g c = λ scan is t words.
-    acts_by _ _ scan _ (setting_job c.args.setting) (Err (Stops refusal.NotBuilt)) (project_reading scan (g.T.Tree.file c.args.tree.now) (g.T.Tree.listed c.args.tree.now)) (no_job c.args.setting c.if-setting.false (sym c.job_of.ensures.job ∙ c.in-None.is))
+pub returns-then-setting-gt0-clause-acts : goal.returns-then-setting-gt0-clause-acts
+returns-then-setting-gt0-clause-acts g c = λ scan is t words.
+    acts_by _ _ scan _ (setting_job c.args.setting) (Err (Over limits.Files FILE_LIMIT)) (project_reading scan (g.T.Tree.file c.args.tree.now) (g.T.Tree.listed c.args.tree.now)) (over_if_plain c.args.setting c.if-setting.false c.if-setting-gt0.true c.requires.plain)
     (acts_said
     (of_each g.D.Disk.tells g.P.Procs.tells g.O.Sink.tells g.R.Reports.tells)
-    (of_each (c.args.disk.now ≡ c.args.disk.now) (c.args.procs.now ≡ c.args.procs.now) (c.say_refusal.new.out ≡ c.args.out.now) (c.args.reports.now ≡ c.args.reports.now))
-    scan _ (Stops refusal.NotBuilt) words c.say_refusal.result (g.P.Procs.journal c.args.procs.now) (g.D.Disk.moments c.args.disk.now) (g.met.D.Disk.sound c.args.disk.now)
-    (g.D.Disk.failed_disk_calls c.args.disk.now) (g.O.Sink.contents c.args.out.now) (g.O.Sink.contents c.say_refusal.new.out) (g.R.Reports.report c.args.reports.now)
-    refl refl refl refl refl c.say_refusal.ensures.said)
+    (of_each (c.args.disk.now ≡ c.args.disk.now) (c.args.procs.now ≡ c.args.procs.now) (c.say_limit-then-setting-gt0.new.out ≡ c.args.out.now) (c.args.reports.now ≡ c.args.reports.now))
+    scan _ (Over limits.Files FILE_LIMIT) words c.say_limit-then-setting-gt0.result (g.P.Procs.journal c.args.procs.now) (g.D.Disk.moments c.args.disk.now) (g.met.D.Disk.sound c.args.disk.now)
+    (g.D.Disk.failed_disk_calls c.args.disk.now) (g.O.Sink.contents c.args.out.now) (g.O.Sink.contents c.say_limit-then-setting-gt0.new.out) (g.R.Reports.report c.args.reports.now)
+    refl refl refl refl refl c.say_limit-then-setting-gt0.ensures.said)
+
+pub returns-clause-acts : goal.returns-clause-acts
+returns-clause-acts g c = λ scan is t words.
+    acts_by _ _ scan _ (setting_job c.args.setting) (Ok c.job_of-job.result) (project_reading scan (g.T.Tree.file c.args.tree.now) (g.T.Tree.listed c.args.tree.now)) (known_job c.args.setting c.if-setting.false c.job_of-job.result c.if-setting-gt0.false c.job_of-job.ensures.job)
+    (c.run_sources.ensures.acts scan is t words)
 
 pub returns-then-setting-clause-no_tests : goal.returns-then-setting-clause-no_tests
 returns-then-setting-clause-no_tests g c = λ runs none. no_test_since (g.P.Procs.journal c.args.procs.now)
 
-pub returns-in-None-clause-no_tests : goal.returns-in-None-clause-no_tests
-returns-in-None-clause-no_tests g c = λ runs none. no_test_since (g.P.Procs.journal c.args.procs.now)
+pub returns-then-setting-gt0-clause-no_tests : goal.returns-then-setting-gt0-clause-no_tests
+returns-then-setting-gt0-clause-no_tests g c = λ runs none. no_test_since (g.P.Procs.journal c.args.procs.now)

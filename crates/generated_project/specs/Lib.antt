@@ -1,0 +1,3 @@
+-- The definitions.
+pub mod Files
+pub mod Lines

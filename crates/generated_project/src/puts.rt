@@ -1,0 +1,28 @@
+//! Putting bytes and numbers at the end of a text.
+
+ghost use Rattle.std.specs.Prelude.{◌≡◌, ◌++◌, OnOk};
+ghost use Rattle.std.specs.Fmt.{decimal};
+
+use std::alloc::Global;
+use vr_base::NoMemory;
+
+pub fn put(out: &mut Vec<u8>, bytes: &[u8]) -> Result<(), NoMemory>
+    ensures { OnOk result (out.new.items ≡ out.old.items ++ bytes.now) }
+{
+    out.extend_from_slice(bytes)?;
+    Ok(())
+}
+
+/// Puts the decimal digits of a number.
+pub fn put_number(alloc: Global, out: &mut Vec<u8>, number: u64) -> Result<(), NoMemory>
+    ensures { OnOk result (out.new.items ≡ out.old.items ++ decimal number) }
+{
+    put(out, number.to_string(alloc)?.as_bytes())
+}
+
+/// The same of a number that may be larger.
+pub fn put_wide(alloc: Global, out: &mut Vec<u8>, number: u128) -> Result<(), NoMemory>
+    ensures { OnOk result (out.new.items ≡ out.old.items ++ decimal number) }
+{
+    put(out, number.to_string(alloc)?.as_bytes())
+}

@@ -1,0 +1,49 @@
+-- What the first build did, from what it did over its disk.
+use Rattle.std.proofs.Common.{Bool, true, false, List, Result, Ok, Err, refl}
+use Rattle.vr_base.specs.declared.graph.Entry.{Entry}
+use Rattle.vr_base.specs.declared.child.Request.{Request}
+use Rattle.vr_base.specs.declared.child.Exit.{Exit}
+use Rattle.vr_base.specs.declared.child.Event.{Event}
+use Rattle.run_spec.specs.declared.marks.Mark.{Mark}
+use Rattle.vr_outside.specs.Disks.{DiskState, Moments, IsImage, IsSound, reads_of}
+use Rattle.run_spec.specs.ChildJournal.{Work}
+use Rattle.run_spec.proofs.Parts.{build_parts}
+use Rattle.history_spec.specs.Histories.{Order}
+use Rattle.compile_loop.specs.declared.faults.BuildFault.{BuildFault}
+use Rattle.disk_runs.specs.Building.{BuildsOver}
+use Rattle.disk_runs.specs.Orders.{order_by}
+use Rattle.node_store.specs.Stored.{node_records_in}
+use Rattle.generated_runs.specs.declared.options.GenerateOptions.{GenerateOptions}
+use Rattle.generated_runs.specs.Sources.{first_work}
+use Rattle.generated_runs.specs.Ran.{RanFirst}
+
+-- what reads give is an image
+readable : (disk : DiskState) → IsSound disk → IsImage disk (reads_of disk)
+readable disk sound = record { a = sound.a.image; b = sound.b.image }
+
+-- the order of the first build
+abbrev first_order : GenerateOptions → List Entry → Order
+first_order options graph = order_by (record { slots = options.slots; keep_going = false; clean = true }) graph
+
+module _ (answer : Request → Exit) (options : GenerateOptions) (graph : List Entry) (failed : Bool) (old new : Moments) (events : List Event) where
+  abbrev work : Work
+  work = first_work options graph
+
+  abbrev Over : Result (List Mark) BuildFault → Type 0
+  Over result = BuildsOver node_records_in answer (first_order options graph) result failed old new events
+
+  pub first_ended : IsSound new.now → (marks : List Mark) → Over (Ok marks) → RanFirst answer work (Ok marks) new.now events
+  first_ended sound marks over = record {
+    built = record { lawful = over.lawful; answered = over.answered; ended = over.whole };
+    compilers = build_parts work events over.lawful;
+    marks = over.marks;
+    records = over.emptied refl (reads_of new.now) (readable new.now sound);
+  }
+
+  pub first_faulted : (why other : BuildFault) → Over (Err why) → RanFirst answer work (Err other) new.now events
+  first_faulted why other over = record {
+    built = record { lawful = over.lawful; answered = over.answered; ended = tt };
+    compilers = build_parts work events over.lawful;
+    marks = tt;
+    records = tt;
+  }

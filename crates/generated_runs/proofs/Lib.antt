@@ -1,0 +1,5 @@
+-- The lemmas.
+mod Paths
+mod Builds
+mod Tests
+pub mod Parts

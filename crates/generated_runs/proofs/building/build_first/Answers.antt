@@ -1,0 +1,24 @@
+-- The first build, from what it did over its disk.
+use Rattle.disk_runs.specs.Building.{has_risen}
+use Rattle.compile_loop.specs.Faults.{FaultCounts}
+use Rattle.vr_memory.specs.Disks.{moments_of}
+use Rattle.vr_memory.specs.DiskLaws.{now_sound}
+use Rattle.run_spec.specs.ChildJournal.{since}
+use Rattle.generated_runs.proofs.Builds.{first_ended, first_faulted}
+use Rattle.generated_runs.proofs.building.build_first.Goals as goal
+
+pub returns-in-Ok-clause-ran : goal.returns-in-Ok-clause-ran
+returns-in-Ok-clause-ran g c = λ tells.
+    first_ended (g.P.Procs.answer c.args.procs.now) c.args.options c.args.graph.now (has_risen c.args.disk.now.calls.failed c.build_over.new.disk.calls.failed) (moments_of c.args.disk.now.log) (moments_of c.build_over.new.disk.log) (since (g.P.Procs.journal c.args.procs.now) (g.P.Procs.journal c.build_over.new.procs))
+    (now_sound c.build_over.new.disk.log) c.in-Ok.marks (c.in-Ok.ensures.told tt tells)
+
+pub returns-in-Err-clause-ran : goal.returns-in-Err-clause-ran
+returns-in-Err-clause-ran g c = λ tells.
+    first_faulted (g.P.Procs.answer c.args.procs.now) c.args.options c.args.graph.now (has_risen c.args.disk.now.calls.failed c.build_over.new.disk.calls.failed) (moments_of c.args.disk.now.log) (moments_of c.build_over.new.disk.log) (since (g.P.Procs.journal c.args.procs.now) (g.P.Procs.journal c.build_over.new.procs))
+    c.in-Err.fault c.own_fault.result (c.in-Err.ensures.told tt tells)
+
+pub returns-in-Err-clause-explains : goal.returns-in-Err-clause-explains
+returns-in-Err-clause-explains g c = λ disks.
+    let first : FaultCounts = record { starts = g.P.Procs.failed_starts c.args.procs.now; losses = g.P.Procs.lost_children c.args.procs.now; disks = c.args.disk.now.calls.failed } in
+    let now : FaultCounts = record { starts = g.P.Procs.failed_starts c.build_over.new.procs; losses = g.P.Procs.lost_children c.build_over.new.procs; disks = c.build_over.new.disk.calls.failed } in
+    c.own_fault.ensures.same first now disks c.in-Err.ensures.explains

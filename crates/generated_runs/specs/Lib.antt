@@ -1,0 +1,4 @@
+-- The definitions.
+pub mod Sources
+pub mod Said
+pub mod Ran

@@ -1,0 +1,81 @@
+-- What the two builds of the generated project did, and the tests after the second.
+use Rattle.std.specs.Prelude.{◌≡◌, ℕ, true, false, List, [], ◌++◌, Result, IfOk, OnOk}
+use Rattle.std.specs.List.{list_all}
+use Rattle.vr_base.specs.declared.child.Request.{Request}
+use Rattle.vr_base.specs.declared.child.Exit.{Exit}
+use Rattle.vr_base.specs.declared.child.Event.{Event}
+use Rattle.vr_outside.specs.declared.records.Record.{Record}
+use Rattle.vr_outside.specs.Disks.{DiskState, reads_of}
+use Rattle.run_spec.specs.declared.marks.Mark.{Mark}
+use Rattle.run_spec.specs.ChildJournal.{Work, Lawful, Answered, IsWhole}
+use Rattle.run_spec.specs.Commits.{commits}
+use Rattle.run_spec.specs.JournalParts.{compile_part, test_part}
+use Rattle.run_spec.specs.Marks.{marks_of}
+use Rattle.compile_loop.specs.declared.faults.BuildFault.{BuildFault}
+use Rattle.compile_loop.specs.Ran.{is_made}
+use Rattle.test_journal.specs.TestJournal.{TestSetting, LawfulTests, IsWholeTests}
+use Rattle.tested_runs.specs.declared.testing.Tested.{Tested}
+use Rattle.node_store.specs.Stored.{node_records_in}
+use Rattle.project_reading.specs.Reading.{SourceReading, Found}
+use Rattle.project_reading.specs.declared.linking.ReadProject.{ReadProject}
+use Rattle.generated_runs.specs.declared.options.GenerateOptions.{GenerateOptions}
+use Rattle.generated_runs.specs.declared.options.GeneratedSaid.{GeneratedSaid}
+use Rattle.generated_runs.specs.Sources.{first_work, first_records, second_work, setting_of}
+use Rattle.generated_runs.specs.Said.{tests_of, second_said, generated_said}
+
+-- the records that reads of a disk give
+abbrev pub records_on : DiskState → List Record
+records_on disk = node_records_in (reads_of disk)
+
+-- What a build did: it is lawful, each end is the answer to its start, and where there is no fault it ended by itself.
+pub record RanBuild (answer : Request → Exit) (work : Work) (whole : Type 0 → Type 0) (events : List Event) : Type 0 where
+  pub lawful : Lawful work events
+  pub answered : Answered answer events
+  pub ended : whole (IsWhole work events)
+
+-- What the first build did over a disk: where there is no fault its marks are those of what happened, and reads of the disk
+-- then give the records of its ends.
+pub record RanFirst (answer : Request → Exit) (work : Work) (result : Result (List Mark) BuildFault) (disk : DiskState) (events : List Event) : Type 0 where
+  pub built : RanBuild answer work (OnOk result) events
+  pub compilers : (compile_part events ≡ events) × (test_part events ≡ [])
+  pub marks : IfOk result (λ marks. marks ≡ marks_of work events)
+  pub records : OnOk result (records_on disk ≡ commits work events)
+
+-- What a build and its tests did. First come the events of its compilers, and then those of the tests, which are lawful runs
+-- of the plan over exactly what was built: none where a file isn't made. Where there is no fault, and all files are made, all
+-- tests ended by themselves.
+pub record RanSecond (answer : Request → Exit) (work : Work) (setting : List Event → TestSetting) (whole : Type 0 → Type 0) (events : List Event) : Type 0 where
+  pub parted : events ≡ compile_part events ++ test_part events
+  pub built : RanBuild answer work whole (compile_part events)
+  pub made : (test_part events ≡ [] → ⊥) → list_all is_made (marks_of work (compile_part events)) ≡ true
+  pub tested : LawfulTests (setting (compile_part events)) (test_part events)
+  pub replied : Answered answer (test_part events)
+  pub all_tested : whole (list_all is_made (marks_of work (compile_part events)) ≡ true → IsWholeTests (setting (compile_part events)) (test_part events))
+
+-- the same, with what is said of them
+pub record RanTested (answer : Request → Exit) (work : Work) (options : GenerateOptions) (read : ReadProject) (result : Result Tested BuildFault) (events : List Event) : Type 0 where
+  pub ran : RanSecond answer work (setting_of options read work) (OnOk result) events
+  pub marks : IfOk result (λ tested. tested.marks ≡ marks_of work (compile_part events))
+  pub tests : IfOk result (λ tested. tested.tests ≡ tests_of options read work events)
+
+-- What was done from the edited sources on, over these records, after a first build that compiled so many files.
+pub record RanEdited (answer : Request → Exit) (options : GenerateOptions) (edited : SourceReading) (records : List Record) (first : ℕ) (result : Result GeneratedSaid BuildFault) (events : List Event) : Type 0 where
+  pub ran : (read : ReadProject) → edited ≡ Found read → RanSecond answer (second_work options records read.graph) (setting_of options read (second_work options records read.graph)) (OnOk result) events
+  pub unread : ((read : ReadProject) → edited ≡ Found read → ⊥) → events ≡ []
+  pub says : IfOk result (λ said. said ≡ second_said options first records edited events)
+
+-- What was done with the generated project, by what its sources say before their edit and after it. The first part is a build
+-- over no record. The second comes only where all files of the first are made: a build and its tests over the records of the
+-- ends of the first. Where there is no fault, what is said is that of both parts.
+pub record RanGenerated (answer : Request → Exit) (options : GenerateOptions) (reading edited : SourceReading) (result : Result GeneratedSaid BuildFault) (events : List Event) : Type 0 where
+  pub first : List Event
+  pub second : List Event
+  pub parted : events ≡ first ++ second
+  pub unread : ((read : ReadProject) → reading ≡ Found read → ⊥) → (first ≡ []) × (second ≡ [])
+  pub built : (read : ReadProject) → reading ≡ Found read → RanBuild answer (first_work options read.graph) (OnOk result) first
+  pub compilers : (compile_part first ≡ first) × (test_part first ≡ [])
+  pub halted : (read : ReadProject) → reading ≡ Found read → list_all is_made (marks_of (first_work options read.graph) first) ≡ false → second ≡ []
+  pub ran : (read again : ReadProject) → reading ≡ Found read → edited ≡ Found again → list_all is_made (marks_of (first_work options read.graph) first) ≡ true →
+      let work = second_work options (first_records options read.graph first) again.graph in
+      RanSecond answer work (setting_of options again work) (OnOk result) second
+  pub says : IfOk result (λ said. said ≡ generated_said options reading edited first second)

@@ -1,0 +1,83 @@
+-- What is said of the generated project.
+use Rattle.std.specs.Prelude.{ℕ, List, ◌++◌, Option, Some, None, if◌then◌else◌, count_by}
+use Rattle.std.specs.List.{list_all}
+use Rattle.vr_base.specs.declared.child.Event.{Event}
+use Rattle.vr_outside.specs.declared.records.Record.{Record}
+use Rattle.outcomes.specs.declared.outcome.Outcome.{Outcome}
+use Rattle.outcomes.specs.declared.outcome.Outcome.TheVariants as outcome
+use Rattle.outcomes.specs.declared.outcome.Limit.{Limit}
+use Rattle.outcomes.specs.declared.outcome.Refusal.{Refusal}
+use Rattle.run_spec.specs.declared.marks.Mark.{Mark}
+use Rattle.run_spec.specs.ChildJournal.{Work}
+use Rattle.run_spec.specs.JournalParts.{compile_part, test_part}
+use Rattle.run_spec.specs.Marks.{is_compiled, marks_of}
+use Rattle.run_report.specs.Outcomes.{build_outcome}
+use Rattle.run_report.specs.Texts.{shown_bytes, build_text, refusal_text, limit_text, warning_text}
+use Rattle.compile_loop.specs.Ran.{is_made}
+use Rattle.test_spec.specs.declared.ends.TestEnd.{TestEnd}
+use Rattle.test_loop.specs.Results.{test_ends}
+use Rattle.verdict_report.specs.Counts.{all_verdicts, tally, tests_outcome}
+use Rattle.project_reading.specs.Reading.{SourceReading, Stops, Over, Found}
+use Rattle.project_reading.specs.declared.linking.ReadProject.{ReadProject}
+use Rattle.generated_project.specs.Files.{files_in}
+use Rattle.generated_project.specs.Lines.{count_lines}
+use Rattle.generated_runs.specs.declared.options.GenerateOptions.{GenerateOptions}
+use Rattle.generated_runs.specs.declared.options.GeneratedSaid.{GeneratedSaid}
+use Rattle.generated_runs.specs.Sources.{first_work, first_records, second_work, setting_of}
+
+-- neither out of memory nor a fault
+abbrev pub IsAnswer : Outcome → Type 0
+IsAnswer outcome.NoMemory = ⊥
+IsAnswer (outcome.OutsideFault which) = ⊥
+IsAnswer answer = Unit {0}
+
+-- what is said where the sources give nothing to build
+abbrev pub refusal_said : Refusal → GeneratedSaid
+refusal_said reason = record { outcome = outcome.Refused reason; text = refusal_text reason }
+
+abbrev pub limit_said : Limit → (number : ℕ) → GeneratedSaid
+limit_said limit number = record { outcome = outcome.OverLimit limit; text = limit_text limit number }
+
+-- what is said of a build with these marks: its text after that of warnings, and its answer
+abbrev pub marks_said : ReadProject → List Mark → GeneratedSaid
+marks_said read marks = record { outcome = build_outcome read.graph marks; text = warning_text read.project.files read.warnings ++ build_text shown_bytes read.graph marks }
+
+-- what is said of both builds and of the tests: how many files each build compiled, and how many cases have passed
+abbrev pub counted_said : GenerateOptions → (first second : ℕ) → TestEnd → GeneratedSaid
+counted_said options first second end =
+    let cases = tally (all_verdicts end.runs) in
+    record { outcome = tests_outcome end.runs options.exit_0; text = count_lines (record { files = files_in options.packages; first = first; second = second; passed = cases.passed; total = cases.total }) }
+
+-- what is said of the second build and of its tests, if there were any
+abbrev pub tested_said : GenerateOptions → (first : ℕ) → ReadProject → List Mark → Option TestEnd → GeneratedSaid
+tested_said options first read marks None = marks_said read marks
+tested_said options first read marks (Some end) = counted_said options first (count_by is_compiled marks) end
+
+-- what became of the tests: nothing, where a file isn't made
+abbrev pub tests_of : GenerateOptions → ReadProject → Work → List Event → Option TestEnd
+tests_of options read work events =
+    if list_all is_made (marks_of work (compile_part events)) then Some (record { runs = test_ends (setting_of options read work (compile_part events)) (test_part events) }) else None
+
+-- what is said of the second build of a project over records, and of its tests, by what happened
+abbrev pub built_said : GenerateOptions → (first : ℕ) → List Record → ReadProject → List Event → GeneratedSaid
+built_said options first records read events =
+    let work = second_work options records read.graph in
+    tested_said options first read (marks_of work (compile_part events)) (tests_of options read work events)
+
+-- what is said after the first build, by what the edited sources say
+abbrev pub second_said : GenerateOptions → (first : ℕ) → List Record → SourceReading → List Event → GeneratedSaid
+second_said options first records (Stops reason) events = refusal_said reason
+second_said options first records (Over limit number) events = limit_said limit number
+second_said options first records (Found read) events = built_said options first records read events
+
+-- what is said of the first build, and where all of its files are made of what follows
+abbrev pub both_said : GenerateOptions → SourceReading → ReadProject → (first second : List Event) → GeneratedSaid
+both_said options edited read first second =
+    let marks = marks_of (first_work options read.graph) first in
+    if list_all is_made marks then second_said options (count_by is_compiled marks) (first_records options read.graph first) edited second else marks_said read marks
+
+-- what is said of all, by what the sources say before their edit and after it, and by what happened in each part
+abbrev pub generated_said : GenerateOptions → (reading edited : SourceReading) → (first second : List Event) → GeneratedSaid
+generated_said options (Stops reason) edited first second = refusal_said reason
+generated_said options (Over limit number) edited first second = limit_said limit number
+generated_said options (Found read) edited first second = both_said options edited read first second

@@ -1,0 +1,64 @@
+-- What the sources of the generated project say is to be done, and what is built of them.
+use Rattle.std.specs.Prelude.{ℕ, Bool, false, true, List, [], ◌∷◌, codes, Option, None}
+use Rattle.vr_base.specs.declared.file.FileName.{FileName}
+use Rattle.vr_base.specs.declared.file.NamedText.{NamedText}
+use Rattle.vr_base.specs.declared.graph.Entry.{Entry}
+use Rattle.vr_base.specs.declared.child.Event.{Event}
+use Rattle.vr_outside.specs.declared.records.Record.{Record}
+use Rattle.vr_outside.specs.Records.{latest}
+use Rattle.vr_memory.specs.Trees.{file_at, listed_of}
+use Rattle.run_spec.specs.ChildJournal.{Work}
+use Rattle.run_spec.specs.Commits.{work_of, commits}
+use Rattle.test_select.specs.Patterns.{pieces_of}
+use Rattle.test_select.specs.Selection.{selection}
+use Rattle.test_spec.specs.declared.runs.TestRun.{TestRun}
+use Rattle.test_spec.specs.Runs.{test_runs}
+use Rattle.test_journal.specs.TestJournal.{TestPlan, TestSetting}
+use Rattle.compile_loop.specs.Ran.{built_by}
+use Rattle.scan_spec.specs.Scans.{Finding}
+use Rattle.project_reading.specs.Reading.{SourceReading, project_reading}
+use Rattle.project_reading.specs.declared.linking.ReadProject.{ReadProject}
+use Rattle.generated_project.specs.Files.{generated_files, edited_package, unedited}
+use Rattle.generated_runs.specs.declared.options.GenerateOptions.{GenerateOptions}
+
+-- the reading of a tree of these files
+abbrev pub files_reading : (List ℕ → Finding) → List NamedText → (wanted : Bool) → SourceReading
+files_reading scan files wanted = project_reading scan (file_at files) (listed_of files) wanted
+
+-- the reading of the generated project before its edit, and after it with its tests
+abbrev pub first_reading : (List ℕ → Finding) → GenerateOptions → SourceReading
+first_reading scan options = files_reading scan (generated_files options.packages unedited) false
+
+abbrev pub second_reading : (List ℕ → Finding) → GenerateOptions → SourceReading
+second_reading scan options = files_reading scan (generated_files options.packages (edited_package options.packages)) true
+
+-- what is built first: all, over no record
+abbrev pub no_record : FileName → Option Record
+no_record name = None
+
+abbrev pub first_work : GenerateOptions → List Entry → Work
+first_work options graph = work_of no_record graph options.slots false
+
+-- the records that the first build leaves
+abbrev pub first_records : GenerateOptions → List Entry → List Event → List Record
+first_records options graph events = commits (first_work options graph) events
+
+-- what is built then, over the latest of these records of each name
+abbrev pub second_work : GenerateOptions → List Record → List Entry → Work
+second_work options records graph = work_of (λ name. latest name records) graph options.slots false
+
+-- the pattern that each full name matches
+unfoldable pub any_name : List ℕ
+any_name = codes "*"
+
+-- the runs of all tests of a project
+abbrev pub runs_in : ReadProject → List TestRun
+runs_in read = test_runs read.project.files (selection (pieces_of any_name ∷ []) read.tests)
+
+-- the plan of these runs
+abbrev pub plan_of : ReadProject → TestPlan
+plan_of read = record { runs = runs_in read; simulator = read.project.simulator; fail_fast = false }
+
+-- what they work on after a build with these events
+abbrev pub setting_of : GenerateOptions → ReadProject → Work → List Event → TestSetting
+setting_of options read work compiled = record { plan = plan_of read; built = built_by work compiled; slots = options.slots }

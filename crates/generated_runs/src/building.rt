@@ -1,0 +1,87 @@
+//! The first build of the generated project, over an empty disk.
+
+ghost use Rattle.std.specs.Prelude.{◌≡◌, ◌≤◌, ◌++◌, [], ℕ, Some, length, IfOk};
+ghost use Rattle.vr_memory.specs.Disks.{moments_of};
+ghost use Rattle.run_spec.specs.ChildJournal.{since};
+ghost use Rattle.compile_loop.specs.Faults.{Explains, FaultCounts, NoneFell, fault_of};
+ghost use Rattle.compile_loop.specs.declared.faults.BuildFault.TheVariants as fault;
+ghost use Rattle.generated_runs.specs.Sources.{first_work};
+ghost use Rattle.generated_runs.specs.Ran.{RanFirst};
+
+use crate::options::GenerateOptions;
+use compile_loop::BuildFault;
+use disk_runs::{BuildOptions, build_over};
+use node_store::NodeStore;
+use run_spec::MarkList;
+use std::alloc::Global;
+use vr_base::{Graph, SLOT_LIMIT};
+use vr_memory::MemDisk;
+use vr_outside::Procs;
+
+/// Why a build over a disk in memory ended, which fails for want of memory alone.
+pub fn own_fault(fault: BuildFault) -> BuildFault
+    ensures same { (first now : FaultCounts) (disks : ℕ) → Explains (Some fault) first now →
+        Explains (Some result)
+        (record { starts = first.starts; losses = first.losses; disks = disks })
+        (record { starts = now.starts; losses = now.losses; disks = disks }) }
+{
+    match fault {
+        BuildFault::NoMemory => BuildFault::NoMemory,
+        BuildFault::StartFailed => BuildFault::StartFailed,
+        BuildFault::ChildLost => BuildFault::ChildLost,
+        BuildFault::DiskFailed => BuildFault::NoMemory,
+    }
+}
+
+/// Builds a graph over a disk in memory, whose records don't count.
+pub fn build_first<P: Procs>(
+    alloc: Global,
+    graph: &Graph,
+    options: GenerateOptions,
+    disk: &mut MemDisk,
+    procs: &mut P,
+) -> Result<MarkList, BuildFault>
+    requires slots { (1 ≤ options.slots) × (options.slots ≤ SLOT_LIMIT) }
+    requires idle { P.running procs.old ≡ [] }
+    ensures running { P.running procs.new ≡ [] }
+    ensures same { P.answer procs.new ≡ P.answer procs.old }
+    ensures count { IfOk result (λ marks. length marks ≡ length graph.now) }
+    ensures follows { P.tells →
+        (P.journal procs.new
+        ≡ P.journal procs.old ++ since (P.journal procs.old) (P.journal procs.new)) }
+    ensures ran { P.tells →
+        RanFirst (P.answer procs.old) (first_work options graph.now) result
+        (moments_of disk.new.log).now (since (P.journal procs.old) (P.journal procs.new)) }
+    ensures fell { (disks : ℕ) → NoneFell
+        (record {
+          starts = P.failed_starts procs.old;
+          losses = P.lost_children procs.old;
+          disks = disks;
+        })
+        (record {
+          starts = P.failed_starts procs.new;
+          losses = P.lost_children procs.new;
+          disks = disks;
+        }) }
+    ensures explains { (disks : ℕ) → Explains (fault_of result)
+        (record {
+          starts = P.failed_starts procs.old;
+          losses = P.lost_children procs.old;
+          disks = disks;
+        })
+        (record {
+          starts = P.failed_starts procs.new;
+          losses = P.lost_children procs.new;
+          disks = disks;
+        }) }
+{
+    let orders = BuildOptions {
+        slots: options.slots,
+        keep_going: false,
+        clean: true,
+    };
+    match build_over::<NodeStore, MemDisk, P>(alloc, graph, orders, disk, procs) {
+        Ok(marks) => Ok(marks),
+        Err(fault) => Err(own_fault(fault)),
+    }
+}

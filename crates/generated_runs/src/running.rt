@@ -1,0 +1,308 @@
+//! The whole: the generated project is read and built, edited, read again, built again and tested.
+
+ghost use Rattle.std.specs.Prelude.{◌≡◌, ◌≤◌, ◌++◌, [], ℕ, List, true, All, length, count_by, IfOk};
+ghost use Rattle.std.specs.List.{list_all};
+ghost use Rattle.vr_outside.specs.declared.records.Record.{Record};
+ghost use Rattle.vr_memory.specs.Disks.{moments_of};
+ghost use Rattle.run_spec.specs.ChildJournal.{since};
+ghost use Rattle.compile_loop.specs.Faults.{Explains, NoneFell, fault_of};
+ghost use Rattle.scan_spec.specs.Scans.{Finding, IsScanner};
+ghost use Rattle.test_spec.specs.Runs.{FitsRun};
+ghost use Rattle.project_reading.specs.Reading.{Found};
+ghost use Rattle.project_reading.specs.Sources.{IsReadProject};
+ghost use Rattle.generated_runs.specs.Sources.{first_reading, second_reading, runs_in};
+ghost use Rattle.generated_runs.specs.Said.{IsAnswer};
+ghost use Rattle.generated_runs.specs.Ran.{RanEdited, RanGenerated, records_on};
+
+use crate::building::build_first;
+use crate::options::{GenerateOptions, GeneratedSaid};
+use crate::saying::{are_made, compiled, marks_said, stop_said, tested_said};
+use crate::sources::read_generated;
+use crate::testing::{all_runs, test_second};
+use compile_loop::BuildFault;
+use generated_project::edited_package;
+use project_reading::ReadProject;
+use std::alloc::Global;
+use test_spec::TestRunList;
+use vr_base::{CASE_LIMIT, Numbers, SLOT_LIMIT};
+use vr_memory::MemDisk;
+use vr_outside::Procs;
+
+/// The package that no edit changes.
+const UNEDITED: u64 = 0;
+
+/// Builds the edited project and runs these tests of it, and gives what is said of both builds.
+fn test_planned<P: Procs>(
+    alloc: Global,
+    read: &ReadProject,
+    runs: &TestRunList,
+    options: GenerateOptions,
+    first: u64,
+    disk: &mut MemDisk,
+    procs: &mut P,
+) -> Result<GeneratedSaid, BuildFault>
+    requires slots { (1 ≤ options.slots) × (options.slots ≤ SLOT_LIMIT) }
+    requires idle { P.running procs.old ≡ [] }
+    requires runs { runs.now ≡ runs_in read.now }
+    requires few { length runs.now ≤ CASE_LIMIT }
+    requires fits { All FitsRun runs.now }
+    ensures running { P.running procs.new ≡ [] }
+    ensures same { P.answer procs.new ≡ P.answer procs.old }
+    ensures follows { P.tells →
+        (P.journal procs.new
+        ≡ P.journal procs.old ++ since (P.journal procs.old) (P.journal procs.new)) }
+    ensures ran { (records : List Record) → records_on (moments_of disk.old.log).now ≡ records →
+        P.tells →
+        RanEdited (P.answer procs.old) options (Found read.now) records first result
+        (since (P.journal procs.old) (P.journal procs.new)) }
+    ensures plain { IfOk result (λ said. IsAnswer said.outcome) }
+    ensures fell { (disks : ℕ) → NoneFell
+        (record {
+          starts = P.failed_starts procs.old;
+          losses = P.lost_children procs.old;
+          disks = disks;
+        })
+        (record {
+          starts = P.failed_starts procs.new;
+          losses = P.lost_children procs.new;
+          disks = disks;
+        }) }
+    ensures explains { (disks : ℕ) → Explains (fault_of result)
+        (record {
+          starts = P.failed_starts procs.old;
+          losses = P.lost_children procs.old;
+          disks = disks;
+        })
+        (record {
+          starts = P.failed_starts procs.new;
+          losses = P.lost_children procs.new;
+          disks = disks;
+        }) }
+{
+    match test_second(alloc, read, runs, options, disk, procs) {
+        Ok(tested) => match tested_said(alloc, options, first, read, &tested) {
+            Ok(said) => Ok(said),
+            Err(_) => Err(BuildFault::NoMemory),
+        },
+        Err(fault) => Err(fault),
+    }
+}
+
+/// Builds the edited project that was read and runs all of its tests.
+fn test_read<P: Procs>(
+    alloc: Global,
+    read: &ReadProject,
+    options: GenerateOptions,
+    first: u64,
+    disk: &mut MemDisk,
+    procs: &mut P,
+) -> Result<GeneratedSaid, BuildFault>
+    requires slots { (1 ≤ options.slots) × (options.slots ≤ SLOT_LIMIT) }
+    requires idle { P.running procs.old ≡ [] }
+    requires read { IsReadProject true read.now }
+    ensures running { P.running procs.new ≡ [] }
+    ensures same { P.answer procs.new ≡ P.answer procs.old }
+    ensures follows { P.tells →
+        (P.journal procs.new
+        ≡ P.journal procs.old ++ since (P.journal procs.old) (P.journal procs.new)) }
+    ensures ran { (records : List Record) → records_on (moments_of disk.old.log).now ≡ records →
+        P.tells →
+        RanEdited (P.answer procs.old) options (Found read.now) records first result
+        (since (P.journal procs.old) (P.journal procs.new)) }
+    ensures plain { IfOk result (λ said. IsAnswer said.outcome) }
+    ensures fell { (disks : ℕ) → NoneFell
+        (record {
+          starts = P.failed_starts procs.old;
+          losses = P.lost_children procs.old;
+          disks = disks;
+        })
+        (record {
+          starts = P.failed_starts procs.new;
+          losses = P.lost_children procs.new;
+          disks = disks;
+        }) }
+    ensures explains { (disks : ℕ) → Explains (fault_of result)
+        (record {
+          starts = P.failed_starts procs.old;
+          losses = P.lost_children procs.old;
+          disks = disks;
+        })
+        (record {
+          starts = P.failed_starts procs.new;
+          losses = P.lost_children procs.new;
+          disks = disks;
+        }) }
+{
+    match all_runs(alloc, read) {
+        Ok(runs) => test_planned(alloc, read, &runs, options, first, disk, procs),
+        Err(_) => Err(BuildFault::NoMemory),
+    }
+}
+
+/// Edits the project, builds it again over the records of a disk, and runs all of its tests.
+fn run_edited<P: Procs>(
+    alloc: Global,
+    options: GenerateOptions,
+    first: u64,
+    disk: &mut MemDisk,
+    procs: &mut P,
+) -> Result<GeneratedSaid, BuildFault>
+    requires slots { (1 ≤ options.slots) × (options.slots ≤ SLOT_LIMIT) }
+    requires idle { P.running procs.old ≡ [] }
+    ensures running { P.running procs.new ≡ [] }
+    ensures same { P.answer procs.new ≡ P.answer procs.old }
+    ensures follows { P.tells →
+        (P.journal procs.new
+        ≡ P.journal procs.old ++ since (P.journal procs.old) (P.journal procs.new)) }
+    ensures ran { (scan : List ℕ → Finding) → IsScanner scan → (records : List Record) →
+        records_on (moments_of disk.old.log).now ≡ records → P.tells →
+        RanEdited (P.answer procs.old) options (second_reading scan options) records first result
+        (since (P.journal procs.old) (P.journal procs.new)) }
+    ensures plain { IfOk result (λ said. IsAnswer said.outcome) }
+    ensures fell { (disks : ℕ) → NoneFell
+        (record {
+          starts = P.failed_starts procs.old;
+          losses = P.lost_children procs.old;
+          disks = disks;
+        })
+        (record {
+          starts = P.failed_starts procs.new;
+          losses = P.lost_children procs.new;
+          disks = disks;
+        }) }
+    ensures explains { (disks : ℕ) → Explains (fault_of result)
+        (record {
+          starts = P.failed_starts procs.old;
+          losses = P.lost_children procs.old;
+          disks = disks;
+        })
+        (record {
+          starts = P.failed_starts procs.new;
+          losses = P.lost_children procs.new;
+          disks = disks;
+        }) }
+{
+    let edited = edited_package(options.packages);
+    match read_generated(alloc, options.packages, edited, true) {
+        Ok(read) => test_read(alloc, &read, options, first, disk, procs),
+        Err(stop) => match stop_said(alloc, stop) {
+            Ok(said) => Ok(said),
+            Err(_) => Err(BuildFault::NoMemory),
+        },
+    }
+}
+
+/// Builds the project that was read over a disk in memory, and goes on where all files are made.
+fn run_read<P: Procs>(
+    alloc: Global,
+    read: &ReadProject,
+    options: GenerateOptions,
+    disk: &mut MemDisk,
+    procs: &mut P,
+) -> Result<GeneratedSaid, BuildFault>
+    requires slots { (1 ≤ options.slots) × (options.slots ≤ SLOT_LIMIT) }
+    requires idle { P.running procs.old ≡ [] }
+    ensures running { P.running procs.new ≡ [] }
+    ensures same { P.answer procs.new ≡ P.answer procs.old }
+    ensures follows { P.tells →
+        (P.journal procs.new
+        ≡ P.journal procs.old ++ since (P.journal procs.old) (P.journal procs.new)) }
+    ensures ran { (scan : List ℕ → Finding) → IsScanner scan → P.tells →
+        RanGenerated (P.answer procs.old) options (Found read.now) (second_reading scan options)
+        result (since (P.journal procs.old) (P.journal procs.new)) }
+    ensures plain { IfOk result (λ said. IsAnswer said.outcome) }
+    ensures fell { (disks : ℕ) → NoneFell
+        (record {
+          starts = P.failed_starts procs.old;
+          losses = P.lost_children procs.old;
+          disks = disks;
+        })
+        (record {
+          starts = P.failed_starts procs.new;
+          losses = P.lost_children procs.new;
+          disks = disks;
+        }) }
+    ensures explains { (disks : ℕ) → Explains (fault_of result)
+        (record {
+          starts = P.failed_starts procs.old;
+          losses = P.lost_children procs.old;
+          disks = disks;
+        })
+        (record {
+          starts = P.failed_starts procs.new;
+          losses = P.lost_children procs.new;
+          disks = disks;
+        }) }
+{
+    match build_first(alloc, &read.graph, options, disk, procs) {
+        Ok(marks) => {
+            if are_made(marks.as_slice()) {
+                let first = compiled(marks.as_slice());
+                return run_edited(alloc, options, first, disk, procs);
+            }
+            match marks_said(alloc, read, &marks) {
+                Ok(said) => Ok(said),
+                Err(_) => Err(BuildFault::NoMemory),
+            }
+        }
+        Err(fault) => Err(fault),
+    }
+}
+
+/// Builds a generated project of so many packages and a bench over an empty disk, edits one package, and where all files were
+/// made builds it again over the records of the first build and runs all of its tests; and gives what is said: of a build
+/// that has a refused file its text and its answer, and else how many files there are, how many of them each build compiled and
+/// how many cases have passed, with the answer of the tests. The tree and the disk are in memory; the children are those that are
+/// handed in. After a fault nothing more is started; the first is answered, and out of memory where memory is out. No child
+/// runs in the end.
+pub fn run_generated<P: Procs>(
+    alloc: Global,
+    options: GenerateOptions,
+    procs: &mut P,
+) -> Result<GeneratedSaid, BuildFault>
+    requires slots { (1 ≤ options.slots) × (options.slots ≤ SLOT_LIMIT) }
+    requires idle { P.running procs.old ≡ [] }
+    ensures running { P.running procs.new ≡ [] }
+    ensures same { P.answer procs.new ≡ P.answer procs.old }
+    ensures follows { P.tells →
+        (P.journal procs.new
+        ≡ P.journal procs.old ++ since (P.journal procs.old) (P.journal procs.new)) }
+    ensures ran { (scan : List ℕ → Finding) → IsScanner scan → P.tells →
+        RanGenerated (P.answer procs.old) options (first_reading scan options)
+        (second_reading scan options) result
+        (since (P.journal procs.old) (P.journal procs.new)) }
+    ensures plain { IfOk result (λ said. IsAnswer said.outcome) }
+    ensures fell { (disks : ℕ) → NoneFell
+        (record {
+          starts = P.failed_starts procs.old;
+          losses = P.lost_children procs.old;
+          disks = disks;
+        })
+        (record {
+          starts = P.failed_starts procs.new;
+          losses = P.lost_children procs.new;
+          disks = disks;
+        }) }
+    ensures explains { (disks : ℕ) → Explains (fault_of result)
+        (record {
+          starts = P.failed_starts procs.old;
+          losses = P.lost_children procs.old;
+          disks = disks;
+        })
+        (record {
+          starts = P.failed_starts procs.new;
+          losses = P.lost_children procs.new;
+          disks = disks;
+        }) }
+{
+    match read_generated(alloc, options.packages, UNEDITED, false) {
+        Ok(read) => {
+            let mut disk = MemDisk::new(alloc, Numbers::new(alloc));
+            run_read(alloc, &read, options, &mut disk, procs)
+        }
+        Err(stop) => match stop_said(alloc, stop) {
+            Ok(said) => Ok(said),
+            Err(_) => Err(BuildFault::NoMemory),
+        },
+    }
+}

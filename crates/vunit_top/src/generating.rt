@@ -1,0 +1,89 @@
+//! The mode that generates a project: what is done with it, and what is put.
+
+ghost use Rattle.std.specs.Prelude.{◌≡◌, ◌≤◌, ◌<◌, ◌++◌, [], ℕ, List, Err, MatchOption, false};
+ghost use Rattle.run_spec.specs.ChildJournal.{since};
+ghost use Rattle.compile_loop.specs.declared.faults.BuildFault.TheVariants as fault;
+ghost use Rattle.scan_spec.specs.Scans.{Finding, IsScanner};
+ghost use Rattle.vunit_top.specs.Generated.{GeneratesAs};
+ghost use Rattle.vunit_top.specs.Reading.{Generates, generates, setting_job};
+ghost use Rattle.generated_runs.specs.Said.{IsAnswer};
+ghost use Rattle.vunit_top.specs.Said.{IsAccounted, IsSaid, Says, fault_counts, fault_outcome};
+
+use crate::ends::say;
+use crate::tests::fault_outcome;
+use command_line::Setting;
+use generated_runs::{GenerateOptions, GeneratedSaid, run_generated};
+use outcomes::{Outcome, Which};
+use std::alloc::Global;
+use vr_base::{FILE_LIMIT, SLOT_LIMIT};
+use vr_outside::{Procs, Sink};
+
+/// How a setting says that a project is to be generated, if it does and no limit is passed.
+pub fn generated_by(setting: &Setting) -> Option<GenerateOptions>
+    requires { 1 ≤ setting.now.num_threads }
+    ensures { MatchOption result (generates (setting_job setting.now) ≡ false)
+        (λ options. (setting_job setting.now ≡ Err (Generates options))
+        × (1 ≤ options.slots) × (options.slots ≤ SLOT_LIMIT)) }
+{
+    let packages = setting.generate;
+    let slots = setting.num_threads;
+    if slots > SLOT_LIMIT as u64 {
+        return None;
+    }
+    if packages == 0 {
+        return None;
+    }
+    if packages >= FILE_LIMIT as u64 {
+        return None;
+    }
+    Some(GenerateOptions {
+        packages: packages as u32,
+        slots: slots as u32,
+        exit_0: setting.exit_0,
+    })
+}
+
+/// Puts what is said of a generated project, and answers.
+fn put_generated<O: Sink>(said: GeneratedSaid, out: &mut O) -> Outcome
+    requires { IsAnswer said.outcome }
+    ensures answers { IsSaid result → result ≡ said.outcome }
+    ensures says { O.tells →
+        Says result (record { outcome = said.outcome; text = said.text })
+        (O.contents out.old) (O.contents out.new) }
+    ensures counted { (tree disk start child report input : ℕ) → IsAccounted result
+        (fault_counts tree disk start child (O.failed_puts out.old) report input)
+        (fault_counts tree disk start child (O.failed_puts out.new) report input) }
+{
+    let GeneratedSaid { outcome, text } = said;
+    say(text.bytes(), outcome, out)
+}
+
+/// Generates a project, builds it twice with one edit between, runs its tests, and puts what became of it.
+pub fn say_generated<P: Procs, O: Sink>(
+    alloc: Global,
+    options: GenerateOptions,
+    procs: &mut P,
+    out: &mut O,
+) -> Outcome
+    requires slots { (1 ≤ options.slots) × (options.slots ≤ SLOT_LIMIT) }
+    requires idle { P.running procs.old ≡ [] }
+    ensures running { P.running procs.new ≡ [] }
+    ensures same { P.answer procs.new ≡ P.answer procs.old }
+    ensures kept { P.tells →
+        (P.journal procs.new
+        ≡ P.journal procs.old ++ since (P.journal procs.old) (P.journal procs.new)) }
+    ensures generated { (scan : List ℕ → Finding) → IsScanner scan → P.tells →
+        GeneratesAs scan (P.answer procs.old) options result O.tells
+        (since (P.journal procs.old) (P.journal procs.new))
+        (O.contents out.old) (O.contents out.new) }
+    ensures counted { (tree disk report input : ℕ) → IsAccounted result
+        (fault_counts tree disk (P.failed_starts procs.old) (P.lost_children procs.old)
+        (O.failed_puts out.old) report input)
+        (fault_counts tree disk (P.failed_starts procs.new) (P.lost_children procs.new)
+        (O.failed_puts out.new) report input) }
+{
+    match run_generated(alloc, options, procs) {
+        Ok(said) => put_generated(said, out),
+        Err(fault) => fault_outcome(fault),
+    }
+}
