@@ -104,7 +104,8 @@ pub fn request_payload(alloc: Global, parts: RequestParts<'_>) -> Result<Text, N
     ensures bytes { (command : List (List ℕ)) →
         parts.entry.words.now ≡ command_bytes command →
         IfOk result
-        (λ bytes. bytes ≡ request_payload_bytes (OfRequest (request_of_parts command parts.entry))) }
+        (λ bytes.
+        bytes ≡ request_payload_bytes (OfRequest (request_of_parts command parts.entry))) }
     ensures small { IfOk result (λ bytes. length bytes < 2 ^ 32) }
 {
     let mut out = ByteWriter::new(alloc);

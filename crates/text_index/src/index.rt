@@ -1,6 +1,6 @@
 //! The splits of texts by number, linked so that a walk passes over none that it doesn't need.
 
-ghost use Rattle.std.specs.Prelude.{◌≡◌, ◌<◌, ◌++◌, ◌∷◌, [], ℕ, List, None, Some, length, slice_set, OnOk};
+ghost use Rattle.std.specs.Prelude.{◌≡◌, ◌<◌, ◌≤◌, ◌+◌, ◌++◌, ◌∷◌, [], ℕ, List, None, Some, length, slice_set, OnOk};
 ghost use Rattle.text_index.specs.Splits.{reached};
 ghost use Rattle.text_index.specs.Links.{AreChained, AreLinked, left_numbers};
 
@@ -59,15 +59,15 @@ impl TextIndex {
         walk(&self.splits, &self.firsts, &self.nexts, text)
     }
 
-    /// Makes room for one more split. The splits are unchanged.
-    pub fn reserve(&mut self) -> Result<(), NoMemory>
+    /// Makes room for so many more splits. The splits are unchanged.
+    pub fn reserve(&mut self, count: usize) -> Result<(), NoMemory>
         ensures same { self.new.splits ≡ self.old.splits }
-        ensures room { OnOk result (0 < self.new.room) }
+        ensures room { OnOk result (count ≤ self.new.room) }
     {
-        self.splits.reserve(1)?;
-        self.firsts.reserve(1)?;
-        self.nexts.reserve(1)?;
-        self.lasts.reserve(1)?;
+        self.splits.reserve(count)?;
+        self.firsts.reserve(count)?;
+        self.nexts.reserve(count)?;
+        self.lasts.reserve(count)?;
         Ok(())
     }
 
@@ -75,7 +75,8 @@ impl TextIndex {
     pub fn put(&mut self, split: Split)
         requires room { 0 < self.old.room }
         requires of { 0 < length self.old.splits → split.of < length self.old.splits }
-        ensures { self.new.splits ≡ self.old.splits ++ split ∷ [] }
+        ensures splits { self.new.splits ≡ self.old.splits ++ split ∷ [] }
+        ensures room { self.old.room ≤ self.new.room + 1 }
     {
         let number = self.splits.len();
         link(

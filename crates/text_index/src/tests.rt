@@ -17,7 +17,7 @@ static TEXTS: [&[u8]; 8] = [
 
 /// Puts a text in, where the text that it comes to is another one.
 fn add(index: &mut TextIndex, text: &[u8]) -> Result<(), Fail> {
-    index.reserve()?;
+    index.reserve(1)?;
     if index.len() == 0 {
         index.put(Split {
             of: 0,
