@@ -1,0 +1,23 @@
+//! Records of requests, and the payloads of a store that keeps each text and each product once: their bytes, and what they
+//! stand for.
+#![tactic(auto)]
+
+mod laws;
+mod numbers;
+mod reading;
+mod words;
+mod writing;
+
+pub use laws::{laws_of_request_payloads, laws_of_request_shelves};
+pub use numbers::{Numbers, numbers_of};
+pub use reading::{
+    ByteRange, PayloadRanges, ProductRanges, RequestRanges, TextRange, bytes_in, name_in,
+    read_request_payload,
+};
+pub use words::{has_word_sizes, has_words};
+pub use writing::{
+    ProductParts, RequestParts, TextPart, product_payload, request_payload, spelled_words,
+};
+
+#[cfg(test)]
+mod tests;

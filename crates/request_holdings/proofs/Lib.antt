@@ -1,0 +1,4 @@
+-- The lemmas.
+pub mod Latest
+pub mod Fits
+pub mod Here

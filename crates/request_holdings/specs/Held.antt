@@ -1,0 +1,36 @@
+-- Payloads with what they stand for.
+use Rattle.std.specs.Prelude.{◌≡◌, ℕ, ◌<◌, List, [], length, map, slice_get, slice_index_or, Option, Some, None}
+use Rattle.vr_base.specs.declared.file.FileName.{FileName}
+use Rattle.vr_base.specs.declared.graph.Entry.{Entry}
+use Rattle.request_codec.specs.Requests.{RequestRecord, latest_request}
+use Rattle.request_codec.specs.Ranges.{counted_words}
+use Rattle.request_codec.specs.Shelves.{request_shelf_of}
+use Rattle.request_shelf.specs.declared.shelf.PlacedShelf.{PlacedShelf}
+use Rattle.request_shelf.specs.declared.shelf.RecordRow.{RecordRow}
+use Rattle.request_shelf.specs.Placed.{IsShelfPlaced, nth_payload, placed_shelf, row_deps}
+use Rattle.request_holdings.specs.declared.seats.Seat.{Seat}
+use Rattle.request_holdings.specs.Seated.{seated_product}
+
+-- payloads in order
+pub record HeldState : Type 0 where
+  pub payloads : List (List ℕ)
+
+-- A shelf is what payloads stand for.
+pub record IsHeld (payloads : List (List ℕ)) (shelf : PlacedShelf) : Type 0 where
+  pub are : IsShelfPlaced payloads shelf
+  pub is : placed_shelf payloads shelf ≡ request_shelf_of payloads
+
+-- the latest record of a name
+abbrev pub latest_held : List (List ℕ) → FileName → Option RequestRecord
+latest_held payloads name = latest_request name (request_shelf_of payloads).records
+
+-- the latest record of a name is that of a number, or there is none
+abbrev pub IsLatestRow : List RequestRecord → FileName → Option ℕ → Type 0
+IsLatestRow records name None = latest_request name records ≡ None
+IsLatestRow records name (Some number) = (number < length records) × (latest_request name records ≡ slice_get records number)
+
+-- the words, the text and the products of a record are those of a file, whose dependencies have seats
+pub record IsAskedRow (payloads texts : List (List ℕ)) (row : RecordRow) (entry : Entry) (seats : List (Option Seat)) : Type 0 where
+  pub words : counted_words (nth_payload payloads row.payload) row.words ≡ entry.command
+  pub text : slice_index_or texts row.text [] ≡ entry.text
+  pub deps : map (λ n. Some n) (row_deps payloads row) ≡ map (seated_product seats) entry.deps

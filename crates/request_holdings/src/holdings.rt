@@ -1,0 +1,136 @@
+//! Payloads, and the texts, products and records that they stand for.
+
+ghost use Rattle.std.specs.Prelude.{◌≡◌, ◌↔◌, ◌<◌, Some, length, slice_get, slice_index_or, All, IsTrue, IfOk, option_map};
+ghost use Rattle.vr_base.specs.declared.graph.Entry.{Entry};
+ghost use Rattle.request_codec.specs.Requests.{RequestRecord};
+ghost use Rattle.vr_outside.specs.Records.{deps_at};
+ghost use Rattle.request_codec.specs.Shelves.{request_shelf_of};
+ghost use Rattle.request_holdings.specs.Seated.{AreSeats, FitsLatest, HasLatest, IsSeat};
+ghost use Rattle.request_holdings.specs.Held.{IsLatestRow, latest_held};
+
+use crate::fitting::is_asked;
+use crate::{Seat, Seats};
+use gate_journal::Payloads;
+use request_shelf::{HeldPayloads, PlacedShelf, taken_up, text_at};
+use std::alloc::Global;
+use std::marker::Model;
+use vr_base::{FileName, Graph, NoMemory};
+
+/// Payloads, in order, with what they stand for. Contracts see the payloads.
+#[derive(Drop)]
+pub struct RequestHoldings {
+    held: HeldPayloads,
+    shelf: PlacedShelf,
+}
+
+impl Model for RequestHoldings {
+    ghost use Rattle.request_holdings.specs.Held.{HeldState, IsHeld};
+
+    ghost Value = { HeldState };
+
+    ghost view = { λ a. record { payloads = a.held.payloads } };
+
+    ghost invariant = { λ a. IsHeld a.held.payloads a.shelf };
+}
+
+impl RequestHoldings {
+    /// What payloads stand for.
+    pub fn of(alloc: Global, opened: Payloads) -> Result<RequestHoldings, NoMemory>
+        ensures { IfOk result (λ held. held.payloads ≡ opened) }
+    {
+        let held = HeldPayloads::of(alloc, opened);
+        let shelf = taken_up(alloc, &held)?;
+        Ok(RequestHoldings { held, shelf })
+    }
+
+    /// The number of the latest record of a name.
+    fn latest_row(&self, name: &FileName) -> Option<usize>
+        ensures { IsLatestRow (request_shelf_of self.now.payloads).records name.now result }
+    {
+        let Some(number) = self.shelf.names.number(name) else {
+            return None;
+        };
+        self.shelf.latest.last(number as u64)
+    }
+
+    /// What the compiler gave by the latest record of a name, lent; `None` exactly where the name has no record. It
+    /// takes no memory.
+    pub fn artefact(&self, name: &FileName) -> Option<&[u8]>
+        ensures bytes { option_map (λ bytes. bytes.now) result
+            ≡ option_map (λ kept. kept.artefact) (latest_held self.now.payloads name.now) }
+    {
+        let Some(number) = self.latest_row(name) else {
+            return None;
+        };
+        Some(self.row_artefact(number))
+    }
+
+    /// The artefact of a record.
+    fn row_artefact(&self, number: usize) -> &[u8]
+        requires { number < length (request_shelf_of self.now.payloads).records }
+        ensures { (kept : RequestRecord) →
+            slice_get (request_shelf_of self.now.payloads).records number ≡ Some kept →
+            result.now ≡ kept.artefact }
+    {
+        let row = self.shelf.rows[number];
+        let product = self.shelf.products.key(row.product);
+        text_at(&self.held, &self.shelf.texts, product.text)
+    }
+
+    /// The seat of the latest record of a name, if it has one.
+    fn seat_of(&self, name: &FileName) -> Option<Seat>
+        ensures { IsSeat (request_shelf_of self.now.payloads) name.now result }
+    {
+        let Some(row) = self.latest_row(name) else {
+            return None;
+        };
+        Some(Seat {
+            row,
+            product: self.shelf.rows[row].product,
+        })
+    }
+
+    /// For each file of a graph the seat of its latest record, if it has one.
+    pub fn seats(&self, alloc: Global, graph: &Graph) -> Result<Seats, NoMemory>
+        ensures { IfOk result (AreSeats (request_shelf_of self.now.payloads) graph.now) }
+    {
+        let mut seats = Seats::new(alloc);
+        for at in 0..graph.len() {
+            seats.push(self.seat_of(&graph.get(at).name))?;
+        }
+        Ok(seats)
+    }
+
+    /// Whether the latest record of a file has what would be asked for it now. It takes no memory, and a time that goes by the
+    /// text and the dependencies of the file alone.
+    pub fn fits(&self, seats: &Seats, graph: &Graph, at: u32) -> bool
+        requires at { at < length graph.now }
+        requires seats { AreSeats (request_shelf_of self.now.payloads) graph.now seats.now }
+        requires built { All (HasLatest (latest_held self.now.payloads) graph.now)
+            (deps_at graph.now at) }
+        ensures { IsTrue result ↔ FitsLatest (latest_held self.now.payloads) graph.now at }
+    {
+        let entry = graph.get(at as u64);
+        let Some(seat) = seats.get(at as usize) else {
+            return false;
+        };
+        let row = self.shelf.rows[seat.row];
+        is_asked(&self.held, &self.shelf, row, entry, seats)
+    }
+
+    /// What the compiler gave for a file by its latest record, lent; `None` exactly where it has no record. It takes no
+    /// memory.
+    pub fn artefact_at(&self, seats: &Seats, graph: &Graph, at: u32) -> Option<&[u8]>
+        requires at { at < length graph.now }
+        requires seats { AreSeats (request_shelf_of self.now.payloads) graph.now seats.now }
+        ensures { (other : Entry) →
+            option_map (λ bytes. bytes.now) result
+            ≡ option_map (λ kept. kept.artefact)
+            (latest_held self.now.payloads (slice_index_or graph.now at other).name) }
+    {
+        let Some(seat) = seats.get(at as usize) else {
+            return None;
+        };
+        Some(self.row_artefact(seat.row))
+    }
+}

@@ -1,0 +1,10 @@
+//! Payloads of a store of requests, with what they stand for: which records are the latest, and which files of a graph have one
+//! of what would be asked now.
+#![tactic(auto)]
+
+mod fitting;
+mod holdings;
+mod seats;
+
+pub use holdings::RequestHoldings;
+pub use seats::{Seat, Seats};

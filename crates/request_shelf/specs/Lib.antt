@@ -1,0 +1,4 @@
+-- The definitions of this crate.
+pub mod ProductRows
+pub mod Placed
+pub mod Checked

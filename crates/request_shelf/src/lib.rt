@@ -1,0 +1,17 @@
+//! What the payloads of a store of requests stand for, as places in their bytes: texts, products and records are taken up one
+//! payload after the other, and nothing but names is copied.
+#![tactic(auto)]
+
+mod checking;
+mod held;
+mod products;
+mod putting;
+mod shelf;
+mod taking;
+mod texts;
+
+pub use held::HeldPayloads;
+pub use products::ProductRow;
+pub use shelf::{PlacedShelf, RecordRow};
+pub use taking::taken_up;
+pub use texts::{PlacedText, PlacedTexts, find_text, text_at};

@@ -1,0 +1,5 @@
+-- The lemmas.
+pub mod Reaching
+pub mod Linking
+pub mod Walking
+pub mod Differing
