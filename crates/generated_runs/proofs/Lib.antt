@@ -2,4 +2,5 @@
 mod Paths
 mod Builds
 mod Tests
+mod Rights
 pub mod Parts

@@ -24,7 +24,8 @@ fn generated_tree(alloc: Global, packages: u32, edited: u64) -> Result<MemTree, 
 
 /// Why nothing is compiled, where a tree in memory fails for want of memory alone.
 fn own_stop(stop: ReadStop) -> ReadStop
-    ensures leads { (found : SourceReading) → LeadsTo found (Err stop) → LeadsTo found (Err result) }
+    ensures leads { (found : SourceReading) →
+        LeadsTo found (Err stop) → LeadsTo found (Err result) }
     ensures plain { result ≡ why.Failed → ⊥ }
 {
     match stop {
