@@ -1,5 +1,4 @@
 -- The lemmas.
-mod Paths
 mod Builds
 mod Tests
 mod Rights
