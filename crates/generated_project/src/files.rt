@@ -64,7 +64,7 @@ fn bench_file(alloc: Global) -> Result<NamedText, NoMemory>
 
 /// The path of the file of a package.
 #[tactic(auto, unfolding(crate::specs::Files::source_folder, crate::specs::Files::source_end))]
-fn package_path(alloc: Global, number: u64) -> Result<Text, NoMemory>
+pub fn package_path(alloc: Global, number: u64) -> Result<Text, NoMemory>
     ensures { IfOk result (λ path. path ≡ package_path number) }
 {
     let mut path = Vec::new(alloc);
@@ -144,7 +144,7 @@ fn put_note(out: &mut Vec<u8>, noted: bool) -> Result<(), NoMemory>
 }
 
 /// The text of the file of a package.
-fn package_text(alloc: Global, number: u64, noted: bool) -> Result<Text, NoMemory>
+pub fn package_text(alloc: Global, number: u64, noted: bool) -> Result<Text, NoMemory>
     ensures { IfOk result (λ text. text ≡ package_text number noted) }
 {
     let mut text = Vec::new(alloc);

@@ -5,5 +5,5 @@ mod files;
 mod lines;
 mod puts;
 
-pub use files::{edited_package, generated_files};
+pub use files::{edited_package, generated_files, package_path, package_text};
 pub use lines::{Counts, count_lines};

@@ -34,7 +34,7 @@ module _ (answer : Request → Exit) (options : GenerateOptions) (graph : List E
 
   pub first_ended : IsSound new.now → (marks : List Mark) → Over (Ok marks) → RanFirst answer work (Ok marks) new.now events
   first_ended sound marks over = record {
-    built = record { lawful = over.lawful; answered = over.answered; ended = over.whole };
+    built = record { graph = λ some. over.graph_form; whole_graph = over.graph_form; lawful = over.lawful; answered = over.answered; ended = over.whole };
     compilers = build_parts work events over.lawful;
     marks = over.marks;
     records = over.emptied refl (reads_of new.now) (readable new.now sound);
@@ -42,7 +42,7 @@ module _ (answer : Request → Exit) (options : GenerateOptions) (graph : List E
 
   pub first_faulted : (why other : BuildFault) → Over (Err why) → RanFirst answer work (Err other) new.now events
   first_faulted why other over = record {
-    built = record { lawful = over.lawful; answered = over.answered; ended = tt };
+    built = record { graph = λ some. over.graph_form; whole_graph = tt; lawful = over.lawful; answered = over.answered; ended = tt };
     compilers = build_parts work events over.lawful;
     marks = tt;
     records = tt;

@@ -1,5 +1,5 @@
 -- The lemmas.
-mod Paths
 mod Builds
 mod Tests
+mod Rights
 pub mod Parts

@@ -11,7 +11,7 @@ use Rattle.vr_outside.specs.declared.records.Record.{Record}
 use Rattle.run_spec.specs.declared.marks.Mark.{Mark}
 use Rattle.vr_outside.specs.Disks.{DiskState}
 use Rattle.run_spec.specs.Moves.{LawfulMoves}
-use Rattle.run_spec.specs.ChildJournal.{Work, EachAfter, IsWhole, since}
+use Rattle.run_spec.specs.ChildJournal.{Work, EachAfter, since}
 use Rattle.run_spec.specs.JournalParts.{compile_part}
 use Rattle.run_spec.specs.Marks.{is_compiled, marks_of}
 use Rattle.run_spec.proofs.Journal.{since-added}
@@ -27,7 +27,8 @@ use Rattle.generated_runs.specs.declared.options.GenerateOptions.{GenerateOption
 use Rattle.generated_runs.specs.declared.options.GeneratedSaid.{GeneratedSaid}
 use Rattle.generated_runs.specs.Sources.{first_work, first_records, second_work, setting_of}
 use Rattle.generated_runs.specs.Said.{marks_said, tested_said, second_said, generated_said}
-use Rattle.generated_runs.specs.Ran.{RanBuild, RanFirst, RanSecond, RanTested, RanEdited, RanGenerated}
+use Rattle.generated_runs.specs.Ran.{RanBuild, RanFirst, RanSecond, RanTested, RanEdited, RanGenerated, IsRightBuild, IsRightSecond}
+use Rattle.generated_runs.proofs.Rights.{nothing_right, nothing_tested, right_first, right_second}
 
 abbrev gives : GeneratedSaid → Result GeneratedSaid BuildFault
 gives said = Ok said
@@ -65,7 +66,8 @@ nothing_ran : (answer : Request → Exit) (work : Work) (setting : List Event �
 unfolding EachAfter
 nothing_ran answer work setting why = record {
   parted = refl;
-  built = record { lawful = lawful_none work; answered = tt; ended = tt };
+  graph = λ some. absurd (some refl);
+  built = record { graph = λ some. absurd (some refl); whole_graph = tt; lawful = lawful_none work; answered = tt; ended = tt };
   made = λ some. absurd (some refl);
   tested = nothing_lawful (setting []);
   replied = tt;
@@ -95,7 +97,8 @@ module _ (answer : Request → Exit) (options : GenerateOptions) (records : List
     weaker : (result : Result Tested BuildFault) (why : BuildFault) → RanSecond answer work (setting_of options read work) (OnOk result) events → RanSecond answer work (setting_of options read work) (OnOk (fails why)) events
     weaker result why ran = record {
       parted = ran.parted;
-      built = record { lawful = ran.built.lawful; answered = ran.built.answered; ended = tt };
+      graph = ran.graph;
+      built = record { graph = ran.built.graph; whole_graph = tt; lawful = ran.built.lawful; answered = ran.built.answered; ended = tt };
       made = ran.made;
       tested = ran.tested;
       replied = ran.replied;
@@ -105,7 +108,8 @@ module _ (answer : Request → Exit) (options : GenerateOptions) (records : List
     same : (tested : Tested) (said : GeneratedSaid) → RanSecond answer work (setting_of options read work) (OnOk (tests tested)) events → RanSecond answer work (setting_of options read work) (OnOk (gives said)) events
     same tested said ran = record {
       parted = ran.parted;
-      built = record { lawful = ran.built.lawful; answered = ran.built.answered; ended = ran.built.ended };
+      graph = ran.graph;
+      built = record { graph = ran.built.graph; whole_graph = ran.built.whole_graph; lawful = ran.built.lawful; answered = ran.built.answered; ended = ran.built.ended };
       made = ran.made;
       tested = ran.tested;
       replied = ran.replied;
@@ -143,10 +147,12 @@ module _ (answer : Request → Exit) (options : GenerateOptions) (edited : Sourc
     second = [];
     parted = none;
     unread = λ h. (refl, refl);
-    built = λ read is. record { lawful = lawful_none (first_work options read.graph); answered = tt; ended = tt };
+    built = λ read is. record { graph = λ some. absurd (some refl); whole_graph = tt; lawful = lawful_none (first_work options read.graph); answered = tt; ended = tt };
     compilers = (refl, refl);
     halted = λ read is h. refl;
     ran = λ read again is other made. nothing_ran answer (second_work options (first_records options read.graph []) again.graph) (setting_of options again (second_work options (first_records options read.graph []) again.graph)) why;
+    right = λ read is. nothing_right answer (first_work options read.graph) why;
+    right_again = λ read again is other made. nothing_tested answer options (second_work options (first_records options read.graph []) again.graph) again why;
     says = tt;
   }
 
@@ -160,6 +166,8 @@ module _ (answer : Request → Exit) (options : GenerateOptions) (edited : Sourc
     compilers = (refl, refl);
     halted = λ read is h. refl;
     ran = λ read again is other made. absurd (stops read is);
+    right = λ read is. absurd (stops read is);
+    right_again = λ read again is other made. absurd (stops read is);
     says = says;
   }
 
@@ -170,6 +178,9 @@ module _ (answer : Request → Exit) (options : GenerateOptions) (edited : Sourc
     by_read : (P : ReadProject → Type 0) → P read → (other : ReadProject) → Found read ≡ Found other → P other
     by_read P p other is = subst P (same_read read other is) p
 
+    faulted : (result : Result (List Mark) BuildFault) (why : BuildFault) (disk : DiskState) (events : List Event) → RanFirst answer built_first result disk events → RanBuild answer built_first (OnOk (fails why)) events
+    faulted result why disk events ran = record { graph = ran.built.graph; whole_graph = tt; lawful = ran.built.lawful; answered = ran.built.answered; ended = tt }
+
     -- the first build had a fault, or what was to be said of it found no memory
     pub first_fault : (result : Result (List Mark) BuildFault) (why : BuildFault) (disk : DiskState) (events : List Event) → RanFirst answer built_first result disk events →
         RanGenerated answer options (Found read) edited (Err why) events
@@ -178,14 +189,23 @@ module _ (answer : Request → Exit) (options : GenerateOptions) (edited : Sourc
       second = [];
       parted = sym (append-nil events);
       unread = λ none. absurd (none read refl);
-      built = by_read (λ r. RanBuild answer (first_work options r.graph) (OnOk (fails why)) events) (record { lawful = ran.built.lawful; answered = ran.built.answered; ended = tt });
+      built = by_read (λ r. RanBuild answer (first_work options r.graph) (OnOk (fails why)) events) (faulted result why disk events ran);
       compilers = ran.compilers;
       halted = λ other is h. refl;
       ran = λ other again is found made. nothing_ran answer (second_work options (first_records options other.graph events) again.graph) (setting_of options again (second_work options (first_records options other.graph events) again.graph)) why;
+      right = by_read (λ r. IsRightBuild answer (first_work options r.graph) (OnOk (fails why)) events) (right_first answer options read.graph (fails why) events (faulted result why disk events ran));
+      right_again = λ other again is found made. nothing_tested answer options (second_work options (first_records options other.graph events) again.graph) again why;
       says = tt;
     }
 
     module _ (marks : List Mark) (disk : DiskState) (events : List Event) (ran : RanFirst answer built_first (Ok marks) disk events) where
+      on_any : {X : Type 0} → X → (r : Result GeneratedSaid BuildFault) → OnOk r X
+      on_any x (Ok said) = x
+      on_any x (Err why) = tt
+
+      ended : (r : Result GeneratedSaid BuildFault) → RanBuild answer built_first (OnOk r) events
+      ended r = record { graph = ran.built.graph; whole_graph = on_any ran.built.whole_graph r; lawful = ran.built.lawful; answered = ran.built.answered; ended = on_any ran.built.ended r }
+
       -- a file isn't made
       pub first_said : (said : GeneratedSaid) → list_all is_made marks ≡ false → said ≡ marks_said read marks → RanGenerated answer options (Found read) edited (Ok said) events
       first_said said left says = record {
@@ -193,10 +213,12 @@ module _ (answer : Request → Exit) (options : GenerateOptions) (edited : Sourc
         second = [];
         parted = sym (append-nil events);
         unread = λ none. absurd (none read refl);
-        built = by_read (λ r. RanBuild answer (first_work options r.graph) (OnOk (gives said)) events) (record { lawful = ran.built.lawful; answered = ran.built.answered; ended = ran.built.ended });
+        built = by_read (λ r. RanBuild answer (first_work options r.graph) (OnOk (gives said)) events) (ended (gives said));
         compilers = ran.compilers;
         halted = λ other is h. refl;
         ran = λ other again is found made. absurd (false≢true (sym (ap (list_all is_made) (sym ran.marks) ∙ left) ∙ by_read (λ r. list_all is_made (marks_of (first_work options r.graph) events) ≡ true → list_all is_made (marks_of built_first events) ≡ true) (λ h. h) other is made));
+        right = by_read (λ r. IsRightBuild answer (first_work options r.graph) (OnOk (gives said)) events) (right_first answer options read.graph (gives said) events (ended (gives said)));
+        right_again = λ other again is found made. absurd (false≢true (sym (ap (list_all is_made) (sym ran.marks) ∙ left) ∙ by_read (λ r. list_all is_made (marks_of (first_work options r.graph) events) ≡ true → list_all is_made (marks_of built_first events) ≡ true) (λ h. h) other is made));
         says = says ∙ ap (marks_said read) ran.marks
             ∙ sym (cond-false (list_all is_made (marks_of built_first events)) (second_said options (count_by is_compiled (marks_of built_first events)) (first_records options read.graph events) edited []) (marks_said read (marks_of built_first events)) (ap (list_all is_made) (sym ran.marks) ∙ left));
       }
@@ -209,18 +231,17 @@ module _ (answer : Request → Exit) (options : GenerateOptions) (edited : Sourc
         second = later;
         parted = parted;
         unread = λ none. absurd (none read refl);
-        built = by_read (λ r. RanBuild answer (first_work options r.graph) (OnOk result) events) (record { lawful = ran.built.lawful; answered = ran.built.answered; ended = on_any result });
+        built = by_read (λ r. RanBuild answer (first_work options r.graph) (OnOk result) events) (ended result);
         compilers = ran.compilers;
         halted = λ other is left. absurd (false≢true (sym (by_read (λ r. list_all is_made (marks_of (first_work options r.graph) events) ≡ false → list_all is_made (marks_of built_first events) ≡ false) (λ h. h) other is left) ∙ all_made));
         ran = λ other again is found h. by_read (λ r. RanSecond answer (second_work options (first_records options r.graph events) again.graph) (setting_of options again (second_work options (first_records options r.graph events) again.graph)) (OnOk result) later) (next.ran again found) other is;
+        right = by_read (λ r. IsRightBuild answer (first_work options r.graph) (OnOk result) events) (right_first answer options read.graph result events (ended result));
+        right_again = λ other again is found h. by_read (λ r. IsRightSecond answer options (second_work options (first_records options r.graph events) again.graph) again (OnOk result) later)
+            (right_second answer options read.graph again events ran.built.whole_graph ran.built.lawful ran.built.answered result later (next.ran again found)) other is;
         says = both_says result next.says;
       } where
         all_made : list_all is_made (marks_of built_first events) ≡ true
         all_made = ap (list_all is_made) (sym ran.marks) ∙ made
-
-        on_any : (r : Result GeneratedSaid BuildFault) → OnOk r (IsWhole built_first events)
-        on_any (Ok said) = ran.built.ended
-        on_any (Err why) = tt
 
         both_says : (r : Result GeneratedSaid BuildFault) → IfOk r (λ said. said ≡ second_said options (count_by is_compiled marks) (first_records options read.graph events) edited later) → IfOk r (λ said. said ≡ generated_said options (Found read) edited events later)
         both_says (Err why) says = tt

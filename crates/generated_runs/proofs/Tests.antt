@@ -1,9 +1,8 @@
 -- What the second build and its tests did, from what they did over their disk.
-use Rattle.std.proofs.Common.{◌≡◌, Bool, true, false, List, [], ◌++◌, Option, Some, None, Result, Ok, Err, OnOk, IfOk, sym, ap, subst, ◌∙◌}
+use Rattle.std.proofs.Common.{◌≡◌, Bool, true, List, [], ◌++◌, Option, Some, None, Result, Ok, Err, OnOk, IfOk, sym, ap, subst, ◌∙◌}
 use Rattle.std.specs.Prelude.{if◌then◌else◌}
 use Rattle.std.specs.List.{list_all}
 use Rattle.std.proofs.lemmas.Bool.{cond-true, cond-false, false≢true}
-use Rattle.vr_base.specs.declared.graph.Entry.{Entry}
 use Rattle.vr_base.specs.declared.child.Request.{Request}
 use Rattle.vr_base.specs.declared.child.Exit.{Exit}
 use Rattle.vr_base.specs.declared.child.Event.{Event}
@@ -11,12 +10,11 @@ use Rattle.vr_outside.specs.declared.records.Record.{Record}
 use Rattle.run_spec.specs.declared.marks.Mark.{Mark}
 use Rattle.vr_outside.specs.Disks.{DiskState, Moments}
 use Rattle.run_spec.specs.ChildJournal.{Work, Answered, IsWhole}
+use Rattle.vr_base.specs.Graphs.{IsGraph}
 use Rattle.run_spec.specs.JournalParts.{compile_part, test_part}
 use Rattle.run_spec.specs.Marks.{marks_of}
-use Rattle.history_spec.specs.Histories.{Order}
 use Rattle.compile_loop.specs.declared.faults.BuildFault.{BuildFault}
 use Rattle.compile_loop.specs.Ran.{is_made}
-use Rattle.disk_runs.specs.Orders.{order_by}
 use Rattle.test_spec.specs.declared.ends.TestEnd.{TestEnd}
 use Rattle.test_spec.specs.declared.ends.RunEnd.{RunEnd}
 use Rattle.test_journal.specs.TestJournal.{TestSetting, LawfulTests, IsWholeTests}
@@ -26,7 +24,7 @@ use Rattle.tested_runs.specs.Tested.{SaysTests, TestsOver}
 use Rattle.node_store.specs.Stored.{node_records_in}
 use Rattle.project_reading.specs.declared.linking.ReadProject.{ReadProject}
 use Rattle.generated_runs.specs.declared.options.GenerateOptions.{GenerateOptions}
-use Rattle.generated_runs.specs.Sources.{second_work, plan_of, setting_of}
+use Rattle.generated_runs.specs.Sources.{second_work, second_order, plan_of, setting_of}
 use Rattle.generated_runs.specs.Ran.{RanBuild, RanSecond, RanTested, records_on}
 
 -- what is said of tests is what became of them, where all files are made
@@ -45,10 +43,6 @@ gives tested = Ok tested
 abbrev fails : BuildFault → Result Tested BuildFault
 fails why = Err why
 
--- the order of the second build
-abbrev pub second_order : GenerateOptions → List Entry → Order
-second_order options graph = order_by (record { slots = options.slots; keep_going = false; clean = false }) graph
-
 module _ (answer : Request → Exit) (options : GenerateOptions) (read : ReadProject) (failed : Bool) (old new : Moments) (events : List Event) where
   abbrev work : Work
   work = second_work options (records_on old.now) read.graph
@@ -63,10 +57,11 @@ module _ (answer : Request → Exit) (options : GenerateOptions) (read : ReadPro
     moved : (P : List Event → List Event → Type 0) → P over.compiled over.tests → P (compile_part events) (test_part events)
     moved P p = subst (P (compile_part events)) (sym over.simulators) (subst (λ (l : List Event). P l over.tests) (sym over.compilers) p)
 
-    ran_over : (whole : Type 0 → Type 0) → whole (IsWhole work over.compiled) → whole (list_all is_made (marks_of work over.compiled) ≡ true → IsWholeTests (setting over.compiled) over.tests) → RanSecond answer work setting whole events
-    ran_over whole ended tested = record {
+    ran_over : (whole : Type 0 → Type 0) → whole (IsGraph read.graph) → whole (IsWhole work over.compiled) → whole (list_all is_made (marks_of work over.compiled) ≡ true → IsWholeTests (setting over.compiled) over.tests) → RanSecond answer work setting whole events
+    ran_over whole grown ended tested = record {
       parted = moved (λ c t. events ≡ c ++ t) over.parted;
-      built = moved (λ c t. RanBuild answer work whole c) (record { lawful = over.builds.lawful; answered = over.builds.answered; ended = ended });
+      graph = λ some. over.builds.graph_form;
+      built = moved (λ c t. RanBuild answer work whole c) (record { graph = λ some. over.builds.graph_form; whole_graph = grown; lawful = over.builds.lawful; answered = over.builds.answered; ended = ended });
       made = moved (λ c t. (t ≡ [] → ⊥) → list_all is_made (marks_of work c) ≡ true) over.made;
       tested = moved (λ c t. LawfulTests (setting c) t) over.lawful;
       replied = moved (λ c t. Answered answer t) over.answered;
@@ -81,7 +76,7 @@ module _ (answer : Request → Exit) (options : GenerateOptions) (read : ReadPro
       let says : SaysTests (setting over.compiled) (list_all is_made (marks_of work over.compiled)) tested.tests over.tests =
       subst (λ (m : List Mark). SaysTests (setting over.compiled) (list_all is_made m) tested.tests over.tests) marked over.gives.1 in
       record {
-        ran = ran_over (Ok tested) over (OnOk (gives tested)) whole (whole_if (setting over.compiled) (list_all is_made (marks_of work over.compiled)) tested.tests over.tests says);
+        ran = ran_over (Ok tested) over (OnOk (gives tested)) over.builds.graph_form whole (whole_if (setting over.compiled) (list_all is_made (marks_of work over.compiled)) tested.tests over.tests says);
         marks = moved (Ok tested) over (λ c t. tested.marks ≡ marks_of work c) marked;
         tests = moved (Ok tested) over (λ c t. tested.tests ≡ (if list_all is_made (marks_of work c) then Some (record { runs = test_ends (setting c) t }) else None))
             (ends_said (setting over.compiled) (list_all is_made (marks_of work over.compiled)) tested.tests over.tests says);
@@ -89,7 +84,7 @@ module _ (answer : Request → Exit) (options : GenerateOptions) (read : ReadPro
 
   pub tested_faulted : (why other : BuildFault) → Over (Err why) → RanTested answer work options read (Err other) events
   tested_faulted why other over = record {
-    ran = ran_over (Err why) over (OnOk (fails other)) tt tt;
+    ran = ran_over (Err why) over (OnOk (fails other)) tt tt tt;
     marks = tt;
     tests = tt;
   }

@@ -1,37 +1,59 @@
 -- What the two builds of the generated project did, and the tests after the second.
-use Rattle.std.specs.Prelude.{◌≡◌, ℕ, true, false, List, [], ◌++◌, Result, IfOk, OnOk}
-use Rattle.std.specs.List.{list_all}
+use Rattle.std.specs.Prelude.{◌≡◌, ◌↔◌, ℕ, true, false, List, [], ◌∷◌, ◌++◌, Some, Result, IfOk, OnOk, Contains}
+use Rattle.std.specs.List.{list_all, list_any}
 use Rattle.vr_base.specs.declared.child.Request.{Request}
 use Rattle.vr_base.specs.declared.child.Exit.{Exit}
 use Rattle.vr_base.specs.declared.child.Event.{Event}
+use Rattle.vr_base.specs.declared.child.Event.TheVariants.{Started}
+use Rattle.vr_base.specs.Graphs.{IsGraph}
 use Rattle.vr_outside.specs.declared.records.Record.{Record}
 use Rattle.vr_outside.specs.Disks.{DiskState, reads_of}
 use Rattle.run_spec.specs.declared.marks.Mark.{Mark}
-use Rattle.run_spec.specs.ChildJournal.{Work, Lawful, Answered, IsWhole}
+use Rattle.run_spec.specs.ChildJournal.{Work, Lawful, Answered, IsWhole, book_of, next_position}
+use Rattle.run_spec.specs.CleanBuild.{clean_request}
+use Rattle.run_spec.specs.Settled.{request_unless}
 use Rattle.run_spec.specs.Commits.{commits}
 use Rattle.run_spec.specs.JournalParts.{compile_part, test_part}
-use Rattle.run_spec.specs.Marks.{marks_of}
+use Rattle.run_spec.specs.Marks.{is_refused, marks_of, steady_marks}
 use Rattle.compile_loop.specs.declared.faults.BuildFault.{BuildFault}
 use Rattle.compile_loop.specs.Ran.{is_made}
 use Rattle.test_journal.specs.TestJournal.{TestSetting, LawfulTests, IsWholeTests}
 use Rattle.tested_runs.specs.declared.testing.Tested.{Tested}
+use Rattle.tested_histories.specs.Rights.{AreRightTests}
 use Rattle.node_store.specs.Stored.{node_records_in}
 use Rattle.project_reading.specs.Reading.{SourceReading, Found}
 use Rattle.project_reading.specs.declared.linking.ReadProject.{ReadProject}
 use Rattle.generated_runs.specs.declared.options.GenerateOptions.{GenerateOptions}
 use Rattle.generated_runs.specs.declared.options.GeneratedSaid.{GeneratedSaid}
-use Rattle.generated_runs.specs.Sources.{first_work, first_records, second_work, setting_of}
+use Rattle.generated_runs.specs.Sources.{first_work, first_records, second_work, second_order, plan_of, setting_of}
 use Rattle.generated_runs.specs.Said.{tests_of, second_said, generated_said}
 
 -- the records that reads of a disk give
 abbrev pub records_on : DiskState → List Record
 records_on disk = node_records_in (reads_of disk)
 
--- What a build did: it is lawful, each end is the answer to its start, and where there is no fault it ended by itself.
+-- What a build did: it is of a graph, is lawful, each end is the answer to its start, and where there is no fault it ended by
+-- itself.
 pub record RanBuild (answer : Request → Exit) (work : Work) (whole : Type 0 → Type 0) (events : List Event) : Type 0 where
+  pub graph : (events ≡ [] → ⊥) → IsGraph work.graph
+  pub whole_graph : whole (IsGraph work.graph)
   pub lawful : Lawful work events
   pub answered : Answered answer events
   pub ended : whole (IsWhole work events)
+
+-- What follows of it where what is recorded is what a clean build makes: each compiler is asked for its file what a clean build
+-- asks it. Where there is no fault, and no file is refused, the started files are exactly those for which the settled build has
+-- a request, and the marks are those that it says.
+pub record IsRightBuild (answer : Request → Exit) (work : Work) (whole : Type 0 → Type 0) (events : List Event) : Type 0 where
+  pub asked : (before rest : List Event) (ticket : ℕ) (request : Request) → events ≡ before ++ Started ticket request ∷ rest →
+      (position : ℕ) × (next_position work (book_of work before) ≡ Some position) × (clean_request answer work.graph position ≡ Some request)
+  pub started : whole (list_any is_refused (marks_of work events) ≡ false → (position : ℕ) → Contains (book_of work events).taken position ↔ ((request : Request) × (request_unless answer work.graph work.current position ≡ Some request)))
+  pub steady : whole (list_any is_refused (marks_of work events) ≡ false → marks_of work events ≡ steady_marks answer work.graph work.current)
+
+-- The same of a build and its tests, whose starts are over exactly the libraries of a clean build.
+pub record IsRightSecond (answer : Request → Exit) (options : GenerateOptions) (work : Work) (read : ReadProject) (whole : Type 0 → Type 0) (events : List Event) : Type 0 where
+  pub build : IsRightBuild answer work whole (compile_part events)
+  pub tests : AreRightTests answer (second_order options read.graph) (plan_of read) (test_part events)
 
 -- What the first build did over a disk: where there is no fault its marks are those of what happened, and reads of the disk
 -- then give the records of its ends.
@@ -46,6 +68,7 @@ pub record RanFirst (answer : Request → Exit) (work : Work) (result : Result (
 -- tests ended by themselves.
 pub record RanSecond (answer : Request → Exit) (work : Work) (setting : List Event → TestSetting) (whole : Type 0 → Type 0) (events : List Event) : Type 0 where
   pub parted : events ≡ compile_part events ++ test_part events
+  pub graph : (test_part events ≡ [] → ⊥) → IsGraph work.graph
   pub built : RanBuild answer work whole (compile_part events)
   pub made : (test_part events ≡ [] → ⊥) → list_all is_made (marks_of work (compile_part events)) ≡ true
   pub tested : LawfulTests (setting (compile_part events)) (test_part events)
@@ -66,7 +89,7 @@ pub record RanEdited (answer : Request → Exit) (options : GenerateOptions) (ed
 
 -- What was done with the generated project, by what its sources say before their edit and after it. The first part is a build
 -- over no record. The second comes only where all files of the first are made: a build and its tests over the records of the
--- ends of the first. Where there is no fault, what is said is that of both parts.
+-- ends of the first. Both are right. Where there is no fault, what is said is that of both parts.
 pub record RanGenerated (answer : Request → Exit) (options : GenerateOptions) (reading edited : SourceReading) (result : Result GeneratedSaid BuildFault) (events : List Event) : Type 0 where
   pub first : List Event
   pub second : List Event
@@ -78,4 +101,7 @@ pub record RanGenerated (answer : Request → Exit) (options : GenerateOptions) 
   pub ran : (read again : ReadProject) → reading ≡ Found read → edited ≡ Found again → list_all is_made (marks_of (first_work options read.graph) first) ≡ true →
       let work = second_work options (first_records options read.graph first) again.graph in
       RanSecond answer work (setting_of options again work) (OnOk result) second
+  pub right : (read : ReadProject) → reading ≡ Found read → IsRightBuild answer (first_work options read.graph) (OnOk result) first
+  pub right_again : (read again : ReadProject) → reading ≡ Found read → edited ≡ Found again → list_all is_made (marks_of (first_work options read.graph) first) ≡ true →
+      IsRightSecond answer options (second_work options (first_records options read.graph first) again.graph) again (OnOk result) second
   pub says : IfOk result (λ said. said ≡ generated_said options reading edited first second)

@@ -15,6 +15,8 @@ use Rattle.test_spec.specs.declared.runs.TestRun.{TestRun}
 use Rattle.test_spec.specs.Runs.{test_runs}
 use Rattle.test_journal.specs.TestJournal.{TestPlan, TestSetting}
 use Rattle.compile_loop.specs.Ran.{built_by}
+use Rattle.disk_runs.specs.Orders.{order_by}
+use Rattle.history_spec.specs.Histories.{Order}
 use Rattle.scan_spec.specs.Scans.{Finding}
 use Rattle.project_reading.specs.Reading.{SourceReading, project_reading}
 use Rattle.project_reading.specs.declared.linking.ReadProject.{ReadProject}
@@ -46,6 +48,10 @@ first_records options graph events = commits (first_work options graph) events
 -- what is built then, over the latest of these records of each name
 abbrev pub second_work : GenerateOptions → List Record → List Entry → Work
 second_work options records graph = work_of (λ name. latest name records) graph options.slots false
+
+-- the order of it: over the records that are there, not going on after a refusal
+abbrev pub second_order : GenerateOptions → List Entry → Order
+second_order options graph = order_by (record { slots = options.slots; keep_going = false; clean = false }) graph
 
 -- the pattern that each full name matches
 unfoldable pub any_name : List ℕ

@@ -8,23 +8,14 @@ ghost use Rattle.project_reading.specs.Sources.{IsReadProject, LeadsTo};
 ghost use Rattle.project_reading.specs.declared.stops.ReadStop.TheVariants as why;
 ghost use Rattle.generated_runs.specs.Sources.{files_reading};
 
-use generated_project::generated_files;
+use generated_tree::GeneratedTree;
 use project_reading::{ReadProject, ReadStop, read_project};
 use std::alloc::Global;
-use vr_base::{NoMemory, Numbers};
-use vr_memory::MemTree;
-
-/// The tree of the generated project of so many packages, of which that of a number is edited.
-fn generated_tree(alloc: Global, packages: u32, edited: u64) -> Result<MemTree, NoMemory>
-    ensures { IfOk result (λ tree. tree.files ≡ generated_files packages edited) }
-{
-    let files = generated_files(alloc, packages, edited)?;
-    Ok(MemTree::new(alloc, files, Numbers::new(alloc)))
-}
 
 /// Why nothing is compiled, where a tree in memory fails for want of memory alone.
 fn own_stop(stop: ReadStop) -> ReadStop
-    ensures leads { (found : SourceReading) → LeadsTo found (Err stop) → LeadsTo found (Err result) }
+    ensures leads { (found : SourceReading) →
+        LeadsTo found (Err stop) → LeadsTo found (Err result) }
     ensures plain { result ≡ why.Failed → ⊥ }
 {
     match stop {
@@ -47,7 +38,7 @@ pub fn read_generated(
     ensures form { IfOk result (IsReadProject wanted) }
     ensures plain { result ≡ Err why.Failed → ⊥ }
 {
-    let Ok(mut tree) = generated_tree(alloc, packages, edited) else {
+    let Ok(mut tree) = GeneratedTree::new(alloc, packages, edited) else {
         return Err(ReadStop::NoMemory);
     };
     match read_project(alloc, &mut tree, wanted) {

@@ -9,4 +9,4 @@ use Rattle.generated_runs.proofs.sources.read_generated.Goals as goal
 pub returns-clause-reading : goal.returns-clause-reading
 returns-clause-reading c = λ scan is.
     c.own_stop.ensures.leads (files_reading scan (generated_files c.args.packages c.args.edited) c.args.wanted)
-    (subst (λ (files : List NamedText). LeadsTo (files_reading scan files c.args.wanted) (Err c.in-Err.stop)) c.in-Ok.ensures (c.in-Err.ensures.reading scan is tt))
+    (subst (λ (files : List NamedText). LeadsTo (files_reading scan files c.args.wanted) (Err c.in-Err.stop)) c.in-Ok.ensures.files (c.in-Err.ensures.reading scan is tt))

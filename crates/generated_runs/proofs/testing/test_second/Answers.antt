@@ -7,7 +7,8 @@ use Rattle.run_spec.specs.ChildJournal.{since}
 use Rattle.test_spec.specs.declared.runs.TestRun.{TestRun}
 use Rattle.tested_runs.specs.Tested.{TestsOver}
 use Rattle.node_store.specs.Stored.{node_records_in}
-use Rattle.generated_runs.proofs.Tests.{second_order, tested_ended, tested_faulted, over_records}
+use Rattle.generated_runs.specs.Sources.{second_order}
+use Rattle.generated_runs.proofs.Tests.{tested_ended, tested_faulted, over_records}
 use Rattle.generated_runs.proofs.testing.test_second.Goals as goal
 
 pub returns-in-Ok-clause-ran : goal.returns-in-Ok-clause-ran

@@ -1,0 +1,3 @@
+-- The lemmas.
+mod Paths
+mod Places
