@@ -1,11 +1,10 @@
 //! Payloads, and the texts, products and records that they stand for.
 
-ghost use Rattle.std.specs.Prelude.{◌≡◌, ◌↔◌, ◌<◌, Some, length, slice_get, slice_index_or, All, IsTrue, IfOk, option_map};
+ghost use Rattle.std.specs.Prelude.{◌≡◌, ◌↔◌, ◌<◌, Some, length, slice_get, slice_index_or, IsTrue, IfOk, option_map};
 ghost use Rattle.vr_base.specs.declared.graph.Entry.{Entry};
 ghost use Rattle.request_codec.specs.Requests.{RequestRecord};
-ghost use Rattle.vr_outside.specs.Records.{deps_at};
 ghost use Rattle.request_codec.specs.Shelves.{request_shelf_of};
-ghost use Rattle.request_holdings.specs.Seated.{AreSeats, FitsLatest, HasLatest, IsSeat};
+ghost use Rattle.request_holdings.specs.Seated.{AreSeats, FitsLatest, IsSeat};
 ghost use Rattle.request_holdings.specs.Held.{IsLatestRow, latest_held};
 
 use crate::fitting::is_asked;
@@ -101,13 +100,11 @@ impl RequestHoldings {
         Ok(seats)
     }
 
-    /// Whether the latest record of a file has what would be asked for it now. It takes no memory, and a time that goes by the
-    /// text and the dependencies of the file alone.
+    /// Whether all files that a file depends on have a record, and its own latest record has what would be asked for it now. It
+    /// takes no memory, and a time that goes by the text and the dependencies of the file alone.
     pub fn fits(&self, seats: &Seats, graph: &Graph, at: u32) -> bool
         requires at { at < length graph.now }
         requires seats { AreSeats (request_shelf_of self.now.payloads) graph.now seats.now }
-        requires built { All (HasLatest (latest_held self.now.payloads) graph.now)
-            (deps_at graph.now at) }
         ensures { IsTrue result ↔ FitsLatest (latest_held self.now.payloads) graph.now at }
     {
         let entry = graph.get(at as u64);
