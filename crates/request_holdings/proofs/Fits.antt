@@ -12,7 +12,14 @@ use Rattle.request_codec.specs.Shelves.{RequestShelf, no_product, product_at}
 use Rattle.request_shelf.proofs.Finding.{once_at}
 use Rattle.request_holdings.specs.declared.seats.Seat.{Seat}
 use Rattle.request_holdings.specs.Seated.{AreSeats, FitsLatest, HasLatest, HasSeat, IsSeat, latest_built, seated_product}
+use Rattle.request_shelf.specs.Placed.{no_name}
 use Rattle.request_holdings.proofs.Latest.{latest_named}
+
+abbrev pub no_entry : Entry
+no_entry = record { name = no_name; command = []; text = []; deps = [] }
+
+abbrev pub no_kept : RequestRecord
+no_kept = record { asked = record { command = []; name = no_name; text = []; below = [] }; artefact = [] }
 
 -- a position with a seat, whose product is what its latest record built
 pub record IsBuiltAt (shelf : RequestShelf) (graph : List Entry) (seats : List (Option Seat)) (at : ℕ) : Type 0 where
@@ -70,6 +77,23 @@ module _ (shelf : RequestShelf) (once : AllPairs (λ a b. a ≢ b) shelf.product
         let same : get_or numbers k 0 ≡ at.seat.product = once_at shelf.products no_product once (get_or numbers k 0) at.seat.product (there k 0 a) at.low here in
         get_or-map (λ (n : ℕ). Some n) numbers k 0 d a ∙ ap (λ (n : ℕ). Some n) same ∙ sym (seated_is (get_or deps k 0) at) ∙ sym (get_or-map (seated_product seats) deps k 0 d b))
 
+  seated_at : (at : ℕ) (number : ℕ) (seat : Option Seat) → at < length graph → get_or seats at None ≡ seat → Some number ≡ option_map (λ s. s.product) seat → IsSeat shelf (get_or graph at no_entry).name seat → HasLatest (λ name. latest_request name shelf.records) graph at
+  seated_at at number None low e is has = absurd (none-some number (sym is))
+  seated_at at number (Some seat) low e is has = record {
+    entry = get_or graph at no_entry;
+    is_entry = slice_get-get_or graph at no_entry low;
+    kept = get_or shelf.records seat.row no_kept;
+    is = has.latest ∙ slice_get-get_or shelf.records seat.row no_kept has.row;
+  }
+
+  -- what has the product of a seat has a record
+  pub built_from : (numbers deps : List ℕ) → All (λ dep. dep < length graph) deps → map (λ n. Some n) numbers ≡ map (seated_product seats) deps → All (HasLatest (λ name. latest_request name shelf.records) graph) deps
+  built_from numbers deps low e k d l =
+      let size : length numbers ≡ length deps = sym (length-map numbers (λ (n : ℕ). Some n)) ∙ ap length e ∙ length-map deps (seated_product seats) in
+      let here : Some (get_or numbers k 0) ≡ seated_product seats (get_or deps k d) =
+      sym (get_or-map (λ (n : ℕ). Some n) numbers k 0 None (omega (arith, l, size))) ∙ ap (λ (os : List (Option ℕ)). get_or os k None) e ∙ get_or-map (seated_product seats) deps k d None l in
+      seated_at (get_or deps k d) (get_or numbers k 0) (get_or seats (get_or deps k d) None) (low k d l) refl here (are.is (get_or deps k d) no_entry (low k d l))
+
   asked_by : List (List ℕ) → FileName → List ℕ → List BuiltFile → Asked
   asked_by command name text below = record { command = command; name = name; text = text; below = below }
 
@@ -86,6 +110,7 @@ module _ (shelf : RequestShelf) (once : AllPairs (λ a b. a ≢ b) shelf.product
         record {
           entry = entry;
           is_entry = found;
+          built = built;
           artefact = kept.artefact;
           is = latest
               ∙ ap (λ (ws : List (List ℕ)). Some (kept_by (asked_by ws kept.asked.name kept.asked.text kept.asked.below) kept.artefact)) command

@@ -1,14 +1,12 @@
 -- What is known of the seat of a file.
 use Rattle.std.proofs.Common.{◌≡◌, ℕ, ◌<◌, List, [], length, map, get_or, None, Some, Option, refl, sym, ap, subst, ◌∙◌, arith}
 use Rattle.std.specs.Prelude.{All, slice_get}
-use Rattle.std.specs.Option.{option_map, option_map_or}
 use Rattle.std.proofs.lemmas.List.{get_or-map, length-map}
 use Rattle.std.proofs.lemmas.Option.{get_or_from_slice_get, same_Some, slice_get-get_or, slice_get_within}
 use Rattle.vr_base.specs.declared.file.FileName.{FileName}
 use Rattle.vr_base.specs.declared.graph.BuiltFile.{BuiltFile}
 use Rattle.vr_base.specs.declared.graph.Entry.{Entry}
 use Rattle.vr_base.specs.Graphs.{IsGraph}
-use Rattle.vr_outside.specs.Records.{deps_at}
 use Rattle.request_codec.specs.Requests.{RequestRecord, built_by, latest_request}
 use Rattle.request_codec.specs.Shelves.{RequestShelf, product_at, no_product}
 use Rattle.request_shelf.specs.declared.products.ProductRow.{ProductRow}
@@ -22,9 +20,6 @@ pub seat_here : (shelf : RequestShelf) (graph : List Entry) (seats : List (Optio
 seat_here shelf graph seats at entry seat are found e =
     subst (IsSeat shelf entry.name) e
     (subst (λ (f : Entry). IsSeat shelf f.name (get_or seats at None)) (get_or_from_slice_get graph at entry entry found) (are.is at entry (slice_get_within graph at entry found)))
-
-pub deps_here : (graph : List Entry) (at : ℕ) (entry : Entry) → slice_get graph at ≡ Some entry → deps_at graph at ≡ entry.deps
-deps_here graph at entry found = ap (λ (o : Option Entry). option_map_or (λ (e : Entry). e.deps) o []) found
 
 pub command_some : (graph : List Entry) (at : ℕ) (entry : Entry) → IsGraph graph → slice_get graph at ≡ Some entry → 0 < length entry.command
 command_some graph at entry is found =
@@ -71,9 +66,3 @@ module _ (payloads : List (List ℕ)) (names : List FileName) (texts : List (Lis
 
   pub artefact_is : (kept : RequestRecord) → slice_get (shelf_by payloads names texts rows records).records n ≡ Some kept → (product_at (row_products names texts rows) row.product).artefact ≡ kept.artefact
   artefact_is kept e = ap (λ (r : RequestRecord). r.artefact) (same_Some _ _ (sym record_at ∙ e))
-
-abbrev pub no_entry : Entry
-no_entry = record { name = no_name; command = []; text = []; deps = [] }
-
-abbrev pub no_kept : RequestRecord
-no_kept = record { asked = record { command = []; name = no_name; text = []; below = [] }; artefact = [] }

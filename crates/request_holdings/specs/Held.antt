@@ -1,5 +1,6 @@
 -- Payloads with what they stand for.
-use Rattle.std.specs.Prelude.{◌≡◌, ℕ, ◌<◌, List, [], length, map, slice_get, slice_index_or, Option, Some, None}
+use Rattle.std.specs.Prelude.{◌≡◌, ℕ, ◌-◌, ◌<◌, min, List, [], length, map, slice_get, slice_index_or, Option, Some, None}
+use Rattle.std.specs.Vec.{vec_len, vec_capacity}
 use Rattle.vr_base.specs.declared.file.FileName.{FileName}
 use Rattle.vr_base.specs.declared.graph.Entry.{Entry}
 use Rattle.request_codec.specs.Requests.{RequestRecord, latest_request}
@@ -7,13 +8,18 @@ use Rattle.request_codec.specs.Ranges.{counted_words}
 use Rattle.request_codec.specs.Shelves.{request_shelf_of}
 use Rattle.request_shelf.specs.declared.shelf.PlacedShelf.{PlacedShelf}
 use Rattle.request_shelf.specs.declared.shelf.RecordRow.{RecordRow}
-use Rattle.request_shelf.specs.Placed.{IsShelfPlaced, nth_payload, placed_shelf, row_deps}
+use Rattle.request_shelf.specs.Placed.{HeldList, IsShelfPlaced, nth_payload, placed_shelf, row_deps, text_room}
 use Rattle.request_holdings.specs.declared.seats.Seat.{Seat}
 use Rattle.request_holdings.specs.Seated.{seated_product}
 
--- payloads in order
+-- payloads in order, the names that are numbered, and for how many more payloads there is room
 pub record HeldState : Type 0 where
   pub payloads : List (List ℕ)
+  pub names : List FileName
+  pub room : ℕ
+
+abbrev pub held_room : HeldList → PlacedShelf → ℕ
+held_room held shelf = min held.room (min (text_room shelf.texts - 1) (min shelf.products.room (min (vec_capacity shelf.rows - vec_len shelf.rows) shelf.latest.room)))
 
 -- A shelf is what payloads stand for.
 pub record IsHeld (payloads : List (List ℕ)) (shelf : PlacedShelf) : Type 0 where

@@ -1,5 +1,5 @@
 -- The latest records of the files of a graph, and which of them have what would be asked now.
-use Rattle.std.specs.Prelude.{◌≡◌, ℕ, ◌<◌, List, [], length, map, slice_get, slice_index_or, Option, Some, None}
+use Rattle.std.specs.Prelude.{◌≡◌, ℕ, ◌<◌, List, [], length, map, All, slice_get, slice_index_or, Option, Some, None}
 use Rattle.std.specs.Option.{option_map, option_map_or}
 use Rattle.vr_base.specs.declared.file.FileName.{FileName}
 use Rattle.vr_base.specs.declared.graph.BuiltFile.{BuiltFile}
@@ -40,10 +40,11 @@ pub record HasLatest (latest_of : FileName → Option RequestRecord) (graph : Li
   pub kept : RequestRecord
   pub is : latest_of entry.name ≡ Some kept
 
--- The latest record of a file has what would be asked for it now: over the files that it depends on as their latest records
--- built them.
+-- All files that a file depends on have a record, and its own latest record has what would be asked for it now: over these as
+-- their latest records built them.
 pub record FitsLatest (latest_of : FileName → Option RequestRecord) (graph : List Entry) (at : ℕ) : Type 0 where
   pub entry : Entry
   pub is_entry : slice_get graph at ≡ Some entry
+  pub built : All (HasLatest latest_of graph) entry.deps
   pub artefact : List ℕ
   pub is : latest_of entry.name ≡ Some (record { asked = asked_of entry (map (latest_built latest_of graph) entry.deps); artefact = artefact })

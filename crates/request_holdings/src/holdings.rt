@@ -1,22 +1,25 @@
 //! Payloads, and the texts, products and records that they stand for.
 
-ghost use Rattle.std.specs.Prelude.{◌≡◌, ◌↔◌, ◌<◌, Some, length, slice_get, slice_index_or, All, IsTrue, IfOk, option_map};
+ghost use Rattle.std.specs.Prelude.{◌≡◌, ◌↔◌, ◌<◌, ◌≤◌, ◌^◌, ◌++◌, ◌∷◌, [], List, Some, length, slice_get, slice_index_or, IsTrue, IfOk, OnOk, option_map};
 ghost use Rattle.vr_base.specs.declared.graph.Entry.{Entry};
 ghost use Rattle.request_codec.specs.Requests.{RequestRecord};
-ghost use Rattle.vr_outside.specs.Records.{deps_at};
 ghost use Rattle.request_codec.specs.Shelves.{request_shelf_of};
-ghost use Rattle.request_holdings.specs.Seated.{AreSeats, FitsLatest, HasLatest, IsSeat};
+ghost use Rattle.request_holdings.specs.Seated.{AreSeats, FitsLatest, IsSeat};
+ghost use Rattle.vr_base.specs.Graphs.{IsGraph};
+ghost use Rattle.request_holdings.specs.Additions.{AddsRequest, added_name, no_entry};
 ghost use Rattle.request_holdings.specs.Held.{IsLatestRow, latest_held};
 
+use crate::additions::put_held;
 use crate::fitting::is_asked;
-use crate::{Seat, Seats};
-use gate_journal::Payloads;
+use crate::{RequestAddition, Seat, Seats};
+use gate_journal::{Payloads, Ready};
 use request_shelf::{HeldPayloads, PlacedShelf, taken_up, text_at};
 use std::alloc::Global;
 use std::marker::Model;
 use vr_base::{FileName, Graph, NoMemory};
 
-/// Payloads, in order, with what they stand for. Contracts see the payloads.
+/// Payloads, in order, with what they stand for. Contracts see the payloads, the names that are numbered, and for how many more
+/// payloads there is room.
 #[derive(Drop)]
 pub struct RequestHoldings {
     held: HeldPayloads,
@@ -24,11 +27,11 @@ pub struct RequestHoldings {
 }
 
 impl Model for RequestHoldings {
-    ghost use Rattle.request_holdings.specs.Held.{HeldState, IsHeld};
+    ghost use Rattle.request_holdings.specs.Held.{HeldState, IsHeld, held_room};
 
     ghost Value = { HeldState };
 
-    ghost view = { λ a. record { payloads = a.held.payloads } };
+    ghost view = { λ a. record { payloads = a.held.payloads; names = a.shelf.names.keys; room = held_room a.held a.shelf } };
 
     ghost invariant = { λ a. IsHeld a.held.payloads a.shelf };
 }
@@ -101,13 +104,11 @@ impl RequestHoldings {
         Ok(seats)
     }
 
-    /// Whether the latest record of a file has what would be asked for it now. It takes no memory, and a time that goes by the
-    /// text and the dependencies of the file alone.
+    /// Whether all files that a file depends on have a record, and its own latest record has what would be asked for it now. It
+    /// takes no memory, and a time that goes by the text and the dependencies of the file alone.
     pub fn fits(&self, seats: &Seats, graph: &Graph, at: u32) -> bool
         requires at { at < length graph.now }
         requires seats { AreSeats (request_shelf_of self.now.payloads) graph.now seats.now }
-        requires built { All (HasLatest (latest_held self.now.payloads) graph.now)
-            (deps_at graph.now at) }
         ensures { IsTrue result ↔ FitsLatest (latest_held self.now.payloads) graph.now at }
     {
         let entry = graph.get(at as u64);
@@ -132,5 +133,32 @@ impl RequestHoldings {
             return None;
         };
         Some(self.row_artefact(seat.row))
+    }
+
+    /// Makes room for one more payload. What is held is unchanged.
+    pub fn reserve(&mut self) -> Result<(), NoMemory>
+        ensures payloads { self.new.payloads ≡ self.old.payloads }
+        ensures names { self.new.names ≡ self.old.names }
+        ensures room { OnOk result (0 < self.new.room) }
+    {
+        self.held.reserve()?;
+        self.shelf.reserve()
+    }
+
+    /// Adds a payload that was prepared, at the end, and seats its record in the place of the one before. It takes no memory.
+    pub fn put(&mut self, addition: RequestAddition, piece: Ready, seats: &mut Seats)
+        requires ready { AddsRequest self.old.payloads self.old.names piece addition }
+        requires room { 0 < self.old.room }
+        requires seat { addition.at < length seats.old }
+        ensures payloads { self.new.payloads ≡ self.old.payloads ++ piece ∷ [] }
+        ensures seats { (graph : List Entry) → IsGraph graph →
+            AreSeats (request_shelf_of self.old.payloads) graph seats.old →
+            (slice_index_or graph addition.at no_entry).name ≡ added_name piece addition →
+            AreSeats (request_shelf_of self.new.payloads) graph seats.new }
+    {
+        let row = self.shelf.rows.len();
+        put_held(&mut self.held, &mut self.shelf, addition, piece);
+        let product = self.shelf.rows[row].product;
+        seats.set(addition.at as usize, Seat { row, product });
     }
 }

@@ -2,9 +2,11 @@
 //! of what would be asked now.
 #![tactic(auto)]
 
+mod additions;
 mod fitting;
 mod holdings;
 mod seats;
 
+pub use additions::RequestAddition;
 pub use holdings::RequestHoldings;
 pub use seats::{Seat, Seats};

@@ -1,6 +1,6 @@
 //! The latest records of the files of a graph, by position.
 
-ghost use Rattle.std.specs.Prelude.{◌≡◌, ◌<◌, ◌++◌, ◌∷◌, [], length, slice_index_or, None, OnOk};
+ghost use Rattle.std.specs.Prelude.{◌≡◌, ◌<◌, ◌++◌, ◌∷◌, [], length, slice_index_or, slice_set, None, Some, OnOk};
 
 use std::alloc::Global;
 use std::marker::Model;
@@ -52,5 +52,13 @@ impl Seats {
         ensures { result ≡ slice_index_or self.now at None }
     {
         self.seats[at]
+    }
+
+    /// Gives a position another seat. It takes no memory.
+    pub(crate) fn set(&mut self, at: usize, seat: Seat)
+        requires { at < length self.old }
+        ensures { self.new ≡ slice_set self.old at (Some seat) }
+    {
+        self.seats[at] = Some(seat);
     }
 }

@@ -10,8 +10,10 @@ mod shelf;
 mod taking;
 mod texts;
 
+pub use checking::TextNumbers;
 pub use held::HeldPayloads;
 pub use products::ProductRow;
+pub use putting::put_request;
 pub use shelf::{PlacedShelf, RecordRow};
-pub use taking::taken_up;
+pub use taking::{number_name, taken_up};
 pub use texts::{PlacedText, PlacedTexts, find_text, text_at};

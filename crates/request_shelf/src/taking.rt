@@ -5,7 +5,7 @@ ghost use Rattle.vr_base.specs.Names.{FitsName};
 ghost use Rattle.request_codec.specs.Forms.RequestPayload.{OfProduct, OfRequest};
 ghost use Rattle.request_codec.specs.Ranges.{product_in_ranges, request_in_ranges};
 ghost use Rattle.request_codec.specs.Shelves.{after_request_payload, request_shelf_of};
-ghost use Rattle.request_shelf.specs.Placed.{IsShelfPlaced, nth_payload, placed_shelf};
+ghost use Rattle.request_shelf.specs.Placed.{HasRowRoom, IsShelfPlaced, nth_payload, placed_shelf};
 ghost use Rattle.request_shelf.specs.Checked.{IsNameNumber, Took};
 
 use crate::checking::{checked_product, checked_request};
@@ -17,12 +17,13 @@ use std::alloc::Global;
 use vr_base::{FileName, NoMemory};
 
 /// The number of a name, which is added where it has none. What is placed stands for what it stood for.
-fn number_name(shelf: &mut PlacedShelf, name: FileName) -> Result<usize, NoMemory>
+pub fn number_name(shelf: &mut PlacedShelf, name: FileName) -> Result<usize, NoMemory>
     ensures named { IfOk result (IsNameNumber shelf.new.names.keys name) }
     ensures are { (payloads : List (List ℕ)) →
-        OnOk result (IsShelfPlaced payloads shelf.old → IsShelfPlaced payloads shelf.new) }
+        IsShelfPlaced payloads shelf.old → IsShelfPlaced payloads shelf.new }
     ensures is { (payloads : List (List ℕ)) → IsShelfPlaced payloads shelf.old →
-        OnOk result (placed_shelf payloads shelf.new ≡ placed_shelf payloads shelf.old) }
+        placed_shelf payloads shelf.new ≡ placed_shelf payloads shelf.old }
+    ensures room { HasRowRoom shelf.old → HasRowRoom shelf.new }
 {
     let number = shelf.names.add(name)?;
     Ok(number)

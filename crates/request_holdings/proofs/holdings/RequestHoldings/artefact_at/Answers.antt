@@ -5,7 +5,7 @@ use Rattle.vr_base.specs.declared.graph.Entry.{Entry}
 use Rattle.request_codec.specs.Requests.{RequestRecord, latest_request}
 use Rattle.request_codec.specs.Shelves.{RequestShelf, request_shelf_of}
 use Rattle.request_holdings.specs.Seated.{AreSeats, IsSeat}
-use Rattle.request_holdings.proofs.Here.{no_entry, no_kept}
+use Rattle.request_holdings.proofs.Fits.{no_entry, no_kept}
 use Rattle.request_holdings.proofs.holdings.RequestHoldings.artefact_at.Goals as goal
 
 pub returns-in_default : goal.returns-in_default

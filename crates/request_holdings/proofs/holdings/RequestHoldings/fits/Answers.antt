@@ -3,15 +3,14 @@ use Rattle.std.specs.Prelude.{All, slice_get}
 use Rattle.std.proofs.lemmas.List.{length-map}
 use Rattle.std.proofs.lemmas.Option.{none-some, same_Some}
 use Rattle.vr_base.specs.declared.graph.Entry.{Entry}
-use Rattle.vr_outside.specs.Records.{deps_at}
 use Rattle.request_codec.specs.Requests.{latest_request}
 use Rattle.request_codec.specs.Shelves.{AreNumberedOnce, RequestShelf, request_shelf_of}
 use Rattle.request_codec.proofs.Once.{once_in_all}
 use Rattle.request_shelf.specs.Placed.{placed_shelf, placed_texts, row_deps, row_product, row_products, row_record}
 use Rattle.request_holdings.specs.Held.{HeldState}
 use Rattle.request_holdings.specs.Seated.{AreSeats, FitsLatest, HasLatest, IsSeat}
-use Rattle.request_holdings.proofs.Fits.{fits_command, fits_deps, fits_text, fits_to}
-use Rattle.request_holdings.proofs.Here.{command_some, deps_here, deps_low, record_at, row_is, seat_here}
+use Rattle.request_holdings.proofs.Fits.{built_from, fits_command, fits_deps, fits_text, fits_to}
+use Rattle.request_holdings.proofs.Here.{command_some, deps_low, record_at, row_is, seat_here}
 use Rattle.request_holdings.proofs.holdings.RequestHoldings.fits.Goals as goal
 
 pub returns-in_default : goal.returns-in_default
@@ -69,14 +68,16 @@ returns c =
     let latest = has.latest ∙ record_at payloads shelf.names.keys texts shelf.products.keys shelf.rows.items c.self.invariant.are.rows c.in-Some.seat.row c.index-row.result.now low c.index-row.ensures in
     let once : AreNumberedOnce (placed_shelf c.self.inside.held.payloads c.self.inside.shelf) = subst AreNumberedOnce (sym c.self.invariant.is) (once_in_all payloads) in
     let there : All (λ n. n < length placed.products) (row_deps payloads c.index-row.result.now) = λ k d l. (let b = is.deps k d l in omega (arith, b, length-map shelf.products.keys (row_product shelf.names.keys texts))) in
-    let built : All (HasLatest (λ name. latest_request name placed.records) graph) entry.deps =
-    subst (λ (s : RequestShelf). All (HasLatest (λ name. latest_request name s.records) graph) entry.deps) (sym whole) (subst (All (HasLatest (λ name. latest_request name (request_shelf_of c.args.self.now.payloads).records) graph)) (deps_here graph c.args.at entry c.get-entry.ensures.entry) c.requires.built) in (
+    let deps = deps_low graph c.args.at entry c.get-entry.ensures.graph c.get-entry.ensures.entry in (
       λ e.
           let asked = c.is_asked.ensures.0 e in
+          let built = built_from placed once.products graph c.args.seats.now here (row_deps payloads c.index-row.result.now) entry.deps deps asked.deps in
           subst (λ (s : RequestShelf). FitsLatest (λ name. latest_request name s.records) graph c.args.at) whole
           (fits_to placed once.products graph c.args.seats.now here c.args.at entry c.get-entry.ensures.entry kept latest (row_deps payloads c.index-row.result.now) there refl built asked.words asked.text asked.deps),
       λ f.
           let fits = subst (λ (s : RequestShelf). FitsLatest (λ name. latest_request name s.records) graph c.args.at) (sym whole) f in
+          let same : fits.entry ≡ entry = same_Some fits.entry entry (sym fits.is_entry ∙ c.get-entry.ensures.entry) in
+          let built : All (HasLatest (λ name. latest_request name placed.records) graph) entry.deps = subst (λ (e : Entry). All (HasLatest (λ name. latest_request name placed.records) graph) e.deps) same fits.built in
           c.is_asked.ensures.1 (record {
             words = fits_command placed once.products graph c.args.seats.now here c.args.at entry c.get-entry.ensures.entry kept latest (row_deps payloads c.index-row.result.now) there refl built fits;
             text = fits_text placed once.products graph c.args.seats.now here c.args.at entry c.get-entry.ensures.entry kept latest (row_deps payloads c.index-row.result.now) there refl built fits;

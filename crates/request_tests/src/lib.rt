@@ -1,0 +1,7 @@
+//! Tests of the parts of a store of requests.
+#![tactic(auto)]
+
+#[cfg(test)]
+mod holdings;
+#[cfg(test)]
+mod payloads;
