@@ -243,7 +243,7 @@ limit_text over number = program ++ (over_limit ++ (limit_words over ++ (decimal
 
 -- what is put where the words aren't a command line of the program
 unfoldable pub usage_text : List ℕ
-usage_text = codes "usage: vunit_run [-lfkvq] [--compile] [--fail-fast] [--clean] [--exit-0] [-x FILE] [-p N] [--export-json FILE] [--generate N] [PATTERN ...]" ++ 10 ∷ []
+usage_text = codes "usage: vunit_run [-lfkmvq] [--compile] [--fail-fast] [--clean] [--exit-0] [-x FILE] [-p N] [--export-json FILE] [--generate N] [PATTERN ...]" ++ 10 ∷ []
 
 -- what a child puts whose input is over the limit
 unfoldable pub bad_request : List ℕ

@@ -18,6 +18,7 @@ use Rattle.command_line.specs.declared.setting.Setting.{Setting}
 use Rattle.command_line.specs.declared.setting.WordsFault.TheVariants as words
 use Rattle.command_line.specs.Words.{setting_of, ReadsWords}
 use Rattle.vunit_top.specs.declared.words.Job.{Job}
+use Rattle.project_reading.specs.declared.wish.Wish.{Wish}
 use Rattle.vunit_top.specs.Reading.{Reading, Bad, Child, Compiler, Simulator, Stops, Over, begins_as_compiler, begins_as_simulator, job_of, built_job, setting_job, maybe_job, words_job, full_reading}
 use Rattle.vunit_top.specs.Said.{Said, order_of, child_said, child_results, exit_said, left_results, input_bytes}
 
@@ -76,7 +77,7 @@ pub some_said : (x y : Said) → ◌≡◌ {A = Option Said} (Some x) (Some y) �
 some_said x y e = cc
 
 -- words that alone say what is done give nothing to build
-pub nothing_by : (j : Result Job Reading) (r : Reading) (s : Bool → SourceReading) → j ≡ Err r → order_of r ≡ None → order_of (full_reading j s) ≡ None
+pub nothing_by : (j : Result Job Reading) (r : Reading) (s : Wish → SourceReading) → j ≡ Err r → order_of r ≡ None → order_of (full_reading j s) ≡ None
 nothing_by j r s is none = ap (λ (i : Result Job Reading). order_of (full_reading i s)) is ∙ none
 
 module _ (setting : Setting) where
