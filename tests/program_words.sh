@@ -10,7 +10,8 @@ while IFS= read -r words; do
     expect "no command line: $words" 2 "$usage" $words
 done <<'ROWS'
 --frob
--m
+-mm
+-m=x
 -p 0
 -p
 -p x
@@ -27,7 +28,7 @@ done <<'ROWS'
 -h
 --help
 --version
--lm
+-lz
 --list -p 65 --frob
 ROWS
 expect "a word that isn't UTF-8" 2 "$usage" "$(printf '\377')"

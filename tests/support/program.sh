@@ -1,6 +1,6 @@
 # What the tests of the program share. VUNIT_RUN is the program; each project is a new folder.
 set -u
-usage='usage: vunit_run [-lfkvq] [--compile] [--fail-fast] [--clean] [--exit-0] [-x FILE] [-p N] [--export-json FILE] [--generate N] [PATTERN ...]'
+usage='usage: vunit_run [-lfkmvq] [--compile] [--fail-fast] [--clean] [--exit-0] [-x FILE] [-p N] [--export-json FILE] [--generate N] [PATTERN ...]'
 failures=0
 count=0
 

@@ -30,6 +30,8 @@ use Rattle.test_scan.specs.Benches.{ScannedFiles, sources_of, no_source, no_scan
 use Rattle.test_spec.specs.Runs.{FitsBench, path_at}
 use Rattle.project_reading.specs.declared.linking.ReadProject.{ReadProject}
 use Rattle.project_reading.specs.Sources.{IsReadProject}
+use Rattle.project_reading.specs.Wishes.{wants_tests}
+use Rattle.project_reading.specs.declared.wish.Wish.{Wish}
 use Rattle.project_reading.specs.Reading.{SourceReading, Stops, Over, Found, then_read, order_or, linked_or, links_of, tests_or, wanted_tests, ordered_reading, order_reading, linked_reading, found_reading, listed_reading, scanned_reading}
 use Rattle.bench_sizes.proofs.Strings.{called_length, sum_passing}
 use Rattle.bench_sizes.proofs.UnitNames.{units_short}
@@ -200,34 +202,47 @@ then_found (Err (Found other)) next read not is = absurd not
 found_tests : (one two : ReadProject) → Found one ≡ Found two → one.tests ≡ two.tests
 found_tests one two is = let same : one ≡ two = cc in ap (λ (read : ReadProject). read.tests) same
 
+wanted_not : (wanted : Bool) (project : Project) (texts : List (List ℕ)) (scans : List Scan) → NotFound (wanted_tests wanted project texts scans)
+unfolding wanted_tests
+wanted_not true project texts scans = tests_not (tests_of (sources_of project texts scans))
+wanted_not false project texts scans = tt
+
 -- the tests that were wanted are those of the project that was found
-wanted_found : (project : Project) (texts : List (List ℕ)) (scans : List Scan) (read : ReadProject) → scanned_reading true project texts scans ≡ Found read → wanted_tests true project texts scans ≡ Ok read.tests
-unfolding scanned_reading wanted_tests
-wanted_found project texts scans read is = elim (cases_Bool project.listed) [
+wanted_found : (wish : Wish) (project : Project) (texts : List (List ℕ)) (scans : List Scan) (read : ReadProject) → scanned_reading wish project texts scans ≡ Found read → wanted_tests (wants_tests wish.extent) project texts scans ≡ Ok read.tests
+unfolding scanned_reading
+wanted_found wish project texts scans read is = elim (cases_Bool project.listed) [
   | inl listed ↦
-      let tests = then_found (wanted_tests true project texts scans) (found_reading project texts) read (tests_not (tests_of (sources_of project texts scans)))
-      (sym (cond-true project.listed (listed_reading true project texts scans) (then_read (linked_reading true project texts scans) (links_of project texts scans)) listed) ∙ is) in
+      let tests = then_found (wanted_tests (wants_tests wish.extent) project texts scans) (found_reading wish project texts scans) read (wanted_not (wants_tests wish.extent) project texts scans)
+      (sym (cond-true project.listed (listed_reading wish project texts scans) (then_read (linked_reading wish project texts scans) (links_of project texts scans)) listed) ∙ is) in
       tests.1 ∙ ap okay (found_tests _ read tests.2)
   | inr linked ↦
-      let links = then_found (links_of project texts scans) (linked_reading true project texts scans) read (links_not (link_of project (link_units 0 project.files texts scans)))
-      (sym (cond-false project.listed (listed_reading true project texts scans) (then_read (linked_reading true project texts scans) (links_of project texts scans)) linked) ∙ is) in
-      let order = then_found (order_or project.files (file_order links.0.edges)) (order_reading true project texts scans links.0) read (order_not project.files (file_order links.0.edges)) links.2 in
-      let tests = then_found (wanted_tests true project texts scans) (ordered_reading project texts links.0 order.0) read (tests_not (tests_of (sources_of project texts scans))) order.2 in
+      let links = then_found (links_of project texts scans) (linked_reading wish project texts scans) read (links_not (link_of project (link_units 0 project.files texts scans)))
+      (sym (cond-false project.listed (listed_reading wish project texts scans) (then_read (linked_reading wish project texts scans) (links_of project texts scans)) linked) ∙ is) in
+      let order = then_found (order_or project.files (file_order links.0.edges)) (order_reading wish project texts scans links.0) read (order_not project.files (file_order links.0.edges)) links.2 in
+      let tests = then_found (wanted_tests (wants_tests wish.extent) project texts scans) (ordered_reading wish project texts scans links.0 order.0) read (wanted_not (wants_tests wish.extent) project texts scans) order.2 in
       tests.1 ∙ ap okay (found_tests _ read tests.2)
 ]
 
--- each bench of a project that was read has the sizes of one
-pub read_fits : (read : ReadProject) → IsReadProject true read → All (FitsBench read.project.files) read.tests
+-- either the tests of the project were found, or none
+found_or_none : (wanted : Bool) (project : Project) (texts : List (List ℕ)) (scans : List Scan) (tests : List Bench) → wanted_tests wanted project texts scans ≡ Ok tests → (tests_or (tests_of (sources_of project texts scans)) ≡ Ok tests) ⊎ (tests ≡ [])
 unfolding wanted_tests
-read_fits read is =
+found_or_none true project texts scans tests is = inl is
+found_or_none false project texts scans tests is = let none : [] ≡ tests = cc in inr (sym none)
+
+-- each bench of a project that was read has the sizes of one
+pub read_fits : (wish : Wish) (read : ReadProject) → IsReadProject wish read → All (FitsBench read.project.files) read.tests
+read_fits wish read is =
     let sources : ScannedFiles = sources_of read.project is.texts is.scans in
-    let wanted : tests_or (tests_of sources) ≡ Ok read.tests = wanted_found read.project is.texts is.scans read is.whole in
-    let found = few_or (tests_of sources) read.tests wanted in
-    let numbers : List UnitId = bench_numbers sources in
-    let benches : List Bench = flat_map found_bench (map (bench_at sources) numbers) in
-    let same : benches ≡ read.tests = found_or (first_bench_fault [] (map (bench_at sources) numbers)) benches read.tests found.0 in
-    subst (All (FitsBench read.project.files)) same
-    (all_found sources (record { files = is.project.each; texts = is.fit.small.short; scans = is.scanned }) numbers (subst (All (λ bench. length bench.cases ≤ CASE_LIMIT)) (sym same) (few_each read.tests found.1)))
+    elim (found_or_none (wants_tests wish.extent) read.project is.texts is.scans read.tests (wanted_found wish read.project is.texts is.scans read is.whole)) [
+      | inl wanted ↦
+          let found = few_or (tests_of sources) read.tests wanted in
+          let numbers : List UnitId = bench_numbers sources in
+          let benches : List Bench = flat_map found_bench (map (bench_at sources) numbers) in
+          let same : benches ≡ read.tests = found_or (first_bench_fault [] (map (bench_at sources) numbers)) benches read.tests found.0 in
+          subst (All (FitsBench read.project.files)) same
+          (all_found sources (record { files = is.project.each; texts = is.fit.small.short; scans = is.scanned }) numbers (subst (All (λ bench. length bench.cases ≤ CASE_LIMIT)) (sym same) (few_each read.tests found.1)))
+      | inr none ↦ subst (All (FitsBench read.project.files)) (sym none) (All-nil (FitsBench read.project.files))
+    ]
 
 -- ## Of selected cases
 
@@ -258,9 +273,12 @@ pub selected_fit : (files : List ProjectFile) (patterns : List (List Piece)) (be
 selected_fit files patterns benches all = all_kept files (map (selected_bench patterns) benches) (all_selected files patterns benches all)
 
 -- all benches of a project that was read have no more cases together than there may be
-pub read_few : (read : ReadProject) → IsReadProject true read → count_of_tests read.tests ≤ CASE_LIMIT
-unfolding wanted_tests
-read_few read is = (few_or (tests_of (sources_of read.project is.texts is.scans)) read.tests (wanted_found read.project is.texts is.scans read is.whole)).1
+pub read_few : (wish : Wish) (read : ReadProject) → IsReadProject wish read → count_of_tests read.tests ≤ CASE_LIMIT
+read_few wish read is =
+    elim (found_or_none (wants_tests wish.extent) read.project is.texts is.scans read.tests (wanted_found wish read.project is.texts is.scans read is.whole)) [
+      | inl wanted ↦ (few_or (tests_of (sources_of read.project is.texts is.scans)) read.tests wanted).1
+      | inr none ↦ subst (λ (tests : List Bench). count_of_tests tests ≤ CASE_LIMIT) (sym none) (omega arith)
+    ]
 
 selected_count : (patterns : List (List Piece)) (benches : List Bench) → count_of_tests (map (selected_bench patterns) benches) ≤ count_of_tests benches
 selected_count patterns [] = omega arith

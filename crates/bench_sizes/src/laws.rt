@@ -8,12 +8,13 @@ ghost use Rattle.test_select.specs.Selection.{count_of_tests, has_cases, selecti
 ghost use Rattle.vr_base.specs.declared.limits.TheConstants.{CASE_LIMIT};
 ghost use Rattle.test_spec.specs.Runs.{FitsBench};
 ghost use Rattle.project_reading.specs.Sources.{IsReadProject};
+ghost use Rattle.project_reading.specs.declared.wish.Wish.{Wish as Wanted};
 ghost use Rattle.project_reading.specs.declared.linking.ReadProject.{ReadProject};
 
 /// What holds of the benches of a project that was read.
 pub fn laws_of_bench_sizes()
     // Each has the sizes of a bench: the names of its cases together are no longer than the text that calls them.
-    ensures read { (read : ReadProject) → IsReadProject true read →
+    ensures read { (wish : Wanted) (read : ReadProject) → IsReadProject wish read →
         All (FitsBench read.project.files) read.tests }
     // So have those of which patterns select cases.
     ensures selected { (files : List ProjectFile) (patterns : List (List Piece))
@@ -21,7 +22,7 @@ pub fn laws_of_bench_sizes()
         All (FitsBench files) (selection patterns benches) }
     // All of a project together have no more cases than there may be, and those of which patterns select cases no more
     // than all.
-    ensures few { (read : ReadProject) → IsReadProject true read →
+    ensures few { (wish : Wanted) (read : ReadProject) → IsReadProject wish read →
         count_of_tests read.tests ≤ CASE_LIMIT }
     ensures fewer { (patterns : List (List Piece)) (benches : List Bench) →
         count_of_tests (selection patterns benches) ≤ count_of_tests benches }

@@ -45,10 +45,11 @@ patterns = record (new_rule (codes "patterns")) { range = Some (record { start_i
 -- with the options that say what is to be done, and how
 abbrev pub with_modes : App → App
 with_modes app =
-    with_rule (with_rule (with_rule (with_rule (with_rule (with_rule app
+    with_rule (with_rule (with_rule (with_rule (with_rule (with_rule (with_rule app
     (lettered 108 (flag (codes "list"))))
     (lettered 102 (flag (codes "files"))))
     (flag (codes "compile")))
+    (lettered 109 (flag (codes "minimal"))))
     (lettered 107 (flag (codes "keep-compiling"))))
     (flag (codes "fail-fast")))
     (flag (codes "clean"))
@@ -104,6 +105,7 @@ setting_over rows threads size = record {
   list = has_flag rows (codes "list");
   files = has_flag rows (codes "files");
   compile = has_flag rows (codes "compile");
+  minimal = has_flag rows (codes "minimal");
   keep_compiling = has_flag rows (codes "keep-compiling");
   fail_fast = has_flag rows (codes "fail-fast");
   clean = has_flag rows (codes "clean");

@@ -71,6 +71,7 @@ fn with_modes<'a>(alloc: Global, command: Command<'a>) -> Result<Command<'a>, Al
     let command = with(command, lettered_flag(alloc, "list", 'l'))?;
     let command = with(command, lettered_flag(alloc, "files", 'f'))?;
     let command = with(command, flag(alloc, "compile"))?;
+    let command = with(command, lettered_flag(alloc, "minimal", 'm'))?;
     let command = with(command, lettered_flag(alloc, "keep-compiling", 'k'))?;
     let command = with(command, flag(alloc, "fail-fast"))?;
     let command = with(command, flag(alloc, "clean"))?;

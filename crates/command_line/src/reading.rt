@@ -122,6 +122,7 @@ fn setting_in(alloc: Global, matches: &ArgMatches) -> Result<Setting, WordsFault
         list: has_flag(matches, "list"),
         files: has_flag(matches, "files"),
         compile: has_flag(matches, "compile"),
+        minimal: has_flag(matches, "minimal"),
         keep_compiling: has_flag(matches, "keep-compiling"),
         fail_fast: has_flag(matches, "fail-fast"),
         clean: has_flag(matches, "clean"),

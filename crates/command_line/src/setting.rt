@@ -15,6 +15,8 @@ pub struct Setting {
     pub files: bool,
     /// Compiles, and runs no test.
     pub compile: bool,
+    /// Compiles or lists only the files that the selected tests need.
+    pub minimal: bool,
     /// Goes on after a refusal, and skips what depends on a refused file.
     pub keep_compiling: bool,
     /// Starts no test after the first that didn't pass.

@@ -1,5 +1,5 @@
 -- What the sources of the generated project say is to be done, and what is built of them.
-use Rattle.std.specs.Prelude.{ℕ, Bool, false, true, List, [], ◌∷◌, codes, Option, None}
+use Rattle.std.specs.Prelude.{ℕ, false, List, [], ◌∷◌, codes, Option, None}
 use Rattle.vr_base.specs.declared.file.FileName.{FileName}
 use Rattle.vr_base.specs.declared.file.NamedText.{NamedText}
 use Rattle.vr_base.specs.declared.graph.Entry.{Entry}
@@ -9,8 +9,6 @@ use Rattle.vr_outside.specs.Records.{latest}
 use Rattle.vr_memory.specs.Trees.{file_at, listed_of}
 use Rattle.run_spec.specs.ChildJournal.{Work}
 use Rattle.run_spec.specs.Commits.{work_of, commits}
-use Rattle.test_select.specs.Patterns.{pieces_of}
-use Rattle.test_select.specs.Selection.{selection}
 use Rattle.test_spec.specs.declared.runs.TestRun.{TestRun}
 use Rattle.test_spec.specs.Runs.{test_runs}
 use Rattle.test_journal.specs.TestJournal.{TestPlan, TestSetting}
@@ -19,20 +17,32 @@ use Rattle.disk_runs.specs.Orders.{order_by}
 use Rattle.history_spec.specs.Histories.{Order}
 use Rattle.scan_spec.specs.Scans.{Finding}
 use Rattle.project_reading.specs.Reading.{SourceReading, project_reading}
+use Rattle.project_reading.specs.Wishes.{chosen}
 use Rattle.project_reading.specs.declared.linking.ReadProject.{ReadProject}
+use Rattle.project_reading.specs.declared.wish.Wish.{Wish}
+use Rattle.project_reading.specs.declared.wish.Extent.{Extent}
+use Rattle.project_reading.specs.declared.wish.Extent.TheVariants.{Graph, Tests}
 use Rattle.generated_project.specs.Files.{generated_files, edited_package, unedited}
 use Rattle.generated_runs.specs.declared.options.GenerateOptions.{GenerateOptions}
 
+-- the pattern that each full name matches
+unfoldable pub any_name : List ℕ
+any_name = codes "*"
+
+-- so much is wanted, of all tests
+abbrev pub wish_for : Extent → Wish
+wish_for extent = record { extent = extent; patterns = any_name ∷ [] }
+
 -- the reading of a tree of these files
-abbrev pub files_reading : (List ℕ → Finding) → List NamedText → (wanted : Bool) → SourceReading
-files_reading scan files wanted = project_reading scan (file_at files) (listed_of files) wanted
+abbrev pub files_reading : (List ℕ → Finding) → List NamedText → Wish → SourceReading
+files_reading scan files wish = project_reading scan (file_at files) (listed_of files) wish
 
 -- the reading of the generated project before its edit, and after it with its tests
 abbrev pub first_reading : (List ℕ → Finding) → GenerateOptions → SourceReading
-first_reading scan options = files_reading scan (generated_files options.packages unedited) false
+first_reading scan options = files_reading scan (generated_files options.packages unedited) (wish_for Graph)
 
 abbrev pub second_reading : (List ℕ → Finding) → GenerateOptions → SourceReading
-second_reading scan options = files_reading scan (generated_files options.packages (edited_package options.packages)) true
+second_reading scan options = files_reading scan (generated_files options.packages (edited_package options.packages)) (wish_for Tests)
 
 -- what is built first: all, over no record
 abbrev pub no_record : FileName → Option Record
@@ -53,13 +63,9 @@ second_work options records graph = work_of (λ name. latest name records) graph
 abbrev pub second_order : GenerateOptions → List Entry → Order
 second_order options graph = order_by (record { slots = options.slots; keep_going = false; clean = false }) graph
 
--- the pattern that each full name matches
-unfoldable pub any_name : List ℕ
-any_name = codes "*"
-
 -- the runs of all tests of a project
 abbrev pub runs_in : ReadProject → List TestRun
-runs_in read = test_runs read.project.files (selection (pieces_of any_name ∷ []) read.tests)
+runs_in read = test_runs read.project.files (chosen (any_name ∷ []) read.tests)
 
 -- the plan of these runs
 abbrev pub plan_of : ReadProject → TestPlan

@@ -1,6 +1,6 @@
 //! The whole: the generated project is read and built, edited, read again, built again and tested.
 
-ghost use Rattle.std.specs.Prelude.{◌≡◌, ◌≤◌, ◌++◌, [], ℕ, List, true, All, length, count_by, IfOk};
+ghost use Rattle.std.specs.Prelude.{◌≡◌, ◌≤◌, ◌++◌, [], ℕ, List, All, length, count_by, IfOk};
 ghost use Rattle.std.specs.List.{list_all};
 ghost use Rattle.vr_outside.specs.declared.records.Record.{Record};
 ghost use Rattle.vr_memory.specs.Disks.{moments_of};
@@ -10,7 +10,8 @@ ghost use Rattle.scan_spec.specs.Scans.{Finding, IsScanner};
 ghost use Rattle.test_spec.specs.Runs.{FitsRun};
 ghost use Rattle.project_reading.specs.Reading.{Found};
 ghost use Rattle.project_reading.specs.Sources.{IsReadProject};
-ghost use Rattle.generated_runs.specs.Sources.{first_reading, second_reading, runs_in};
+ghost use Rattle.project_reading.specs.declared.wish.Extent.TheVariants.{Tests};
+ghost use Rattle.generated_runs.specs.Sources.{first_reading, second_reading, runs_in, wish_for};
 ghost use Rattle.generated_runs.specs.Said.{IsAnswer};
 ghost use Rattle.generated_runs.specs.Ran.{RanEdited, RanGenerated, records_on};
 
@@ -21,7 +22,7 @@ use crate::sources::read_generated;
 use crate::testing::{all_runs, test_second};
 use compile_loop::BuildFault;
 use generated_project::edited_package;
-use project_reading::ReadProject;
+use project_reading::{Extent, ReadProject};
 use std::alloc::Global;
 use test_spec::TestRunList;
 use vr_base::{CASE_LIMIT, Numbers, SLOT_LIMIT};
@@ -99,7 +100,7 @@ fn test_read<P: Procs>(
 ) -> Result<GeneratedSaid, BuildFault>
     requires slots { (1 ≤ options.slots) × (options.slots ≤ SLOT_LIMIT) }
     requires idle { P.running procs.old ≡ [] }
-    requires read { IsReadProject true read.now }
+    requires read { IsReadProject (wish_for Tests) read.now }
     ensures running { P.running procs.new ≡ [] }
     ensures same { P.answer procs.new ≡ P.answer procs.old }
     ensures follows { P.tells →
@@ -183,7 +184,7 @@ fn run_edited<P: Procs>(
         }) }
 {
     let edited = edited_package(options.packages);
-    match read_generated(alloc, options.packages, edited, true) {
+    match read_generated(alloc, options.packages, edited, Extent::Tests) {
         Ok(read) => test_read(alloc, &read, options, first, disk, procs),
         Err(stop) => match stop_said(alloc, stop) {
             Ok(said) => Ok(said),
@@ -295,7 +296,7 @@ pub fn run_generated<P: Procs>(
           disks = disks;
         }) }
 {
-    match read_generated(alloc, options.packages, UNEDITED, false) {
+    match read_generated(alloc, options.packages, UNEDITED, Extent::Graph) {
         Ok(read) => {
             let mut disk = MemDisk::new(alloc, Numbers::new(alloc));
             run_read(alloc, &read, options, &mut disk, procs)

@@ -6,11 +6,12 @@ ghost use Rattle.generated_project.specs.Files.{generated_files};
 ghost use Rattle.project_reading.specs.Reading.{SourceReading};
 ghost use Rattle.project_reading.specs.Sources.{IsReadProject, LeadsTo};
 ghost use Rattle.project_reading.specs.declared.stops.ReadStop.TheVariants as why;
-ghost use Rattle.generated_runs.specs.Sources.{files_reading};
+ghost use Rattle.generated_runs.specs.Sources.{any_name, files_reading, wish_for};
 
 use generated_tree::GeneratedTree;
-use project_reading::{ReadProject, ReadStop, read_project};
+use project_reading::{Extent, ReadProject, ReadStop, Wish, read_project};
 use std::alloc::Global;
+use vr_base::{NoMemory, Text, TextList};
 
 /// Why nothing is compiled, where a tree in memory fails for want of memory alone.
 fn own_stop(stop: ReadStop) -> ReadStop
@@ -26,23 +27,51 @@ fn own_stop(stop: ReadStop) -> ReadStop
     }
 }
 
-/// What is read of the generated project, with its tests where they are wanted.
-pub fn read_generated(
+/// So much is wanted, of all tests.
+#[tactic(auto, unfolding(crate::specs::Sources::any_name))]
+pub fn wish_for(alloc: Global, extent: Extent) -> Result<Wish, NoMemory>
+    ensures { IfOk result (λ wish. wish ≡ wish_for extent) }
+{
+    let mut patterns = TextList::new(alloc);
+    patterns.push(Text::from_slice(alloc, b"*")?)?;
+    Ok(Wish { extent, patterns })
+}
+
+/// What is read of the generated project.
+fn read_wished(
     alloc: Global,
     packages: u32,
     edited: u64,
-    wanted: bool,
+    wish: &Wish,
 ) -> Result<ReadProject, ReadStop>
     ensures reading { (scan : List ℕ → Finding) → IsScanner scan →
-        LeadsTo (files_reading scan (generated_files packages edited) wanted) result }
-    ensures form { IfOk result (IsReadProject wanted) }
+        LeadsTo (files_reading scan (generated_files packages edited) wish.now) result }
+    ensures form { IfOk result (IsReadProject wish.now) }
     ensures plain { result ≡ Err why.Failed → ⊥ }
 {
     let Ok(mut tree) = GeneratedTree::new(alloc, packages, edited) else {
         return Err(ReadStop::NoMemory);
     };
-    match read_project(alloc, &mut tree, wanted) {
+    match read_project(alloc, &mut tree, wish) {
         Ok(read) => Ok(read),
         Err(stop) => Err(own_stop(stop)),
+    }
+}
+
+/// What is read of the generated project, where so much is wanted, of all tests.
+pub fn read_generated(
+    alloc: Global,
+    packages: u32,
+    edited: u64,
+    extent: Extent,
+) -> Result<ReadProject, ReadStop>
+    ensures reading { (scan : List ℕ → Finding) → IsScanner scan →
+        LeadsTo (files_reading scan (generated_files packages edited) (wish_for extent)) result }
+    ensures form { IfOk result (IsReadProject (wish_for extent)) }
+    ensures plain { result ≡ Err why.Failed → ⊥ }
+{
+    match wish_for(alloc, extent) {
+        Ok(wish) => read_wished(alloc, packages, edited, &wish),
+        Err(_) => Err(ReadStop::NoMemory),
     }
 }

@@ -1,51 +1,40 @@
 //! The second build of the generated project, over the records of the first, and its tests.
 
-ghost use Rattle.std.specs.Prelude.{◌≡◌, ◌≤◌, ◌++◌, [], ◌∷◌, ℕ, List, true, All, length, IfOk};
+ghost use Rattle.std.specs.Prelude.{◌≡◌, ◌≤◌, ◌++◌, [], ℕ, List, All, length, IfOk};
 ghost use Rattle.vr_outside.specs.declared.records.Record.{Record};
 ghost use Rattle.vr_memory.specs.Disks.{moments_of};
 ghost use Rattle.run_spec.specs.ChildJournal.{since};
 ghost use Rattle.compile_loop.specs.Faults.{Explains, NoneFell, fault_of};
-ghost use Rattle.test_select.specs.Patterns.{pieces_of};
 ghost use Rattle.test_spec.specs.Runs.{FitsRun};
 ghost use Rattle.project_reading.specs.Sources.{IsReadProject};
-ghost use Rattle.generated_runs.specs.Sources.{any_name, runs_in, second_work};
+ghost use Rattle.generated_runs.specs.Sources.{runs_in, second_work, wish_for};
+ghost use Rattle.project_reading.specs.declared.wish.Extent.TheVariants.{Tests};
 ghost use Rattle.generated_runs.specs.Ran.{RanTested, records_on};
 
 use crate::building::own_fault;
 use crate::options::GenerateOptions;
+use crate::sources::wish_for;
 use compile_loop::BuildFault;
 use disk_runs::BuildOptions;
 use node_store::NodeStore;
 use planned_tests::planned_runs;
-use project_reading::ReadProject;
+use project_reading::{Extent, ReadProject};
 use std::alloc::Global;
-use test_select::{PatternList, read_pattern, select};
 use test_spec::TestRunList;
 use tested_runs::{Tested, test_over};
 use vr_base::{CASE_LIMIT, NoMemory, SLOT_LIMIT};
 use vr_memory::MemDisk;
 use vr_outside::Procs;
 
-/// The patterns that each test of a project matches.
-#[tactic(auto, unfolding(crate::specs::Sources::any_name))]
-fn any_patterns(alloc: Global) -> Result<PatternList, NoMemory>
-    ensures { IfOk result (λ patterns. patterns ≡ pieces_of any_name ∷ []) }
-{
-    let mut patterns = PatternList::new(alloc);
-    patterns.push(read_pattern(alloc, b"*")?)?;
-    Ok(patterns)
-}
-
 /// The runs of all tests of a project.
 pub fn all_runs(alloc: Global, read: &ReadProject) -> Result<TestRunList, NoMemory>
-    requires { IsReadProject true read.now }
+    requires { IsReadProject (wish_for Tests) read.now }
     ensures runs { IfOk result (λ runs. runs ≡ runs_in read.now) }
     ensures few { IfOk result (λ runs. length runs ≤ CASE_LIMIT) }
     ensures fits { IfOk result (λ runs. All FitsRun runs) }
 {
-    let patterns = any_patterns(alloc)?;
-    let tests = select(alloc, &read.tests, &patterns)?;
-    planned_runs(alloc, read, &tests)
+    let wish = wish_for(alloc, Extent::Tests)?;
+    planned_runs(alloc, &wish, read)
 }
 
 /// Builds a project over the records of a disk in memory, and then runs all of its tests.

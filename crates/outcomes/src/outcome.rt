@@ -57,8 +57,6 @@ pub enum Refusal {
     Compiler {
         files: FileList,
     },
-    /// A part of the program that isn't built yet was asked for.
-    NotBuilt,
 }
 
 /// A quantity that is bounded.

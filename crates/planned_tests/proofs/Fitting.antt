@@ -1,6 +1,6 @@
 -- The runs of selected tests are few, and each has the sizes of a run.
-use Rattle.std.proofs.Common.{◌≡◌, ◌≤◌, true, List, [], ◌∷◌, ◌++◌, length, map, sym, subst, ◌∙◌, arith}
-use Rattle.std.specs.Prelude.{All, flat_map}
+use Rattle.std.proofs.Common.{List, [], ◌∷◌}
+use Rattle.std.specs.Prelude.{All}
 use Rattle.std.proofs.lemmas.List.Elements.{All-nil, All-head, All-tail, All-append}
 use Rattle.vhdl_benches.specs.declared.bench.Bench.{Bench}
 use Rattle.vr_base.specs.declared.project.ProjectFile.{ProjectFile}

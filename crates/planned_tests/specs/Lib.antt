@@ -1,2 +1,1 @@
--- The definitions.
-pub mod Chosen
+-- The definitions: none.

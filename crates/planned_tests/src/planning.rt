@@ -1,33 +1,29 @@
 //! From the tests of a project that patterns select to the runs that carry them out.
 
-ghost use Rattle.std.specs.Prelude.{◌≡◌, ◌≤◌, true, length, All, IfOk};
+ghost use Rattle.std.specs.Prelude.{◌≡◌, ◌≤◌, length, All, IfOk};
 ghost use Rattle.test_spec.specs.Runs.{FitsRun, test_runs};
 ghost use Rattle.project_reading.specs.Sources.{IsReadProject};
-ghost use Rattle.planned_tests.specs.Chosen.{AreChosen};
+ghost use Rattle.project_reading.specs.Wishes.{chosen};
 
 use bench_sizes::laws_of_bench_sizes;
-use project_reading::ReadProject;
+use project_reading::{ReadProject, Wish, chosen};
 use std::alloc::Global;
 use test_runs::runs_of;
 use test_spec::{TestRunList, laws_of_runs};
-use vhdl_benches::Tests;
 use vr_base::{CASE_LIMIT, NoMemory};
 
 /// The runs of those tests of a project that patterns select, in the order in which they are started. There are at most
 /// 65,536, and what is asked for each fits a request.
-pub fn planned_runs(
-    alloc: Global,
-    read: &ReadProject,
-    tests: &Tests,
-) -> Result<TestRunList, NoMemory>
-    requires read { IsReadProject true read.now }
-    requires chosen { AreChosen read.now.tests tests.now }
-    ensures runs { IfOk result (λ runs. runs ≡ test_runs read.now.project.files tests.now) }
+pub fn planned_runs(alloc: Global, wish: &Wish, read: &ReadProject) -> Result<TestRunList, NoMemory>
+    requires read { IsReadProject wish.now read.now }
+    ensures runs { IfOk result (λ runs. runs ≡ test_runs read.now.project.files
+        (chosen wish.now.patterns read.now.tests)) }
     ensures few { IfOk result (λ runs. length runs ≤ CASE_LIMIT) }
     ensures fits { IfOk result (λ runs. All FitsRun runs) }
 {
     laws_of_bench_sizes();
     laws_of_runs();
-    let runs = runs_of(alloc, &read.project, tests)?;
+    let tests = chosen(alloc, &read.tests, &wish.patterns)?;
+    let runs = runs_of(alloc, &read.project, &tests)?;
     Ok(runs)
 }

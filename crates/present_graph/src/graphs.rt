@@ -3,6 +3,7 @@
 ghost use Rattle.std.specs.Prelude.{◌≡◌, ℕ, ◌<◌, ◌≤◌, [], length, get_or, filter, All, IfOk};
 ghost use Rattle.std.proofs.Math.ListN.{set};
 ghost use Rattle.vr_base.specs.PresentGraph.{below};
+ghost use Rattle.vr_base.specs.Graphs.{IsGraph};
 ghost use Rattle.vr_base.specs.Projects.{IsProject};
 ghost use Rattle.position_set.specs.Positions.{has};
 ghost use Rattle.order_spec.specs.BuildOrder.{AreEdges, IsBuildOrder};
@@ -44,9 +45,55 @@ fn entry_of(
     })
 }
 
+/// The files of a linked project in an order in which each comes after what it depends on, each with all that it depends
+/// on, directly or not. The texts are moved into them. It takes time in proportion to the files and what they depend on, and
+/// to the edges, each of which joins two rows of bits.
+pub fn linked_entries(
+    alloc: Global,
+    project: &Project,
+    texts: TextList,
+    edges: &Edges,
+    order: &Order,
+) -> Result<Vec<Entry>, NoMemory>
+    requires project { IsProject project.now }
+    requires texts { FitTexts project.now.files texts }
+    requires edges { AreEdges edges.now }
+    requires as_many { length edges.now ≡ length project.now.files }
+    requires order { IsBuildOrder edges.now order.now }
+    ensures are { IfOk result (λ entries.
+        entries.items ≡ linked project.now.files texts edges.now order.now) }
+    ensures graph { IfOk result (λ entries. IsGraph entries.items) }
+{
+    let order = order.as_slice();
+    let places = places_of(alloc, edges, order)?;
+    let rows = closures(alloc, edges, order, places.as_slice())?;
+    let files = project.files.as_slice();
+    let mut texts = texts.into_vec();
+    let mut entries = Vec::with_capacity(alloc, order.len())?;
+    for place in 0..order.len() {
+        let file = order[place] as usize;
+        let count = order.len() as u32;
+        let text = take_text(alloc, &mut texts, file);
+        let entry = entry_of(alloc, &files[file], text, &rows[place], count)?;
+        entries.push(entry)?;
+    }
+    Ok(entries)
+}
+
+/// The graph of files in compile order.
+pub fn graph_of_entries(alloc: Global, entries: Vec<Entry>) -> Result<Graph, NoMemory>
+    requires { IsGraph entries.items }
+    ensures { IfOk result (λ graph. graph ≡ entries.items) }
+{
+    let mut graph = Graph::new(alloc);
+    for entry in entries {
+        graph.push(entry)?;
+    }
+    Ok(graph)
+}
+
 /// The graph of a linked project: its files in an order in which each comes after what it depends on, each with all that
-/// it depends on, directly or not. The texts are moved into the graph. It takes time in proportion to the files and what
-/// they depend on, and to the edges, each of which joins two rows of bits.
+/// it depends on, directly or not. The texts are moved into the graph.
 pub fn graph_of(
     alloc: Global,
     project: &Project,
@@ -61,18 +108,6 @@ pub fn graph_of(
     requires order { IsBuildOrder edges.now order.now }
     ensures { IfOk result (λ graph. graph ≡ linked project.now.files texts edges.now order.now) }
 {
-    let order = order.as_slice();
-    let places = places_of(alloc, edges, order)?;
-    let rows = closures(alloc, edges, order, places.as_slice())?;
-    let files = project.files.as_slice();
-    let mut texts = texts.into_vec();
-    let mut graph = Graph::new(alloc);
-    for place in 0..order.len() {
-        let file = order[place] as usize;
-        let count = order.len() as u32;
-        let text = take_text(alloc, &mut texts, file);
-        let entry = entry_of(alloc, &files[file], text, &rows[place], count)?;
-        graph.push(entry)?;
-    }
-    Ok(graph)
+    let entries = linked_entries(alloc, project, texts, edges, order)?;
+    graph_of_entries(alloc, entries)
 }

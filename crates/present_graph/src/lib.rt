@@ -9,5 +9,5 @@ mod laws;
 mod tests;
 
 pub use fitting::fit_texts;
-pub use graphs::graph_of;
+pub use graphs::{graph_of, graph_of_entries, linked_entries};
 pub use laws::laws_of_linked_graphs;

@@ -1,4 +1,5 @@
 -- The definitions.
+pub mod Wishes
 pub mod Reading
 pub mod Sources
 pub mod Scanning

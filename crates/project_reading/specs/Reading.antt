@@ -1,5 +1,5 @@
 -- What the sources of a project say is to be done: a function of what a tree holds and lists.
-use Rattle.std.specs.Prelude.{ℕ, ◌+◌, nat_le, Bool, if◌then◌else◌, List, [], ◌∷◌, length, codes, slice_get, Option, option_map, Result, Ok, Err}
+use Rattle.std.specs.Prelude.{ℕ, ◌+◌, nat_le, Bool, if◌then◌else◌, List, [], ◌∷◌, length, codes, slice_get, Option, Some, None, option_map, Result, Ok, Err}
 use Rattle.std.specs.List.{filter_map}
 use Rattle.vr_base.specs.declared.file.FileName.{FileName}
 use Rattle.vr_base.specs.declared.project.Project.{Project}
@@ -16,7 +16,7 @@ use Rattle.outcomes.specs.declared.outcome.Refusal.TheVariants as refusal
 use Rattle.outcomes.specs.declared.outcome.Limit.{Limit}
 use Rattle.outcomes.specs.declared.outcome.Limit.TheVariants as limit
 use Rattle.vr_base.specs.declared.limits.TheConstants.{CASE_LIMIT, FILE_LIMIT, GRAPH_TEXT_LIMIT, TEXT_LIMIT, NAME_LIMIT}
-use Rattle.vr_base.specs.PresentGraph.{listed}
+use Rattle.vr_base.specs.PresentGraph.{below, listed}
 use Rattle.vr_outside.specs.declared.tree.ReadEnd.{ReadEnd}
 use Rattle.vr_outside.specs.declared.tree.ReadEnd.TheVariants as read
 use Rattle.vr_outside.specs.declared.tree.NamesEnd.{NamesEnd}
@@ -30,7 +30,10 @@ use Rattle.test_select.specs.Selection.{count_of_tests}
 use Rattle.test_scan.specs.Benches.{sources_of, tests_of}
 use Rattle.order_spec.specs.BuildOrder.{FileOrder, Ordered, Cyclic, file_order}
 use Rattle.order_spec.specs.LinkedGraph.{linked}
+use Rattle.minimal_set.specs.MinimalSet.{NeedSources, needed_places, said_of}
 use Rattle.project_reading.specs.declared.linking.ReadProject.{ReadProject}
+use Rattle.project_reading.specs.declared.wish.Wish.{Wish}
+use Rattle.project_reading.specs.Wishes.{chosen, wants_tests, wished}
 
 -- The sources are refused; a quantity is over its limit, which is this number; or this project is read.
 pub data SourceReading : Type 0 where
@@ -117,7 +120,7 @@ abbrev pub link_refusal : LinkFault → Refusal
 link_refusal (link.DuplicateUnit unit first second) = refusal.DuplicateUnit unit first second
 link_refusal (link.MissingUnit file library unit) = refusal.MissingUnit file library unit
 link_refusal (link.MissingArchitecture file library entity architecture) = refusal.MissingArchitecture file library entity architecture
-link_refusal link.NoMemory = refusal.NotBuilt
+link_refusal link.NoMemory = refusal.Cycle []
 
 abbrev pub linked_or : Result Linked LinkFault → Result Linked SourceReading
 linked_or (Ok linked) = Ok linked
@@ -148,38 +151,55 @@ wanted_tests wanted project texts scans = if wanted then tests_or (tests_of (sou
 
 -- ## All
 
--- a linked project, its graph in compile order
-abbrev pub ordered_reading : Project → List (List ℕ) → Linked → List ℕ → List Bench → SourceReading
-ordered_reading project texts links order tests = Found (record { project = project; graph = linked project.files texts links.edges order; warnings = links.warnings; tests = tests })
+-- what is said of a linked project to find what tests need, and of a listed one
+abbrev pub linked_needs : Project → List (List ℕ) → List Scan → Linked → NeedSources
+linked_needs project texts scans links = said_of project texts scans (Some links.edges)
 
-abbrev pub order_reading : Bool → Project → List (List ℕ) → List Scan → Linked → List ℕ → SourceReading
-order_reading wanted project texts scans links order = then_read (ordered_reading project texts links order) (wanted_tests wanted project texts scans)
+abbrev pub listed_needs : Project → List (List ℕ) → List Scan → NeedSources
+listed_needs project texts scans = said_of project texts scans None
 
-abbrev pub linked_reading : Bool → Project → List (List ℕ) → List Scan → Linked → SourceReading
-linked_reading wanted project texts scans links = then_read (order_reading wanted project texts scans links) (order_or project.files (file_order links.edges))
+-- a linked project, its graph in compile order: all of it, or the files that the tests need that some pattern matches
+abbrev pub ordered_reading : Wish → Project → List (List ℕ) → List Scan → Linked → List ℕ → List Bench → SourceReading
+ordered_reading wish project texts scans links order tests = Found (record {
+  project = project;
+  graph = wished wish.extent (linked project.files texts links.edges order) (needed_places (linked_needs project texts scans links) (chosen wish.patterns tests) order);
+  warnings = links.warnings;
+  tests = tests;
+})
+
+abbrev pub order_reading : Wish → Project → List (List ℕ) → List Scan → Linked → List ℕ → SourceReading
+order_reading wish project texts scans links order = then_read (ordered_reading wish project texts scans links order) (wanted_tests (wants_tests wish.extent) project texts scans)
+
+abbrev pub linked_reading : Wish → Project → List (List ℕ) → List Scan → Linked → SourceReading
+linked_reading wish project texts scans links = then_read (order_reading wish project texts scans links) (order_or project.files (file_order links.edges))
 
 -- a listed project, its graph in listed order
-abbrev pub found_reading : Project → List (List ℕ) → List Bench → SourceReading
-found_reading project texts tests = Found (record { project = project; graph = listed project.files texts; warnings = []; tests = tests })
+abbrev pub found_reading : Wish → Project → List (List ℕ) → List Scan → List Bench → SourceReading
+found_reading wish project texts scans tests = Found (record {
+  project = project;
+  graph = wished wish.extent (listed project.files texts) (needed_places (listed_needs project texts scans) (chosen wish.patterns tests) (below (length project.files)));
+  warnings = [];
+  tests = tests;
+})
 
-abbrev pub listed_reading : Bool → Project → List (List ℕ) → List Scan → SourceReading
-listed_reading wanted project texts scans = then_read (found_reading project texts) (wanted_tests wanted project texts scans)
+abbrev pub listed_reading : Wish → Project → List (List ℕ) → List Scan → SourceReading
+listed_reading wish project texts scans = then_read (found_reading wish project texts scans) (wanted_tests (wants_tests wish.extent) project texts scans)
 
--- The reading of a project of these texts and scans, with its tests where they are wanted. What is wrong with the names of
+-- The reading of a project of these texts and scans, with what is wanted of it. What is wrong with the names of
 -- its units or with their order comes first.
-unfoldable pub scanned_reading : Bool → Project → List (List ℕ) → List Scan → SourceReading
-scanned_reading wanted project texts scans = if project.listed then listed_reading wanted project texts scans else then_read (linked_reading wanted project texts scans) (links_of project texts scans)
+unfoldable pub scanned_reading : Wish → Project → List (List ℕ) → List Scan → SourceReading
+scanned_reading wish project texts scans = if project.listed then listed_reading wish project texts scans else then_read (linked_reading wish project texts scans) (links_of project texts scans)
 
-abbrev pub texts_reading : Bool → (List ℕ → Finding) → Project → List (List ℕ) → SourceReading
-texts_reading wanted scan project texts = then_read (scanned_reading wanted project texts) (scans_of scan project.files texts)
+abbrev pub texts_reading : Wish → (List ℕ → Finding) → Project → List (List ℕ) → SourceReading
+texts_reading wish scan project texts = then_read (scanned_reading wish project texts) (scans_of scan project.files texts)
 
-abbrev pub files_reading : Bool → (List ℕ → Finding) → (List ℕ → Option (List ℕ)) → Project → SourceReading
-files_reading wanted scan file project = then_read (texts_reading wanted scan project) (texts_of file 0 project.files)
+abbrev pub files_reading : Wish → (List ℕ → Finding) → (List ℕ → Option (List ℕ)) → Project → SourceReading
+files_reading wish scan file project = then_read (texts_reading wish scan project) (texts_of file 0 project.files)
 
 -- the reading of a project over these files
-abbrev pub sources_reading : Bool → (List ℕ → Finding) → (List ℕ → Option (List ℕ)) → Project → SourceReading
-sources_reading wanted scan file project = if nat_le (length project.files) FILE_LIMIT then files_reading wanted scan file project else Over limit.Files FILE_LIMIT
+abbrev pub sources_reading : Wish → (List ℕ → Finding) → (List ℕ → Option (List ℕ)) → Project → SourceReading
+sources_reading wish scan file project = if nat_le (length project.files) FILE_LIMIT then files_reading wish scan file project else Over limit.Files FILE_LIMIT
 
--- the reading of a tree of these files, which lists these names, over a scanner, with tests where they are wanted
-unfoldable pub project_reading : (List ℕ → Finding) → (List ℕ → Option (List ℕ)) → List (List ℕ) → (wanted : Bool) → SourceReading
-project_reading scan file listed wanted = then_read (sources_reading wanted scan file) (project_in file listed)
+-- the reading of a tree of these files, which lists these names, over a scanner, with what is wanted of it
+unfoldable pub project_reading : (List ℕ → Finding) → (List ℕ → Option (List ℕ)) → List (List ℕ) → (wish : Wish) → SourceReading
+project_reading scan file listed wish = then_read (sources_reading wish scan file) (project_in file listed)

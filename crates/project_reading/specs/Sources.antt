@@ -1,5 +1,5 @@
 -- What the steps of reading give, and what each answer comes of.
-use Rattle.std.specs.Prelude.{◌≡◌, ℕ, ◌≤◌, nat_le, Bool, if◌then◌else◌, List, length, Result, Ok, Err}
+use Rattle.std.specs.Prelude.{◌≡◌, ℕ, ◌≤◌, nat_le, if◌then◌else◌, List, length, Result, Ok, Err}
 use Rattle.vr_base.specs.Projects.{IsProject}
 use Rattle.vr_base.specs.declared.design.Scan.{Scan}
 use Rattle.outcomes.specs.declared.outcome.Limit.TheVariants as limit
@@ -11,6 +11,7 @@ use Rattle.vr_base.specs.declared.limits.TheConstants.{FILE_LIMIT}
 use Rattle.project_reading.specs.Reading.{SourceReading, Stops, Over, Found, scanned_reading}
 use Rattle.project_reading.specs.declared.linking.ReadProject.{ReadProject}
 use Rattle.project_reading.specs.declared.stops.ReadStop.{ReadStop}
+use Rattle.project_reading.specs.declared.wish.Wish.{Wish}
 use Rattle.project_reading.specs.declared.stops.ReadStop.TheVariants as stop
 
 -- what was read is what there is to read; after a fault and out of memory nothing is owed
@@ -55,13 +56,13 @@ IsPlain (Err (stop.Over limit number)) = ⊥
 IsPlain (Err stop.Failed) = Unit {0}
 IsPlain (Err stop.NoMemory) = Unit {0}
 
--- What was read is a project, and what some text for each of its files and the scans of these texts give, with tests or
--- without, whatever the tree tells.
-pub record IsReadProject (wanted : Bool) (read : ReadProject) : Type 0 where
+-- What was read is a project, and what is wanted of some text for each of its files and the scans of these texts, whatever
+-- the tree tells.
+pub record IsReadProject (wish : Wish) (read : ReadProject) : Type 0 where
   pub project : IsProject read.project
   pub few : length read.project.files ≤ FILE_LIMIT
   pub texts : List (List ℕ)
   pub fit : FitTexts read.project.files texts
   pub scans : List Scan
   pub scanned : AreScansOf texts scans
-  pub whole : scanned_reading wanted read.project texts scans ≡ Found read
+  pub whole : scanned_reading wish read.project texts scans ≡ Found read

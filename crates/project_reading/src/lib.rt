@@ -8,7 +8,9 @@ mod reading;
 mod scanning;
 mod stops;
 mod texts;
+mod wish;
 
 pub use linking::ReadProject;
 pub use reading::read_project;
 pub use stops::ReadStop;
+pub use wish::{Extent, Wish, chosen};

@@ -1,23 +1,28 @@
 //! The graph of a project whose texts and outlines are there.
 
-ghost use Rattle.std.specs.Prelude.{◌≡◌, ◌≤◌, ℕ, List, nat_lt, ◌∷◌, ◌++◌, [], length, Result, Err, IfOk, OnOk};
+ghost use Rattle.std.specs.Prelude.{◌≡◌, ◌≤◌, ℕ, List, nat_lt, ◌∷◌, ◌++◌, [], length, Result, Err, Some, IfOk, OnOk};
 ghost use Rattle.vr_base.specs.declared.design.Scan.{Scan};
 ghost use Rattle.vr_base.specs.declared.linking.Linked.{Linked as Links};
 ghost use Rattle.vr_base.specs.declared.linking.LinkFault.{LinkFault as Fault};
+ghost use Rattle.vr_base.specs.PresentGraph.{below, listed};
 ghost use Rattle.vr_base.specs.Projects.{IsProject};
+ghost use Rattle.minimal_set.specs.MinimalSet.{needed_places, said_of};
+ghost use Rattle.project_reading.specs.Wishes.{chosen, wished};
 ghost use Rattle.test_select.specs.Selection.{count_of_tests};
 ghost use Rattle.test_scan.specs.Benches.{sources_of, tests_of};
 ghost use Rattle.order_spec.specs.BuildOrder.{AreEdges, IsBuildOrder, file_order};
-ghost use Rattle.order_spec.specs.LinkedGraph.{FitTexts};
+ghost use Rattle.order_spec.specs.LinkedGraph.{FitTexts, linked};
 ghost use Rattle.file_outlines.specs.Outlines.{AreOutlined, AreOutlinesOf};
 ghost use Rattle.file_graph.specs.Results.{GivesLinks};
-ghost use Rattle.project_reading.specs.Reading.{linked_or, links_of, names_at, order_or, wanted_tests, tests_or, listed_reading, order_reading, linked_reading, then_read, scanned_reading};
+ghost use Rattle.project_reading.specs.Reading.{linked_or, links_of, listed_needs, names_at, order_or, wanted_tests, tests_or, listed_reading, order_reading, linked_reading, then_read, scanned_reading};
 ghost use Rattle.project_reading.specs.Sources.{Gives, LeadsTo, ReadCounts};
 
 use crate::stops::ReadStop;
+use crate::wish::{Extent, Wish, chosen, wants_tests};
 use build_order::order;
 use file_graph::link_by_outlines;
 use file_outlines::Outlines;
+use minimal_graph::{minimal_graph, minimal_listed_graph};
 use outcomes::{Limit, Refusal};
 use present_graph::graph_of;
 use source_view::listed_graph;
@@ -219,10 +224,73 @@ fn wanted_tests(
     found_tests(alloc, project, texts, outlines)
 }
 
+/// The graph of a listed project that is wanted.
+fn wished_listed_graph(
+    alloc: Global,
+    wish: &Wish,
+    project: &Project,
+    texts: TextList,
+    outlines: &Outlines,
+    tests: &Tests,
+) -> Result<Graph, NoMemory>
+    requires project { IsProject project.now }
+    requires few { length project.now.files ≤ FILE_LIMIT }
+    requires texts { FitTexts project.now.files texts }
+    requires outlined { AreOutlined texts outlines.now }
+    ensures { IfOk result (λ graph. (scans : List Scan) →
+        AreOutlinesOf texts scans outlines.now →
+        graph ≡ wished wish.now.extent (listed project.now.files texts)
+        (needed_places (listed_needs project.now texts scans)
+        (chosen wish.now.patterns tests.now) (below (length project.now.files)))) }
+{
+    match wish.extent {
+        Extent::Needed => {
+            let tests = chosen(alloc, tests, &wish.patterns)?;
+            minimal_listed_graph(alloc, project, texts, outlines, &tests)
+        }
+        Extent::Graph => listed_graph(alloc, project, texts),
+        Extent::Tests => listed_graph(alloc, project, texts),
+    }
+}
+
+/// The graph of a linked project that is wanted.
+fn wished_graph(
+    alloc: Global,
+    wish: &Wish,
+    project: &Project,
+    texts: TextList,
+    outlines: &Outlines,
+    edges: &Edges,
+    order: &Order,
+    tests: &Tests,
+) -> Result<Graph, NoMemory>
+    requires project { IsProject project.now }
+    requires few { length project.now.files ≤ FILE_LIMIT }
+    requires texts { FitTexts project.now.files texts }
+    requires outlined { AreOutlined texts outlines.now }
+    requires edges { AreEdges edges.now }
+    requires count { length edges.now ≡ length project.now.files }
+    requires sorted { IsBuildOrder edges.now order.now }
+    ensures { IfOk result (λ graph. (scans : List Scan) →
+        AreOutlinesOf texts scans outlines.now →
+        graph ≡ wished wish.now.extent (linked project.now.files texts edges.now order.now)
+        (needed_places (said_of project.now texts scans (Some edges.now))
+        (chosen wish.now.patterns tests.now) order.now)) }
+{
+    match wish.extent {
+        Extent::Needed => {
+            let tests = chosen(alloc, tests, &wish.patterns)?;
+            minimal_graph(alloc, project, texts, outlines, edges, order, &tests)
+        }
+        Extent::Graph => graph_of(alloc, project, texts, edges, order),
+        Extent::Tests => graph_of(alloc, project, texts, edges, order),
+    }
+}
+
 /// A listed project, its graph in listed order.
 fn listed_project(
     alloc: Global,
-    wanted: bool,
+    wish: &Wish,
     project: Project,
     texts: TextList,
     outlines: &Outlines,
@@ -232,11 +300,11 @@ fn listed_project(
     requires texts { FitTexts project.files texts }
     requires outlined { AreOutlined texts outlines.now }
     ensures reading { (scans : List Scan) → AreOutlinesOf texts scans outlines.now →
-        LeadsTo (listed_reading wanted project texts scans) result }
+        LeadsTo (listed_reading wish.now project texts scans) result }
     ensures cause { (count : ℕ) → ReadCounts result count count }
 {
-    let tests = wanted_tests(alloc, wanted, &project, &texts, outlines)?;
-    let graph = listed_graph(alloc, &project, texts)?;
+    let tests = wanted_tests(alloc, wants_tests(wish.extent), &project, &texts, outlines)?;
+    let graph = wished_listed_graph(alloc, wish, &project, texts, outlines, &tests)?;
     let warnings = WarningList::new(alloc);
     Ok(ReadProject {
         project,
@@ -249,7 +317,7 @@ fn listed_project(
 /// A project with its files in order, its graph in compile order.
 fn ordered_project(
     alloc: Global,
-    wanted: bool,
+    wish: &Wish,
     project: Project,
     texts: TextList,
     outlines: &Outlines,
@@ -264,12 +332,14 @@ fn ordered_project(
     requires count { length links.edges ≡ length project.files }
     requires sorted { IsBuildOrder links.edges order.now }
     ensures reading { (scans : List Scan) → AreOutlinesOf texts scans outlines.now →
-        LeadsTo (order_reading wanted project texts scans links order.now) result }
+        LeadsTo (order_reading wish.now project texts scans links order.now) result }
     ensures cause { (count : ℕ) → ReadCounts result count count }
 {
-    let tests = wanted_tests(alloc, wanted, &project, &texts, outlines)?;
+    let tests = wanted_tests(alloc, wants_tests(wish.extent), &project, &texts, outlines)?;
     let Linked { edges, warnings } = links;
-    let graph = graph_of(alloc, &project, texts, &edges, order)?;
+    let graph = wished_graph(
+        alloc, wish, &project, texts, outlines, &edges, order, &tests,
+    )?;
     Ok(ReadProject {
         project,
         graph,
@@ -281,7 +351,7 @@ fn ordered_project(
 /// A project with what depends on what in it, its graph in compile order.
 fn linked_project(
     alloc: Global,
-    wanted: bool,
+    wish: &Wish,
     project: Project,
     texts: TextList,
     outlines: &Outlines,
@@ -294,18 +364,18 @@ fn linked_project(
     requires edges { AreEdges links.edges }
     requires count { length links.edges ≡ length project.files }
     ensures reading { (scans : List Scan) → AreOutlinesOf texts scans outlines.now →
-        LeadsTo (linked_reading wanted project texts scans links) result }
+        LeadsTo (linked_reading wish.now project texts scans links) result }
     ensures cause { (count : ℕ) → ReadCounts result count count }
 {
     let order = order_of(alloc, project.files.as_slice(), &links.edges)?;
-    ordered_project(alloc, wanted, project, texts, outlines, links, &order)
+    ordered_project(alloc, wish, project, texts, outlines, links, &order)
 }
 
 /// A project of these texts, with the outlines of its files. Texts exist once: they are lent until it is known what depends
 /// on what and which tests there are, and then moved into the graph.
 pub(crate) fn scanned_project(
     alloc: Global,
-    wanted: bool,
+    wish: &Wish,
     project: Project,
     texts: TextList,
     outlines: &Outlines,
@@ -315,12 +385,12 @@ pub(crate) fn scanned_project(
     requires texts { FitTexts project.files texts }
     requires outlined { AreOutlined texts outlines.now }
     ensures reading { (scans : List Scan) → AreOutlinesOf texts scans outlines.now →
-        LeadsTo (scanned_reading wanted project texts scans) result }
+        LeadsTo (scanned_reading wish.now project texts scans) result }
     ensures cause { (count : ℕ) → ReadCounts result count count }
 {
     if project.listed {
-        return listed_project(alloc, wanted, project, texts, outlines);
+        return listed_project(alloc, wish, project, texts, outlines);
     }
     let links = links_of(alloc, &project, &texts, outlines)?;
-    linked_project(alloc, wanted, project, texts, outlines, links)
+    linked_project(alloc, wish, project, texts, outlines, links)
 }

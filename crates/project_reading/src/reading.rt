@@ -13,6 +13,7 @@ use crate::projects::find_project;
 use crate::scanning::scan_all;
 use crate::stops::ReadStop;
 use crate::texts::texts_of;
+use crate::wish::Wish;
 use outcomes::Limit;
 use std::alloc::Global;
 use vr_base::{FILE_LIMIT, Project, TextList};
@@ -24,7 +25,7 @@ const MOST_FILES: u64 = FILE_LIMIT as u64;
 /// What is read of a project whose texts are there.
 fn scan_texts(
     alloc: Global,
-    wanted: bool,
+    wish: &Wish,
     project: Project,
     texts: TextList,
 ) -> Result<ReadProject, ReadStop>
@@ -32,26 +33,26 @@ fn scan_texts(
     requires few { length project.files ≤ FILE_LIMIT }
     requires texts { FitTexts project.files texts }
     ensures reading { (scan : List ℕ → Finding) → IsScanner scan →
-        LeadsTo (texts_reading wanted scan project texts) result }
-    ensures form { IfOk result (IsReadProject wanted) }
+        LeadsTo (texts_reading wish.now scan project texts) result }
+    ensures form { IfOk result (IsReadProject wish.now) }
     ensures cause { (count : ℕ) → ReadCounts result count count }
 {
     let outlines = scan_all(alloc, project.files.as_slice(), texts.as_slice())?;
-    scanned_project(alloc, wanted, project, texts, &outlines)
+    scanned_project(alloc, wish, project, texts, &outlines)
 }
 
 /// What is read of a project of few files over the files of a tree.
 fn read_files<T: Tree>(
     alloc: Global,
     tree: &mut T,
-    wanted: bool,
+    wish: &Wish,
     project: Project,
 ) -> Result<ReadProject, ReadStop>
     requires project { IsProject project }
     requires few { length project.files ≤ FILE_LIMIT }
     ensures reading { (scan : List ℕ → Finding) → IsScanner scan → T.tells →
-        LeadsTo (files_reading wanted scan (T.file tree.old) project) result }
-    ensures form { IfOk result (IsReadProject wanted) }
+        LeadsTo (files_reading wish.now scan (T.file tree.old) project) result }
+    ensures form { IfOk result (IsReadProject wish.now) }
     ensures same { T.file tree.new ≡ T.file tree.old }
     ensures same_list { T.listed tree.new ≡ T.listed tree.old }
     ensures asked { AsksInOrder result (file_paths project.files)
@@ -59,20 +60,20 @@ fn read_files<T: Tree>(
     ensures cause { ReadCounts result (T.failed_reads tree.old) (T.failed_reads tree.new) }
 {
     let texts = texts_of(alloc, tree, project.files.as_slice())?;
-    scan_texts(alloc, wanted, project, texts)
+    scan_texts(alloc, wish, project, texts)
 }
 
 /// What is read of a project over the files of a tree.
 fn read_sources<T: Tree>(
     alloc: Global,
     tree: &mut T,
-    wanted: bool,
+    wish: &Wish,
     project: Project,
 ) -> Result<ReadProject, ReadStop>
     requires { IsProject project }
     ensures reading { (scan : List ℕ → Finding) → IsScanner scan → T.tells →
-        LeadsTo (sources_reading wanted scan (T.file tree.old) project) result }
-    ensures form { IfOk result (IsReadProject wanted) }
+        LeadsTo (sources_reading wish.now scan (T.file tree.old) project) result }
+    ensures form { IfOk result (IsReadProject wish.now) }
     ensures same { T.file tree.new ≡ T.file tree.old }
     ensures same_list { T.listed tree.new ≡ T.listed tree.old }
     ensures asked { AsksInOrder result (source_paths project)
@@ -82,19 +83,20 @@ fn read_sources<T: Tree>(
     if project.files.len() > MOST_FILES {
         return Err(ReadStop::Over(Limit::Files, MOST_FILES));
     }
-    read_files(alloc, tree, wanted, project)
+    read_files(alloc, tree, wish, project)
 }
 
-/// The project in a tree with its graph, and with its tests where they are wanted; or what is wrong with its sources. Each file is read once, and no call changes
-/// what the tree holds and lists.
+/// What is wanted of the project in a tree: its graph, or the graph of the files that the tests need that one of the patterns
+/// matches, and its tests; or what is wrong with its sources. Each file is read once, and no call changes what the tree holds
+/// and lists.
 pub fn read_project<T: Tree>(
     alloc: Global,
     tree: &mut T,
-    wanted: bool,
+    wish: &Wish,
 ) -> Result<ReadProject, ReadStop>
     ensures reading { (scan : List ℕ → Finding) → IsScanner scan → T.tells →
-        LeadsTo (project_reading scan (T.file tree.old) (T.listed tree.old) wanted) result }
-    ensures form { IfOk result (IsReadProject wanted) }
+        LeadsTo (project_reading scan (T.file tree.old) (T.listed tree.old) wish.now) result }
+    ensures form { IfOk result (IsReadProject wish.now) }
     ensures same { T.file tree.new ≡ T.file tree.old }
     ensures same_list { T.listed tree.new ≡ T.listed tree.old }
     ensures asked { T.tells →
@@ -103,5 +105,5 @@ pub fn read_project<T: Tree>(
     ensures cause { ReadCounts result (T.failed_reads tree.old) (T.failed_reads tree.new) }
 {
     let project = find_project(alloc, tree)?;
-    read_sources(alloc, tree, wanted, project)
+    read_sources(alloc, tree, wish, project)
 }

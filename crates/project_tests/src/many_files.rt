@@ -1,6 +1,6 @@
 //! Project files in TOML that give as many files as a project may have, and more.
 
-use crate::projects::{add_file, add_numbered, shown_stop, unfolded};
+use crate::projects::{add_file, add_numbered, shown_stop, the_graph, unfolded};
 use project_reading::read_project;
 use std::alloc::Global;
 use std::process::Abort;
@@ -35,7 +35,7 @@ const FIRST_FILE: u64 = 2;
 static ALL: &str = "library=[{name='a',files=['f*']}]";
 
 fn read_of(alloc: Global, tree: &mut MemTree) -> Result<Text, Fail> {
-    match read_project(alloc, tree, false) {
+    match read_project(alloc, tree, &the_graph(alloc)) {
         Ok(_read) => Ok(Text::new(alloc)),
         Err(stop) => shown_stop(alloc, &stop),
     }

@@ -1,14 +1,14 @@
 //! Small trees, and what is read of them, written out by hand.
 
 use outcomes::Limit;
-use project_reading::{ReadProject, ReadStop, read_project};
+use project_reading::{Extent, ReadProject, ReadStop, Wish, read_project};
 use run_report::{limit_text, refusal_text, warning_text};
 use std::alloc::Global;
 use std::process::Abort;
 use std::test::Fail;
 use vr_base::{
     FILE_LIMIT, GRAPH_TEXT_LIMIT, Graph, Items, NAME_LIMIT, NamedText, NamedTextList, Numbers,
-    TEXT_LIMIT, Text,
+    TEXT_LIMIT, Text, TextList,
 };
 use vr_memory::{MemTree, have_paths};
 
@@ -110,8 +110,16 @@ pub(super) fn shown_stop(alloc: Global, stop: &ReadStop) -> Result<Text, Fail> {
     }
 }
 
+/// The graph is wanted.
+pub(super) fn the_graph(alloc: Global) -> Wish {
+    Wish {
+        extent: Extent::Graph,
+        patterns: TextList::new(alloc),
+    }
+}
+
 fn shown_tree(alloc: Global, tree: &mut MemTree) -> Result<Text, Fail> {
-    match read_project(alloc, tree, false) {
+    match read_project(alloc, tree, &the_graph(alloc)) {
         Ok(read) => shown_project(alloc, &read),
         Err(stop) => shown_stop(alloc, &stop),
     }
@@ -190,7 +198,7 @@ fn letter(stop: &ReadStop) -> u8 {
 }
 
 fn letter_over(alloc: Global, tree: &mut MemTree) -> u8 {
-    match read_project(alloc, tree, false) {
+    match read_project(alloc, tree, &the_graph(alloc)) {
         Ok(_read) => b'k',
         Err(stop) => letter(&stop),
     }

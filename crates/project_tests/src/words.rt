@@ -11,7 +11,7 @@ use vr_base::{MaybeText, NoMemory, Text, TextList};
 static ROWS: &str = "\
 : 1 0 - - *
 --compile:c 1 0 - - *
--lfkvq --fail-fast --clean --exit-0:lfkaeovq 1 0 - - *
+-lfkmvq --fail-fast --clean --exit-0:lfmkaeovq 1 0 - - *
 -q -v -k -f -l:lfkvq 1 0 - - *
 -p 8 -k --compile:ck 8 0 - - *
 -p8 --list a.b.* c:l 8 0 - - a.b.* c
@@ -27,7 +27,10 @@ static ROWS: &str = "\
 -p x:bad
 -p:bad
 -x:bad
--m:bad
+-m a.*:m 1 0 - - a.*
+--minimal -f:fm 1 0 - - *
+-m --minimal:bad
+--min:bad
 --frob:bad
 -h:bad
 --help:bad
@@ -60,6 +63,7 @@ fn put_flags(out: &mut Vec<u8>, setting: &Setting) -> Result<(), NoMemory> {
     put(out, setting.list, b'l')?;
     put(out, setting.files, b'f')?;
     put(out, setting.compile, b'c')?;
+    put(out, setting.minimal, b'm')?;
     put(out, setting.keep_compiling, b'k')?;
     put(out, setting.fail_fast, b'a')?;
     put(out, setting.clean, b'e')?;

@@ -89,9 +89,6 @@ bad_line = codes "vunit.csv: bad line "
 unfoldable pub no_project : List ℕ
 no_project = codes "no vunit.toml and no vunit.csv"
 
-unfoldable pub not_built : List ℕ
-not_built = codes "not built yet"
-
 -- a file, as it is named after the program's name
 unfoldable pub file_words : FileName → List ℕ
 file_words file = file.library ++ (codes ", " ++ file.path)
@@ -219,7 +216,6 @@ refusal_words (refusal.MissingArchitecture file library entity architecture) = f
 refusal_words (refusal.Cycle files) = cycle_word ++ flat_map cycle_line files
 refusal_words (refusal.Tests fault) = test_words fault
 refusal_words (refusal.Compiler files) = []
-refusal_words refusal.NotBuilt = not_built
 
 -- what is put of a refusal that isn't the compiler's
 abbrev pub refusal_text : Refusal → List ℕ
@@ -243,7 +239,7 @@ limit_text over number = program ++ (over_limit ++ (limit_words over ++ (decimal
 
 -- what is put where the words aren't a command line of the program
 unfoldable pub usage_text : List ℕ
-usage_text = codes "usage: vunit_run [-lfkvq] [--compile] [--fail-fast] [--clean] [--exit-0] [-x FILE] [-p N] [--export-json FILE] [--generate N] [PATTERN ...]" ++ 10 ∷ []
+usage_text = codes "usage: vunit_run [-lfkmvq] [--compile] [--fail-fast] [--clean] [--exit-0] [-x FILE] [-p N] [--export-json FILE] [--generate N] [PATTERN ...]" ++ 10 ∷ []
 
 -- what a child puts whose input is over the limit
 unfoldable pub bad_request : List ℕ

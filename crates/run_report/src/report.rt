@@ -4,7 +4,7 @@ ghost use Rattle.std.specs.Prelude.{◌≡◌, ◌≤◌, ◌++◌, length, IfOk
 ghost use Rattle.std.specs.List.{list_any, flat_map};
 ghost use Rattle.std.specs.Fmt.{decimal};
 ghost use Rattle.run_spec.specs.Marks.{is_refused, is_compiled, refused_files};
-ghost use Rattle.run_report.specs.Texts.{line_end, shown, shown_bytes, compiling, passed, failed, skipped, file_text, files_text, build_line, build_text, refusal_words, refusal_text, program, no_project, not_built, file_words, is_absent, limit_words, over_limit, limit_text, lex_words, unit_words, unclosed_string, unclosed_extended, unclosed_comment, no_unit, not_ended, both_files, unit_name, missing_unit, no_architecture, missing_architecture, cycle_line, cycle_word, use_of_all, warning_word, warning_line, warning_of, warning_text, compile_failed, compile_passed, not_needed};
+ghost use Rattle.run_report.specs.Texts.{line_end, shown, shown_bytes, compiling, passed, failed, skipped, file_text, files_text, build_line, build_text, refusal_words, refusal_text, program, no_project, file_words, is_absent, limit_words, over_limit, limit_text, lex_words, unit_words, unclosed_string, unclosed_extended, unclosed_comment, no_unit, not_ended, both_files, unit_name, missing_unit, no_architecture, missing_architecture, cycle_line, cycle_word, use_of_all, warning_word, warning_line, warning_of, warning_text, compile_failed, compile_passed, not_needed};
 ghost use Rattle.run_report.specs.Outcomes.{build_outcome};
 
 use crate::faults::{put_fault, put_test_fault};
@@ -318,7 +318,7 @@ fn put_cycle_word(out: &mut Vec<u8>) -> Result<(), NoMemory>
     put(out, b"cycle")
 }
 
-#[tactic(auto, unfolding(crate::specs::Texts::no_project, crate::specs::Texts::is_absent, crate::specs::Texts::not_built))]
+#[tactic(auto, unfolding(crate::specs::Texts::no_project, crate::specs::Texts::is_absent))]
 fn put_refusal(alloc: Global, out: &mut Vec<u8>, refusal: &Refusal) -> Result<(), NoMemory>
     ensures { OnOk result (out.new.items ≡ out.old.items ++ refusal_words refusal.now) }
 {
@@ -375,7 +375,6 @@ fn put_refusal(alloc: Global, out: &mut Vec<u8>, refusal: &Refusal) -> Result<()
         }
         Refusal::Tests { fault } => put_test_fault(out, fault),
         Refusal::Compiler { files: _ } => Ok(()),
-        Refusal::NotBuilt => put(out, b"not built yet"),
     }
 }
 

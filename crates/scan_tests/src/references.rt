@@ -9,7 +9,7 @@ use std::alloc::Global;
 use std::process::Abort;
 use std::test::Fail;
 use vhdl_lex::scan_tokens;
-use vhdl_refs::{context_refs, find_refs, library_names, uses_of_all};
+use vhdl_refs::{context_refs, find_refs, library_names, mentions_of, uses_of_all};
 use vhdl_units::{outline, roles_of};
 use vr_base::{MaybeText, RefList, RoleList, Scan, TEXT_LIMIT};
 
@@ -20,6 +20,7 @@ enum Asked {
     ContextRefs,
     Libraries,
     UsesOfAll,
+    Components,
     Count,
 }
 
@@ -56,6 +57,51 @@ fn push_refs(alloc: Global, refs: &RefList, out: &mut Vec<u8>) -> Result<(), Fai
     Ok(())
 }
 
+/// The names of the components of a unit, as they are written.
+fn push_components(
+    alloc: Global,
+    text: &[u8],
+    scan: &Scan,
+    roles: &RoleList,
+    unit: u32,
+    out: &mut Vec<u8>,
+) -> Result<(), Fail>
+    requires scan { IsScanOf text.now scan.now }
+    requires small { length text.now ≤ TEXT_LIMIT }
+    requires roles { roles.now ≡ roles_of text.now scan.now.tokens.list }
+    requires unit { unit < length scan.now.units }
+{
+    let mut room = Vec::new(alloc);
+    let mentions = mentions_of(alloc, text, scan, roles, unit, &mut room)?;
+    for token in mentions.components.as_slice() {
+        let name = text.get(token.start as usize..token.end as usize);
+        out.extend_from_slice(name.unwrap_or(b"?"))?;
+        out.push(b',')?;
+    }
+    Ok(())
+}
+
+/// How many components a unit has.
+fn count_components(
+    alloc: Global,
+    text: &[u8],
+    scan: &Scan,
+    roles: &RoleList,
+    unit: u32,
+) -> Result<u64, Fail>
+    requires scan { IsScanOf text.now scan.now }
+    requires small { length text.now ≤ TEXT_LIMIT }
+    requires roles { roles.now ≡ roles_of text.now scan.now.tokens.list }
+    requires unit { unit < length scan.now.units }
+{
+    let mut room = Vec::new(alloc);
+    Ok(
+        mentions_of(alloc, text, scan, roles, unit, &mut room)?
+            .components
+            .len(),
+    )
+}
+
 fn push_asked(
     alloc: Global,
     text: &[u8],
@@ -89,11 +135,13 @@ fn push_asked(
                 out.extend_from_slice(place.as_bytes())?;
             }
         }
+        Asked::Components => push_components(alloc, text, scan, roles, unit, out)?,
         Asked::Count => {
             let count = find_refs(alloc, text, scan, roles, unit)?.len();
             let names = library_names(alloc, text, scan, roles, unit)?.len();
             let uses = uses_of_all(alloc, text, scan, roles, unit)?.len();
-            let shown = format!(in alloc; "{count} {names} {uses}")?;
+            let components = count_components(alloc, text, scan, roles, unit)?;
+            let shown = format!(in alloc; "{count} {names} {uses} {components}")?;
             out.extend_from_slice(shown.as_bytes())?;
         }
     }
@@ -305,13 +353,39 @@ fn uses(rt: HostRuntime) -> Result<(), Fail> {
     check(&rt, rt.alloc(), Asked::UsesOfAll, USES)
 }
 
+/// Of each text the names after `component`.
+static COMPONENTS: &[u8] = b"
+architecture a of e is component leaf is end component; begin end;^leaf,|
+architecture a of e is component Leaf is end component Leaf; begin end;^Leaf,|
+architecture a of e is COMPONENT leaf end component leaf; begin end;^leaf,|
+architecture a of e is component leaf port (x : bit); end component leaf; begin u : leaf port map (x); end;^leaf,|
+architecture a of e is begin u : component leaf port map (x); end;^leaf,|
+architecture a of e is begin u : leaf port map (x); v : entity work.leaf; end;^|
+architecture a of e is begin u : component work.p.leaf; end;^work,|
+architecture a of e is begin u : component~-- leaf~x; end;^x,|
+package p is component a is end component; component \\B\\ is end component; component a is end component a; end;^a,\\B\\,a,|
+package p is component is end component; end;^|
+package p is component 'a' is end component; component; end;^|
+package p is attribute x of k : component is 1; end;^|
+package p is component a is end component; end; package q is component b is end component; end;^a,|b,|
+package p is component component c is end component; end;^c,|
+configuration c of e is for a for u : leaf use entity work.x; end for; end for; end;^|
+architecture a of e is signal a, b, c, d, e, f, g, h, i, j, k, l, m, n, o : bit; component leaf is end component; begin end;^leaf,|
+";
+
+#[test]
+fn components(rt: HostRuntime) -> Result<(), Fail> {
+    check(&rt, rt.alloc(), Asked::Components, COMPONENTS)
+}
+
 /// Large texts: parts, each after the number of times that it is repeated and a star; and how many references, library
-/// names and uses of whole libraries are found. Each has at most 4,194,304 bytes.
+/// names, uses of whole libraries and components are found. Each has at most 4,194,304 bytes.
 static LARGE: &[u8] = b"
-1*package p is constant c : b := ~2097100*a.~1*d; end;^1 0 0|
-1*architecture a of e is use ~838800*a.b, ~1*c.d; begin end;^838802 0 0|
-1*library ~1398000*a, ~1*b; entity e is end;^0 1398001 0|
-1*use ~599000*a.all, ~1*b; entity e is end;^0 0 599000|
+1*package p is constant c : b := ~2097100*a.~1*d; end;^1 0 0 0|
+1*architecture a of e is use ~838800*a.b, ~1*c.d; begin end;^838802 0 0 0|
+1*library ~1398000*a, ~1*b; entity e is end;^0 1398001 0 0|
+1*use ~599000*a.all, ~1*b; entity e is end;^0 0 599000 0|
+1*package p is ~40000*component c is end component;~1*end;^0 0 0 40000|
 ";
 
 /// Whether of the parts of a row so many are found.

@@ -3,3 +3,4 @@ mod ClauseSteps
 mod PlaceSteps
 mod Leads
 mod DotSteps
+mod ComponentSteps

@@ -2,4 +2,5 @@
 pub mod Clauses
 pub mod Dots
 pub mod Places
+pub mod Components
 pub mod Mentions

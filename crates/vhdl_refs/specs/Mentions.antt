@@ -12,6 +12,7 @@ use Rattle.scan_spec.specs.References.{context_refs, named_refs, owner_name, str
 use Rattle.scan_spec.specs.Units.{name_of, roles_of}
 use Rattle.vhdl_lex.specs.Pieces.{LiesIn}
 use Rattle.vhdl_units.specs.Names.{token_name}
+use Rattle.vhdl_refs.specs.Components.{component_names}
 use Rattle.vhdl_refs.specs.declared.mentions.NamedRef.{NamedRef}
 use Rattle.vhdl_refs.specs.declared.mentions.Mentions.{Mentions}
 
@@ -39,14 +40,16 @@ structural_of configured unit kinds.Configuration = structural_ref unit (owner_n
 structural_of configured unit kinds.PackageBody = structural_ref unit unit.name Nothing ∷ []
 structural_of configured unit _ = []
 
--- all that a unit refers to, in order
+-- all that a unit refers to, and its components, in order
 pub record AreMentionsOf (text : List ℕ) (tokens : List Token) (unit : DesignUnit) (mentions : Mentions) : Type 0 where
   pub contexts : map (named_ref text) mentions.contexts ≡ context_refs text tokens unit
   pub structural : structural_of mentions.configured unit unit.kind ≡ structural_by text tokens unit unit.kind
   pub refs : map (named_ref text) mentions.refs ≡ named_refs text tokens unit
   pub whole : map (token_name text) mentions.whole ≡ map (name_of text tokens) (uses_of_all (roles_of text tokens) unit)
+  pub components : map (token_name text) mentions.components ≡ component_names text tokens unit
 
 pub record MentionsLieIn (text : List ℕ) (mentions : Mentions) : Type 0 where
   pub contexts : All (NamedLiesIn text) mentions.contexts
   pub refs : All (NamedLiesIn text) mentions.refs
   pub whole : All (LiesIn text) mentions.whole
+  pub components : All (LiesIn text) mentions.components

@@ -2,6 +2,7 @@
 #![tactic(auto)]
 
 mod clause;
+mod components;
 mod context;
 mod dots;
 mod find;

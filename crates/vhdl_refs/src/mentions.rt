@@ -10,10 +10,12 @@ ghost use Rattle.scan_spec.specs.References.{architecture_at, context_refs, name
 ghost use Rattle.vhdl_lex.specs.Pieces.{LiesIn};
 ghost use Rattle.vhdl_units.specs.Names.{token_name};
 ghost use Rattle.vhdl_refs.specs.Clauses.{BeginsUnit};
+ghost use Rattle.vhdl_refs.specs.Components.{component_names};
 ghost use Rattle.vhdl_refs.specs.Mentions.{AreMentionsOf, MentionsLieIn, NamedLiesIn, SomeLiesIn, named_architecture, named_ref};
 ghost use Rattle.vhdl_refs.specs.Places.{AreRefPlaces, IsRefPlace};
 
 use crate::clause::Clause;
+use crate::components::push_components;
 use crate::context::push_contexts;
 use crate::named::push_places;
 use crate::places::{RefPlace, has_architecture, has_block};
@@ -39,14 +41,15 @@ pub struct NamedRef {
     pub at: u32,
 }
 
-/// What a design unit mentions: context declarations, the architecture that it configures, what it refers to by name, and
-/// the libraries that it uses whole.
+/// What a design unit mentions: context declarations, the architecture that it configures, what it refers to by name, the
+/// libraries that it uses whole, and the names of the components that it declares or instantiates by that word.
 #[derive(Drop)]
 pub struct Mentions {
     pub contexts: Items<NamedRef>,
     pub configured: MaybeText,
     pub refs: Items<NamedRef>,
     pub whole: TokenList,
+    pub components: TokenList,
 }
 
 /// The token of the architecture that is given with the entity at a token, if it is one, in a unit of a kind.
@@ -206,6 +209,28 @@ fn whole_of(
     tokens_at(alloc, text, tokens, places.as_slice())
 }
 
+/// The names of the components of a unit, in order.
+fn components_of(
+    alloc: Global,
+    text: &[u8],
+    tokens: &Tokens,
+    roles: &[Role],
+    unit: &Unit,
+) -> Result<TokenList, NoMemory>
+    requires tokens { AreTokensOf text.now tokens.now }
+    requires roles { roles.now ≡ roles_of text.now tokens.now.list }
+    requires ordered { unit.now.lead ≤ unit.now.last }
+    requires within { unit.now.last < length roles.now }
+    requires small { length roles.now ≤ TEXT_LIMIT }
+    ensures are { IfOk result (λ found.
+        map (token_name text.now) found ≡ component_names text.now tokens.now.list unit.now) }
+    ensures lie { IfOk result (All (LiesIn text.now)) }
+{
+    let mut places = Vec::new(alloc);
+    push_components(roles, unit.lead as usize, unit.last as usize, &mut places)?;
+    tokens_at(alloc, text, tokens, places.as_slice())
+}
+
 /// What the unit of a number in a scan mentions. `roles` are those of the scan's tokens. What is in `room` is lost.
 pub fn mentions_of(
     alloc: Global,
@@ -232,5 +257,6 @@ pub fn mentions_of(
         configured: configured_by(alloc, text, tokens, roles, found)?,
         refs: refs_of(alloc, text, tokens, roles, found, clause, room)?,
         whole: whole_of(alloc, text, tokens, roles, found, clause)?,
+        components: components_of(alloc, text, tokens, roles, found)?,
     })
 }

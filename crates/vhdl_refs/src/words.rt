@@ -2,6 +2,7 @@
 
 ghost use Rattle.std.specs.Prelude.{◌≡◌};
 ghost use Rattle.scan_spec.specs.Units.{is_opening, is_closing};
+ghost use Rattle.vhdl_refs.specs.Components.{is_component_word, is_end_word};
 ghost use Rattle.scan_spec.specs.References.{follows_label, is_all_word, is_comma, is_configuration, is_context_word, is_dot, is_entity_word, is_for, is_library_word, is_name, is_semicolon, is_use_word, precedes_unit, role_before};
 
 use vhdl_units::role_at;
@@ -154,6 +155,25 @@ pub fn is_all_word(role: Role) -> bool
 {
     match role {
         Role::All => true,
+        _ => false,
+    }
+}
+
+#[inline(always)]
+pub fn is_component_word(role: Role) -> bool
+    ensures { result ≡ is_component_word role }
+{
+    match role {
+        Role::Component => true,
+        _ => false,
+    }
+}
+
+pub fn is_end_word(role: Role) -> bool
+    ensures { result ≡ is_end_word role }
+{
+    match role {
+        Role::End => true,
         _ => false,
     }
 }

@@ -27,6 +27,7 @@ use Rattle.project_reading.specs.Reading.{SourceReading}
 use Rattle.vunit_top.specs.declared.words.Job.{Job}
 use Rattle.vunit_top.specs.Acts.{Object, Disk, Children, Out, Reports, Seen, seen, run_between, marks_between, said_between, tests_since, Acts, RunsTests}
 use Rattle.vunit_top.specs.Ends.{Writes, WritesReport}
+use Rattle.project_reading.specs.declared.wish.Wish.{Wish}
 use Rattle.vunit_top.specs.Reading.{Reading, Testing, Exports, Builds, Runs, full_reading}
 use Rattle.disk_runs.specs.Building.{has_risen}
 use Rattle.vunit_top.specs.Runs.{RunsAs}
@@ -202,7 +203,7 @@ module _ (tells same : Object → Type 0) (scan : List ℕ → Finding) (answer 
   }
 
   -- what a run did, where its words are said in two ways
-  pub acts_by : {words : List (List ℕ)} {result : Outcome} {before after : Seen} (j k : Result Job Reading) (s : Bool → SourceReading) → j ≡ k → Acts tells same scan answer (full_reading k s) words result before after →
+  pub acts_by : {words : List (List ℕ)} {result : Outcome} {before after : Seen} (j k : Result Job Reading) (s : Wish → SourceReading) → j ≡ k → Acts tells same scan answer (full_reading k s) words result before after →
       Acts tells same scan answer (full_reading j s) words result before after
   acts_by {words} {result} {before} {after} j k s is acts = subst (λ (i : Result Job Reading). Acts tells same scan answer (full_reading i s) words result before after) (sym is) acts
 

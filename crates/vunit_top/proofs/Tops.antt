@@ -20,6 +20,7 @@ use Rattle.vunit_top.specs.declared.words.Job.{Job}
 use Rattle.generated_runs.specs.declared.options.GenerateOptions.{GenerateOptions}
 use Rattle.history_spec.specs.Histories.{Order}
 use Rattle.std.proofs.lemmas.Option.{none-some}
+use Rattle.project_reading.specs.declared.wish.Wish.{Wish}
 use Rattle.vunit_top.specs.Reading.{Reading, Testing, Bad, Child, Compiler, Simulator, Over, Builds, Runs, Exports, Generates, begins_as_compiler, begins_as_simulator, job_of, generate_job, generate_options_of, generates, may_test, setting_job, maybe_job, words_job, full_reading}
 use Rattle.vunit_top.specs.Said.{Said, order_of, plain_said, child_said, child_results, exit_said, left_results, input_bytes}
 
@@ -78,7 +79,7 @@ pub some_said : (x y : Said) → ◌≡◌ {A = Option Said} (Some x) (Some y) �
 some_said x y e = cc
 
 -- words that alone say what is done give nothing to build
-pub nothing_by : (j : Result Job Reading) (r : Reading) (s : Bool → SourceReading) → j ≡ Err r → order_of r ≡ None → order_of (full_reading j s) ≡ None
+pub nothing_by : (j : Result Job Reading) (r : Reading) (s : Wish → SourceReading) → j ≡ Err r → order_of r ≡ None → order_of (full_reading j s) ≡ None
 nothing_by j r s is none = ap (λ (i : Result Job Reading). order_of (full_reading i s)) is ∙ none
 
 module _ (setting : Setting) where
@@ -124,7 +125,7 @@ module _ (j : Result Job Reading) (options : GenerateOptions) (is : j ≡ Err (G
   pub not_untested : may_test j ≡ false → ⊥
   not_untested none = false≢true (sym none ∙ ap may_test is)
 
-  pub reads_generated : (s : Bool → SourceReading) → full_reading j s ≡ Generates options
+  pub reads_generated : (s : Wish → SourceReading) → full_reading j s ≡ Generates options
   reads_generated s = ap (λ (i : Result Job Reading). full_reading i s) is
 
   pub no_text : (r : Reading) → j ≡ Err r → (what : Said) → plain_said r ≡ Some what → ⊥
@@ -132,22 +133,22 @@ module _ (j : Result Job Reading) (options : GenerateOptions) (is : j ≡ Err (G
     same_reading : {a b : Reading} → ◌≡◌ {A = Result Job Reading} (Err a) (Err b) → b ≡ a
     same_reading e = cc
 
-  pub no_plain_text : (s : Bool → SourceReading) (what : Said) → plain_said (full_reading j s) ≡ Some what → ⊥
+  pub no_plain_text : (s : Wish → SourceReading) (what : Said) → plain_said (full_reading j s) ≡ Some what → ⊥
   no_plain_text s what said = none-some what (sym (ap plain_said (reads_generated s)) ∙ said)
 
   pub no_job : (k : Job) → j ≡ Ok k → ⊥
   no_job k other = let both : Err (Generates options) ≡ Ok k = sym is ∙ other in let nothing : ⊥ = cc in nothing
 
-  pub no_build : (s : Bool → SourceReading) (order : Order) (warnings : List ℕ) → full_reading j s ≡ Builds order warnings → ⊥
+  pub no_build : (s : Wish → SourceReading) (order : Order) (warnings : List ℕ) → full_reading j s ≡ Builds order warnings → ⊥
   no_build s order warnings other = let both : Generates options ≡ Builds order warnings = sym (reads_generated s) ∙ other in let nothing : ⊥ = cc in nothing
 
-  pub no_run : (s : Bool → SourceReading) (asked : Testing) → full_reading j s ≡ Runs asked → ⊥
+  pub no_run : (s : Wish → SourceReading) (asked : Testing) → full_reading j s ≡ Runs asked → ⊥
   no_run s asked other = let both : Generates options ≡ Runs asked = sym (reads_generated s) ∙ other in let nothing : ⊥ = cc in nothing
 
   pub same_options : (other : GenerateOptions) → j ≡ Err (Generates other) → options ≡ other
   same_options other asked = let both : Err (Generates options) ≡ Err (Generates other) = sym is ∙ asked in cc
 
-  pub no_export : (s : Bool → SourceReading) (path text : List ℕ) → full_reading j s ≡ Exports path text → ⊥
+  pub no_export : (s : Wish → SourceReading) (path text : List ℕ) → full_reading j s ≡ Exports path text → ⊥
   no_export s path text other = let both : Generates options ≡ Exports path text = sym (reads_generated s) ∙ other in let nothing : ⊥ = cc in nothing
 
 -- words that don't say so

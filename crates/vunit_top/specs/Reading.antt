@@ -1,5 +1,5 @@
 -- What words and sources say is to be done: a function of both.
-use Rattle.std.specs.Prelude.{ℕ, ◌≤◌, nat_lt, Bool, true, false, ◌||◌, if◌then◌else◌, List, [], ◌∷◌, map, codes, Option, Some, None, Result, Ok, Err}
+use Rattle.std.specs.Prelude.{ℕ, ◌≤◌, nat_lt, Bool, true, false, ◌||◌, if◌then◌else◌, List, [], ◌∷◌, codes, Option, Some, None, Result, Ok, Err}
 use Rattle.std.specs.Str.{bytes_eq}
 use Rattle.vr_base.specs.declared.graph.Entry.{Entry}
 use Rattle.outcomes.specs.declared.outcome.Refusal.{Refusal}
@@ -13,13 +13,15 @@ use Rattle.history_spec.specs.Histories.{Sources, Order}
 use Rattle.run_spec.specs.JournalParts.{is_given}
 use Rattle.run_report.specs.Texts.{warning_text}
 use Rattle.test_report.specs.Export.{export_text}
-use Rattle.test_select.specs.Patterns.{pieces_of}
-use Rattle.test_select.specs.Selection.{selection}
 use Rattle.scan_spec.specs.Scans.{Finding}
 use Rattle.command_line.specs.declared.setting.Setting.{Setting}
 use Rattle.command_line.specs.Words.{setting_of}
 use Rattle.project_reading.specs.Reading.{SourceReading, project_reading}
 use Rattle.project_reading.specs.Reading as sources
+pub use Rattle.project_reading.specs.Wishes.{chosen}
+use Rattle.project_reading.specs.declared.wish.Extent.{Extent}
+use Rattle.project_reading.specs.declared.wish.Extent.TheVariants.{Graph, Tests, Needed}
+use Rattle.project_reading.specs.declared.wish.Wish.{Wish}
 use Rattle.disk_runs.specs.declared.building.BuildOptions.{BuildOptions}
 use Rattle.disk_runs.specs.Orders.{order_by}
 use Rattle.project_reading.specs.declared.linking.ReadProject.{ReadProject}
@@ -80,6 +82,14 @@ begins_as_child words = begins_as_compiler words || begins_as_simulator words
 abbrev pub options_of : Setting → BuildOptions
 options_of setting = record { slots = setting.num_threads; keep_going = setting.keep_compiling; clean = setting.clean }
 
+-- how much is wanted: only what the tests need that are selected, or else this
+abbrev pub extent_of : Bool → Extent → Extent
+extent_of minimal other = if minimal then Needed else other
+
+-- what a setting wants of the sources
+abbrev pub wish_by : Setting → Extent → Wish
+wish_by setting extent = record { extent = extent; patterns = setting.patterns }
+
 -- how it says that their tests are run
 abbrev pub run_options_of : Setting → RunOptions
 run_options_of setting = record {
@@ -87,17 +97,17 @@ run_options_of setting = record {
   fail_fast = setting.fail_fast;
   words = record { verbose = setting.verbose; quiet = setting.quiet; exit_0 = setting.exit_0; report = is_given setting.xunit_xml };
   report = setting.xunit_xml;
-  patterns = setting.patterns;
+  wish = wish_by setting (extent_of setting.minimal Tests);
 }
 
 -- what is done by the first of the modes list, files and compile that is named, and else a run
 abbrev pub job_but_export : Setting → Job
 job_but_export setting =
-    if setting.list then job.ListTests setting.patterns else if setting.files then job.ListFiles
-    else if setting.compile then job.Build (options_of setting) else job.Run (run_options_of setting)
+    if setting.list then job.ListTests (wish_by setting Tests) else if setting.files then job.ListFiles (wish_by setting (extent_of setting.minimal Graph))
+    else if setting.compile then job.Build (options_of setting) (wish_by setting (extent_of setting.minimal Graph)) else job.Run (run_options_of setting)
 
 abbrev pub job_or_export : MaybeText → Setting → Job
-job_or_export (Given path) setting = job.Export path setting.patterns
+job_or_export (Given path) setting = job.Export path (wish_by setting Tests)
 job_or_export Nothing setting = job_but_export setting
 
 -- what is done with the sources by the first of the modes export, list, files and compile that is named, and else a run
@@ -108,22 +118,23 @@ job_of setting = job_or_export setting.export_json setting
 abbrev pub generate_options_of : Setting → GenerateOptions
 generate_options_of setting = record { packages = setting.generate; slots = setting.num_threads; exit_0 = setting.exit_0 }
 
--- whether a job looks for tests in the sources
-abbrev pub reads_tests : Job → Bool
-reads_tests (job.ListTests patterns) = true
-reads_tests (job.Export path patterns) = true
-reads_tests (job.Run options) = true
-reads_tests _ = false
+-- what a job wants of the sources
+abbrev pub wish_of : Job → Wish
+wish_of (job.ListFiles wish) = wish
+wish_of (job.ListTests wish) = wish
+wish_of (job.Export path wish) = wish
+wish_of (job.Build options wish) = wish
+wish_of (job.Run options) = options.wish
 
 -- whether a job may build, and so touch the disk and children
 abbrev pub is_build : Job → Bool
-is_build (job.Build options) = true
+is_build (job.Build options wish) = true
 is_build (job.Run options) = true
 is_build _ = false
 
 -- whether a job may write a report
 abbrev pub may_write : Job → Bool
-may_write (job.Export path patterns) = true
+may_write (job.Export path wish) = true
 may_write (job.Run options) = is_given options.report
 may_write _ = false
 
@@ -146,7 +157,7 @@ generates (Err reading) = false
 
 -- a build has from 1 to 64 children at once
 abbrev pub HasSlots : Job → Type 0
-HasSlots (job.Build options) = (1 ≤ options.slots) × (options.slots ≤ SLOT_LIMIT)
+HasSlots (job.Build options wish) = (1 ≤ options.slots) × (options.slots ≤ SLOT_LIMIT)
 HasSlots (job.Run options) = (1 ≤ options.build.slots) × (options.build.slots ≤ SLOT_LIMIT)
 HasSlots _ = Unit {0}
 
@@ -166,10 +177,6 @@ maybe_job (Some setting) = setting_job setting
 abbrev pub words_job : List (List ℕ) → Result Job Reading
 words_job words = if begins_as_compiler words then Err (Child Compiler) else if begins_as_simulator words then Err (Child Simulator) else maybe_job (setting_of words)
 
--- the tests that some of these patterns match
-abbrev pub chosen : List (List ℕ) → List Bench → List Bench
-chosen patterns tests = selection (map pieces_of patterns) tests
-
 -- what a run is to do with these runs of tests and this text of warnings
 abbrev pub testing_with : RunOptions → ReadProject → List TestRun → (warnings : List ℕ) → Testing
 testing_with options read runs warnings = record {
@@ -182,21 +189,21 @@ testing_with options read runs warnings = record {
 
 -- what a run is to do with the sources that were read
 abbrev pub testing_of : RunOptions → ReadProject → Testing
-testing_of options read = testing_with options read (test_runs read.project.files (chosen options.patterns read.tests)) (warning_text read.project.files read.warnings)
+testing_of options read = testing_with options read (test_runs read.project.files (chosen options.wish.patterns read.tests)) (warning_text read.project.files read.warnings)
 
 -- what is done with the sources that were read
 abbrev pub job_reading : Job → SourceReading → Reading
 job_reading job (sources.Stops reason) = Stops reason
 job_reading job (sources.Over limit number) = Over limit number
-job_reading job.ListFiles (sources.Found read) = Lists read.graph
-job_reading (job.ListTests patterns) (sources.Found read) = ListsTests (chosen patterns read.tests)
-job_reading (job.Export path patterns) (sources.Found read) = Exports path (export_text read.graph read.project.files (chosen patterns read.tests))
-job_reading (job.Build options) (sources.Found read) = Builds (order_by options read.graph) (warning_text read.project.files read.warnings)
+job_reading (job.ListFiles wish) (sources.Found read) = Lists read.graph
+job_reading (job.ListTests wish) (sources.Found read) = ListsTests (chosen wish.patterns read.tests)
+job_reading (job.Export path wish) (sources.Found read) = Exports path (export_text read.graph read.project.files (chosen wish.patterns read.tests))
+job_reading (job.Build options wish) (sources.Found read) = Builds (order_by options read.graph) (warning_text read.project.files read.warnings)
 job_reading (job.Run options) (sources.Found read) = Runs (testing_of options read)
 
--- what is done with the sources, by whether tests are looked for in them
-abbrev pub full_reading : Result Job Reading → (Bool → SourceReading) → Reading
-full_reading (Ok job) sources = job_reading job (sources (reads_tests job))
+-- what is done with the sources, by what is wanted of them
+abbrev pub full_reading : Result Job Reading → (Wish → SourceReading) → Reading
+full_reading (Ok job) sources = job_reading job (sources (wish_of job))
 full_reading (Err reading) sources = reading
 
 -- the reading of words and sources, over a scanner

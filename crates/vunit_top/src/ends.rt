@@ -18,8 +18,8 @@ use vr_base::{Graph, NoMemory, Text};
 use vr_outside::{Sink, SinkFault};
 
 /// What is put where the words aren't a command line of the program.
-static USAGE: [u8; 140] =
-    *b"usage: vunit_run [-lfkvq] [--compile] [--fail-fast] [--clean] [--exit-0] [-x FILE] [-p N] [--export-json FILE] [--generate N] [PATTERN ...]\n";
+static USAGE: [u8; 141] =
+    *b"usage: vunit_run [-lfkmvq] [--compile] [--fail-fast] [--clean] [--exit-0] [-x FILE] [-p N] [--export-json FILE] [--generate N] [PATTERN ...]\n";
 
 /// Puts a text, and answers.
 pub fn say<O: Sink>(text: &[u8], answer: Outcome, out: &mut O) -> Outcome

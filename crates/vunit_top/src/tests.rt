@@ -19,30 +19,20 @@ ghost use Rattle.vunit_top.specs.Reading.{Runs, chosen, testing_with, testing_of
 ghost use Rattle.vunit_top.specs.Runs.{RunsAs, run_of};
 ghost use Rattle.vunit_top.specs.Said.{IsAccounted, IsSaid, Said, SaysRun, fault_counts, fault_outcome, plain_run};
 
-use crate::words::{RunOptions, patterns_of};
+use crate::words::RunOptions;
 use compile_loop::BuildFault;
 use node_store::NodeStore;
 use outcomes::{Outcome, Which};
 use planned_tests::planned_runs;
-use project_reading::ReadProject;
+use project_reading::{ReadProject, Wish};
 use report_files::{ReportFault, Reports};
 use run_report::warning_text;
 use std::alloc::Global;
-use test_select::select;
 use test_spec::TestRunList;
 use tested_report::{RunSaid, TestWords, said_of_run};
 use tested_runs::{Tested, test_over};
-use vhdl_benches::Tests;
-use vr_base::{CASE_LIMIT, Graph, MaybeText, NoMemory, SLOT_LIMIT, Text, TextList};
+use vr_base::{CASE_LIMIT, Graph, MaybeText, NoMemory, SLOT_LIMIT, Text};
 use vr_outside::{Disk, Procs, Sink, SinkFault};
-
-/// The tests of the sources that one of these patterns matches.
-pub fn chosen(alloc: Global, tests: &Tests, patterns: &TextList) -> Result<Tests, NoMemory>
-    ensures { IfOk result (λ some. some ≡ chosen patterns.now tests.now) }
-{
-    let patterns = patterns_of(alloc, patterns.as_slice())?;
-    select(alloc, tests, &patterns)
-}
 
 /// The answer of a run after a fault of its build or of its tests.
 pub fn fault_outcome(fault: BuildFault) -> Outcome
@@ -181,19 +171,18 @@ struct Planned {
     runs: TestRunList,
 }
 
-/// What a run needs of the sources that were read, with the tests that one of these patterns matches.
-fn plan_runs(alloc: Global, read: &ReadProject, patterns: &TextList) -> Result<Planned, NoMemory>
-    requires { IsReadProject true read.now }
+/// What a run needs of what was wanted of the sources and read of them.
+fn plan_runs(alloc: Global, read: &ReadProject, wish: &Wish) -> Result<Planned, NoMemory>
+    requires { IsReadProject wish.now read.now }
     ensures warnings { IfOk result (λ planned.
         planned.warnings ≡ warning_text read.now.project.files read.now.warnings) }
     ensures runs { IfOk result (λ planned. planned.runs
-        ≡ test_runs read.now.project.files (chosen patterns.now read.now.tests)) }
+        ≡ test_runs read.now.project.files (chosen wish.now.patterns read.now.tests)) }
     ensures few { IfOk result (λ planned. length planned.runs ≤ CASE_LIMIT) }
     ensures fits { IfOk result (λ planned. All FitsRun planned.runs) }
 {
     let warnings = warning_text(alloc, &read.project, &read.warnings)?;
-    let tests = chosen(alloc, &read.tests, patterns)?;
-    let runs = planned_runs(alloc, read, &tests)?;
+    let runs = planned_runs(alloc, wish, read)?;
     Ok(Planned { warnings, runs })
 }
 
@@ -279,7 +268,7 @@ pub fn test_project<D: Disk, P: Procs, O: Sink, R: Reports>(
 ) -> Outcome
     requires slots { (1 ≤ options.now.build.slots) × (options.now.build.slots ≤ SLOT_LIMIT) }
     requires idle { P.running procs.old ≡ [] }
-    requires read { IsReadProject true read.now }
+    requires read { IsReadProject options.now.wish read.now }
     ensures running { P.running procs.new ≡ [] }
     ensures same { P.answer procs.new ≡ P.answer procs.old }
     ensures kept { P.tells →
@@ -307,7 +296,7 @@ pub fn test_project<D: Disk, P: Procs, O: Sink, R: Reports>(
         (P.lost_children procs.new) (O.failed_puts out.new)
         (R.failed_reports reports.new) input) }
 {
-    match plan_runs(alloc, read, &options.patterns) {
+    match plan_runs(alloc, read, &options.wish) {
         Ok(planned) => test_planned(alloc, planned, read, options, disk, procs, out, reports),
         Err(_) => Outcome::NoMemory,
     }

@@ -24,7 +24,7 @@ ghost use Rattle.generated_runs.specs.declared.options.GenerateOptions.{Generate
 ghost use Rattle.vunit_top.specs.Generated.{GeneratesAs};
 ghost use Rattle.vunit_top.specs.Ends.{StopCounts, OutCauses, ReportCauses, Writes, WritesReport, WritesResults};
 ghost use Rattle.disk_runs.specs.Orders.{order_by};
-ghost use Rattle.vunit_top.specs.Reading.{Reading, Testing, Builds, Exports, Runs, HasSlots, reading, full_reading, job_reading, setting_job, words_job, begins_as_child, begins_as_compiler, begins_as_simulator, chosen, reads_tests, is_build, is_run, may_test, may_write, generates, Generates};
+ghost use Rattle.vunit_top.specs.Reading.{Reading, Testing, Builds, Exports, Runs, HasSlots, reading, full_reading, job_reading, setting_job, words_job, begins_as_child, begins_as_compiler, begins_as_simulator, chosen, is_build, is_run, may_test, may_write, generates, Generates, wish_of};
 ghost use Rattle.disk_runs.specs.Building.{has_risen};
 ghost use Rattle.vunit_top.specs.Runs.{RunsAs, run_of};
 ghost use Rattle.vunit_top.specs.Said.{Said, Says, SaysRun, IsSaid, HasEnded, Causes, IsAccounted, fault_counts, report_path_of, order_of, plan_in, plain_said, build_said, child_said, child_results};
@@ -34,14 +34,14 @@ use crate::ends::{
     say, say_build, say_files, say_limit, say_refusal, say_tests, say_usage, write_report,
 };
 use crate::generating::{generated_by, say_generated};
-use crate::tests::{chosen, test_project};
-use crate::words::{Job, begins_with, job_of, reads_tests};
+use crate::tests::test_project;
+use crate::words::{Job, begins_with, job_of, wish_of};
 use command_line::{Setting, WordsFault, read_words};
 use compile_loop::BuildFault;
 use disk_runs::{BuildOptions, build_over};
 use node_store::NodeStore;
 use outcomes::{Limit, Outcome, Refusal, Which};
-use project_reading::{ReadProject, ReadStop, read_project};
+use project_reading::{ReadProject, ReadStop, chosen, read_project};
 use report_files::Reports;
 use run_report::warning_text;
 use std::alloc::Global;
@@ -215,7 +215,7 @@ fn run_job<D: Disk, P: Procs, O: Sink, R: Reports>(
 ) -> Outcome
     requires slots { HasSlots job }
     requires idle { P.running procs.old ≡ [] }
-    requires read { IsReadProject (reads_tests job) read.now }
+    requires read { IsReadProject (wish_of job) read.now }
     ensures running { P.running procs.new ≡ [] }
     ensures same { P.answer procs.new ≡ P.answer procs.old }
     ensures kept { P.tells →
@@ -243,10 +243,10 @@ fn run_job<D: Disk, P: Procs, O: Sink, R: Reports>(
         (R.failed_reports reports.new) input) }
 {
     match job {
-        Job::ListFiles => say_files(alloc, &read.graph, out),
-        Job::ListTests(patterns) => list_chosen(alloc, read, &patterns, out),
-        Job::Export(path, patterns) => export_chosen(alloc, read, &path, &patterns, reports),
-        Job::Build(options) => build_project(alloc, read, options, disk, procs, out),
+        Job::ListFiles(_wish) => say_files(alloc, &read.graph, out),
+        Job::ListTests(wish) => list_chosen(alloc, read, &wish.patterns, out),
+        Job::Export(path, wish) => export_chosen(alloc, read, &path, &wish.patterns, reports),
+        Job::Build(options, _wish) => build_project(alloc, read, options, disk, procs, out),
         Job::Run(options) => test_project(alloc, read, &options, disk, procs, out, reports),
     }
 }
@@ -322,7 +322,7 @@ fn run_sources<T: Tree, D: Disk, P: Procs, O: Sink, R: Reports>(
         Acts (of_each D.tells P.tells O.tells R.tells)
         (of_each (disk.new ≡ disk.old) (procs.new ≡ procs.old) (out.new ≡ out.old)
         (reports.new ≡ reports.old))
-        scan (P.answer procs.old) (job_reading job (sources (reads_tests job))) words result
+        scan (P.answer procs.old) (job_reading job (sources (wish_of job))) words result
         (seen (P.journal procs.old) (D.moments disk.old) (D.failed_disk_calls disk.old)
         (O.contents out.old) (R.report reports.old))
         (seen (P.journal procs.new) (D.moments disk.new) (D.failed_disk_calls disk.new)
@@ -340,8 +340,8 @@ fn run_sources<T: Tree, D: Disk, P: Procs, O: Sink, R: Reports>(
         (P.failed_starts procs.new) (P.lost_children procs.new) (O.failed_puts out.new)
         (R.failed_reports reports.new) input) }
 {
-    let with_tests = reads_tests(&job);
-    match read_project(alloc, tree, with_tests) {
+    let wish = wish_of(&job);
+    match read_project(alloc, tree, wish) {
         Ok(read) => run_job(alloc, job, &read, disk, procs, out, reports),
         Err(stop) => say_stop(alloc, stop, out),
     }
@@ -428,7 +428,8 @@ fn run_setting<T: Tree, D: Disk, P: Procs, O: Sink, R: Reports>(
 /// emptied before the first start. With none of these the files are built likewise, and where all are made the tests that
 /// one of the patterns matches are run over exactly them, with as many children at once; with `--fail-fast` none is started
 /// after one that didn't pass has ended. What became of both is put in one call, and after that, with `-x`, written to a file
-/// as JUnit XML.
+/// as JUnit XML. With `--minimal` the files that are listed or built are those alone that the tests need that one of the
+/// patterns matches.
 ///
 /// With `--generate` none of this is done: a project of the size that the words say is made in memory, built over an empty
 /// disk in memory, edited, and built again with its tests, and how many files each build compiled is put.

@@ -1,17 +1,15 @@
 //! What the words of the command line say is to be done.
 
-ghost use Rattle.std.specs.Prelude.{◌≡◌, ◌≤◌, ◌<◌, ◌^◌, length, map, IfOk};
+ghost use Rattle.std.specs.Prelude.{◌≡◌, ◌≤◌, ◌<◌, ◌^◌, IfSome};
 ghost use Rattle.std.specs.Str.{bytes_eq};
 ghost use Rattle.run_spec.specs.JournalParts.{is_given};
-ghost use Rattle.test_select.specs.Patterns.{pieces_of};
-ghost use Rattle.vunit_top.specs.Reading.{HasSlots, begins_with, job_of, reads_tests};
+ghost use Rattle.vunit_top.specs.Reading.{HasSlots, begins_with, extent_of, job_of, wish_of};
 
 use command_line::Setting;
 use disk_runs::BuildOptions;
-use std::alloc::Global;
-use test_select::{PatternList, read_pattern};
+use project_reading::{Extent, Wish};
 use tested_report::TestWords;
-use vr_base::{MaybeText, NoMemory, SLOT_LIMIT, Text, TextList};
+use vr_base::{MaybeText, SLOT_LIMIT, Text, TextList};
 
 /// How files are built and their tests are run.
 #[derive(Drop)]
@@ -22,35 +20,43 @@ pub struct RunOptions {
     pub words: TestWords,
     /// The file of the report of tests, where one is wanted.
     pub report: MaybeText,
-    /// Which tests.
-    pub patterns: TextList,
+    /// Which tests, and whether only the files that they need are built.
+    pub wish: Wish,
 }
 
 /// What is done with the sources.
 #[derive(Drop)]
 pub enum Job {
-    /// The files are listed, in compile order.
-    ListFiles,
-    /// The tests that one of these patterns matches are listed.
-    ListTests(TextList),
-    /// The files, and the tests that one of these patterns matches, are written to the file of this path.
-    Export(Text, TextList),
-    Build(BuildOptions),
+    /// The files that are wanted are listed, in compile order.
+    ListFiles(Wish),
+    /// The tests that one of the patterns matches are listed.
+    ListTests(Wish),
+    /// The files, and the tests that one of the patterns matches, are written to the file of this path.
+    Export(Text, Wish),
+    /// The files that are wanted are built.
+    Build(BuildOptions, Wish),
     /// The files are built, and then the tests that one of the patterns matches are run.
     Run(RunOptions),
 }
 
-/// Whether tests are looked for in the sources.
-pub fn reads_tests(job: &Job) -> bool
-    ensures { result ≡ reads_tests job.now }
+/// What is wanted of the sources.
+pub fn wish_of<'a>(job: &'a Job) -> &'a Wish
+    ensures { result.now ≡ wish_of job.entry.now }
 {
     match job {
-        Job::ListFiles => false,
-        Job::ListTests(_) => true,
-        Job::Export(_, _) => true,
-        Job::Build(_) => false,
-        Job::Run(_) => true,
+        Job::ListFiles(wish) => wish,
+        Job::ListTests(wish) => wish,
+        Job::Export(_path, wish) => wish,
+        Job::Build(_options, wish) => wish,
+        Job::Run(options) => &options.wish,
     }
+}
+
+/// How much is wanted: only what the tests need that are selected, or else this.
+fn extent_of(minimal: bool, other: Extent) -> Extent
+    ensures { result ≡ extent_of minimal other }
+{
+    if minimal { Extent::Needed } else { other }
 }
 
 fn is_same(a: &[u8], b: &[u8]) -> bool
@@ -89,6 +95,7 @@ pub fn job_of(setting: Setting) -> Job
         list,
         files,
         compile,
+        minimal,
         keep_compiling,
         clean,
         num_threads,
@@ -102,13 +109,16 @@ pub fn job_of(setting: Setting) -> Job
         patterns,
     } = setting;
     if let MaybeText::Given(path) = export_json {
-        return Job::Export(path, patterns);
+        let extent = Extent::Tests;
+        return Job::Export(path, Wish { extent, patterns });
     }
     if list {
-        return Job::ListTests(patterns);
+        let extent = Extent::Tests;
+        return Job::ListTests(Wish { extent, patterns });
     }
     if files {
-        return Job::ListFiles;
+        let extent = extent_of(minimal, Extent::Graph);
+        return Job::ListFiles(Wish { extent, patterns });
     }
     let build = BuildOptions {
         slots: num_threads as u32,
@@ -116,9 +126,11 @@ pub fn job_of(setting: Setting) -> Job
         clean,
     };
     if compile {
-        return Job::Build(build);
+        let extent = extent_of(minimal, Extent::Graph);
+        return Job::Build(build, Wish { extent, patterns });
     }
     let report = is_given(&xunit_xml);
+    let extent = extent_of(minimal, Extent::Tests);
     Job::Run(RunOptions {
         build,
         fail_fast,
@@ -129,17 +141,6 @@ pub fn job_of(setting: Setting) -> Job
             report,
         },
         report: xunit_xml,
-        patterns,
+        wish: Wish { extent, patterns },
     })
-}
-
-/// The patterns that these words are.
-pub fn patterns_of(alloc: Global, words: &[Text]) -> Result<PatternList, NoMemory>
-    ensures { IfOk result (λ patterns. patterns ≡ map pieces_of words.now) }
-{
-    let mut patterns = PatternList::new(alloc);
-    for i in 0..words.len() {
-        patterns.push(read_pattern(alloc, words[i].bytes())?)?;
-    }
-    Ok(patterns)
 }

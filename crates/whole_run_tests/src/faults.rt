@@ -48,7 +48,7 @@ E|Compiling into lib: p.vhd passed~Compiling into lib: q.vhd passed~Compiling in
 T|pass lib.b.one~pass lib.b.two~==== Summary~pass 2 of 2~fail 0 of 2~skip 0 of 2~All passed!~
 L|lib.b.one~lib.b.two~Listed 2 tests~
 F|lib, p.vhd~lib, q.vhd~lib, r.vhd~lib, s.vhd~lib, t.vhd~lib, b.vhd~Listed 6 files~
-U|usage: vunit_run [-lfkvq] [--compile] [--fail-fast] [--clean] [--exit-0] [-x FILE] [-p N] [--export-json FILE] [--generate N] [PATTERN ...]~
+U|usage: vunit_run [-lfkmvq] [--compile] [--fail-fast] [--clean] [--exit-0] [-x FILE] [-p N] [--export-json FILE] [--generate N] [PATTERN ...]~
 B|bad request~
 out.xml|<?xml version=\"1.0\" encoding=\"utf-8\"?>~<testsuite name=\"testsuite\" tests=\"2\" failures=\"0\" skipped=\"0\" errors=\"0\">~  <testcase classname=\"lib.b\" name=\"one\"/>~  <testcase classname=\"lib.b\" name=\"two\"/>~</testsuite>~
 out.json|{\"export_format_version\":{\"major\":1,\"minor\":0,\"patch\":0},\"files\":[{\"file_name\":\"p.vhd\",\"library_name\":\"lib\"},{\"file_name\":\"q.vhd\",\"library_name\":\"lib\"},{\"file_name\":\"r.vhd\",\"library_name\":\"lib\"},{\"file_name\":\"s.vhd\",\"library_name\":\"lib\"},{\"file_name\":\"t.vhd\",\"library_name\":\"lib\"},{\"file_name\":\"b.vhd\",\"library_name\":\"lib\"}],\"tests\":[{\"attributes\":{},\"location\":{\"file_name\":\"b.vhd\",\"length\":3,\"offset\":87},\"name\":\"lib.b.one\"},{\"attributes\":{},\"location\":{\"file_name\":\"b.vhd\",\"length\":3,\"offset\":104},\"name\":\"lib.b.two\"}]}~";

@@ -12,7 +12,7 @@ use Rattle.project_reading.specs.Reading.{project_in, project_reading, scanned_r
 use Rattle.worked_examples.specs.AskedJobs.{JobsOfSettings, WholeReadings}
 
 pub jobs_of_settings : JobsOfSettings
-jobs_of_settings = record { list_files = refl; list_tests = refl; too_many = refl; run = refl; report = refl; generated = refl; too_large = refl; both_over = refl; lists = refl; builds_nothing = refl; writes_nothing = refl; child = refl }
+jobs_of_settings = record { list_files = refl; needed_files = refl; list_tests = refl; too_many = refl; run = refl; report = refl; needed_run = refl; generated = refl; too_large = refl; both_over = refl; builds_nothing = refl; writes_nothing = refl; child = refl }
 
 pub whole_readings : WholeReadings
 unfolding encode_utf8 chars is_utf8 defaults_fault flags_fault walk_fault bundle_met walked below listed_from setting_of added_by csv_file_of files_after name_fault warning_of project_in project_reading scanned_reading scans_of texts_of wanted_tests

@@ -43,7 +43,7 @@ runs_said = record { outcome_of = refl; ignored = refl; build_first = refl; made
 
 pub chosen_tests : ChosenTests
 unfolding fits_pieces before_closing first_piece opened_set pieces_after ranges_of set_after set_length
-chosen_tests = record { by_pattern = record { patterns = pieces_of (codes "*.a") ∷ []; are = refl }; no_case = refl; no_memory = refl }
+chosen_tests = record { by_pattern = refl; no_case = refl; no_memory = refl }
 
 pub written_reports : WrittenReports
 unfolding digits case_end case_start class_of last_line suite_line value_after value_byte xml_byte xml_line

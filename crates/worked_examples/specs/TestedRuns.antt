@@ -27,7 +27,7 @@ use Rattle.test_loop.specs.Faults.{noted_with}
 use Rattle.test_loop.specs.Requests.{lent_files}
 use Rattle.test_loop.specs.Results.{test_ends}
 use Rattle.test_loop.specs.declared.faults.TestRunFault.TheVariants.{ChildLost, NoMemory}
-use Rattle.planned_tests.specs.Chosen.{AreChosen}
+use Rattle.project_reading.specs.Wishes.{chosen}
 use Rattle.tested_laws.specs.Libraries.{libraries}
 use Rattle.worked_examples.specs.Example.{Ra, a_built, command, compiler, exit, files}
 use Rattle.outcomes.specs.declared.outcome.Outcome.TheVariants as outcome
@@ -127,7 +127,7 @@ bench_of_cases its = record {
 
 -- which tests patterns select, and which fault is answered
 pub record ChosenTests : Type 0 where
-  pub by_pattern : AreChosen (bench_of_cases (codes "a" ∷ codes "b" ∷ []) ∷ []) (bench_of_cases (codes "a" ∷ []) ∷ [])
+  pub by_pattern : chosen (codes "*.a" ∷ []) (bench_of_cases (codes "a" ∷ codes "b" ∷ []) ∷ []) ≡ bench_of_cases (codes "a" ∷ []) ∷ []
   pub no_case : has_cases (bench_of_cases []) ≡ false
   pub no_memory : noted_with (Some ChildLost) NoMemory ≡ NoMemory
 

@@ -15,10 +15,12 @@ use Rattle.project_file.specs.Csv.{csv_project, listed_command, listed_project, 
 use Rattle.project_file.specs.Toml.{matching_names}
 use Rattle.project_reading.specs.Asked.{project_paths}
 use Rattle.project_reading.specs.Reading.{SourceReading, project_reading, scanned_reading, scans_of}
+use Rattle.project_reading.specs.declared.wish.Wish.{Wish}
 use Rattle.worked_examples.specs.Example.{a_name, b_name, name}
 use Rattle.worked_examples.specs.Samples.{scan_with, uses_p_text, uses_p_tokens, uses_p_unit, uses_q_text, uses_q_tokens, uses_q_unit}
 use Rattle.outcomes.specs.declared.outcome.Refusal.TheVariants as refusal
 use Rattle.project_reading.specs.Reading as sources
+use Rattle.project_reading.specs.declared.wish.Extent.TheVariants as extent
 use Rattle.vr_base.specs.declared.project.ProjectFault.TheVariants as fault
 
 -- ## Words
@@ -29,6 +31,7 @@ plain = record {
   list = false;
   files = false;
   compile = false;
+  minimal = false;
   keep_compiling = false;
   fail_fast = false;
   clean = false;
@@ -81,6 +84,10 @@ refuses_foo text = if bytes_eq text (codes "foo") then Grammatical (NotUnit 0) e
 abbrev listed_file_of : FileName → ProjectFile
 listed_file_of it = record { name = it; command = listed_command }
 
+-- all of the graph is wanted
+abbrev whole_graph : Wish
+whole_graph = record { extent = extent.Graph; patterns = [] }
+
 -- the files as the program compiles them itself
 abbrev child_file : FileName → List ℕ → List ℕ → Entry
 child_file it text deps = record { name = it; command = listed_command; text = text; deps = deps }
@@ -90,14 +97,14 @@ child_files = child_file a_name (codes "x") [] ∷ child_file b_name (codes "y")
 
 pub record ReadSources : Type 0 where
   pub asked : project_paths (folder true) [] ≡ codes "vunit.toml" ∷ codes "vunit.csv" ∷ codes "a.vhd" ∷ codes "b.vhd" ∷ []
-  pub found : project_reading finds_nothing (folder true) [] false ≡ sources.Found (record {
+  pub found : project_reading finds_nothing (folder true) [] whole_graph ≡ sources.Found (record {
     project = listed_project (a_name ∷ b_name ∷
         []);
     graph = child_files;
     warnings = [];
     tests = [];
   })
-  pub absent : project_reading finds_nothing (folder false) [] false ≡ sources.Stops (refusal.AbsentFile a_name)
+  pub absent : project_reading finds_nothing (folder false) [] whole_graph ≡ sources.Stops (refusal.AbsentFile a_name)
   pub second_refused : scans_of refuses_foo (map listed_file_of (a_name ∷ b_name ∷ name 99 ∷ [])) (codes "x" ∷ codes "foo" ∷ codes "foo" ∷ []) ≡
       Err (sources.Stops (refusal.Units b_name (NotUnit 0)))
 
@@ -114,7 +121,7 @@ cyclic is_listed = record {
 }
 
 abbrev cyclic_reading : Bool → SourceReading
-cyclic_reading is_listed = scanned_reading false (cyclic is_listed) (uses_q_text ∷ uses_p_text ∷ []) (scan_with uses_q_tokens (uses_q_unit ∷ []) ∷
+cyclic_reading is_listed = scanned_reading whole_graph (cyclic is_listed) (uses_q_text ∷ uses_p_text ∷ []) (scan_with uses_q_tokens (uses_q_unit ∷ []) ∷
     scan_with uses_p_tokens (uses_p_unit ∷ []) ∷ [])
 
 pub record CyclicSources : Type 0 where

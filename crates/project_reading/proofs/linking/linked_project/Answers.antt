@@ -7,6 +7,6 @@ use Rattle.project_reading.proofs.linking.linked_project.Goals as goal
 
 pub returns-clause-reading : goal.returns-clause-reading
 returns-clause-reading c scans are =
-    goes_on (order_reading c.args.wanted c.args.project c.args.texts scans c.args.links) (order_or c.args.project.files (file_order c.args.links.edges)) c.in_ok-order.order c.ordered_project.result
+    goes_on (order_reading c.args.wish.now c.args.project c.args.texts scans c.args.links) (order_or c.args.project.files (file_order c.args.links.edges)) c.in_ok-order.order c.ordered_project.result
     (subst (λ (files : List ProjectFile). ◌≡◌ {A = Result (List ℕ) SourceReading} (order_or files (file_order c.args.links.edges)) (Ok c.in_ok-order.order)) c.as_slice.ensures c.in_ok-order.ensures.order)
     (c.ordered_project.ensures.reading scans are)

@@ -12,7 +12,7 @@ use Rattle.project_reading.proofs.reading.scan_texts.Goals as goal
 pub returns-in_err-outlines-clause-reading : goal.returns-in_err-outlines-clause-reading
 returns-in_err-outlines-clause-reading c =
     let p = err_from_is_err_and c.from_residual.result c.from_residual.ensures.1 in
-    rw (p.1, p.2) (λ scan is. stops_there (scanned_reading c.args.wanted c.args.project c.args.texts) (scans_of scan c.args.project.files c.args.texts) c.in_err-outlines.field-0.0
+    rw (p.1, p.2) (λ scan is. stops_there (scanned_reading c.args.wish.now c.args.project c.args.texts) (scans_of scan c.args.project.files c.args.texts) c.in_err-outlines.field-0.0
     (subst (λ (files : List ProjectFile). Gives {T = List Scan} (scans_of scan files c.args.texts) (Err c.in_err-outlines.field-0.0)) c.as_slice.ensures
     (subst (λ (texts : List (List ℕ)). Gives {T = List Scan} (scans_of scan c.as_slice.result.now texts) (Err c.in_err-outlines.field-0.0)) c.as_slice-2.ensures (c.in_err-outlines.ensures.outlines scan is))))
 
@@ -28,9 +28,9 @@ scanned_project-requires-clause-outlined c =
 pub returns-clause-reading : goal.returns-clause-reading
 returns-clause-reading c scan is =
     let it = scanned c.args.project.files c.as_slice.result.now c.args.texts c.as_slice-2.result.now c.in_ok-outlines.outlines c.as_slice.ensures c.as_slice-2.ensures c.in_ok-outlines.ensures.outlines in
-    goes_on (scanned_reading c.args.wanted c.args.project c.args.texts) (scans_of scan c.args.project.files c.args.texts) it.scans c.scanned_project.result (it.given scan is) (c.scanned_project.ensures.reading it.scans it.are)
+    goes_on (scanned_reading c.args.wish.now c.args.project c.args.texts) (scans_of scan c.args.project.files c.args.texts) it.scans c.scanned_project.result (it.given scan is) (c.scanned_project.ensures.reading it.scans it.are)
 
 pub returns-clause-form : goal.returns-clause-form
 returns-clause-form c =
     let it = scanned c.args.project.files c.as_slice.result.now c.args.texts c.as_slice-2.result.now c.in_ok-outlines.outlines c.as_slice.ensures c.as_slice-2.ensures c.in_ok-outlines.ensures.outlines in
-    is_read c.args.wanted c.args.project c.args.texts it.scans c.requires.project c.requires.few c.requires.texts it.scanned c.scanned_project.result (c.scanned_project.ensures.reading it.scans it.are)
+    is_read c.args.wish.now c.args.project c.args.texts it.scans c.requires.project c.requires.few c.requires.texts it.scanned c.scanned_project.result (c.scanned_project.ensures.reading it.scans it.are)

@@ -25,7 +25,7 @@ returns-in-ListTests-clause-acts g c = λ scan words.
     (acts_said
     (of_each g.D.Disk.tells g.P.Procs.tells g.O.Sink.tells g.R.Reports.tells)
     (of_each (c.args.disk.now ≡ c.args.disk.now) (c.args.procs.now ≡ c.args.procs.now) (c.list_chosen.new.out ≡ c.args.out.now) (c.args.reports.now ≡ c.args.reports.now))
-    scan _ (ListsTests (chosen c.in-ListTests.patterns c.args.read.now.tests)) words c.list_chosen.result (g.P.Procs.journal c.args.procs.now) (g.D.Disk.moments c.args.disk.now) (g.met.D.Disk.sound c.args.disk.now)
+    scan _ (ListsTests (chosen c.in-ListTests.wish.patterns c.args.read.now.tests)) words c.list_chosen.result (g.P.Procs.journal c.args.procs.now) (g.D.Disk.moments c.args.disk.now) (g.met.D.Disk.sound c.args.disk.now)
     (g.D.Disk.failed_disk_calls c.args.disk.now) (g.O.Sink.contents c.args.out.now) (g.O.Sink.contents c.list_chosen.new.out) (g.R.Reports.report c.args.reports.now)
     refl refl refl refl refl c.list_chosen.ensures.said)
 
@@ -35,7 +35,7 @@ returns-in-Export-clause-acts g c = λ scan words.
     (acts_export
     (of_each g.D.Disk.tells g.P.Procs.tells g.O.Sink.tells g.R.Reports.tells)
     (of_each (c.args.disk.now ≡ c.args.disk.now) (c.args.procs.now ≡ c.args.procs.now) (c.args.out.now ≡ c.args.out.now) (c.export_chosen.new.reports ≡ c.args.reports.now))
-    scan _ c.in-Export.path (export_text c.args.read.now.graph c.args.read.now.project.files (chosen c.in-Export.patterns c.args.read.now.tests)) words c.export_chosen.result (g.P.Procs.journal c.args.procs.now) (g.D.Disk.moments c.args.disk.now) (g.met.D.Disk.sound c.args.disk.now)
+    scan _ c.in-Export.path (export_text c.args.read.now.graph c.args.read.now.project.files (chosen c.in-Export.wish.patterns c.args.read.now.tests)) words c.export_chosen.result (g.P.Procs.journal c.args.procs.now) (g.D.Disk.moments c.args.disk.now) (g.met.D.Disk.sound c.args.disk.now)
     (g.D.Disk.failed_disk_calls c.args.disk.now) (g.O.Sink.contents c.args.out.now) (g.R.Reports.report c.args.reports.now) (g.R.Reports.report c.export_chosen.new.reports)
     refl refl refl (c.export_chosen.ensures.said (g.O.Sink.contents c.args.out.now)) c.export_chosen.ensures.writes)
 

@@ -1,15 +1,16 @@
 -- What a run did, by its job and the sources that it read.
-use Rattle.std.proofs.Common.{◌≡◌, Bool, Err, refl, subst, sym}
+use Rattle.std.proofs.Common.{◌≡◌, Err, refl, subst, sym}
 use Rattle.project_reading.specs.Reading.{project_reading}
 use Rattle.project_reading.specs.Sources.{LeadsTo}
+use Rattle.project_reading.specs.declared.wish.Wish.{Wish}
 use Rattle.vunit_top.specs.Acts.{of_each}
-use Rattle.vunit_top.specs.Reading.{job_reading, reads_tests}
+use Rattle.vunit_top.specs.Reading.{job_reading, wish_of}
 use Rattle.disk_runs.proofs.OverStore.{no_test_since}
 use Rattle.vunit_top.proofs.ActTruths.{acts_idle, no_early}
 use Rattle.vunit_top.proofs.top.run_sources.Goals as goal
 
 pub returns-in-Ok-clause-acts : goal.returns-in-Ok-clause-acts
-returns-in-Ok-clause-acts g c = λ scan is t words. rw (sym c.reads_tests-with_tests.ensures, c.in-Ok.ensures.reading scan is t) (c.run_job.ensures.acts scan words)
+returns-in-Ok-clause-acts g c = λ scan is t words. rw (sym c.wish_of-wish.ensures, c.in-Ok.ensures.reading scan is t) (c.run_job.ensures.acts scan words)
 
 pub returns-in-Ok-clause-placed : goal.returns-in-Ok-clause-placed
 returns-in-Ok-clause-placed g c = λ fault. absurd (no_early (c.run_job.ensures.counted 0 0) refl refl fault)
@@ -19,8 +20,8 @@ returns-in-Ok-clause-counted g c = λ input. rw c.in-Ok.ensures.cause (c.run_job
 
 pub returns-in-Err-clause-acts : goal.returns-in-Err-clause-acts
 returns-in-Err-clause-acts g c = λ scan is t words.
-    let found = project_reading scan (g.T.Tree.file c.args.tree.now) (g.T.Tree.listed c.args.tree.now) (reads_tests c.args.job) in
-    let led : LeadsTo found (Err c.in-Err.stop) = subst (λ (wanted : Bool). LeadsTo (project_reading scan (g.T.Tree.file c.args.tree.now) (g.T.Tree.listed c.args.tree.now) wanted) (Err c.in-Err.stop)) c.reads_tests-with_tests.ensures (c.in-Err.ensures.reading scan is t) in
+    let found = project_reading scan (g.T.Tree.file c.args.tree.now) (g.T.Tree.listed c.args.tree.now) (wish_of c.args.job) in
+    let led : LeadsTo found (Err c.in-Err.stop) = subst (λ (wish : Wish). LeadsTo (project_reading scan (g.T.Tree.file c.args.tree.now) (g.T.Tree.listed c.args.tree.now) wish) (Err c.in-Err.stop)) c.wish_of-wish.ensures (c.in-Err.ensures.reading scan is t) in
     acts_idle
     (of_each g.D.Disk.tells g.P.Procs.tells g.O.Sink.tells g.R.Reports.tells)
     (of_each (c.args.disk.now ≡ c.args.disk.now) (c.args.procs.now ≡ c.args.procs.now) (c.say_stop.new.out ≡ c.args.out.now) (c.args.reports.now ≡ c.args.reports.now))

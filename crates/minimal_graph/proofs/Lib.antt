@@ -1,0 +1,4 @@
+-- Lemmas of this crate.
+mod Restricting
+mod NeededParts
+mod Places

@@ -1,0 +1,7 @@
+-- The definitions of this crate.
+pub mod Names
+pub mod MinimalSet
+pub mod Suppliers
+pub mod Taking
+pub mod Sources
+pub mod Needing

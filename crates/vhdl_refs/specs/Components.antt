@@ -1,0 +1,45 @@
+-- The components that a design unit declares, or instantiates by that word (IEEE Std 1076-2008, clauses 6.8 and 11.7): the
+-- NAME after each `component`. After `end` the word says what ends.
+use Rattle.std.specs.Prelude.{◌≡◌, ℕ, ◌+◌, ◌<◌, ◌≤◌, ◌&&◌, not, Bool, true, false, List, map}
+use Rattle.vr_base.specs.declared.design.Role.{Role}
+use Rattle.vr_base.specs.declared.design.Role.TheVariants.{Component, End}
+use Rattle.vr_base.specs.declared.design.Unit.{Unit as DesignUnit}
+use Rattle.vr_base.specs.declared.lexical.Token.{Token}
+use Rattle.scan_spec.specs.References.{is_name, places, role_before}
+use Rattle.scan_spec.specs.Units.{name_of, role_at, roles_of}
+
+abbrev pub is_component_word : Role → Bool
+is_component_word Component = true
+is_component_word _ = false
+
+abbrev pub is_end_word : Role → Bool
+is_end_word End = true
+is_end_word _ = false
+
+-- `component` NAME, and no `end` before them
+abbrev pub is_component : List Role → ℕ → Bool
+is_component roles at = is_component_word (role_at roles at) && is_name (role_at roles (at + 1)) && not (is_end_word (role_before roles at))
+
+-- the token number of the NAME
+abbrev pub name_place : ℕ → ℕ
+name_place at = at + 1
+
+-- the token numbers of the names of those from one token up to another, rising
+abbrev pub components_between : List Role → ℕ → ℕ → List ℕ
+components_between roles start end = map name_place (places (is_component roles) start end)
+
+-- the names of the components of a unit, in order
+abbrev pub component_names : List ℕ → List Token → DesignUnit → List (List ℕ)
+component_names text tokens unit = map (name_of text tokens) (components_between (roles_of text tokens) unit.lead unit.last)
+
+-- ## What a walk passes over
+
+-- no token from one up to another is `component`
+abbrev pub HasNoComponent : List Role → ℕ → ℕ → Type 0
+HasNoComponent roles from end = (at : ℕ) → from ≤ at → at < end → is_component_word (role_at roles at) ≡ false
+
+-- a walk that goes up to a place at most has passed over tokens that aren't `component`
+pub record HasPassedWords (roles : List Role) (from end at : ℕ) : Type 0 where
+  pub reaches : from ≤ at
+  pub within : at ≤ end
+  pub none : HasNoComponent roles from at
