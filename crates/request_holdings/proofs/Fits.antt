@@ -51,6 +51,19 @@ module _ (shelf : RequestShelf) (once : AllPairs (λ a b. a ≢ b) shelf.product
   seated_is : (at : ℕ) (built : IsBuiltAt shelf graph seats at) → seated_product seats at ≡ Some built.seat.product
   seated_is at built = ap (λ (o : Option Seat). option_map (λ s. s.product) o) built.found
 
+  pub seated_there : (at : ℕ) → HasLatest (λ name. latest_request name shelf.records) graph at → seated_product seats at ≢ None
+  seated_there at has e = none-some (built_at at has).seat.product (sym e ∙ seated_is at (built_at at has))
+
+  pub seated_low : (numbers deps : List ℕ) → All (HasLatest (λ name. latest_request name shelf.records) graph) deps → map (λ n. Some n) numbers ≡ map (seated_product seats) deps → All (λ n. n < length shelf.products) numbers
+  seated_low numbers deps built e k d l =
+      let size : length numbers ≡ length deps = sym (length-map numbers (λ (n : ℕ). Some n)) ∙ ap length e ∙ length-map deps (seated_product seats) in
+      let b : k < length deps = omega (arith, l, size) in
+      let at = built_at (get_or deps k 0) (built k 0 b) in
+      let same : Some (get_or numbers k d) ≡ Some at.seat.product =
+      sym (get_or-map (λ (n : ℕ). Some n) numbers k d None l) ∙ ap (λ (os : List (Option ℕ)). get_or os k None) e ∙ get_or-map (seated_product seats) deps k 0 None b ∙ seated_is (get_or deps k 0) at in
+      let is : get_or numbers k d ≡ at.seat.product = same_Some _ _ same in
+      omega (arith, is, at.low)
+
   module _ (numbers deps : List ℕ) (there : All (λ n. n < length shelf.products) numbers) (built : All (HasLatest (λ name. latest_request name shelf.records) graph) deps) where
     pub below_to : map (λ n. Some n) numbers ≡ map (seated_product seats) deps → map (product_at shelf.products) numbers ≡ map (latest_built (λ name. latest_request name shelf.records) graph) deps
     below_to e =

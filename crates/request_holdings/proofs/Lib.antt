@@ -4,3 +4,4 @@ pub mod Fits
 pub mod Here
 pub mod Longer
 pub mod Adding
+pub mod Asked

@@ -1,13 +1,21 @@
 -- What one more payload adds.
-use Rattle.std.specs.Prelude.{◌≡◌, ℕ, List, [], Some}
+use Rattle.std.specs.Prelude.{◌≡◌, ℕ, ◌<◌, ◌≤◌, ◌^◌, IfSome, List, [], length, map, All, slice_get, Option, Some}
+use Rattle.vr_base.specs.Names.{FitsCommand, FitsName}
+use Rattle.vr_base.specs.declared.limits.TheConstants.{ARTEFACT_LIMIT, FILE_LIMIT, TEXT_LIMIT}
+use Rattle.vr_outside.specs.Records.{deps_at}
+use Rattle.numbering.specs.Numbers.{IsPlaceOf}
 use Rattle.vr_base.specs.declared.file.FileName.{FileName}
 use Rattle.vr_base.specs.declared.graph.Entry.{Entry}
-use Rattle.request_codec.specs.Forms.{request_payload_in}
+use Rattle.request_codec.specs.Forms.{RequestDraft, request_payload_in}
+use Rattle.request_codec.specs.Requests.{asked_of, latest_request}
+use Rattle.request_codec.specs.Writing.{ref_or}
 use Rattle.request_codec.specs.Forms.RequestPayload.{OfRequest}
 use Rattle.request_codec.specs.Ranges.{request_in_ranges}
-use Rattle.request_codec.specs.Shelves.{IsRequest, request_shelf_of}
-use Rattle.request_shelf.specs.Checked.{AreTextNumbers, IsNameNumber}
+use Rattle.request_codec.specs.Shelves.{IsRequest, RequestShelf, drafted_record, product_at, request_shelf_of, with_text}
+use Rattle.request_shelf.specs.Checked.{AreTextNumbers, IsNameNumber, ref_number}
 use Rattle.request_holdings.specs.declared.additions.RequestAddition.{RequestAddition}
+use Rattle.request_holdings.specs.declared.asking.TextRefs.{TextRefs}
+use Rattle.request_holdings.specs.Seated.{HasLatest, latest_built}
 
 abbrev pub no_entry : Entry
 no_entry = record { name = record { library = []; path = [] }; command = []; text = []; deps = [] }
@@ -22,3 +30,34 @@ pub record AddsRequest (payloads : List (List ℕ)) (names : List FileName) (pie
   pub request : IsRequest (request_shelf_of payloads) (request_in_ranges piece addition.draft)
   pub name : IsNameNumber names (request_in_ranges piece addition.draft).name addition.name
   pub numbers : AreTextNumbers (request_shelf_of payloads).texts (request_in_ranges piece addition.draft) addition.numbers
+
+-- a file as a record, by the numbers of its texts, where they have one, and of the products that it depends on
+abbrev pub asked_draft : Entry → Option ℕ → List ℕ → Option ℕ → List ℕ → RequestDraft
+asked_draft entry source deps known artefact = record { name = entry.name; command = entry.command; source = ref_or source entry.text; deps = deps; artefact = ref_or known artefact }
+
+-- The numbers of a text and of an artefact among texts, where they have one, and those that they will have.
+pub record AreRefs (texts : List (List ℕ)) (text artefact : List ℕ) (refs : TextRefs) : Type 0 where
+  pub source : IsPlaceOf texts text refs.source
+  pub known : IsPlaceOf (with_text texts (ref_or refs.source text)) artefact refs.known
+  pub source_fits : IfSome refs.source (λ n. n < 2 ^ 64)
+  pub known_fits : IfSome refs.known (λ n. n < 2 ^ 64)
+  pub text_is : refs.numbers.text ≡ ref_number texts (ref_or refs.source text)
+  pub artefact_is : refs.numbers.artefact ≡ ref_number (with_text texts (ref_or refs.source text)) (ref_or refs.known artefact)
+
+-- The sizes of what is spelled of a file.
+pub record HasAskedSizes (entry : Entry) (deps artefact : List ℕ) : Type 0 where
+  pub name : FitsName entry.name
+  pub command : FitsCommand entry.command
+  pub text : length entry.text ≤ TEXT_LIMIT
+  pub few : length deps < FILE_LIMIT
+  pub small : length artefact ≤ ARTEFACT_LIMIT
+
+-- the payload adds a record of what would be asked for a file now, with an artefact
+abbrev pub AddsAsked : RequestShelf → List Entry → ℕ → List ℕ → List ℕ → RequestAddition → Type 0
+AddsAsked shelf graph at artefact piece addition = (entry : Entry) → slice_get graph at ≡ Some entry → drafted_record shelf (request_in_ranges piece addition.draft) ≡ record { asked = asked_of entry (map (latest_built (λ name. latest_request name shelf.records) graph) entry.deps); artefact = artefact }
+
+-- Numbers are those of the products that the latest records of the files that a file depends on built.
+pub record AreDeps (shelf : RequestShelf) (graph : List Entry) (at : ℕ) (deps : List ℕ) : Type 0 where
+  pub there : All (λ dep. dep < length shelf.products) deps
+  pub built : map (product_at shelf.products) deps ≡ map (latest_built (λ name. latest_request name shelf.records) graph) (deps_at graph at)
+  pub latest : All (HasLatest (λ name. latest_request name shelf.records) graph) (deps_at graph at)

@@ -8,6 +8,7 @@ ghost use Rattle.request_holdings.specs.Held.{IsHeld};
 use gate_journal::Ready;
 use request_codec::RequestRanges;
 use request_shelf::{HeldPayloads, PlacedShelf, TextNumbers, put_request};
+use vr_base::Text;
 
 /// A record: the position of its file in the graph that it was prepared for, its parts in its payload, and the numbers of its
 /// name and its texts.
@@ -17,6 +18,13 @@ pub struct RequestAddition {
     pub draft: RequestRanges,
     pub name: usize,
     pub numbers: TextNumbers,
+}
+
+/// A payload that is ready to be added, and what it adds.
+#[derive(Drop)]
+pub struct NextRequest {
+    pub bytes: Text,
+    pub addition: RequestAddition,
 }
 
 /// Puts the payload of a record at the end, with what it stands for. It takes no memory.

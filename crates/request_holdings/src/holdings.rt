@@ -1,22 +1,26 @@
 //! Payloads, and the texts, products and records that they stand for.
 
-ghost use Rattle.std.specs.Prelude.{◌≡◌, ◌↔◌, ◌<◌, ◌≤◌, ◌^◌, ◌++◌, ◌∷◌, [], List, Some, length, slice_get, slice_index_or, IsTrue, IfOk, OnOk, option_map};
+ghost use Rattle.std.specs.Prelude.{◌≡◌, All, ◌↔◌, ◌<◌, ◌≤◌, ◌^◌, ◌++◌, ◌∷◌, [], List, Some, length, slice_get, slice_index_or, IsTrue, IfOk, OnOk, option_map};
 ghost use Rattle.vr_base.specs.declared.graph.Entry.{Entry};
+ghost use Rattle.vr_base.specs.declared.limits.TheConstants.{ARTEFACT_LIMIT};
 ghost use Rattle.request_codec.specs.Requests.{RequestRecord};
+ghost use Rattle.request_shelf.specs.Checked.{IsNameNumber};
 ghost use Rattle.request_codec.specs.Shelves.{request_shelf_of};
-ghost use Rattle.request_holdings.specs.Seated.{AreSeats, FitsLatest, IsSeat};
+ghost use Rattle.request_holdings.specs.Seated.{AreSeats, FitsLatest, HasLatest, IsSeat};
 ghost use Rattle.vr_base.specs.Graphs.{IsGraph};
-ghost use Rattle.request_holdings.specs.Additions.{AddsRequest, added_name, no_entry};
+ghost use Rattle.vr_outside.specs.Records.{deps_at};
+ghost use Rattle.request_holdings.specs.Additions.{AddsAsked, AddsRequest, AreDeps, added_name, no_entry};
 ghost use Rattle.request_holdings.specs.Held.{IsLatestRow, latest_held};
 
 use crate::additions::put_held;
+use crate::asking::{asked_payload, seated_products, spelled_ranges, text_refs};
 use crate::fitting::is_asked;
-use crate::{RequestAddition, Seat, Seats};
+use crate::{NextRequest, RequestAddition, Seat, Seats};
 use gate_journal::{Payloads, Ready};
-use request_shelf::{HeldPayloads, PlacedShelf, taken_up, text_at};
+use request_shelf::{HeldPayloads, PlacedShelf, number_name, taken_up, text_at};
 use std::alloc::Global;
 use std::marker::Model;
-use vr_base::{FileName, Graph, NoMemory};
+use vr_base::{FileName, Graph, Items, NoMemory, Text};
 
 /// Payloads, in order, with what they stand for. Contracts see the payloads, the names that are numbered, and for how many more
 /// payloads there is room.
@@ -136,13 +140,99 @@ impl RequestHoldings {
     }
 
     /// Makes room for one more payload. What is held is unchanged.
-    pub fn reserve(&mut self) -> Result<(), NoMemory>
+    fn reserve(&mut self) -> Result<(), NoMemory>
         ensures payloads { self.new.payloads ≡ self.old.payloads }
         ensures names { self.new.names ≡ self.old.names }
         ensures room { OnOk result (0 < self.new.room) }
     {
         self.held.reserve()?;
         self.shelf.reserve()
+    }
+
+    /// The number of a name, which is added where it has none. The payloads are unchanged.
+    fn number_of_name(&mut self, name: FileName) -> Result<usize, NoMemory>
+        ensures payloads { self.new.payloads ≡ self.old.payloads }
+        ensures named { IfOk result (IsNameNumber self.new.names name) }
+    {
+        number_name(&mut self.shelf, name)
+    }
+
+    /// The payload of what would be asked for a file now, with what the compiler gave for it, by the number of its name and
+    /// the products of the files that it depends on.
+    fn next_request(
+        &self,
+        alloc: Global,
+        graph: &Graph,
+        at: u32,
+        name: usize,
+        deps: &Items<usize>,
+        artefact: &Text,
+    ) -> Result<NextRequest, NoMemory>
+        requires at { at < length graph.now }
+        requires name { IsNameNumber self.now.names (slice_index_or graph.now at no_entry).name name }
+        requires artefact { length artefact.now ≤ ARTEFACT_LIMIT }
+        requires deps { AreDeps (request_shelf_of self.now.payloads) graph.now at deps.now }
+        ensures adds { IfOk result
+            (λ next. AddsRequest self.now.payloads self.now.names next.bytes next.addition) }
+        ensures is { IfOk result
+            (λ next.
+            AddsAsked (request_shelf_of self.now.payloads) graph.now at artefact.now next.bytes
+            next.addition) }
+        ensures at { IfOk result (λ next. next.addition.at ≡ at) }
+        ensures small { IfOk result (λ next. length next.bytes < 2 ^ 32) }
+    {
+        let entry = graph.get(at as u64);
+        let refs = text_refs(
+            &self.held,
+            &self.shelf.texts,
+            entry.text.bytes(),
+            artefact.bytes(),
+        );
+        let bytes = asked_payload(alloc, entry, refs, deps.as_slice(), artefact.bytes())?;
+        let draft = spelled_ranges(bytes.bytes());
+        Ok(NextRequest {
+            bytes,
+            addition: RequestAddition {
+                at,
+                draft,
+                name,
+                numbers: refs.numbers,
+            },
+        })
+    }
+
+    /// The payload of what would be asked for a file now, with what the compiler gave for it, and with room for it. What the
+    /// payloads stand for is unchanged.
+    pub fn prepare(
+        &mut self,
+        alloc: Global,
+        seats: &Seats,
+        graph: &Graph,
+        at: u32,
+        artefact: &Text,
+    ) -> Result<NextRequest, NoMemory>
+        requires at { at < length graph.now }
+        requires artefact { length artefact.now ≤ ARTEFACT_LIMIT }
+        requires seats { AreSeats (request_shelf_of self.old.payloads) graph.now seats.now }
+        requires built { All (HasLatest (latest_held self.old.payloads) graph.now)
+            (deps_at graph.now at) }
+        ensures payloads { self.new.payloads ≡ self.old.payloads }
+        ensures room { OnOk result (0 < self.new.room) }
+        ensures adds { IfOk result
+            (λ next. AddsRequest self.new.payloads self.new.names next.bytes next.addition) }
+        ensures is { IfOk result
+            (λ next.
+            AddsAsked (request_shelf_of self.old.payloads) graph.now at artefact.now next.bytes
+            next.addition) }
+        ensures at { IfOk result (λ next. next.addition.at ≡ at) }
+        ensures small { IfOk result (λ next. length next.bytes < 2 ^ 32) }
+    {
+        let entry = graph.get(at as u64);
+        let deps = seated_products(alloc, seats, entry.deps.as_slice())?;
+        let copied = entry.name.copy(alloc)?;
+        let name = self.number_of_name(copied)?;
+        self.reserve()?;
+        self.next_request(alloc, graph, at, name, &deps, artefact)
     }
 
     /// Adds a payload that was prepared, at the end, and seats its record in the place of the one before. It takes no memory.

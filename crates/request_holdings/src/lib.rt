@@ -3,10 +3,11 @@
 #![tactic(auto)]
 
 mod additions;
+mod asking;
 mod fitting;
 mod holdings;
 mod seats;
 
-pub use additions::RequestAddition;
+pub use additions::{NextRequest, RequestAddition};
 pub use holdings::RequestHoldings;
 pub use seats::{Seat, Seats};
