@@ -5,7 +5,7 @@ use record_codec::read_record;
 use request_holdings::RequestHoldings;
 use std::alloc::Global;
 use std::test::Fail;
-use vr_base::{Graph, NoMemory};
+use vr_base::{Graph, NoMemory, Text};
 use vr_outside::Record;
 
 /// The graph of `a.vhd` and of `b.vhd` over it, both of `lib`, with the words `cc` and the text `x`, as a record of a view;
@@ -92,6 +92,38 @@ fn seen(
 ) -> Result<[u8; 4], Fail> {
     let graph = graph(alloc, place, letter)?;
     Ok(seen_after(alloc, second, third, &A, &graph)?)
+}
+
+/// The payload that is prepared for the second file after two payloads, if that fits.
+fn prepared(alloc: Global, graph: &Graph, letter: u8) -> Result<Option<Text>, NoMemory> {
+    let mut held = RequestHoldings::of(alloc, opened(alloc, &A, &B, &[])?)?;
+    if graph.len() != 2 {
+        return Ok(None);
+    }
+    let seats = held.seats(alloc, graph)?;
+    if !held.fits(&seats, graph, 1) {
+        return Ok(None);
+    }
+    let artefact = Text::from_slice(alloc, &[letter])?;
+    let next = held.prepare(alloc, &seats, graph, 1, &artefact)?;
+    Ok(Some(next.bytes))
+}
+
+/// Whether it has these bytes.
+fn is_prepared(alloc: Global, letter: u8, bytes: &[u8]) -> Result<bool, Fail> {
+    let graph = graph(alloc, FIRST_TEXT, b'x')?;
+    let Some(payload) = prepared(alloc, &graph, letter)? else {
+        return Ok(false);
+    };
+    Ok(payload.bytes() == bytes)
+}
+
+#[test]
+fn what_is_prepared_has_known_parts_by_number(rt: HostRuntime) -> Result<(), Fail> {
+    let mut next = B;
+    next[53] = b'v';
+    assert!(rt; is_prepared(rt.alloc(), b'v', &next)?);
+    Ok(())
 }
 
 #[test]
