@@ -51,7 +51,7 @@ write("small", {"odd.vhd": "entity odd is end; -- changed\n"})
 expect("what no test needs stays out of date", "small", 0, "Re-compile not needed\n", "--compile", "-m")
 expect("until all is built", "small", 0, compiled(["lib, odd.vhd"]), "--compile")
 write("small", {"odd.vhd": "foo"})
-expect("what is wrong with it is said", "small", 1, "vunit_run: lib, odd.vhd: no design unit at 0\n", "-f", "-m")
+expect("what is wrong with it is said", "small", 1, "vunit_run: lib, odd.vhd: no design unit at 0\n", "-f", "-m", error="odd.vhd:1:1: lib, odd.vhd: no design unit at 0\n")
 
 # In a listed project a file needs all before it.
 project("in_order", {
@@ -120,7 +120,7 @@ def generated(chance):
     return files, needs, tests
 
 
-for seed in range(60):
+for seed in range(400):
     chance = random.Random(seed)
     files, needs, tests = generated(chance)
     project("random", {"vunit.toml": toml({"a": ["a_*.vhd"], "b": ["b_*.vhd"]}), **{name.split(", ")[1]: text for name, text in files.items()}})

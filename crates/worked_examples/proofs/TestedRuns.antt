@@ -1,5 +1,5 @@
 -- The examples of "Runs of tests", by computation.
-use Rattle.std.proofs.Common.{[], codes, refl, ◌∷◌}
+use Rattle.std.proofs.Common.{refl}
 use Rattle.std.specs.Fmt.{digits}
 use Rattle.vr_base.specs.Bytes.{text_bytes}
 use Rattle.vr_base.specs.Jobs.{all_built_bytes, built_bytes, compile_input, name_bytes}
@@ -11,7 +11,7 @@ use Rattle.run_spec.specs.CleanBuild.{results_after}
 use Rattle.run_spec.specs.Marks.{refused_files}
 use Rattle.run_spec.specs.Moves.{LawfulMoves, after_move, first_from, has_ended_well, is_startable, next_start}
 use Rattle.test_select.specs.Fits.{fits_pieces}
-use Rattle.test_select.specs.Patterns.{before_closing, first_piece, opened_set, pieces_after, pieces_of, ranges_of, set_after, set_length}
+use Rattle.test_select.specs.Patterns.{before_closing, first_piece, opened_set, pieces_after, ranges_of, set_after, set_length}
 use Rattle.test_spec.specs.BenchJobs.{bench_input, texts_bytes}
 use Rattle.test_spec.specs.Configuration.{configuration, pairs_of}
 use Rattle.test_spec.specs.Runs.{escaped_byte, output_path, results_path, run_name}
