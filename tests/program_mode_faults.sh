@@ -102,6 +102,7 @@ def all_fail(mode, text, report, builds, what, calls, error, paths, call):
             fail(name, f"then {started_in('requests')} were started, and not {stale}")
 
 
+left()  # (a shell may leave a child of its own, which hands on this text)
 project("project", FILES)
 expect("a first build", "project", 0, build_text(ALL), "--compile")
 shutil.copytree("project", "built")

@@ -62,6 +62,7 @@ def all_fail(what, calls, error, said, paths=(), slots=1, base="built", first=1,
         fail(name, f"there are only {number} such calls")
 
 
+left()  # (a shell may leave a child of its own, which hands on this text)
 calls = "".join(f'x{at} <= run("{case}");\n' for at, case in enumerate(CASES))
 project("built", {"vunit.toml": toml({"lib": ["t.vhd"]}, more=f"simulator = {json.dumps(SIMULATOR)}\n"),
                   "t.vhd": f"entity t is generic (runner_cfg : string); end;\narchitecture a of t is begin\n{calls}end;\n"})
@@ -77,7 +78,8 @@ for slots in 1, 3:
     all_fail("start", "clone,?clone3,?vfork", "EAGAIN", "start", slots=slots, least=3)
     all_fail("start", "pipe2", "EMFILE", "start", slots=slots, least=6)
     all_fail("child", "wait4", "ECHILD", "wait", slots=slots, least=3)
-    all_fail("child", "poll", "ENOMEM", "poll", slots=slots, least=3)
+    # (how often it is asked for children at once depends on which of them have ended)
+    all_fail("child", "poll", "ENOMEM", "poll", slots=slots, least=3 if slots == 1 else 1)
     all_fail("child", "?open,openat", "EIO", "open", [path + "/vunit_results" for path in RUNS], slots, least=3)
     all_fail("child", "read", "EIO", "read", [path + "/vunit_results" for path in RUNS], slots, least=3)
 all_fail("report", "?mkdir,mkdirat", "EIO", "make its folder", ["new"])
