@@ -4,8 +4,9 @@
 . "$TOP/tests/support/needs.sh"
 needs python3
 PYTHONPATH=$TOP/tests/support exec python3 -B - <<'END'
-import random
+import os, random
 
+from growth import grows
 from trial import end, expect, fail, project, run, toml, write
 
 
@@ -61,6 +62,54 @@ project("in_order", {
     "tb.vhd": bench("tb"),
 })
 expect("all before a test", "in_order", 0, listed(["lib, odd.vhd", "lib, tb.vhd"]), "-f", "-m")
+
+# There several entities may have one name: a component may be bound to each, so all before the last are needed.
+project("of_one_name", {
+    "vunit.csv": "".join(f"lib,{name}.vhd\n" for name in ("a", "tb", "b", "odd", "c", "last")),
+    "a.vhd": "entity leaf is end;\n",
+    "b.vhd": "entity leaf is end;\n",
+    "c.vhd": "entity LEAF is end;\n",
+    "last.vhd": "entity leaves is end;\n",
+    "odd.vhd": "entity odd is end;\n",
+    "tb.vhd": bench("tb", component("leaf")),
+})
+expect("entities of one name", "of_one_name", 0, listed([f"lib, {name}.vhd" for name in ("a", "tb", "b", "odd", "c")]), "-f", "-m")
+
+# What is wrong with files that no test needs is said; a component without a name is none.
+project("wrong", {"vunit.toml": toml({"lib": ["*.vhd"]}), "tb.vhd": bench("tb", "component is end component;\ncomponent end component;\n"), "is.vhd": "entity \\is\\ is end;\n"})
+expect("components without names", "wrong", 0, listed(["lib, tb.vhd"]), "-f", "-m")
+write("wrong", {"p.vhd": "use work.q.all;\npackage p is end;\n", "q.vhd": "use work.p.all;\npackage q is end;\n"})
+for words in ["-f"], ["--compile"], []:
+    expect("files in a circle", "wrong", 1, "vunit_run: cycle\n  lib, p.vhd\n  lib, q.vhd\n", *words, "-m")
+os.remove("wrong/q.vhd")
+write("wrong", {"p.vhd": "entity p is end;\narchitecture a of p is begin u : entity work.gone; end;\n"})
+for words in ["-f"], ["--compile"], []:
+    expect("a missing unit", "wrong", 1, "vunit_run: lib, p.vhd: no unit lib.gone\n", *words, "-m")
+
+# As many cases as may be, and one more.
+for count, status, text in (65536, 0, listed(["lib, tb.vhd"])), (65537, 5, "vunit_run: over limit: tests 65536\n"):
+    calls = "".join(f'if run("{at}") then end if;\n' for at in range(count))
+    project("cases", {"vunit.toml": toml({"lib": ["*.vhd"]}),
+                      "tb.vhd": f"entity tb is generic (runner_cfg : string); end;\narchitecture a of tb is begin\np : process begin\n{calls}end process;\nend;\n"})
+    expect(f"{count} cases", "cases", status, text, "-f", "-m")
+
+
+def named(at):
+    return "e" + "".join("0123456789abcdefghijklmnopqrstuvwxyz"[at // step % 36] for step in (1296, 36, 1))
+
+
+def bound(count, others):
+    """So many files, each with an entity whose architecture has components of so many others, the next ones; the first is a bench."""
+    files = {"vunit.toml": toml({"lib": ["*.vhd"]})}
+    for at in range(count):
+        body = "".join(f"l:component {named((at + other + 1) % count)};\n" for other in range(others))
+        generic, call = ("generic (runner_cfg : string); ", 'p:process begin if run("x") then end if; end process;\n') if at == 0 else ("", "")
+        files[f"{named(at)}.vhd"] = f"entity {named(at)} is {generic}end;\narchitecture a of {named(at)} is begin\n{call}{body}end;\n"
+    return files, 0, listed([f"lib, {named(at)}.vhd" for at in range(count)]), ""
+
+
+grows("files that all bind each other", lambda count: bound(count, count - 1), (750, 1500), "-f", "-m")
+grows("files that each bind 800 others", lambda count: bound(count, 800), (1024, 4096), "-f", "-m")
 
 
 def generated(chance):

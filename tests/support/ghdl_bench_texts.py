@@ -130,3 +130,14 @@ EXTENDED = [("lib", "src/p €/\"q\".vhd", "package p is\n  constant seven : int
             ("lib", "src/a.vhd", "entity \\a \"b\"\\\\c\\ is\n  port (q : out integer);\nend;\n"),
             ("lib", "src/b.vhd", "architecture \\of\\ of \\a \"b\"\\\\c\\ is\nbegin\n  q <= work.p.seven;\nend;\n"),
             ("tb_lib", "täst/tb.vhd", EXTENDED_BENCH)]
+
+# A bench with a component that is bound by default, the files that it needs in compile order; and one that GHDL refuses.
+BOUND = {
+    "leaf.vhd": "entity leaf is port (value : out integer); end;\n",
+    "numbers.vhd": "package numbers is constant seven : integer := 7; end;\n",
+    "leaf_rtl.vhd": "architecture rtl of leaf is begin value <= work.numbers.seven; end;\n",
+    "tb.vhd": bench(loop_of([("sees seven", "wait for 1 ns; check_equal(value, 7);")]),
+                    declarations="  component leaf is port (value : out integer); end component;\n  signal value : integer := 0;",
+                    concurrent="  bound : leaf port map (value => value);"),
+}
+UNBOUND = "entity other is port (value : out nothing_of_that_name); end;\n"

@@ -81,6 +81,11 @@ project("extended", {"vunit.toml": with_ghdl({"lib": ["src/**/*.vhd"], "tb_lib":
 check("extended names", "extended", [f"{library}: {path}" for library, path, _ in texts.EXTENDED],
       [("tb_lib.\\TB -x\\", "all", "p", "")])
 
+# A component that is bound by default: with `-m` its entity is compiled, and the architecture of this with what it uses; a file
+# that no test needs, and that GHDL would refuse, isn't.
+project("bound", {"vunit.toml": with_ghdl({"tb_lib": ["*.vhd"]}), "other.vhd": texts.UNBOUND, **texts.BOUND})
+check("bound by default", "bound", [f"tb_lib: {path}" for path in texts.BOUND], [("tb_lib.tb", "sees seven", "p", "")], "-m")
+
 # Each check of the library: those that pass in one simulation, and each that fails in one of its own.
 checks = list(ghdl_check_texts.passing_and_failing())
 
