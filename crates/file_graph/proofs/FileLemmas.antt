@@ -72,7 +72,7 @@ scopes_are position (file ∷ files) (text ∷ texts) (scan ∷ scans) =
     ∙ (ap (λ (some : List ScopeUnit). some ++ map (λ other. other.scope) (link_units (suc position) files texts scans)) (scopes_of_file position file text scan scan.units)
     ∙ ap (λ (some : List ScopeUnit). map (scope_unit file.name.library text scan) scan.units ++ some) (scopes_are (suc position) files texts scans))
 
-pub stand_all : (files : List ProjectFile) (texts : List (List ℕ)) (scans : List Scan) (tables : Tables) (at : ℕ) (file : ProjectFile) (text : List ℕ) (scan : Scan) → AreVisible files texts scans tables.sets → slice_get files at ≡ Some file → slice_get texts at ≡ Some text → slice_get scans at ≡ Some scan → StandAll (link_units 0 files texts scans) tables at file text scan
+pub stand_all : (files : List ProjectFile) (texts : List (List ℕ)) (scans : List Scan) (tables : Tables) (at : ℕ) (file : ProjectFile) (text : List ℕ) (scan : Scan) → AreVisible files texts scans tables.sets.now → slice_get files at ≡ Some file → slice_get texts at ≡ Some text → slice_get scans at ≡ Some scan → StandAll (link_units 0 files texts scans) tables at file text scan
 stand_all files texts scans tables at file text scan seen is_file is_text is_scan number design got =
     let id : UnitId = record { file = at; unit = number } in
     let user : ScopeUnit = scope_unit file.name.library text scan design in

@@ -36,22 +36,22 @@ second_true true true told is = refl
 second_true true false told is = let never : ⊥ = cc in absurd never
 second_true false b told is = let never : ⊥ = cc in absurd never
 
-pub inside_seen : (tables : Tables) (id : UnitId) (own named : List ℕ) → is_inside tables id own named ≡ true → table_sees tables.sets id named ≡ true
-inside_seen tables id own named is = first_true (table_sees tables.sets id named) (stands_outside tables.libraries (named_library own named)) is
+pub inside_seen : (tables : Tables) (id : UnitId) (own named : List ℕ) → is_inside tables id own named ≡ true → table_sees tables.sets.now id named ≡ true
+inside_seen tables id own named is = first_true (table_sees tables.sets.now id named) (stands_outside tables.libraries (named_library own named)) is
 
 pub inside_looked : (tables : Tables) (id : UnitId) (own named : List ℕ) → is_inside tables id own named ≡ true → stands_outside tables.libraries (named_library own named) ≡ false
-inside_looked tables id own named is = second_false (table_sees tables.sets id named) (stands_outside tables.libraries (named_library own named)) is
+inside_looked tables id own named is = second_false (table_sees tables.sets.now id named) (stands_outside tables.libraries (named_library own named)) is
 
 module _ (project : Project) (units : List LinkUnit) (unit : LinkUnit) (ref : Ref) (tables : Tables) (id : UnitId) (file : FileName) (known : Knows project units tables) (stands : Stands units tables id file unit) (row : PositionSet) where
   abbrev library : List ℕ
   library = named_library file.library ref.library
 
   pub linked_outside : is_inside tables id file.library ref.library ≡ false → (missing_of project units unit ref ≡ None) × HasAdded (stands_at (names_unit project units unit ref) units) row row
-  linked_outside outside = by_sees (table_sees tables.sets id ref.library) refl where
-    by_sees : (b : Bool) → table_sees tables.sets id ref.library ≡ b → (missing_of project units unit ref ≡ None) × HasAdded (stands_at (names_unit project units unit ref) units) row row
+  linked_outside outside = by_sees (table_sees tables.sets.now id ref.library) refl where
+    by_sees : (b : Bool) → table_sees tables.sets.now id ref.library ≡ b → (missing_of project units unit ref ≡ None) × HasAdded (stands_at (names_unit project units unit ref) units) row row
     by_sees false told = linked_unseen project units unit ref tables id file stands row told
     by_sees true told =
-        let is : is_external project library ≡ true = external_is project tables.libraries library known.libraries (second_true (table_sees tables.sets id ref.library) (stands_outside tables.libraries library) told outside) in
+        let is : is_external project library ≡ true = external_is project tables.libraries library known.libraries (second_true (table_sees tables.sets.now id ref.library) (stands_outside tables.libraries library) told outside) in
         linked_seen project units unit ref tables id file stands {T = ⊤} library row row (Ok tt) told refl (
           none_missing_there project units file library ref is,
           added_none (stands_at (names_in project.bodies units library ref) units) row (λ at. none_named_there project units library ref at known.index.of is),

@@ -45,7 +45,7 @@ module _ (project : Project) (units : List LinkUnit) (unit : LinkUnit) (ref : Re
   names_unseen is at = stands_same (names_unit project units unit ref) (λ other. false) units at (λ other. ap (λ (b : Bool). b && names_in project.bodies units (library_of unit ref) ref other) is) ∙ stands_never units at
 
   module _ (tables : Tables) (id : UnitId) (file : FileName) (stands : Stands units tables id file unit) where
-    pub linked_seen : {T : Type 0} (library : List ℕ) (old new : PositionSet) (result : Result T LinkFault) → table_sees tables.sets id ref.library ≡ true → named_library file.library ref.library ≡ library
+    pub linked_seen : {T : Type 0} (library : List ℕ) (old new : PositionSet) (result : Result T LinkFault) → table_sees tables.sets.now id ref.library ≡ true → named_library file.library ref.library ≡ library
         → GivesOrFaults (missing_in project units file library ref) (λ value. HasAdded (stands_at (names_in project.bodies units library ref) units) old new) result
         → GivesOrFaults (missing_of project units unit ref) (λ value. HasAdded (stands_at (names_unit project units unit ref) units) old new) result
     linked_seen {T} library old new result told means is =
@@ -57,7 +57,7 @@ module _ (project : Project) (units : List LinkUnit) (unit : LinkUnit) (ref : Re
         gives_on (missing_in project units unit.file.name (library_of unit ref) ref) (missing_of project units unit ref) _ _ result (missing_seen seen)
         (λ value added. added_same (stands_at (names_in project.bodies units (library_of unit ref) ref) units) (stands_at (names_unit project units unit ref) units) old new added (λ at. sym (names_seen seen at))) here
 
-    pub linked_unseen : (row : PositionSet) → table_sees tables.sets id ref.library ≡ false → (missing_of project units unit ref ≡ None) × HasAdded (stands_at (names_unit project units unit ref) units) row row
+    pub linked_unseen : (row : PositionSet) → table_sees tables.sets.now id ref.library ≡ false → (missing_of project units unit ref ≡ None) × HasAdded (stands_at (names_unit project units unit ref) units) row row
     linked_unseen row told =
         let unseen : is_seen units unit ref ≡ false = sym (stands.sees ref.library) ∙ told in
         (missing_unseen unseen, added_none (stands_at (names_unit project units unit ref) units) row (names_unseen unseen))

@@ -41,19 +41,19 @@ module _ (project : Project) (units : List LinkUnit) (unit : LinkUnit) (tables :
   abbrev warning : List ℕ → Option Warning
   warning library = if sees (map (λ other. other.scope) units) unit.scope library && has_files project (resolved unit.scope library) then Some (warning_at unit.position (resolved unit.scope library)) else None
 
-  warning_is : (named : List ℕ) → warning named ≡ (if table_sees tables.sets id named && knows tables.libraries.own (named_library file.library named) then Some (warning_at id.file (named_library file.library named)) else None)
+  warning_is : (named : List ℕ) → warning named ≡ (if table_sees tables.sets.now id named && knows tables.libraries.own (named_library file.library named) then Some (warning_at id.file (named_library file.library named)) else None)
   warning_is named =
       let means : resolved unit.scope named ≡ named_library file.library named = ap (λ (own : List ℕ). named_library own named) stands.library in
       ap (λ (b : Bool). if b && has_files project (resolved unit.scope named) then Some (warning_at unit.position (resolved unit.scope named)) else None) (sym (stands.sees named))
-      ∙ (ap (λ (library : List ℕ). if table_sees tables.sets id named && has_files project library then Some (warning_at unit.position library) else None) means
-      ∙ (ap (λ (b : Bool). if table_sees tables.sets id named && b then Some (warning_at unit.position (named_library file.library named)) else None) (sym (known.libraries.own (named_library file.library named)))
-      ∙ ap (λ (at : ℕ). if table_sees tables.sets id named && knows tables.libraries.own (named_library file.library named) then Some (warning_at at (named_library file.library named)) else None) stands.position))
+      ∙ (ap (λ (library : List ℕ). if table_sees tables.sets.now id named && has_files project library then Some (warning_at unit.position library) else None) means
+      ∙ (ap (λ (b : Bool). if table_sees tables.sets.now id named && b then Some (warning_at unit.position (named_library file.library named)) else None) (sym (known.libraries.own (named_library file.library named)))
+      ∙ ap (λ (at : ℕ). if table_sees tables.sets.now id named && knows tables.libraries.own (named_library file.library named) then Some (warning_at at (named_library file.library named)) else None) stands.position))
 
   noted_all : (names : List (List ℕ)) → flat_map (noted tables id file.library) names ≡ filter_map warning names
   noted_all [] = refl
   noted_all (named ∷ names) =
       ap (λ (rest : List Warning). noted tables id file.library named ++ rest) (noted_all names)
-      ∙ (ap (λ (first : List Warning). first ++ filter_map warning names) (one_noted (table_sees tables.sets id named) (knows tables.libraries.own (named_library file.library named)) (warning_at id.file (named_library file.library named)) warning named (warning_is named))
+      ∙ (ap (λ (first : List Warning). first ++ filter_map warning names) (one_noted (table_sees tables.sets.now id named) (knows tables.libraries.own (named_library file.library named)) (warning_at id.file (named_library file.library named)) warning named (warning_is named))
       ∙ sym (filter_map-append warning (named ∷ []) names))
 
   pub noted_is : flat_map (noted tables id file.library) unit.whole ≡ warnings_of project units unit

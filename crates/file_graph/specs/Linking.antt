@@ -41,11 +41,11 @@ abbrev pub noted_where : Bool → Tables → ℕ → List ℕ → List Warning
 noted_where is_seen tables file library = if is_seen then noted_library (knows tables.libraries.own library) file library else []
 
 abbrev pub noted : Tables → UnitId → List ℕ → List ℕ → List Warning
-noted tables id own named = noted_where (table_sees tables.sets id named) tables id.file (named_library own named)
+noted tables id own named = noted_where (table_sees tables.sets.now id named) tables id.file (named_library own named)
 
 -- a name means a library in a unit that is visible there and looked into
 abbrev pub is_inside : Tables → UnitId → List ℕ → List ℕ → Bool
-is_inside tables id own named = table_sees tables.sets id named && not (stands_outside tables.libraries (named_library own named))
+is_inside tables id own named = table_sees tables.sets.now id named && not (stands_outside tables.libraries (named_library own named))
 
 -- what was looked up last in a unit is so
 abbrev pub IsLooked : Tables → UnitId → List ℕ → Looked → Type 0
@@ -61,7 +61,7 @@ pub record Stands (units : List LinkUnit) (tables : Tables) (id : UnitId) (file 
   pub name : unit.file.name ≡ file
   pub library : unit.scope.library ≡ file.library
   pub position : unit.position ≡ id.file
-  pub sees : (name : List ℕ) → table_sees tables.sets id name ≡ sees (map (λ other. other.scope) units) unit.scope name
+  pub sees : (name : List ℕ) → table_sees tables.sets.now id name ≡ sees (map (λ other. other.scope) units) unit.scope name
 
 -- some reference of a unit names a unit of the file at a position
 abbrev pub refers_from : Project → List LinkUnit → LinkUnit → List Ref → ℕ → Bool

@@ -19,7 +19,7 @@ use crate::pairs::rows_of_pairs;
 use crate::seen::{Tables, no_scratch};
 use crate::units::link_file;
 use file_outlines::{Outlines, outlines_of};
-use name_scope::visible_sets_by_outlines;
+use name_scope::{VisibleLibraries, visible_sets_by_outlines};
 use position_set::PositionSet;
 use std::alloc::Global;
 use vr_base::{Edges, FILE_LIMIT, LinkFault, Linked, Project, Scans, TextList, WarningList};
@@ -40,7 +40,7 @@ fn link_files(
     requires rows { AreRowsOf project.now rows.now }
     requires places { ArePlacesOfFiles (length project.now.files) tables.now.index }
     requires seen { (scans : List Scan) → AreOutlinesOf texts.now scans outlines.now →
-        AreVisible project.now.files texts.now scans tables.now.sets }
+        AreVisible project.now.files texts.now scans tables.now.sets.now }
     requires known { (scans : List Scan) → AreOutlinesOf texts.now scans outlines.now →
         Knows project.now (link_units 0 project.now.files texts.now scans) tables.now }
     ensures { (scans : List Scan) → AreOutlinesOf texts.now scans outlines.now →
@@ -108,9 +108,30 @@ pub fn link_by_outlines(
         GivesLinks (link_of project.now (link_units 0 project.now.files texts.now scans)) result }
     ensures edges { IfOk result (λ linked. AreEdges linked.edges) }
 {
+    let sets = visible_sets_by_outlines(alloc, project, texts, outlines)?;
+    link_by_sets(alloc, project, texts, outlines, &sets)
+}
+
+/// `link_by_outlines` for a caller that has the libraries that each unit sees, which are lent.
+pub fn link_by_sets(
+    alloc: Global,
+    project: &Project,
+    texts: &TextList,
+    outlines: &Outlines,
+    sets: &VisibleLibraries,
+) -> Result<Linked, LinkFault>
+    requires few { length project.now.files ≤ FILE_LIMIT }
+    requires each { length texts.now ≡ length project.now.files }
+    requires small { All IsTextSmall texts.now }
+    requires outlined { AreOutlined texts.now outlines.now }
+    requires seen { (scans : List Scan) → AreOutlinesOf texts.now scans outlines.now →
+        AreVisible project.now.files texts.now scans sets.now }
+    ensures exact { (scans : List Scan) → AreOutlinesOf texts.now scans outlines.now →
+        GivesLinks (link_of project.now (link_units 0 project.now.files texts.now scans)) result }
+    ensures edges { IfOk result (λ linked. AreEdges linked.edges) }
+{
     let index = index_of(alloc, project, &outlines.files)?;
     let libraries = libraries_of(alloc, project)?;
-    let sets = visible_sets_by_outlines(alloc, project, texts, outlines)?;
     let rows = rows_of_pairs(alloc, project)?;
     let tables = Tables {
         index,

@@ -35,10 +35,10 @@ static WORK: [u8; 4] = *b"work";
 
 /// What is known of a project's names: its units, its libraries, and which of these each unit sees.
 #[derive(Drop)]
-pub struct Tables {
+pub struct Tables<'a> {
     pub index: Index,
     pub libraries: Libraries,
-    pub sets: VisibleLibraries,
+    pub sets: &'a VisibleLibraries,
 }
 
 fn is_work(name: &[u8]) -> bool
@@ -74,7 +74,7 @@ pub fn seen_library<'a>(
 
 /// Whether a name means a library in a unit that is visible there and looked into.
 fn is_inside(tables: &Tables, id: UnitId, own: &Text, named: &Text) -> bool
-    requires { id.file < length tables.now.sets.starts }
+    requires { id.file < length tables.now.sets.now.starts }
     ensures { result ≡ is_inside tables.now id own.now named.now }
 {
     tables.sets.sees_library(id, named.bytes())
@@ -92,7 +92,7 @@ pub struct Looked {
 
 /// Looks a name up.
 fn look_up(tables: &Tables, id: UnitId, own: &Text, name: Text) -> Looked
-    requires { id.file < length tables.now.sets.starts }
+    requires { id.file < length tables.now.sets.now.starts }
     ensures known { IsLooked tables.now id own.now result }
     ensures inside { result.inside ≡ is_inside tables.now id own.now name }
 {
@@ -114,7 +114,7 @@ fn look_at(
     token: Token,
     looked: &mut Looked,
 ) -> Result<bool, NoMemory>
-    requires file { id.file < length tables.now.sets.starts }
+    requires file { id.file < length tables.now.sets.now.starts }
     requires lies { LiesIn text.now token }
     requires known { IsLooked tables.now id own.now looked.old }
     ensures known { OnOk result (IsLooked tables.now id own.now looked.new) }
@@ -140,7 +140,7 @@ fn look_named(
     named: &Text,
     looked: &mut Looked,
 ) -> Result<bool, NoMemory>
-    requires file { id.file < length tables.now.sets.starts }
+    requires file { id.file < length tables.now.sets.now.starts }
     ensures known { OnOk result (IsLooked tables.now id own.now looked.new) }
     ensures inside { IfOk result (λ inside. inside ≡ is_inside tables.now id own.now named.now) }
 {
@@ -264,7 +264,7 @@ fn link_own(
     row: &mut PositionSet,
 ) -> Result<(), LinkFault>
     requires places { ArePlacesOfFiles FILE_LIMIT tables.now.index }
-    requires file { id.file < length tables.now.sets.starts }
+    requires file { id.file < length tables.now.sets.now.starts }
     ensures known { OnOk result (IsLooked tables.now id file.now.library scratch.new.looked) }
     ensures links { (units : List LinkUnit) (unit : LinkUnit) → Knows project.now units tables.now →
         Stands units tables.now id file.now unit →
@@ -308,7 +308,7 @@ pub fn link_structural(
     row: &mut PositionSet,
 ) -> Result<(), LinkFault>
     requires places { ArePlacesOfFiles FILE_LIMIT tables.now.index }
-    requires file { id.file < length tables.now.sets.starts }
+    requires file { id.file < length tables.now.sets.now.starts }
     ensures known { OnOk result (IsLooked tables.now id file.now.library scratch.new.looked) }
     ensures links { (units : List LinkUnit) (unit : LinkUnit) →
         Knows project.now units tables.now → Stands units tables.now id file.now unit →
@@ -340,7 +340,7 @@ fn link_named(
     row: &mut PositionSet,
 ) -> Result<(), LinkFault>
     requires places { ArePlacesOfFiles FILE_LIMIT tables.now.index }
-    requires file { id.file < length tables.now.sets.starts }
+    requires file { id.file < length tables.now.sets.now.starts }
     requires lies { NamedLiesIn text.now named.now }
     requires known { IsLooked tables.now id file.now.library scratch.old.looked }
     ensures known { OnOk result (IsLooked tables.now id file.now.library scratch.new.looked) }
@@ -392,7 +392,7 @@ pub fn link_refs(
     row: &mut PositionSet,
 ) -> Result<(), LinkFault>
     requires places { ArePlacesOfFiles FILE_LIMIT tables.now.index }
-    requires file { id.file < length tables.now.sets.starts }
+    requires file { id.file < length tables.now.sets.now.starts }
     requires lie { All (NamedLiesIn text.now) refs.now }
     requires known { IsLooked tables.now id file.now.library scratch.old.looked }
     ensures { (units : List LinkUnit) (unit : LinkUnit) → Knows project.now units tables.now →

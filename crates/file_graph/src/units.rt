@@ -32,7 +32,7 @@ fn link_unit(
     row: &mut PositionSet,
 ) -> Result<(), LinkFault>
     requires places { ArePlacesOfFiles FILE_LIMIT tables.now.index }
-    requires file { id.file < length tables.now.sets.starts }
+    requires file { id.file < length tables.now.sets.now.starts }
     requires lie { MentionsLieIn text.now mentions.now }
     ensures { (units : List LinkUnit) (unit : LinkUnit) →
         Knows project.now units tables.now → Stands units tables.now id file.now unit →
@@ -79,7 +79,7 @@ pub fn link_file(
 ) -> Result<(), LinkFault>
     requires places { ArePlacesOfFiles FILE_LIMIT tables.now.index }
     requires file { file < length project.now.files }
-    requires each { length tables.now.sets.starts ≡ length project.now.files }
+    requires each { length tables.now.sets.now.starts ≡ length project.now.files }
     requires small { length text.now ≤ TEXT_LIMIT }
     requires lies { OutlineLiesIn text.now outline.now }
     ensures { (units : List LinkUnit) (named : ProjectFile) (scan : Scan) →

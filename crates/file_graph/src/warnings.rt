@@ -42,11 +42,11 @@ fn note_name(
     named: &Text,
     warnings: &mut WarningList,
 ) -> Result<(), NoMemory>
-    requires { id.file < length tables.now.sets.starts }
+    requires { id.file < length tables.now.sets.now.starts }
     ensures { OnOk result (warnings.new ≡ warnings.old ++
         noted tables.now id file.now.library named.now) }
 {
-    match seen_library(&tables.sets, id, &file.library, named) {
+    match seen_library(tables.sets, id, &file.library, named) {
         Some(library) => note_library(alloc, &tables.libraries.own, id.file, library, warnings),
         None => Ok(()),
     }
@@ -62,7 +62,7 @@ pub fn note_uses(
     uses: &[Token],
     warnings: &mut WarningList,
 ) -> Result<(), NoMemory>
-    requires file { id.file < length tables.now.sets.starts }
+    requires file { id.file < length tables.now.sets.now.starts }
     requires lie { All (LiesIn text.now) uses.now }
     ensures { OnOk result (warnings.new ≡ warnings.old ++
         flat_map (λ token. noted tables.now id file.now.library (token_name text.now token))

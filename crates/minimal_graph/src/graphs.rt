@@ -7,6 +7,7 @@ ghost use Rattle.vr_base.specs.Projects.{IsProject};
 ghost use Rattle.vr_base.specs.View.{part};
 ghost use Rattle.file_outlines.specs.Outlines.{AreOutlined, AreOutlinesOf};
 ghost use Rattle.minimal_set.specs.MinimalSet.{needed_places, said_of};
+ghost use Rattle.name_scope.specs.Tables.{AreVisible};
 ghost use Rattle.order_spec.specs.BuildOrder.{AreEdges, IsBuildOrder};
 ghost use Rattle.order_spec.specs.LinkedGraph.{FitTexts, linked};
 
@@ -14,6 +15,7 @@ use crate::listed::listed_entries;
 use crate::parts::restrict;
 use file_outlines::Outlines;
 use minimal_set::{minimal, places_in};
+use name_scope::{VisibleLibraries, visible_sets_by_outlines};
 use present_graph::{graph_of_entries, linked_entries};
 use std::alloc::Global;
 use vhdl_benches::Tests;
@@ -25,6 +27,7 @@ fn linked_places(
     project: &Project,
     texts: &TextList,
     outlines: &Outlines,
+    sets: &VisibleLibraries,
     edges: &Edges,
     order: &Order,
     tests: &Tests,
@@ -32,6 +35,8 @@ fn linked_places(
     requires few { length project.now.files ≤ FILE_LIMIT }
     requires texts { FitTexts project.now.files texts.now }
     requires outlined { AreOutlined texts.now outlines.now }
+    requires seen { (scans : List Scan) → AreOutlinesOf texts.now scans outlines.now →
+        AreVisible project.now.files texts.now scans sets.now }
     requires edges { AreEdges edges.now }
     requires as_many { length edges.now ≡ length project.now.files }
     requires order { IsBuildOrder edges.now order.now }
@@ -39,17 +44,18 @@ fn linked_places(
         AreOutlinesOf texts.now scans outlines.now → kept ≡ needed_places
         (said_of project.now texts.now scans (Some edges.now)) tests.now order.now) }
 {
-    let set = minimal(alloc, project, texts, outlines, Some(edges), tests)?;
+    let set = minimal(alloc, project, texts, outlines, sets, Some(edges), tests)?;
     places_in(alloc, order.as_slice(), &set)
 }
 
 /// The graph of the files of a linked project that tests need: their files in the order of all, each with all that it depends
-/// on, directly or not. The texts are moved into the graph.
+/// on, directly or not. The texts are moved into the graph; `sets` has the libraries that their units see.
 pub fn minimal_graph(
     alloc: Global,
     project: &Project,
     texts: TextList,
     outlines: &Outlines,
+    sets: &VisibleLibraries,
     edges: &Edges,
     order: &Order,
     tests: &Tests,
@@ -58,6 +64,8 @@ pub fn minimal_graph(
     requires few { length project.now.files ≤ FILE_LIMIT }
     requires texts { FitTexts project.now.files texts }
     requires outlined { AreOutlined texts outlines.now }
+    requires seen { (scans : List Scan) → AreOutlinesOf texts scans outlines.now →
+        AreVisible project.now.files texts scans sets.now }
     requires edges { AreEdges edges.now }
     requires as_many { length edges.now ≡ length project.now.files }
     requires order { IsBuildOrder edges.now order.now }
@@ -66,7 +74,9 @@ pub fn minimal_graph(
         graph ≡ part (linked project.now.files texts edges.now order.now)
         (needed_places (said_of project.now texts scans (Some edges.now)) tests.now order.now)) }
 {
-    let kept = linked_places(alloc, project, &texts, outlines, edges, order, tests)?;
+    let kept = linked_places(
+        alloc, project, &texts, outlines, sets, edges, order, tests,
+    )?;
     let entries = linked_entries(alloc, project, texts, edges, order)?;
     let some = restrict(alloc, entries, &kept)?;
     graph_of_entries(alloc, some)
@@ -87,7 +97,8 @@ fn listed_places(
         AreOutlinesOf texts.now scans outlines.now → kept ≡ needed_places
         (said_of project.now texts.now scans None) tests.now (below (length project.now.files))) }
 {
-    let set = minimal(alloc, project, texts, outlines, None, tests)?;
+    let sets = visible_sets_by_outlines(alloc, project, texts, outlines)?;
+    let set = minimal(alloc, project, texts, outlines, &sets, None, tests)?;
     set.positions_below(alloc, project.files.len() as u32)
 }
 

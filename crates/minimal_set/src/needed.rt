@@ -10,6 +10,7 @@ ghost use Rattle.minimal_set.specs.MinimalSet.{NeedSources, is_needed, is_tested
 ghost use Rattle.minimal_set.specs.Needing.{AreTables, HasGrown, IsKnown, count_of};
 ghost use Rattle.minimal_set.specs.Sources.{AreNeeds, AreSources};
 ghost use Rattle.minimal_set.specs.Suppliers.{FitAll, HoldsFiles};
+ghost use Rattle.name_scope.specs.Tables.{AreVisible};
 ghost use Rattle.minimal_set.specs.Taking.{AreTaken, Grows, Takes};
 ghost use Rattle.order_spec.specs.BuildOrder.{AreEdges};
 ghost use Rattle.position_set.specs.Positions.{has};
@@ -19,7 +20,7 @@ use crate::sources::Sources;
 use crate::taken::{Taken, none_taken, take};
 use crate::units::{Tables, take_needs};
 use file_outlines::Outlines;
-use name_scope::visible_sets_by_outlines;
+use name_scope::VisibleLibraries;
 use position_set::PositionSet;
 use std::alloc::Global;
 use vhdl_benches::{Bench, Tests};
@@ -110,11 +111,14 @@ fn needed_by(
     sources: Sources,
     outlines: &Outlines,
     index: &Index,
+    sets: &VisibleLibraries,
     edges: Option<&Edges>,
     tests: &[Bench],
 ) -> Result<PositionSet, NoMemory>
     requires sources { AreSources sources }
     requires outlined { AreOutlined sources.texts.now outlines.now }
+    requires seen { (scans : List Scan) → AreOutlinesOf sources.texts.now scans outlines.now →
+        AreVisible sources.project.now.files sources.texts.now scans sets.now }
     requires same { sources.outlines.now ≡ outlines.now.files }
     requires fit { FitAll (length sources.project.now.files) index.now }
     requires holds { (said : NeedSources) → AreNeeds sources said →
@@ -127,11 +131,10 @@ fn needed_by(
         ≡ is_needed (said_of sources.entry.project.now sources.entry.texts.now scans
         (option_map (λ e. e.now) edges.entry)) tests.now at) }
 {
-    let sets = visible_sets_by_outlines(alloc, sources.project, sources.texts, outlines)?;
     let tables = Tables {
         sources,
         index,
-        sets: &sets,
+        sets,
     };
     let set = needed_in(alloc, tables, edges, tests)?;
     Ok(set)
@@ -140,13 +143,14 @@ fn needed_by(
 /// The files of a project that tests need: the least set that has the files of their entities, and of each of its files
 /// those that this one depends on itself, those of the architectures and bodies of its units, and those of the entities that
 /// its components may be bound to by default (IEEE Std 1076-2008, clause 7.3.3). `edges` says which files depend on which;
-/// without it the project is a listed one, where each depends on all earlier ones. There is one text for each file, and the
-/// outlines are theirs. Each file is looked at once.
+/// without it the project is a listed one, where each depends on all earlier ones. There is one text for each file, the
+/// outlines are theirs, and `sets` has the libraries that their units see. Each file is looked at once.
 pub fn minimal(
     alloc: Global,
     project: &Project,
     texts: &TextList,
     outlines: &Outlines,
+    sets: &VisibleLibraries,
     edges: Option<&Edges>,
     tests: &Tests,
 ) -> Result<PositionSet, NoMemory>
@@ -154,6 +158,8 @@ pub fn minimal(
     requires each { length texts.now ≡ length project.now.files }
     requires small { All IsTextSmall texts.now }
     requires outlined { AreOutlined texts.now outlines.now }
+    requires seen { (scans : List Scan) → AreOutlinesOf texts.now scans outlines.now →
+        AreVisible project.now.files texts.now scans sets.now }
     requires edges { IfSome edges (λ edges. AreEdges edges.now
         × (length edges.now ≡ length project.now.files)) }
     ensures { IfOk result (λ set. (scans : List Scan) →
@@ -168,5 +174,13 @@ pub fn minimal(
         outlines: &outlines.files,
     };
     let index = index_of(alloc, sources)?;
-    needed_by(alloc, sources, outlines, &index, edges, tests.as_slice())
+    needed_by(
+        alloc,
+        sources,
+        outlines,
+        &index,
+        sets,
+        edges,
+        tests.as_slice(),
+    )
 }

@@ -14,15 +14,17 @@ ghost use Rattle.order_spec.specs.BuildOrder.{AreEdges, IsBuildOrder, file_order
 ghost use Rattle.order_spec.specs.LinkedGraph.{FitTexts, linked};
 ghost use Rattle.file_outlines.specs.Outlines.{AreOutlined, AreOutlinesOf};
 ghost use Rattle.file_graph.specs.Results.{GivesLinks};
+ghost use Rattle.name_scope.specs.Tables.{AreVisible};
 ghost use Rattle.project_reading.specs.Reading.{linked_or, links_of, listed_needs, names_at, order_or, wanted_tests, tests_or, listed_reading, order_reading, linked_reading, then_read, scanned_reading};
 ghost use Rattle.project_reading.specs.Sources.{Gives, LeadsTo, ReadCounts};
 
 use crate::stops::ReadStop;
 use crate::wish::{Extent, Wish, chosen, wants_tests};
 use build_order::order;
-use file_graph::link_by_outlines;
+use file_graph::link_by_sets;
 use file_outlines::Outlines;
 use minimal_graph::{minimal_graph, minimal_listed_graph};
+use name_scope::{VisibleLibraries, visible_sets_by_outlines};
 use outcomes::{Limit, Refusal};
 use present_graph::graph_of;
 use source_view::listed_graph;
@@ -95,17 +97,20 @@ fn links_of(
     project: &Project,
     texts: &TextList,
     outlines: &Outlines,
+    sets: &VisibleLibraries,
 ) -> Result<Linked, ReadStop>
     requires few { length project.now.files ≤ FILE_LIMIT }
     requires texts { FitTexts project.now.files texts.now }
     requires outlined { AreOutlined texts.now outlines.now }
+    requires seen { (scans : List Scan) → AreOutlinesOf texts.now scans outlines.now →
+        AreVisible project.now.files texts.now scans sets.now }
     ensures links { (scans : List Scan) → AreOutlinesOf texts.now scans outlines.now →
         Gives (links_of project.now texts.now scans) result }
     ensures edges { IfOk result (λ links. AreEdges links.edges) }
     ensures count { IfOk result (λ links. length links.edges ≡ length project.now.files) }
     ensures cause { (count : ℕ) → ReadCounts result count count }
 {
-    match link_by_outlines(alloc, project, texts, outlines) {
+    match link_by_sets(alloc, project, texts, outlines, sets) {
         Ok(links) => Ok(links),
         Err(fault) => Err(link_stop(fault)),
     }
@@ -260,6 +265,7 @@ fn wished_graph(
     project: &Project,
     texts: TextList,
     outlines: &Outlines,
+    sets: &VisibleLibraries,
     edges: &Edges,
     order: &Order,
     tests: &Tests,
@@ -268,6 +274,8 @@ fn wished_graph(
     requires few { length project.now.files ≤ FILE_LIMIT }
     requires texts { FitTexts project.now.files texts }
     requires outlined { AreOutlined texts outlines.now }
+    requires seen { (scans : List Scan) → AreOutlinesOf texts scans outlines.now →
+        AreVisible project.now.files texts scans sets.now }
     requires edges { AreEdges edges.now }
     requires count { length edges.now ≡ length project.now.files }
     requires sorted { IsBuildOrder edges.now order.now }
@@ -280,7 +288,9 @@ fn wished_graph(
     match wish.extent {
         Extent::Needed => {
             let tests = chosen(alloc, tests, &wish.patterns)?;
-            minimal_graph(alloc, project, texts, outlines, edges, order, &tests)
+            minimal_graph(
+                alloc, project, texts, outlines, sets, edges, order, &tests,
+            )
         }
         Extent::Graph => graph_of(alloc, project, texts, edges, order),
         Extent::Tests => graph_of(alloc, project, texts, edges, order),
@@ -321,6 +331,7 @@ fn ordered_project(
     project: Project,
     texts: TextList,
     outlines: &Outlines,
+    sets: &VisibleLibraries,
     links: Linked,
     order: &Order,
 ) -> Result<ReadProject, ReadStop>
@@ -328,6 +339,8 @@ fn ordered_project(
     requires few { length project.files ≤ FILE_LIMIT }
     requires texts { FitTexts project.files texts }
     requires outlined { AreOutlined texts outlines.now }
+    requires seen { (scans : List Scan) → AreOutlinesOf texts scans outlines.now →
+        AreVisible project.files texts scans sets.now }
     requires edges { AreEdges links.edges }
     requires count { length links.edges ≡ length project.files }
     requires sorted { IsBuildOrder links.edges order.now }
@@ -338,7 +351,7 @@ fn ordered_project(
     let tests = wanted_tests(alloc, wants_tests(wish.extent), &project, &texts, outlines)?;
     let Linked { edges, warnings } = links;
     let graph = wished_graph(
-        alloc, wish, &project, texts, outlines, &edges, order, &tests,
+        alloc, wish, &project, texts, outlines, sets, &edges, order, &tests,
     )?;
     Ok(ReadProject {
         project,
@@ -355,12 +368,15 @@ fn linked_project(
     project: Project,
     texts: TextList,
     outlines: &Outlines,
+    sets: &VisibleLibraries,
     links: Linked,
 ) -> Result<ReadProject, ReadStop>
     requires project { IsProject project }
     requires few { length project.files ≤ FILE_LIMIT }
     requires texts { FitTexts project.files texts }
     requires outlined { AreOutlined texts outlines.now }
+    requires seen { (scans : List Scan) → AreOutlinesOf texts scans outlines.now →
+        AreVisible project.files texts scans sets.now }
     requires edges { AreEdges links.edges }
     requires count { length links.edges ≡ length project.files }
     ensures reading { (scans : List Scan) → AreOutlinesOf texts scans outlines.now →
@@ -368,7 +384,7 @@ fn linked_project(
     ensures cause { (count : ℕ) → ReadCounts result count count }
 {
     let order = order_of(alloc, project.files.as_slice(), &links.edges)?;
-    ordered_project(alloc, wish, project, texts, outlines, links, &order)
+    ordered_project(alloc, wish, project, texts, outlines, sets, links, &order)
 }
 
 /// A project of these texts, with the outlines of its files. Texts exist once: they are lent until it is known what depends
@@ -391,6 +407,7 @@ pub(crate) fn scanned_project(
     if project.listed {
         return listed_project(alloc, wish, project, texts, outlines);
     }
-    let links = links_of(alloc, &project, &texts, outlines)?;
-    linked_project(alloc, wish, project, texts, outlines, links)
+    let sets = visible_sets_by_outlines(alloc, &project, &texts, outlines)?;
+    let links = links_of(alloc, &project, &texts, outlines, &sets)?;
+    linked_project(alloc, wish, project, texts, outlines, &sets, links)
 }

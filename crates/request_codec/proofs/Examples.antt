@@ -6,7 +6,8 @@ use Rattle.vr_base.specs.Bytes.{text_bytes}
 use Rattle.vr_base.specs.Jobs.{name_bytes}
 use Rattle.byte_codec.specs.Reading.{counted_at, many_at, text_at}
 use Rattle.byte_codec.specs.Names.{name_at}
-use Rattle.request_codec.specs.Requests.{RequestRecord}
+use Rattle.request_codec.specs.Requests.{RequestRecord, latest_requests}
+use Rattle.request_codec.specs.Carrying.{carried_from, carry_own, carry_product, carry_request, compacted_requests}
 use Rattle.request_codec.specs.Forms.{command_bytes, product_draft_bytes, product_in, product_numbers_bytes, ref_by_number_at, ref_in_full_at, request_draft_bytes, request_in, request_payload_by, request_payload_bytes, request_payload_in, text_ref_at, text_ref_by, text_ref_bytes}
 use Rattle.request_codec.specs.Forms.TextRef.{ByNumber, InFull}
 use Rattle.request_codec.specs.Forms.RequestPayload.{OfProduct, OfRequest}
@@ -69,3 +70,25 @@ below_itself = refl
 pub spelled : request_payload_bytes (OfRequest (record { name = (built 98 0).name; command = (99 ∷ 99 ∷ []) ∷ []; source = ByNumber 0; deps = 0 ∷ []; artefact = InFull (122 ∷ []) })) ≡ second
 unfolding request_payload_bytes request_draft_bytes command_bytes text_ref_bytes product_numbers_bytes name_bytes text_bytes
 spelled = refl
+
+-- compaction of two records that are the latest gives the two payloads
+pub compacted_both : compacted_requests (asked 97 [] 121 ∷ asked 98 (built 97 121 ∷ []) 122 ∷ []) ≡ first ∷ second ∷ []
+unfolding compacted_requests carried_from carry_request carry_own carry_product latest_requests request_payload_bytes request_draft_bytes command_bytes text_ref_bytes product_numbers_bytes name_bytes text_bytes
+compacted_both = refl
+
+-- a.vhd with the text w and the artefact v
+abbrev later : RequestRecord
+later = record { asked = record { command = (99 ∷ 99 ∷ []) ∷ []; name = (built 97 118).name; text = 119 ∷ []; below = [] }; artefact = 118 ∷ [] }
+
+-- a.vhd with the new text w and the new artefact v
+abbrev later_bytes : List ℕ
+later_bytes = 1 ∷ append (head 97) (1 ∷ 1 ∷ 0 ∷ 0 ∷ 0 ∷ 119 ∷ 0 ∷ 0 ∷ 0 ∷ 0 ∷ 1 ∷ 1 ∷ 0 ∷ 0 ∷ 0 ∷ 118 ∷ [])
+
+-- b.vhd over product 0, with the new text x and the new artefact z
+abbrev over_earlier : List ℕ
+over_earlier = 1 ∷ append (head 98) (1 ∷ 1 ∷ 0 ∷ 0 ∷ 0 ∷ 120 ∷ 1 ∷ 0 ∷ 0 ∷ 0 ∷ 0 ∷ 0 ∷ 0 ∷ 0 ∷ 0 ∷ 0 ∷ 0 ∷ 0 ∷ 1 ∷ 1 ∷ 0 ∷ 0 ∷ 0 ∷ 122 ∷ [])
+
+-- where the first file was recorded anew, the product that the second one stands over is written alone, before it
+pub compacted_later : compacted_requests (asked 97 [] 121 ∷ asked 98 (built 97 121 ∷ []) 122 ∷ later ∷ []) ≡ product ∷ over_earlier ∷ later_bytes ∷ []
+unfolding compacted_requests carried_from carry_request carry_own carry_product latest_requests request_payload_bytes request_draft_bytes product_draft_bytes command_bytes text_ref_bytes product_numbers_bytes name_bytes text_bytes
+compacted_later = refl
