@@ -11,4 +11,4 @@ pub returns : goal.returns
 returns c = λ scans are at low.
     let said : NeedSources = said_of c.args.sources.project.now c.args.sources.texts.now scans (option_map (λ e. e.now) c.args.edges) in
     let needs : AreNeeds c.args.sources said = record { files = refl; texts = refl; outlined = subst (λ (files : List FileOutline). FilesAreOf c.args.sources.texts.now scans files) (sym c.requires.same) are.files } in
-    c.in_ok-set.ensures said (record { needs = needs; index = c.requires.holds said needs; visible = c.in_ok-sets.ensures scans are }) refl at low
+    c.in_ok-set.ensures said (record { needs = needs; index = c.requires.holds said needs; visible = c.requires.seen scans are }) refl at low
