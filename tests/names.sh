@@ -1,7 +1,8 @@
 #!/bin/sh
-# Every name of this repository's specs that a public clause cites has an entry in docs/DEFINITIONS.md: it stands there in
-# bold, between backticks, in an item or below a heading that names a file of specs. Public are the exported functions and the
-# traits of the library crates. Prints the names that are missing. Ends with 0, with 1 where a name is missing, and with 77 where python3 is missing.
+# Every name of this repository's specs that a public clause cites has an entry in docs/proof/HEADLINE.md or DEFINITIONS.md: it
+# stands there in bold, between backticks, in an item or below a heading that names a file of specs. Public are the exported
+# functions and the traits of the library crates. Prints the names that are missing. Ends with 0, with 1 where a name is missing,
+# and with 77 where python3 is missing.
 cd -- "${TOP:-$(dirname -- "$0")/..}" || exit 1
 . tests/support/needs.sh
 needs python3
@@ -28,9 +29,9 @@ def clauses(text, start):
             yield (inside := block(text, found.end() - 1))
             start = found.end() + len(inside)
 
-page = pathlib.Path("docs/DEFINITIONS.md").read_text()
+pages = [pathlib.Path("docs/proof", name).read_text() for name in ("HEADLINE.md", "DEFINITIONS.md")]
 explained, heading = set(), ""
-for item in re.split(r"\n(?=- |#)|\n\n", page):
+for item in re.split(r"\n(?=- |#)|\n\n", "\n\n".join(pages)):
     heading = item if item.startswith("#") else heading
     if re.search(r"`\w+/specs|the same file|specs/", item + heading) or re.search(r"specs", heading):
         explained |= {word for code in re.findall(r"\*\*`([^`]+)`\*\*", item) for word in re.findall(r"\w+", code)}
@@ -58,6 +59,6 @@ for crate, root in crates.items():
             if name and name not in explained:
                 missing.setdefault(name, str(path))
 for name, path in sorted(missing.items()):
-    print(f"docs/DEFINITIONS.md doesn't explain {name}, which a public clause of {path} cites")
+    print(f"docs/proof explains no {name}, which a public clause of {path} cites")
 sys.exit(1 if missing else 0)
 END
