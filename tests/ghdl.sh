@@ -1,7 +1,7 @@
 #!/bin/sh
 # GHDL as a compiler, by wrappers/ghdl_analyse: what it takes for comments, the wrapper alone, which files GHDL needs, the
-# program over projects that it compiles, and the session of README.md. Skipped where ghdl isn't there, or isn't the one that
+# program over projects that it compiles, and the session of docs/user/GHDL.md. Skipped where ghdl isn't there, or isn't the one that
 # is supported.
 . "$TOP/tests/support/ghdl_parts.sh"
 parts ghdl_comments ghdl_wrapper ghdl_needs ghdl_runs
-sh "$TOP/tests/support/session.sh" "Compile with GHDL"
+sh "$TOP/tests/support/session.sh" docs/user/GHDL.md "Compile with GHDL"

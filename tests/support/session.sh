@@ -1,22 +1,21 @@
-# Runs the session of one section of README.md line by line in a copy of what it needs, and compares it with what README.md
-# prints. The lines of its fenced blocks that begin with `$ ` are commands, and the others what these print. Blocks
-# without a command are passed over. EDIT is a command of sed for what is otherwise on this machine than in README.md.
+# Runs the session of one section of a page line by line in a copy of what it needs, and compares it with what the page prints. The
+# lines of its fenced blocks that begin with `$ ` are commands, and the others what these print. Blocks without a command are passed
+# over. EDIT is a command of sed for what is otherwise on this machine than on the page.
 #
-# usage: session.sh SECTION [EDIT]
+# usage: session.sh PAGE SECTION [EDIT]
 set -eu
 mkdir -p vunit_run/bin tmp home
-cp -R "$TOP/examples" "$TOP/README.md" vunit_run
-[ ! -d "$TOP/wrappers" ] || cp -R "$TOP/wrappers" vunit_run
+cp -R "$TOP/examples" "$TOP/wrappers" vunit_run
 printf '#!/bin/sh\nexec "%s" "$@"\n' "$VUNIT_RUN" >vunit_run/bin/vunit_run
 chmod 755 vunit_run/bin/vunit_run
 "$VUNIT_RUN" --no-word-of-the-program >/dev/null || [ $? -eq 2 ]
 
 # (a folder in /tmp is one of this test's)
-awk -v section="## $1" '
+awk -v section="## $2" '
     /^## / { inside = $0 == section }
     inside && /^```/ { fenced = !fenced; is_session = 0; next }
     inside && fenced && /^\$ / { is_session = 1 }
-    inside && fenced && is_session' vunit_run/README.md | sed -e "s#/tmp/#$PWD/tmp/#g" -e "${2:-}" >wanted
+    inside && fenced && is_session' "$TOP/$1" | sed -e "s#/tmp/#$PWD/tmp/#g" -e "${3:-}" >wanted
 awk -v quote="'" '
     /^\$ / {
         command = shown = substr($0, 3)
@@ -26,13 +25,13 @@ awk -v quote="'" '
         print command
     }' wanted >commands
 
-if ! grep -q -e '^"$program" ' -e '^vunit_run ' commands || ! grep -q '^cp .*examples/' commands; then
-    echo "README.md has no session in '$1' that copies an example and runs the program there"
+if ! grep -q -e '^"$program" ' -e '^vunit_run ' -e ' vunit_run ' commands || ! grep -q '^cp .*examples/' commands; then
+    echo "$1 has no session in '$2' that copies an example and runs the program there"
     exit 1
 fi
 room=$PWD
 cd vunit_run
 HOME=$room/home TMPDIR=$room/tmp sh "$room/commands" >"$room/printed" 2>&1 </dev/null || :
 cd "$room"
-diff -r "$TOP/examples" vunit_run/examples || { echo "the session changes examples/"; exit 1; }
+diff -r "$TOP/examples" vunit_run/examples || { echo "the session in '$2' of $1 changes examples/"; exit 1; }
 diff wanted printed

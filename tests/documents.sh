@@ -1,0 +1,60 @@
+# No run of twelve words stands in two pages of README.md and docs/, so that each fact has one home: fenced blocks, which are code
+# and what is printed, and the project's sentence, which is quoted by lines with `>`, don't count. Words between backticks count as
+# one. And each link of these pages, and each page that a script or a page names, leads somewhere. Prints what isn't so. Ends with
+# 0, with 1 where something isn't, and with 77 where python3 is missing.
+cd -- "${TOP:-$(dirname -- "$0")/..}" || exit 1
+. tests/support/needs.sh
+needs python3
+exec python3 - <<'END'
+import os, pathlib, re, sys
+
+RUN = 12
+pages = {str(path): path.read_text() for path in [pathlib.Path("README.md"), *sorted(pathlib.Path("docs").rglob("*.md"))]}
+
+def prose(text):
+    """The paragraphs, items and cells of a page, without fenced blocks and quotations."""
+    text = re.sub(r"^```.*?^```$", "\n", text, flags=re.M | re.S)
+    text = re.sub(r"^>.*$", "", text, flags=re.M)
+    text = re.sub(r"\[([^\]]*)\]\([^)]*\)", r"\1", text)
+    return re.split(r"\n\n|\n(?=#|- |\d+\. )|(?<!\\)\|", text)
+
+def words(block):
+    return re.findall(r"`[^`]+`|[\w'’,.-]*\w", block)
+
+def anchors(text):
+    heads = re.findall(r"^#+ (.*)$", re.sub(r"^```.*?^```$", "", text, flags=re.M | re.S), re.M)
+    plain = [re.sub(r"[^\w\- ]", "", re.sub(r"\[([^\]]*)\]\([^)]*\)", r"\1", head).lower()).replace(" ", "-") for head in heads]
+    return {head if plain[:at].count(head) == 0 else f"{head}-{plain[:at].count(head)}" for at, head in enumerate(plain)}
+
+wrong, seen, links = [], {}, 0
+for page, text in pages.items():
+    for block in prose(text):
+        run = words(block)
+        at = 0
+        while at + RUN <= len(run):
+            key = " ".join(run[at:at + RUN]).lower()
+            other = seen.setdefault(key, page)
+            if other != page:
+                wrong.append(f"{page} and {other}: {' '.join(run[at:at + RUN])}")
+                at += RUN
+            else:
+                at += 1
+    for target in re.findall(r"\]\(([^)\s]+)\)", re.sub(r"^```.*?^```$", "", text, flags=re.M | re.S)):
+        if re.match(r"[a-z]+:", target):
+            continue
+        links += 1
+        file, _, anchor = target.partition("#")
+        to = os.path.normpath(os.path.join(os.path.dirname(page), file)) if file else page
+        if not os.path.exists(to):
+            wrong.append(f"{page}: the link {target} leads nowhere")
+        elif anchor and anchor not in anchors(pages.get(to, "")):
+            wrong.append(f"{page}: {to} has no heading for the link {target}")
+named = [*pathlib.Path("tests").rglob("*.*"), *pathlib.Path("wrappers").glob("*"), *pathlib.Path("bench").glob("*"), *pathlib.Path("bin").glob("*")]
+for path in (path for path in named if path.is_file() and path.suffix not in (".pyc", ".txt", ".edit")):
+    for page in re.findall(r"\bdocs/(?:\w+/)*\w+\.md", path.read_text(errors="replace")):
+        if not os.path.exists(page):
+            wrong.append(f"{path} names {page}, which isn't there")
+print(*wrong, sep="\n", end="\n" if wrong else "")
+print(f"{len(pages)} pages, {links} links, {len(wrong)} things wrong")
+sys.exit(1 if wrong else 0)
+END
