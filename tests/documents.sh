@@ -1,7 +1,8 @@
 # No run of twelve words stands in two pages of README.md and docs/, so that each fact has one home: fenced blocks, which are code
 # and what is printed, and the project's sentence, which is quoted by lines with `>`, don't count. Words between backticks count as
-# one. And each link of these pages, and each page that a script or a page names, leads somewhere. Prints what isn't so. Ends with
-# 0, with 1 where something isn't, and with 77 where python3 is missing.
+# one. Each link of these pages, and each page that a script names, leads somewhere; MAP has a row for each crate of crates.txt, in
+# that order; and README names no public function that the program doesn't call. Prints what isn't so. Ends with 0, with 1 where
+# something isn't, and with 77 where python3 is missing.
 cd -- "${TOP:-$(dirname -- "$0")/..}" || exit 1
 . tests/support/needs.sh
 needs python3
@@ -49,6 +50,23 @@ for page, text in pages.items():
             wrong.append(f"{page}: the link {target} leads nowhere")
         elif anchor and anchor not in anchors(pages.get(to, "")):
             wrong.append(f"{page}: {to} has no heading for the link {target}")
+crates, program = {}, ["vunit_run"]
+for line in pathlib.Path("crates.txt").read_text().splitlines():
+    if line and not line.startswith("#"):
+        uses, _, only_tests = line.partition("#")
+        crates[uses.split(":")[0].split()[0]] = set(uses.partition(":")[2].split()) - set(only_tests.split())
+for crate in program:
+    program += [low for low in crates[crate] if low in crates and low not in program]
+tables = [[crate for crate in re.findall(r"^\| `(\w+)` \|", table, re.M) if crate in crates] for table in re.split(r"\n\| Crate ", pages["docs/MAP.md"])[1:]]
+main, small, tested = tables
+wrong.extend(f"docs/MAP.md has no row for {crate}" for crate in crates if crate not in main + tested)
+if any(table != [crate for crate in crates if crate in table] for table in (main, tested)):
+    wrong.append("docs/MAP.md hasn't the order of crates.txt")
+sources = {crate: "\n".join(re.sub(r"//.*", "", path.read_text()) for path in pathlib.Path("crates", crate, "src").rglob("*.rt")) for crate in crates}
+called = "\n".join(sources[crate] for crate in program)
+for name in {name for code in re.findall(r"`([^`\n]+)`", pages["README.md"]) for name in re.findall(r"\w+", code)}:
+    if any(re.search(rf"\bpub fn {name}\b", text) for text in sources.values()) and not re.search(rf"(?<!fn )\b{name}(::<[^>]*>)?\(", called):
+        wrong.append(f"README.md names {name}, which the program doesn't call")
 named = [*pathlib.Path("tests").rglob("*.*"), *pathlib.Path("wrappers").glob("*"), *pathlib.Path("bench").glob("*"), *pathlib.Path("bin").glob("*")]
 for path in (path for path in named if path.is_file() and path.suffix not in (".pyc", ".txt", ".edit")):
     for page in re.findall(r"\bdocs/(?:\w+/)*\w+\.md", path.read_text(errors="replace")):
