@@ -1,5 +1,6 @@
 # Runs the sessions of README.md and of the pages for users that need no other tool, each in a fresh folder, and compares them with
-# what the pages print; and the commands by which README.md says to start. Those with GHDL are run by ghdl.sh and ghdl_examples.sh.
+# what the pages print; and the first of the two commands by which README.md says to start (the second is the gate). Those with GHDL
+# are run by ghdl.sh and ghdl_examples.sh.
 set -e
 . "$TOP/tests/support/needs.sh"
 needs python3
@@ -22,8 +23,8 @@ awk '/^## / { section = FILENAME ": " substr($0, 4) } /^```/ { fenced = !fenced 
     "$TOP/README.md" "$TOP"/docs/user/*.md | while IFS= read -r section; do
     page=${section%%: *}
     page=${page#"$TOP/"}
-    grep -q -F "\"${section#*: }\"" "$TOP/tests/readme_session.sh" && grep -q -F " $page " "$TOP/tests/readme_session.sh" && continue
-    grep -q -F " $page \"${section#*: }\"" "$TOP"/tests/ghdl*.sh || { echo "$page has a session in '${section#*: }' that no script runs"; exit 1; }
+    grep -q -F "session $page \"${section#*: }\"" "$TOP/tests/readme_session.sh" && continue
+    grep -q -F "session.sh\" $page \"${section#*: }\"" "$TOP"/tests/ghdl*.sh || { echo "$page has a session in '${section#*: }' that no script runs"; exit 1; }
 done
 
 # The first of the two commands of README.md: with a program that is there it ends well.
