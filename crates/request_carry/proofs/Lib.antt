@@ -1,0 +1,13 @@
+-- The lemmas.
+pub mod Placing
+pub mod Numbered
+pub mod PlacedRows
+pub mod Planned
+pub mod Counting
+pub mod LatestRequests
+pub mod LatestRows
+pub mod Walked
+pub mod KeptShelves
+pub mod Standing
+pub mod Spelled
+pub mod Worded

@@ -1,0 +1,4 @@
+-- The definitions of this crate.
+pub mod Words
+pub mod Kept
+pub mod Plans
