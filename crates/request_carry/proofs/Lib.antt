@@ -3,6 +3,7 @@ pub mod Placing
 pub mod Numbered
 pub mod PlacedRows
 pub mod Planned
+pub mod Owned
 pub mod Counting
 pub mod LatestRequests
 pub mod LatestRows

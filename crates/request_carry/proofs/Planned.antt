@@ -40,10 +40,10 @@ not_any products product never = by (list_any (is_same_built product) products) 
 
 -- steps of a plan where numbers come
 module _ (shelf : RequestShelf) (numbers more : List ℕ) where
-  products_grown : numbered_products shelf (numbers ++ more) ≡ numbered_products shelf numbers ++ numbered_products shelf more
+  pub products_grown : numbered_products shelf (numbers ++ more) ≡ numbered_products shelf numbers ++ numbered_products shelf more
   products_grown = map-append (product_at shelf.products) numbers more
 
-  deps_grown : (below : List BuiltFile) → All (Contains (numbered_products shelf numbers)) below → map (number_of_built (numbered_products shelf (numbers ++ more))) below ≡ map (number_of_built (numbered_products shelf numbers)) below
+  pub deps_grown : (below : List BuiltFile) → All (Contains (numbered_products shelf numbers)) below → map (number_of_built (numbered_products shelf (numbers ++ more))) below ≡ map (number_of_built (numbered_products shelf numbers)) below
   deps_grown below has =
       ap (λ (ps : List BuiltFile). map (number_of_built ps) below) products_grown
       ∙ map_same (number_of_built (numbered_products shelf numbers ++ numbered_products shelf more)) (number_of_built (numbered_products shelf numbers)) below no_product
