@@ -1,6 +1,6 @@
 -- A record that was taken is what is carried of it.
-use Rattle.std.proofs.Common.{◌≡◌, ◌≢◌, ℕ, ◌<◌, Bool, true, false, List, [], ◌∷◌, ◌++◌, length, map, get_or, Option, Some, None, refl, sym, ap, subst, ◌∙◌, arith}
-use Rattle.std.specs.Prelude.{All, Contains, if◌then◌else◌}
+use Rattle.std.proofs.Common.{◌≡◌, ℕ, ◌<◌, Bool, true, false, List, [], ◌∷◌, ◌++◌, length, map, get_or, sym, ap, subst, ◌∙◌, arith}
+use Rattle.std.specs.Prelude.{All, Contains}
 use Rattle.std.specs.List.{list_any}
 use Rattle.std.proofs.lemmas.List.{append-nil, map_push}
 use Rattle.vr_base.specs.declared.graph.BuiltFile.{BuiltFile}
@@ -104,7 +104,7 @@ module _ (shelf : RequestShelf) (once : AreNumberedOnce shelf) (rows : List Prod
     artefact_fits = took.artefact_fits;
     there = omega (arith, took.row_is, of.number_low);
     below = subst (λ (n : ℕ). All (Contains (numbered_products shelf new.products.numbers)) (record_at shelf.records n).asked.below) (sym took.row_is)
-    (λ k d l. subst (λ (ps : List BuiltFile). Contains ps (get_or (record_at shelf.records number).asked.below k d)) (sym products_kept) (still_there so_far.products (numbered_products shelf grows.more) (get_or (record_at shelf.records number).asked.below k d) (below k d l)));
+        (λ k d l. subst (λ (ps : List BuiltFile). Contains ps (get_or (record_at shelf.records number).asked.below k d)) (sym products_kept) (still_there so_far.products (numbered_products shelf grows.more) (get_or (record_at shelf.records number).asked.below k d) (below k d l)));
   }
 
   payloads_same : (carried_by shelf new).payloads ≡ so_far.payloads

@@ -1,5 +1,5 @@
 -- What the rows of a placed shelf stand for.
-use Rattle.std.proofs.Common.{◌≡◌, ℕ, ◌<◌, List, [], length, map, get_or, Some, sym, ap, subst, ◌∙◌, arith}
+use Rattle.std.proofs.Common.{◌≡◌, ℕ, ◌<◌, List, [], length, map, get_or, Some, sym, ap, ◌∙◌, arith}
 use Rattle.std.specs.Prelude.{All, slice_get}
 use Rattle.std.proofs.lemmas.List.{get_or-map, get_or_default, length-map}
 use Rattle.std.proofs.lemmas.Option.{get_or_from_slice_get}
@@ -11,7 +11,7 @@ use Rattle.request_codec.specs.Shelves.{no_product, product_at}
 use Rattle.request_shelf.specs.declared.products.ProductRow.{ProductRow}
 use Rattle.request_shelf.specs.declared.shelf.PlacedShelf.{PlacedShelf}
 use Rattle.request_shelf.specs.declared.shelf.RecordRow.{RecordRow}
-use Rattle.request_shelf.specs.Placed.{AreRowsPlaced, IsProductRow, IsRecordRow, IsShelfPlaced, no_name, no_row, nth_payload, placed_shelf, placed_text, placed_texts, row_deps, row_product, row_products, row_record}
+use Rattle.request_shelf.specs.Placed.{IsRecordRow, IsShelfPlaced, no_name, no_row, nth_payload, placed_shelf, placed_text, placed_texts, row_deps, row_product, row_products, row_record}
 use Rattle.request_shelf.proofs.Puts.{no_record}
 use Rattle.request_carry.specs.Kept.{IsKeptRequest, IsKeptShelf}
 use Rattle.request_carry.specs.Plans.{blank_request, record_at, text_of}

@@ -1,22 +1,20 @@
 -- What a plan by numbers has carried is what is carried by texts and products.
-use Rattle.std.proofs.Common.{◌≡◌, ◌≢◌, ℕ, ◌<◌, ◌^◌, ◌-◌, ◌+◌, min, Bool, true, false, List, [], ◌∷◌, ◌++◌, length, map, get_or, Option, Some, None, refl, sym, ap, subst, ◌∙◌, true≢false, arith, length-append}
-use Rattle.std.specs.Prelude.{All, AllPairs, Contains, IfSome, if◌then◌else◌}
+use Rattle.std.proofs.Common.{◌≡◌, ℕ, ◌<◌, ◌^◌, ◌-◌, ◌+◌, min, Bool, true, false, List, [], ◌∷◌, ◌++◌, length, map, get_or, Option, Some, None, refl, sym, ap, subst, ◌∙◌, arith}
+use Rattle.std.specs.Prelude.{All, Contains}
 use Rattle.std.specs.List.{list_any}
 use Rattle.std.specs.Str.{bytes_eq}
-use Rattle.std.proofs.lemmas.List.{length-map, map-append, map_push}
+use Rattle.std.proofs.lemmas.List.{map-append, map_push}
 use Rattle.std.proofs.lemmas.Slice.Eq.{bytes_eq-Decides}
 use Rattle.vr_base.specs.declared.graph.BuiltFile.{BuiltFile}
-use Rattle.numbering.specs.Numbers.{IsAdded, IsPlaceOf, NumbersBelow}
+use Rattle.numbering.specs.Numbers.{IsPlaceOf, NumbersBelow}
 use Rattle.gate_journal.specs.Payloads.{block}
-use Rattle.request_codec.specs.Requests.{RequestRecord, built_by}
-use Rattle.request_codec.specs.Forms.{ProductDraft, RequestDraft, RequestPayload, TextRef, request_payload_bytes}
+use Rattle.request_codec.specs.Forms.{ProductDraft, RequestPayload, TextRef, request_payload_bytes}
 use Rattle.request_codec.specs.Forms.RequestPayload.{OfProduct, OfRequest}
-use Rattle.request_codec.specs.Shelves.{AreNumberedOnce, RequestShelf, is_same_built, no_product, product_at, with_built, with_text}
-use Rattle.request_codec.specs.Carrying.{CarriedSoFar, carried_draft, carried_ref, carry_own, carry_product, number_of_built, with_carried_text}
+use Rattle.request_codec.specs.Shelves.{AreNumberedOnce, RequestShelf, is_same_built, no_product, product_at, with_text}
+use Rattle.request_codec.specs.Carrying.{CarriedSoFar, carried_ref, carry_product, number_of_built, with_carried_text}
 use Rattle.request_codec.specs.Writing.{ref_or}
 use Rattle.request_codec.proofs.Deciding.{same_built-Decides}
 use Rattle.request_shelf.specs.declared.products.ProductRow.{ProductRow}
-use Rattle.request_shelf.specs.declared.shelf.RecordRow.{RecordRow}
 use Rattle.request_shelf.specs.Placed.{no_row}
 use Rattle.request_shelf.proofs.Finding.{any_decides, once_at}
 use Rattle.request_shelf.proofs.Keeping.{map_same}
@@ -25,7 +23,7 @@ use Rattle.request_carry.specs.declared.plan.ProductStep.{ProductStep}
 use Rattle.request_carry.specs.declared.plan.RequestStep.{RequestStep}
 use Rattle.request_carry.specs.declared.plan.CarryStep.{CarryStep}
 use Rattle.request_carry.specs.declared.plan.CarryStep.TheVariants as steps
-use Rattle.request_carry.specs.Plans.{AreNumbers, HasMoreNumbers, HasTakenProduct, HasTakenRequest, IsCounted, IsPlanIn, IsPlanStep, IsProductStep, IsRequestStep, TookText, blocks_length, carried_by, draft_over, numbered_products, product_step_draft, record_at, request_step_draft, step_payload, text_of, with_carried_payload}
+use Rattle.request_carry.specs.Plans.{AreNumbers, HasMoreNumbers, HasTakenProduct, IsCounted, IsPlanIn, IsPlanStep, IsProductStep, IsRequestStep, TookText, blocks_length, carried_by, draft_over, numbered_products, product_step_draft, record_at, request_step_draft, step_payload, text_of, with_carried_payload}
 use Rattle.request_carry.proofs.Counting.{blocks_more, counted_more}
 use Rattle.request_carry.proofs.Numbered.{number_last, number_there, numbers_more, thing_place, thing_there, things_once}
 use Rattle.request_carry.proofs.Placing.{number_grown, place_known, still_there}
@@ -66,7 +64,8 @@ module _ (shelf : RequestShelf) (numbers more : List ℕ) where
     below = λ k d l. subst (λ (ps : List BuiltFile). Contains ps (get_or (record_at shelf.records step.row).asked.below k d)) (sym products_grown) (still_there (numbered_products shelf numbers) (numbered_products shelf more) (get_or (record_at shelf.records step.row).asked.below k d) (is.below k d l));
   }
 
-abbrev no_step : CarryStep
+-- an entry for no step
+abbrev pub no_step : CarryStep
 no_step = steps.OfProduct (record { product = 0; text = None })
 
 -- payloads that were carried are as they were

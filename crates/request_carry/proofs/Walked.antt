@@ -3,7 +3,7 @@ use Rattle.std.proofs.Common.{◌≡◌, ℕ, ◌+◌, ◌-◌, ◌^◌, ◌<◌
 use Rattle.std.specs.Prelude.{All, Contains}
 use Rattle.std.specs.List.{fold}
 use Rattle.std.proofs.lemmas.Bool.{cases_lt, cond-true, cond-false}
-use Rattle.std.proofs.lemmas.List.{drop_all, get_or-map, get_or_default, length-map}
+use Rattle.std.proofs.lemmas.List.{drop_all, get_or-map, length-map}
 use Rattle.vr_base.specs.declared.graph.BuiltFile.{BuiltFile}
 use Rattle.request_codec.specs.Requests.{RequestRecord, is_overtaken, latest_requests}
 use Rattle.request_codec.specs.Shelves.{AreNumberedOnce, RequestShelf, no_product, product_at}
@@ -11,7 +11,6 @@ use Rattle.request_codec.specs.Carrying.{CarriedSoFar, carried_from, carry_own, 
 use Rattle.request_carry.specs.declared.plan.CarryPlan.{CarryPlan}
 use Rattle.request_carry.specs.declared.plan.CarryStep.{CarryStep}
 use Rattle.request_carry.specs.Plans.{HasMoreNumbers, IsCounted, IsPlanIn, blank_request, blocks_length, carried_by, numbered_products, record_at, step_payload, text_of}
-use Rattle.request_carry.proofs.Numbered.{thing_there}
 use Rattle.request_carry.proofs.Placing.{still_there}
 use Rattle.request_carry.proofs.Planned.{planned_there}
 

@@ -1,10 +1,8 @@
-use Rattle.std.proofs.Common.{◌≡◌, ◌<◌, ℕ, List, [], length, map, get_or, sym, ap, subst, ◌∙◌, arith}
-use Rattle.std.specs.Prelude.{All}
+use Rattle.std.proofs.Common.{◌≡◌, ◌<◌, ℕ, List, [], length, map, get_or, sym, ap, ◌∙◌, arith}
 use Rattle.std.proofs.lemmas.List.{length-map}
 use Rattle.std.proofs.lemmas.Option.{get_or_from_slice_get}
 use Rattle.request_codec.specs.Ranges.{counted_numbers}
 use Rattle.request_codec.specs.Shelves.{product_at}
-use Rattle.request_shelf.specs.declared.shelf.RecordRow.{RecordRow}
 use Rattle.request_shelf.specs.Placed.{nth_payload, placed_shelf, row_deps}
 use Rattle.request_shelf.proofs.Puts.{no_record}
 use Rattle.request_carry.specs.Plans.{blank_request, record_at}

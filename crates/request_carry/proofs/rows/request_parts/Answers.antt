@@ -1,5 +1,4 @@
-use Rattle.std.proofs.Common.{◌≡◌, ◌<◌, ◌≤◌, ℕ, List, [], length, get_or, sym, ap, subst, ◌∙◌, arith}
-use Rattle.vr_base.specs.declared.file.FileName.{FileName}
+use Rattle.std.proofs.Common.{◌≡◌, ◌≤◌, ℕ, List, length, get_or, sym, ap, subst, ◌∙◌, arith}
 use Rattle.vr_base.specs.declared.limits.TheConstants.{ARTEFACT_LIMIT, TEXT_LIMIT}
 use Rattle.vr_base.specs.Names.{FitsCommand, FitsName}
 use Rattle.request_codec.specs.Forms.{command_bytes}

@@ -1,7 +1,6 @@
-use Rattle.std.proofs.Common.{◌≡◌, ◌<◌, ◌≤◌, ℕ, List, length, map, sym, ap, subst, ◌∙◌, arith}
+use Rattle.std.proofs.Common.{◌<◌, ℕ, length, ap, subst, ◌∙◌, arith}
 use Rattle.std.specs.Prelude.{All, Contains}
 use Rattle.std.specs.List.{fold}
-use Rattle.vr_base.specs.declared.graph.BuiltFile.{BuiltFile}
 use Rattle.request_codec.specs.Carrying.{carry_product}
 use Rattle.request_codec.specs.Shelves.{product_at}
 use Rattle.request_shelf.specs.Placed.{placed_shelf}

@@ -1,4 +1,4 @@
-use Rattle.std.proofs.Common.{◌≡◌, ◌<◌, ℕ, length, true, false, sym, subst, arith}
+use Rattle.std.proofs.Common.{◌≡◌, ◌<◌, length, true, false, sym, subst, arith}
 use Rattle.std.specs.Prelude.{Contains}
 use Rattle.numbering.specs.Numbers.{NumbersBelow}
 use Rattle.request_shelf.specs.Placed.{placed_shelf}

@@ -1,0 +1,19 @@
+use Rattle.std.proofs.Common.{◌≡◌, subst}
+use Rattle.request_codec.specs.Requests.{latest_requests}
+use Rattle.request_codec.specs.Carrying.{carried_from, none_carried}
+use Rattle.request_codec.specs.Shelves.{RequestShelf}
+use Rattle.request_carry.specs.Plans.{IsCounted, IsPlanIn, carried_by}
+use Rattle.request_carry.proofs.KeptShelves.{to_carry}
+use Rattle.request_carry.proofs.walking.plan_latest.Goals as goal
+
+pub plan_all-requires : goal.plan_all-requires
+plan_all-requires c = record { shelf = to_carry c.args.held.now.payloads c.args.shelf.now c.requires.shelf c.requires.is }
+
+pub returns : goal.returns
+returns c =
+    let plan = c.in_ok-plan.plan in
+    record {
+      is = subst (λ (s : RequestShelf). IsPlanIn s plan) c.requires.is c.in_ok-plan.ensures.plan;
+      carried = subst (λ (s : RequestShelf). carried_by s plan ≡ carried_from none_carried (latest_requests s.records)) c.requires.is c.in_ok-plan.ensures.carried;
+      counted = subst (λ (s : RequestShelf). IsCounted s plan) c.requires.is c.in_ok-plan.ensures.counted;
+    }
