@@ -3,7 +3,9 @@
 ghost use Rattle.std.specs.Prelude.{◌≡◌, All, ◌↔◌, ◌<◌, ◌≤◌, ◌^◌, ◌++◌, ◌∷◌, [], List, Some, length, slice_get, slice_index_or, IsTrue, IfOk, OnOk, option_map};
 ghost use Rattle.vr_base.specs.declared.graph.Entry.{Entry};
 ghost use Rattle.vr_base.specs.declared.limits.TheConstants.{ARTEFACT_LIMIT};
-ghost use Rattle.request_codec.specs.Requests.{RequestRecord};
+ghost use Rattle.request_codec.specs.Requests.{RequestRecord, latest_requests};
+ghost use Rattle.request_codec.specs.Carrying.{compacted_requests};
+ghost use Rattle.request_carry.specs.Plans.{KeepsLatestRequests};
 ghost use Rattle.request_shelf.specs.Checked.{IsNameNumber};
 ghost use Rattle.request_codec.specs.Shelves.{request_shelf_of};
 ghost use Rattle.request_holdings.specs.Seated.{AreSeats, FitsLatest, HasLatest, IsSeat};
@@ -17,6 +19,7 @@ use crate::asking::{asked_payload, seated_products, spelled_ranges, text_refs};
 use crate::fitting::is_asked;
 use crate::{NextRequest, RequestAddition, Seat, Seats};
 use gate_journal::{Payloads, Ready};
+use request_carry::{CarryPlan, carried_payloads, plan_latest};
 use request_shelf::{HeldPayloads, PlacedShelf, number_name, taken_up, text_at};
 use std::alloc::Global;
 use std::marker::Model;
@@ -137,6 +140,29 @@ impl RequestHoldings {
             return None;
         };
         Some(self.row_artefact(seat.row))
+    }
+
+    /// What keeps the latest record of each name, and nothing else, by numbers.
+    pub fn latest_plan(&self, alloc: Global) -> Result<CarryPlan, NoMemory>
+        ensures { IfOk result (KeepsLatestRequests self.now.payloads) }
+    {
+        let plan = plan_latest(alloc, &self.held, &self.shelf)?;
+        Ok(plan)
+    }
+
+    /// The payloads that keep the latest record of each name, and nothing else.
+    pub fn latest_payloads(&self, alloc: Global, plan: &CarryPlan) -> Result<Payloads, NoMemory>
+        requires { KeepsLatestRequests self.now.payloads plan.now }
+        ensures is { IfOk result
+            (λ payloads.
+            payloads ≡ compacted_requests (request_shelf_of self.now.payloads).records) }
+        ensures records { IfOk result
+            (λ payloads.
+            (request_shelf_of payloads).records
+            ≡ latest_requests (request_shelf_of self.now.payloads).records) }
+    {
+        let payloads = carried_payloads(alloc, &self.held, &self.shelf, plan)?;
+        Ok(payloads)
     }
 
     /// Makes room for one more payload. What is held is unchanged.
