@@ -78,10 +78,11 @@ pub fn request_parts<'a>(
     requires shelf { IsShelfToCarry held.now.payloads shelf.now }
     requires there { step.row < length shelf.now.rows.items }
     requires few { length deps.now < FILE_LIMIT }
-    ensures is { let kept = record_at (placed_shelf held.now.payloads shelf.now).records step.row in
+    ensures is { let there = placed_shelf held.now.payloads shelf.now in
+        let kept = record_at there.records step.row in
         request_of_parts kept.asked.command result ≡ draft_over kept deps.now step }
-    ensures words { let kept = record_at (placed_shelf held.now.payloads shelf.now).records step.row in
-        result.words.now ≡ command_bytes kept.asked.command }
+    ensures words { let there = placed_shelf held.now.payloads shelf.now in
+        result.words.now ≡ command_bytes (record_at there.records step.row).asked.command }
     ensures sizes { HasRequestSizes result }
 {
     let row = shelf.rows[step.row];

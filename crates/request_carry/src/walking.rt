@@ -34,10 +34,7 @@ fn is_planned(plan: &CarryPlan, product: usize) -> bool
     requires { product < plan.now.products.size }
     ensures { IsTrue result ↔ Contains plan.now.products.numbers product }
 {
-    match plan.products.place(product) {
-        Some(_place) => true,
-        None => false,
-    }
+    plan.products.place(product).is_some()
 }
 
 /// Adds a step to a plan.
@@ -76,7 +73,8 @@ fn plan_product(
     requires plan { IsPlanIn (placed_shelf held.now.payloads shelf.now) plan.old }
     requires product { product < length shelf.now.products.keys }
     ensures plan { OnOk result (IsPlanIn (placed_shelf held.now.payloads shelf.now) plan.new) }
-    ensures more { OnOk result (HasMoreNumbers plan.old.products.numbers plan.new.products.numbers) }
+    ensures more { OnOk result
+        (HasMoreNumbers plan.old.products.numbers plan.new.products.numbers) }
     ensures has { OnOk result (Contains plan.new.products.numbers product) }
     ensures carried { let there = placed_shelf held.now.payloads shelf.now in
         OnOk result
@@ -185,7 +183,8 @@ fn plan_next(
     ensures plan { OnOk result (IsPlanIn (placed_shelf held.now.payloads shelf.now) plan.new) }
     ensures carried { let there = placed_shelf held.now.payloads shelf.now in
         OnOk result
-        (carried_from (carried_by there plan.new) (latest_requests (drop (number + 1) there.records))
+        (carried_from (carried_by there plan.new)
+        (latest_requests (drop (number + 1) there.records))
         ≡ carried_from (carried_by there plan.old) (latest_requests (drop number there.records))) }
     ensures counted { let there = placed_shelf held.now.payloads shelf.now in
         IsCounted there plan.old → OnOk result (IsCounted there plan.new) }
