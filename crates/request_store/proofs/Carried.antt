@@ -1,0 +1,153 @@
+-- What a compaction leaves, from what it leaves of the journal.
+use Rattle.std.proofs.Common.{◌≡◌, ℕ, ◌+◌, ◌-◌, ◌<◌, ◌≤◌, ◌^◌, min, List, length, map, Option, Some, None, refl, sym, ap, subst, ◌∙◌, arith}
+use Rattle.std.specs.Prelude.{Result, Err}
+use Rattle.std.specs.List.{flat_map}
+use Rattle.std.specs.Option.{option_map_or}
+use Rattle.vr_base.specs.declared.file.FileName.{FileName}
+use Rattle.vr_outside.specs.Counts.{Counted, StoreCounts}
+use Rattle.vr_outside.specs.Disks.{AtAnyMoment, DiskState, Image, IsEither, Moments, NeverLoses, image_side, reads_of}
+use Rattle.vr_outside.specs.declared.disk.Side.{Side}
+use Rattle.vr_outside.specs.declared.records.StoreFault.{StoreFault}
+use Rattle.vr_outside.specs.declared.records.StoreFault.TheVariants as fault
+use Rattle.gate_journal.specs.Payloads.{block, counting, generation_of, payloads}
+use Rattle.gate_journal.specs.Journals.{IsHealthy, JournalState, OpensAt}
+use Rattle.request_codec.specs.Carrying.{carried_from, compacted_requests, none_carried}
+use Rattle.request_codec.specs.Forms.{request_payload_bytes}
+use Rattle.request_codec.specs.Requests.{RequestRecord, latest_request, latest_requests}
+use Rattle.request_codec.specs.Shelves.{requests_among}
+use Rattle.request_holdings.specs.Held.{latest_held}
+use Rattle.request_store.specs.Stored.{AreAllOrLatest, AsksAt, AsksCarrying, HasCarriedOver, HasManyDead, ImageAsksCarrying, IsRequestStoreInStep, IsResting, RequestStoreState, capped_length, closed_length, dead_limit, live_length, opened_generation, requests_in}
+use Rattle.request_store.proofs.LatestRequests.{compacted-latest_requests, latest_request-latest_requests}
+use Rattle.request_store.proofs.RequestMoments.{compact_leaves}
+
+-- the latest record of each name stays
+pub latest_still : (old made : List (List ℕ)) (name : FileName) → requests_among made ≡ latest_requests (requests_among old) → latest_held made name ≡ latest_held old name
+latest_still old made name records = ap (latest_request name) records ∙ latest_request-latest_requests name (requests_among old)
+
+-- compaction would keep all of what it left
+all_live : (before : List RequestRecord) (side : List (List ℕ)) → side ≡ compacted_requests before → requests_among side ≡ latest_requests before → side ≡ compacted_requests (requests_among side)
+all_live before side is records = is ∙ sym (compacted-latest_requests before) ∙ ap compacted_requests (sym records)
+
+-- and so it isn't asked for
+none_asked : (generation : ℕ) (side : List (List ℕ)) → side ≡ compacted_requests (requests_among side) → ¬ AsksCarrying generation side
+none_asked generation side live asks =
+    let same : closed_length side ≡ live_length side = ap closed_length live in
+    omega (arith, asks.dead.many, same)
+
+-- the generation of an image that a journal is in step with
+in_step_generation : (store : RequestStoreState) (disk : DiskState) → IsRequestStoreInStep store disk → opened_generation (reads_of disk) ≡ store.journal.generation
+in_step_generation store disk in_step =
+    let counts : counting 3 (reads_of disk) ≡ Some store.journal.live = subst (λ (f : ℕ). counting f (reads_of disk) ≡ Some store.journal.live) in_step.form in_step.journal_in_step.counts in
+    ap (λ (o : Option Side). option_map_or (λ side. generation_of (image_side side (reads_of disk))) o 1) counts ∙ in_step.journal_in_step.generation
+
+in_step_healthy : (store : RequestStoreState) (disk : DiskState) → IsRequestStoreInStep store disk → IsHealthy 3 (reads_of disk)
+in_step_healthy store disk in_step = subst (λ (f : ℕ). IsHealthy f (reads_of disk)) in_step.form (record { live = store.journal.live; counts = in_step.journal_in_step.counts; count = store.journal.len; closed = in_step.journal_in_step.closed })
+
+-- a disk that a store is in step with, which doesn't ask for compaction
+pub unasked_rests : (store : RequestStoreState) (disk : DiskState) → IsRequestStoreInStep store disk → ¬ AsksCarrying store.journal.generation store.held.payloads → IsResting (reads_of disk)
+unasked_rests store disk in_step unasked = record {
+  healthy = in_step_healthy store disk in_step;
+  unasked = λ asks. unasked (subst (λ (g : ℕ). AsksCarrying g store.held.payloads) (in_step_generation store disk in_step) (subst (λ (ps : List (List ℕ)). AsksCarrying (opened_generation (reads_of disk)) ps) (sym in_step.payloads_are) asks));
+}
+
+-- a disk after compaction
+pub compacted_rests : (store : RequestStoreState) (before : Image) (disk : DiskState) → IsRequestStoreInStep store disk → HasCarriedOver before (reads_of disk) → IsResting (reads_of disk)
+compacted_rests store before disk in_step done = record {
+  healthy = in_step_healthy store disk in_step;
+  unasked = none_asked (opened_generation (reads_of disk)) (payloads 3 (reads_of disk)) done.live;
+}
+
+module _ (old new : Moments) (store : RequestStoreState) (made side : List (List ℕ)) (in_step : IsRequestStoreInStep store old.now) (records : requests_among made ≡ latest_requests (requests_among store.held.payloads)) (is : made ≡ compacted_requests (requests_among store.held.payloads)) (written : side ≡ made) where
+  abbrev reads : Image
+  reads = reads_of old.now
+
+  records_now : requests_among side ≡ latest_requests (requests_in reads)
+  records_now = ap requests_among written ∙ records ∙ ap (λ (ps : List (List ℕ)). latest_requests (requests_among ps)) in_step.payloads_are
+
+  is_now : side ≡ compacted_requests (requests_in reads)
+  is_now = written ∙ is ∙ ap (λ (ps : List (List ℕ)). compacted_requests (requests_among ps)) in_step.payloads_are
+
+  pub compaction_leaves : AtAnyMoment old new (λ image. IsEither (payloads store.journal.form image) (payloads store.journal.form reads) side) → AtAnyMoment old new (λ image. AreAllOrLatest (requests_in reads) (requests_in image))
+  compaction_leaves moments = compact_leaves old new reads side records_now (subst (λ (f : ℕ). AtAnyMoment old new (λ image. IsEither (payloads f image) (payloads f reads) side)) in_step.form moments)
+
+  pub compaction_keeps : NeverLoses old new (λ image. payloads store.journal.form image ≡ side) → NeverLoses old new (λ image. payloads 3 image ≡ compacted_requests (requests_in reads))
+  compaction_keeps never =
+      subst (λ (ps : List (List ℕ)). NeverLoses old new (λ image. payloads 3 image ≡ ps)) is_now
+      (subst (λ (f : ℕ). NeverLoses old new (λ image. payloads f image ≡ side)) in_step.form never)
+
+  compaction_side : payloads store.journal.form (reads_of new.now) ≡ side → payloads 3 (reads_of new.now) ≡ compacted_requests (requests_in reads)
+  compaction_side replaced = subst (λ (f : ℕ). payloads f (reads_of new.now) ≡ side) in_step.form replaced ∙ is_now
+
+  compaction_records : payloads store.journal.form (reads_of new.now) ≡ side → requests_in (reads_of new.now) ≡ latest_requests (requests_in reads)
+  compaction_records replaced = ap requests_among (subst (λ (f : ℕ). payloads f (reads_of new.now) ≡ side) in_step.form replaced) ∙ records_now
+
+  -- what compaction has done
+  pub has_carried : payloads store.journal.form (reads_of new.now) ≡ side → HasCarriedOver reads (reads_of new.now)
+  has_carried replaced = record {
+    side = compaction_side replaced;
+    records = compaction_records replaced;
+    live = all_live (requests_in reads) (payloads 3 (reads_of new.now)) (compaction_side replaced) (compaction_records replaced);
+  }
+
+  pub compaction_held : payloads store.journal.form (reads_of new.now) ≡ side → made ≡ payloads 3 (reads_of new.now)
+  compaction_held replaced = sym written ∙ sym (subst (λ (f : ℕ). payloads f (reads_of new.now) ≡ side) in_step.form replaced)
+
+-- what opening did first changed no payload
+pub compacted_from : (before middle after : Image) → payloads 3 middle ≡ payloads 3 before → HasCarriedOver middle after → HasCarriedOver before after
+compacted_from before middle after same done = record {
+  side = done.side ∙ ap (λ (ps : List (List ℕ)). compacted_requests (requests_among ps)) same;
+  records = done.records ∙ ap (λ (ps : List (List ℕ)). latest_requests (requests_among ps)) same;
+  live = done.live;
+}
+
+-- an opened store asks where the image does
+pub store_asks : (image : Image) (generation : ℕ) (held : List (List ℕ)) → generation ≡ opened_generation image → held ≡ payloads 3 image → ImageAsksCarrying image → AsksCarrying generation held
+store_asks image generation held is are asks = subst (λ (g : ℕ). AsksCarrying g held) (sym is) (subst (λ (ps : List (List ℕ)). AsksCarrying (opened_generation image) ps) (sym are) asks)
+
+pub image_asks : (image : Image) (generation : ℕ) (held : List (List ℕ)) → generation ≡ opened_generation image → held ≡ payloads 3 image → AsksCarrying generation held → ImageAsksCarrying image
+image_asks image generation held is are asks = subst (λ (ps : List (List ℕ)). AsksCarrying (opened_generation image) ps) are (subst (λ (g : ℕ). AsksCarrying g held) is asks)
+
+-- the live bytes, where those of their payloads are counted up to the most that can be
+capped : (len live blocks counted : ℕ) → len < 2 ^ 64 → live ≡ 19 + blocks → counted ≡ min (2 ^ 64 - 1) blocks → HasManyDead len (capped_length counted) → HasManyDead len live
+capped len live blocks counted fits is counts many = record { many = omega (arith, many.many, is, counts, fits); most = omega (arith, many.most, is, counts, fits) }
+
+uncapped : (len live blocks counted : ℕ) → len < 2 ^ 64 → live ≡ 19 + blocks → counted ≡ min (2 ^ 64 - 1) blocks → HasManyDead len live → HasManyDead len (capped_length counted)
+uncapped len live blocks counted fits is counts many = record { many = omega (arith, many.many, is, counts, fits); most = omega (arith, many.most, is, counts, fits) }
+
+-- what the payloads that compaction would leave take
+abbrev live_blocks : List (List ℕ) → ℕ
+live_blocks payloads = length (flat_map block (map request_payload_bytes (carried_from none_carried (latest_requests (requests_among payloads))).payloads))
+
+live_is : (payloads : List (List ℕ)) → live_length payloads ≡ 19 + live_blocks payloads
+unfolding compacted_requests
+live_is payloads = refl
+
+pub asked_by : (payloads : List (List ℕ)) (generation len counted : ℕ) → counted ≡ min (2 ^ 64 - 1) (live_blocks payloads) → len < 2 ^ 64 → len ≡ closed_length payloads → AsksAt generation len (capped_length counted) → AsksCarrying generation payloads
+asked_by payloads generation len counted counts fits is asks = record { next = asks.next; dead = subst (λ (n : ℕ). HasManyDead n (live_length payloads)) is (capped len (live_length payloads) (live_blocks payloads) counted fits (live_is payloads) counts asks.dead) }
+
+pub asks_by : (payloads : List (List ℕ)) (generation len counted : ℕ) → counted ≡ min (2 ^ 64 - 1) (live_blocks payloads) → len < 2 ^ 64 → len ≡ closed_length payloads → AsksCarrying generation payloads → AsksAt generation len (capped_length counted)
+asks_by payloads generation len counted counts fits is asks = record { next = asks.next; dead = uncapped len (live_length payloads) (live_blocks payloads) counted fits (live_is payloads) counts (subst (λ (n : ℕ). HasManyDead n (live_length payloads)) (sym is) asks.dead) }
+
+-- the length of a journal is that of its payloads
+pub length_is : (store : RequestStoreState) (disk : DiskState) → IsRequestStoreInStep store disk → store.journal.len ≡ closed_length store.held.payloads
+length_is store disk in_step =
+    in_step.journal_in_step.closed.spelled.count_is
+    ∙ ap (λ (f : ℕ). closed_length (payloads f (reads_of disk))) in_step.form ∙ ap closed_length (sym in_step.payloads_are)
+
+-- a side of no more bytes than the limit asks for nothing
+pub short_unasked : (payloads : List (List ℕ)) (generation len : ℕ) → len ≡ closed_length payloads → len ≤ dead_limit → ¬ AsksCarrying generation payloads
+short_unasked payloads generation len is short asks = omega (arith, is, short, asks.dead.many)
+
+-- the generation of an opened journal
+pub generation_is : (image : Image) (journal : JournalState) (o : Option Side) → OpensAt image o journal → journal.generation ≡ option_map_or (λ side. generation_of (image_side side image)) o 1
+generation_is image journal None is = is.generation_is
+generation_is image journal (Some side) is = is.generation_is
+
+-- a fault is counted where nothing was counted before
+pub counts_on : {T U : Type 0} (first : Result T StoreFault) (second : Result U StoreFault) (failed : StoreFault) (before middle after : ℕ) → first ≡ Err failed → second ≡ Err failed → middle ≡ before → StoreCounts first middle after → StoreCounts second before after
+counts_on {T = T} {U = U} first second failed before middle after is_first is_second same counts =
+    subst (λ r. StoreCounts r before after) (sym is_second) (by failed (subst (λ r. StoreCounts r middle after) is_first counts))
+  where
+    by : (f : StoreFault) → StoreCounts {T = T} (Err f) middle after → StoreCounts {T = U} (Err f) before after
+    by fault.NoMemory c = c ∙ same
+    by fault.DiskFailed c = subst (λ (n : ℕ). Counted n after) same c

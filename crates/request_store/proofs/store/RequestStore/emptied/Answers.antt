@@ -1,0 +1,36 @@
+use Rattle.std.proofs.Common.{ap, sym, ◌∙◌}
+use Rattle.request_codec.specs.Shelves.{requests_among}
+use Rattle.request_store.proofs.RequestsAdded.{latest_none, none_among}
+use Rattle.request_store.proofs.RequestMoments.{empty_loses, empty_opens}
+use Rattle.request_store.proofs.store.RequestStore.emptied.Goals as goal
+
+pub returns-in_err-journal-clause-opens : goal.returns-in_err-journal-clause-opens
+returns-in_err-journal-clause-opens g c = λ told. empty_opens c.emptied.result (g.D.Disk.moments c.args.disk.now) (g.D.Disk.moments c.emptied.new.disk) (c.emptied.ensures.opens told)
+
+pub returns-in_err-journal-clause-loses : goal.returns-in_err-journal-clause-loses
+returns-in_err-journal-clause-loses g c = λ told. empty_loses c.emptied.result (g.D.Disk.moments c.args.disk.now) (g.D.Disk.moments c.emptied.new.disk) (c.emptied.ensures.opens told)
+
+pub returns-in_err-held-clause-opens : goal.returns-in_err-held-clause-opens
+returns-in_err-held-clause-opens g c = λ told. empty_opens c.emptied.result (g.D.Disk.moments c.args.disk.now) (g.D.Disk.moments c.emptied.new.disk) (c.emptied.ensures.opens told)
+
+pub returns-in_err-held-clause-loses : goal.returns-in_err-held-clause-loses
+returns-in_err-held-clause-loses g c = λ told. empty_loses c.emptied.result (g.D.Disk.moments c.args.disk.now) (g.D.Disk.moments c.emptied.new.disk) (c.emptied.ensures.opens told)
+
+pub returns-clause-opens : goal.returns-clause-opens
+returns-clause-opens g c = λ told. empty_opens c.emptied.result (g.D.Disk.moments c.args.disk.now) (g.D.Disk.moments c.emptied.new.disk) (c.emptied.ensures.opens told)
+
+pub returns-clause-loses : goal.returns-clause-loses
+returns-clause-loses g c = λ told. empty_loses c.emptied.result (g.D.Disk.moments c.args.disk.now) (g.D.Disk.moments c.emptied.new.disk) (c.emptied.ensures.opens told)
+
+pub returns-clause-none : goal.returns-clause-none
+returns-clause-none g c = λ told. ap requests_among (c.in_ok-journal.ensures.emptied told) ∙ none_among
+
+pub returns-clause-latest : goal.returns-clause-latest
+returns-clause-latest g c = λ name. latest_none c.in_ok-held.held.payloads name (c.in_ok-held.ensures ∙ c.new.ensures)
+
+pub returns-clause-in_step : goal.returns-clause-in_step
+returns-clause-in_step g c = λ told. record {
+  journal_in_step = c.in_ok-journal.ensures.in_step told;
+  form = c.in_ok-journal.ensures.form;
+  payloads_are = c.in_ok-held.ensures ∙ c.new.ensures ∙ sym (c.in_ok-journal.ensures.emptied told);
+}

@@ -1,0 +1,3 @@
+-- The definitions.
+pub mod Stored
+pub mod StoreLaws
