@@ -15,6 +15,11 @@ Entry = collections.namedtuple("Entry", "library path command text deps")
 Record = collections.namedtuple("Record", "view artefact")
 Node = collections.namedtuple("Node", "library path command text needs")
 
+# What a compiler was asked: `below` are the files that a file depends on, as they were built, in graph order.
+Asked = collections.namedtuple("Asked", "command library path text below")
+Product = collections.namedtuple("Product", "library path artefact")
+RequestRecord = collections.namedtuple("RequestRecord", "asked artefact")
+
 
 class Bad(Exception):
     """Bytes that aren't of the form."""
@@ -67,9 +72,9 @@ def payloads(side):
     return found, gate
 
 
-def counting_side(sides):
-    """The bytes of the live side that counts, or None."""
-    live = [side for side in sides if len(side) >= 19 and side[:10] == b"\x01VUNITREC" + bytes([FORM])]
+def counting_side(sides, form=FORM):
+    """The bytes of the live side of a form that counts, or None."""
+    live = [side for side in sides if len(side) >= 19 and side[:10] == b"\x01VUNITREC" + bytes([form])]
     return max(live, key=lambda side: struct.unpack_from("<Q", side, 10)[0], default=None)  # the first of equal ones
 
 
@@ -179,6 +184,142 @@ class Store:
         if any(need >= len(self.nodes) for need in needs) or len(set(needs)) != len(needs):
             raise Bad
         return Node(library, path, command, number, needs), text
+
+
+class Requests:
+    """The texts, products and records of payloads of form 3."""
+
+    def __init__(self, given):
+        self.texts, self.products, self.records = [], [], []
+        for payload in given:
+            try:
+                self.add(Bytes(payload))
+            except Bad:
+                pass
+
+    def add(self, data):
+        kind = data.byte()
+        if kind not in (0, 1):
+            raise Bad
+        texts = list(self.texts)
+        library, path = data.text(), data.text()
+        command = data.many(data.u32(), data.text) if kind == 1 else None
+        text = told_text(data, texts) if kind == 1 else b""
+        numbers = data.many(data.u32(), data.u64) if kind == 1 else ()
+        product = Product(library, path, told_text(data, texts))
+        data.end()
+        if not (1 <= len(library) <= 64 and 1 <= len(path) <= 1024 and len(product.artefact) <= ARTEFACT):
+            raise Bad
+        if kind == 0:
+            if product in self.products:
+                raise Bad
+        else:
+            below = self.below(product, numbers)
+            if not 1 <= len(command) <= 64 or any(len(word) > 1024 for word in command) or len(text) > TEXT:
+                raise Bad
+            self.records.append(RequestRecord(Asked(command, library, path, text, below), product.artefact))
+        self.texts = texts
+        if product not in self.products:
+            self.products.append(product)
+
+    def below(self, product, numbers):
+        """The products of the numbers, of files with different names, none of which is the record's."""
+        if len(numbers) >= FILES or any(number >= len(self.products) for number in numbers):
+            raise Bad
+        below = tuple(self.products[number] for number in numbers)
+        if len({one[:2] for one in (*below, product)}) != len(below) + 1:
+            raise Bad
+        return below
+
+
+def told_text(data, texts):
+    """A text by its number, or a new one, which is added to the texts."""
+    kind = data.byte()
+    if kind == 0:
+        number = data.u64()
+        if number >= len(texts):
+            raise Bad
+        return texts[number]
+    if kind != 1:
+        raise Bad
+    text = data.text()
+    if text in texts:
+        raise Bad
+    texts.append(text)
+    return text
+
+
+def name_asked(record):
+    """The library and the path of the file that a record is of."""
+    return record.asked.library, record.asked.path
+
+
+def latest_requests(records):
+    """The latest record of each name, in their order."""
+    return [record for at, record in enumerate(records) if all(name_asked(other) != name_asked(record) for other in records[at + 1:])]
+
+
+def spelled(data):
+    """A text with its length."""
+    return struct.pack("<I", len(data)) + data
+
+
+class Carried:
+    """The payloads that keep the latest of some records, and nothing else: each record in its order, after the products that it
+    is over and that aren't there yet."""
+
+    def __init__(self, records):
+        self.texts, self.products, self.payloads = [], [], []
+        for record in latest_requests(records):
+            for product in record.asked.below:
+                if product not in self.products:
+                    self.payloads.append(b"\0" + spelled(product.library) + spelled(product.path) + self.ref(product.artefact))
+                    self.products.append(product)
+            self.add(record)
+
+    def ref(self, text):
+        """A text by its number, or as a new one, which then is there."""
+        if text in self.texts:
+            return b"\0" + struct.pack("<Q", self.texts.index(text))
+        self.texts.append(text)
+        return b"\1" + spelled(text)
+
+    def add(self, record):
+        asked = record.asked
+        numbers = [self.products.index(product) for product in asked.below]
+        self.payloads.append(b"".join([
+            b"\1", spelled(asked.library), spelled(asked.path),
+            struct.pack("<I", len(asked.command)), *map(spelled, asked.command), self.ref(asked.text),
+            struct.pack("<I%dQ" % len(numbers), len(numbers), *numbers), self.ref(record.artefact)]))
+        own = Product(asked.library, asked.path, record.artefact)
+        if own not in self.products:
+            self.products.append(own)
+
+
+def side_of(form, generation, given):
+    """The bytes of a side of these payloads."""
+    blocks = b"".join(b"\1" + spelled(payload) for payload in given)
+    return b"\1VUNITREC" + bytes([form]) + struct.pack("<Q", generation) + blocks + b"\0"
+
+
+def latest_built(records, entry):
+    """A file as its latest record built it, or None where it has none."""
+    kept = [record for record in records if name_asked(record) == entry[:2]]
+    return Product(*entry[:2], kept[-1].artefact) if kept else None
+
+
+def has_asked(records, graph, at):
+    """Whether all files that a file depends on have a record, and its own latest record has what would be asked for it now."""
+    entry = graph[at]
+    built = tuple(latest_built(records, graph[dep]) for dep in entry.deps)
+    own = [record.asked for record in records if name_asked(record) == entry[:2]]
+    return None not in built and own[-1:] == [Asked(entry.command, entry.library, entry.path, entry.text, built)]
+
+
+def requests_of(folder):
+    """The records of requests of a folder's store of form 3, oldest first."""
+    side = counting_side(read_sides(folder), 3)
+    return Requests(payloads(side)[0]).records if side is not None else []
 
 
 def records_of(folder):

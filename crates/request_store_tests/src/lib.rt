@@ -1,0 +1,7 @@
+//! Tests of the store of requests, over a disk in memory.
+#![tactic(auto)]
+
+#[cfg(test)]
+mod random_sides;
+#[cfg(test)]
+mod requests;
