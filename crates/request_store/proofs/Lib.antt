@@ -4,3 +4,4 @@ pub mod RequestMoments
 pub mod RequestsAdded
 pub mod Carried
 pub mod Commits
+pub mod ArtefactSizes

@@ -157,9 +157,10 @@ impl RequestStore {
     pub fn artefact_at(&self, seats: &Seats, graph: &Graph, at: u32) -> Option<&[u8]>
         requires at { at < length graph.now }
         requires seats { AreSeats (request_shelf_of self.now.held.payloads) graph.now seats.now }
-        ensures { (entry : Entry) → slice_get graph.now at ≡ Some entry →
+        ensures bytes { (entry : Entry) → slice_get graph.now at ≡ Some entry →
             option_map (λ bytes. bytes.now) result
             ≡ option_map (λ kept. kept.artefact) (latest_held self.now.held.payloads entry.name) }
+        ensures size { IfSome result (λ bytes. length bytes.now ≤ ARTEFACT_LIMIT) }
     {
         self.held.artefact_at(seats, graph, at)
     }
@@ -167,8 +168,9 @@ impl RequestStore {
     /// What the compiler gave by the latest record of a name, lent; `None` exactly where the name has no record. It
     /// takes no memory.
     pub fn artefact(&self, name: &FileName) -> Option<&[u8]>
-        ensures { option_map (λ bytes. bytes.now) result
+        ensures bytes { option_map (λ bytes. bytes.now) result
             ≡ option_map (λ kept. kept.artefact) (latest_held self.now.held.payloads name.now) }
+        ensures size { IfSome result (λ bytes. length bytes.now ≤ ARTEFACT_LIMIT) }
     {
         self.held.artefact(name)
     }
