@@ -6,9 +6,11 @@ numbers meet, and of which some are none.
 
 usage: random_requests.py COUNT     prints the table of the first sides
 
-A line has four parts: the side's bytes; how many texts, products and records it stands for, in a digit each; of `a.vhd`, and of
-`b.vhd` over it, both with the text `x`, `f` where the latest record has what would be asked now and else `s`, and then the last byte
-of each artefact that is lent, or `-`; and the bytes of the other side after a compaction.
+A line has four parts: the side's bytes; the texts, products and records that it stands for, as below; of `a.vhd`, and of `b.vhd`
+over it, both with the text `x`, `f` where the latest record has what would be asked now and else `s`, and then the artefact of each that
+is lent, or `-`; and the bytes of the other side after a compaction. A text is its one byte, or `.` where it has none; a product is the
+first letter of its path and its artefact; a record is the letter, how many words it has, its text, the number of the product of each
+dependency, a colon and its product.
 """
 import struct, sys
 
@@ -72,17 +74,37 @@ def side_at(seed):
     return side_of(3, 1, given)
 
 
+def mark(text):
+    return text.decode() or "."
+
+
+def product_text(path, artefact):
+    return path.decode()[0] + mark(artefact)
+
+
+def record_text(read, record):
+    asked = record.asked
+    deps = "".join(str(read.products.index(product)) for product in asked.below)
+    return "%s%d%s%s:%s," % (asked.path.decode()[0], len(asked.command), mark(asked.text), deps, product_text(asked.path, record.artefact))
+
+
+def listing(read):
+    """Texts, products and records, with a slash between these lists."""
+    products = [product_text(product.path, product.artefact) for product in read.products]
+    records = [record_text(read, record) for record in read.records]
+    return "".join([*map(mark, read.texts), "/", *products, "/", *records])
+
+
 def letters_of(records):
     lent = [latest_built(records, entry) for entry in GRAPH]
     fits = ["f" if has_asked(records, GRAPH, at) else "s" for at in (0, 1)]
-    return "".join(fits + ["-" if one is None else chr((b"." + one.artefact)[-1]) for one in lent])
+    return "".join(fits + ["-" if one is None else mark(one.artefact) for one in lent])
 
 
 def row_of(seed):
     side = side_at(seed)
     read = Requests(payloads(side)[0])
-    counts = "%d%d%d" % (len(read.texts), len(read.products), len(read.records))
-    return "|".join([side.hex(), counts, letters_of(read.records), side_of(3, 2, Carried(read.records).payloads).hex()])
+    return "|".join([side.hex(), listing(read), letters_of(read.records), side_of(3, 2, Carried(read.records).payloads).hex()])
 
 
 def main():

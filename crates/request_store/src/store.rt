@@ -6,7 +6,7 @@ ghost use Rattle.vr_base.specs.declared.file.FileName.{FileName};
 ghost use Rattle.vr_base.specs.declared.graph.Entry.{Entry};
 ghost use Rattle.vr_base.specs.declared.limits.TheConstants.{ARTEFACT_LIMIT};
 ghost use Rattle.vr_outside.specs.Counts.{DiskCounts, StoreCounts};
-ghost use Rattle.vr_outside.specs.Disks.{AtAnyMoment, IsEither, NeverLoses, OpensWith, reads_of};
+ghost use Rattle.vr_outside.specs.Disks.{AtAnyMoment, DiskState, IsEither, NeverLoses, OpensWith, reads_of};
 ghost use Rattle.vr_outside.specs.Records.{deps_at};
 ghost use Rattle.gate_journal.specs.Journals.{CountsAs, Rests, other_side};
 ghost use Rattle.gate_journal.specs.Payloads.{payloads};
@@ -192,6 +192,8 @@ impl RequestStore {
             (deps_at graph.now at) }
         ensures payloads { self.new.held.payloads ≡ self.old.held.payloads }
         ensures journal { self.new.journal ≡ self.old.journal }
+        ensures in_step { (disk : DiskState) →
+            IsRequestStoreInStep self.old disk → IsRequestStoreInStep self.new disk }
         ensures ready { IfOk result (IsRequestReady self.new.held) }
         ensures asked { IfOk result
             (λ prepared.

@@ -147,12 +147,19 @@ fn keep_first<D: Disk>(
     keep(alloc, store, disk, seats, graph, 0, &artefact)
 }
 
-/// The artefact of the file of one byte, `.` where it has none, or `-` where it has no record.
+/// The one byte of a text, or a dot where it has none.
+pub(super) fn mark(text: &[u8]) -> u8 {
+    match text {
+        [] => b'.',
+        [byte] => *byte,
+        _ => b'?',
+    }
+}
+
+/// The artefact of the file, or `-` where it has no record.
 fn letter(store: &RequestStore, name: &FileName) -> u8 {
     match store.artefact(name) {
-        Some([byte]) => *byte,
-        Some([]) => b'.',
-        Some(_) => b'?',
+        Some(artefact) => mark(artefact),
         None => b'-',
     }
 }
