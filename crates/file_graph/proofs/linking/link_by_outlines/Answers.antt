@@ -4,5 +4,5 @@ use Rattle.file_graph.proofs.linking.link_by_outlines.Goals as goal
 
 pub returns-in_err-sets-clause-exact : goal.returns-in_err-sets-clause-exact
 returns-in_err-sets-clause-exact c scans are =
-    let p = err_from_is_err_and c.from_residual-in_err-sets.result c.from_residual-in_err-sets.ensures.1 in
+    let p = err_from_is_err_and c.from_residual.result c.from_residual.ensures.1 in
     rw (p.1, p.2) tt
