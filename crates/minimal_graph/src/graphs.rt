@@ -74,9 +74,7 @@ pub fn minimal_graph(
         graph ≡ part (linked project.now.files texts edges.now order.now)
         (needed_places (said_of project.now texts scans (Some edges.now)) tests.now order.now)) }
 {
-    let kept = linked_places(
-        alloc, project, &texts, outlines, sets, edges, order, tests,
-    )?;
+    let kept = linked_places(alloc, project, &texts, outlines, sets, edges, order, tests)?;
     let entries = linked_entries(alloc, project, texts, edges, order)?;
     let some = restrict(alloc, entries, &kept)?;
     graph_of_entries(alloc, some)

@@ -288,9 +288,7 @@ fn wished_graph(
     match wish.extent {
         Extent::Needed => {
             let tests = chosen(alloc, tests, &wish.patterns)?;
-            minimal_graph(
-                alloc, project, texts, outlines, sets, edges, order, &tests,
-            )
+            minimal_graph(alloc, project, texts, outlines, sets, edges, order, &tests)
         }
         Extent::Graph => graph_of(alloc, project, texts, edges, order),
         Extent::Tests => graph_of(alloc, project, texts, edges, order),
