@@ -11,14 +11,20 @@ use Rattle.vr_outside.specs.declared.records.StoreFault.{StoreFault}
 use Rattle.vr_outside.specs.declared.records.StoreFault.TheVariants as fault
 use Rattle.gate_journal.specs.Payloads.{block, counting, generation_of, payloads}
 use Rattle.gate_journal.specs.Journals.{IsHealthy, JournalState, OpensAt}
-use Rattle.request_codec.specs.Carrying.{carried_from, compacted_requests, none_carried}
+use Rattle.request_codec.specs.Carrying.{CarriedSoFar, carried_from, compacted_requests, none_carried}
 use Rattle.request_codec.specs.Forms.{request_payload_bytes}
 use Rattle.request_codec.specs.Requests.{RequestRecord, latest_request, latest_requests}
-use Rattle.request_codec.specs.Shelves.{requests_among}
+use Rattle.request_codec.specs.Shelves.{request_shelf_of, requests_among}
 use Rattle.request_holdings.specs.Held.{latest_held}
 use Rattle.request_store.specs.Stored.{AreAllOrLatest, AsksAt, AsksCarrying, HasCarriedOver, HasManyDead, ImageAsksCarrying, IsRequestStoreInStep, IsResting, RequestStoreState, capped_length, closed_length, dead_limit, live_length, opened_generation, requests_in}
 use Rattle.request_store.proofs.LatestRequests.{compacted-latest_requests, latest_request-latest_requests}
 use Rattle.request_store.proofs.RequestMoments.{compact_leaves}
+use Rattle.request_carry.specs.declared.plan.CarryPlan.{CarryPlan}
+use Rattle.request_carry.specs.Plans.{KeepsLatestRequests, blocks_length}
+
+-- the bytes of a plan are those of the payloads that keep the latest records
+pub counted_latest : (payloads : List (List ℕ)) (plan : CarryPlan) → KeepsLatestRequests payloads plan → plan.len ≡ min (2 ^ 64 - 1) (length (flat_map block (map request_payload_bytes (carried_from none_carried (latest_requests (request_shelf_of payloads).records)).payloads)))
+counted_latest payloads plan keeps = keeps.counted ∙ ap (λ (so_far : CarriedSoFar). min (2 ^ 64 - 1) (blocks_length so_far.payloads)) keeps.carried
 
 -- the latest record of each name stays
 pub latest_still : (old made : List (List ℕ)) (name : FileName) → requests_among made ≡ latest_requests (requests_among old) → latest_held made name ≡ latest_held old name

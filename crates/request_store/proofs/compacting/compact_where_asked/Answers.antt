@@ -2,7 +2,7 @@ use Rattle.std.proofs.Common.{◌≡◌, ◌<◌, ◌^◌, true, false, arith}
 use Rattle.vr_outside.specs.Disks.{reads_of}
 use Rattle.request_store.specs.Stored.{store_of}
 use Rattle.request_store.proofs.RequestMoments.{still_leaves}
-use Rattle.request_store.proofs.Carried.{asked_by, asks_by, compacted_rests, length_is, short_unasked, unasked_rests}
+use Rattle.request_store.proofs.Carried.{counted_latest, asked_by, asks_by, compacted_rests, length_is, short_unasked, unasked_rests}
 use Rattle.request_store.proofs.compacting.compact_where_asked.Goals as goal
 
 pub returns-then-length-le-DEAD_LIMIT-clause-any_moment : goal.returns-then-length-le-DEAD_LIMIT-clause-any_moment
@@ -19,7 +19,7 @@ returns-then-not-is_asked-clause-compacts g c = λ told asks.
     let journal = c.args.journal.now in
     let store = store_of c.args.journal.now c.args.held.now in
     let fits : journal.len < 2 ^ 64 = omega (arith, c.length.ensures, c.length.type_inv) in
-    let one : c.is_asked.result ≡ true = c.is_asked.ensures.1 (asks_by store.held.payloads journal.generation journal.len c.in_ok-plan.plan.len c.in_ok-plan.ensures.counted fits (length_is store (g.D.Disk.moments c.args.disk.now).now (c.requires.in_step told)) asks) in
+    let one : c.is_asked.result ≡ true = c.is_asked.ensures.1 (asks_by store.held.payloads journal.generation journal.len c.in_ok-plan.plan.len (counted_latest c.args.held.now.payloads c.in_ok-plan.plan c.in_ok-plan.ensures) fits (length_is store (g.D.Disk.moments c.args.disk.now).now (c.requires.in_step told)) asks) in
     let zero : c.is_asked.result ≡ false = c.if-not-is_asked.true in
     absurd cc
 
@@ -28,14 +28,14 @@ returns-in_err-replace_by-clause-keeps g c = λ told not_asks.
     let journal = c.args.journal.now in
     let store = store_of c.args.journal.now c.args.held.now in
     let fits : journal.len < 2 ^ 64 = omega (arith, c.length.ensures, c.length.type_inv) in
-    absurd (not_asks (asked_by store.held.payloads journal.generation journal.len c.in_ok-plan.plan.len c.in_ok-plan.ensures.counted fits (length_is store (g.D.Disk.moments c.args.disk.now).now (c.requires.in_step told)) (c.is_asked.ensures.0 c.if-not-is_asked.false)))
+    absurd (not_asks (asked_by store.held.payloads journal.generation journal.len c.in_ok-plan.plan.len (counted_latest c.args.held.now.payloads c.in_ok-plan.plan c.in_ok-plan.ensures) fits (length_is store (g.D.Disk.moments c.args.disk.now).now (c.requires.in_step told)) (c.is_asked.ensures.0 c.if-not-is_asked.false)))
 
 pub returns-clause-keeps : goal.returns-clause-keeps
 returns-clause-keeps g c = λ told not_asks.
     let journal = c.args.journal.now in
     let store = store_of c.args.journal.now c.args.held.now in
     let fits : journal.len < 2 ^ 64 = omega (arith, c.length.ensures, c.length.type_inv) in
-    absurd (not_asks (asked_by store.held.payloads journal.generation journal.len c.in_ok-plan.plan.len c.in_ok-plan.ensures.counted fits (length_is store (g.D.Disk.moments c.args.disk.now).now (c.requires.in_step told)) (c.is_asked.ensures.0 c.if-not-is_asked.false)))
+    absurd (not_asks (asked_by store.held.payloads journal.generation journal.len c.in_ok-plan.plan.len (counted_latest c.args.held.now.payloads c.in_ok-plan.plan c.in_ok-plan.ensures) fits (length_is store (g.D.Disk.moments c.args.disk.now).now (c.requires.in_step told)) (c.is_asked.ensures.0 c.if-not-is_asked.false)))
 
 pub returns-then-length-le-DEAD_LIMIT-clause-settled : goal.returns-then-length-le-DEAD_LIMIT-clause-settled
 returns-then-length-le-DEAD_LIMIT-clause-settled g c = λ told.
@@ -51,7 +51,7 @@ returns-then-not-is_asked-clause-settled g c = λ told.
     let disk = (g.D.Disk.moments c.args.disk.now).now in
     let fits : journal.len < 2 ^ 64 = omega (arith, c.length.ensures, c.length.type_inv) in
     unasked_rests store disk (c.requires.in_step told) (λ asks.
-    let one : c.is_asked.result ≡ true = c.is_asked.ensures.1 (asks_by store.held.payloads journal.generation journal.len c.in_ok-plan.plan.len c.in_ok-plan.ensures.counted fits (length_is store disk (c.requires.in_step told)) asks) in
+    let one : c.is_asked.result ≡ true = c.is_asked.ensures.1 (asks_by store.held.payloads journal.generation journal.len c.in_ok-plan.plan.len (counted_latest c.args.held.now.payloads c.in_ok-plan.plan c.in_ok-plan.ensures) fits (length_is store disk (c.requires.in_step told)) asks) in
     let zero : c.is_asked.result ≡ false = c.if-not-is_asked.true in
     absurd cc)
 
