@@ -385,6 +385,30 @@ fn linked_project(
     ordered_project(alloc, wish, project, texts, outlines, sets, links, &order)
 }
 
+/// A project with its files in no order yet, by the libraries that their units see.
+fn seen_project(
+    alloc: Global,
+    wish: &Wish,
+    project: Project,
+    texts: TextList,
+    outlines: &Outlines,
+    sets: &VisibleLibraries,
+) -> Result<ReadProject, ReadStop>
+    requires project { IsProject project }
+    requires few { length project.files ≤ FILE_LIMIT }
+    requires texts { FitTexts project.files texts }
+    requires outlined { AreOutlined texts outlines.now }
+    requires seen { (scans : List Scan) → AreOutlinesOf texts scans outlines.now →
+        AreVisible project.files texts scans sets.now }
+    ensures reading { (scans : List Scan) → AreOutlinesOf texts scans outlines.now →
+        LeadsTo (then_read (linked_reading wish.now project texts scans)
+        (links_of project texts scans)) result }
+    ensures cause { (count : ℕ) → ReadCounts result count count }
+{
+    let links = links_of(alloc, &project, &texts, outlines, sets)?;
+    linked_project(alloc, wish, project, texts, outlines, sets, links)
+}
+
 /// A project of these texts, with the outlines of its files. Texts exist once: they are lent until it is known what depends
 /// on what and which tests there are, and then moved into the graph.
 pub(crate) fn scanned_project(
@@ -406,6 +430,5 @@ pub(crate) fn scanned_project(
         return listed_project(alloc, wish, project, texts, outlines);
     }
     let sets = visible_sets_by_outlines(alloc, &project, &texts, outlines)?;
-    let links = links_of(alloc, &project, &texts, outlines, &sets)?;
-    linked_project(alloc, wish, project, texts, outlines, &sets, links)
+    seen_project(alloc, wish, project, texts, outlines, &sets)
 }
