@@ -2,6 +2,10 @@
 #![tactic(auto)]
 
 #[cfg(test)]
+mod changes;
+#[cfg(test)]
 mod random_sides;
 #[cfg(test)]
-mod requests;
+mod sides;
+#[cfg(test)]
+mod stops;

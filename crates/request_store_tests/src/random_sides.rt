@@ -3,7 +3,7 @@
 
 ghost use Rattle.request_shelf.specs.Placed.{AreTextsPlaced};
 
-use crate::requests::{Change, both, disk_of, mark, seen_on};
+use crate::changes::{Change, both, disk_of, mark, seen_on};
 use gate_journal::{Journal, Opened, Payloads};
 use request_codec::{Numbers, numbers_of};
 use request_shelf::{HeldPayloads, PlacedShelf, RecordRow, taken_up, text_at};
