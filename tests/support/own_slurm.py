@@ -31,6 +31,7 @@ MaxJobCount=20000
 MinJobAge=10
 SlurmdParameters=config_overrides
 PartitionName=all Nodes=ALL Default=YES MaxTime=INFINITE State=UP
+PartitionName=fast Nodes=ALL MaxTime=60 State=UP
 """
 NODE = "NodeName={name} NodeHostname={host} NodeAddr=127.0.0.1 Port={port} CPUs={slots} State=UNKNOWN\n"
 
@@ -127,7 +128,7 @@ class OwnSlurm:
         return subprocess.run(words, env=self.environment, capture_output=True, text=True).stdout
 
     def wait_until_idle(self):
-        self.wait_for(lambda: self.asks("sinfo", "-h", "-N", "-o", "%T").split() == ["idle"] * len(self.nodes), "the nodes")
+        self.wait_for(lambda: self.asks("sinfo", "-h", "-N", "-p", "all", "-o", "%T").split() == ["idle"] * len(self.nodes), "the nodes")
 
     def jobs(self):
         return self.asks("squeue", "-h").splitlines()

@@ -87,6 +87,34 @@ def lost_node(slurm):
     build(place, 0, build_text([]), over_engine=False)
 
 
+def commands_of_the_page():
+    """The lines of the first fence of its section in the page on other machines."""
+    with open(os.path.join(TOP, "docs", "user", "CLUSTER.md")) as page:
+        section = page.read().split("\n## With Slurm\n")[1].split("\n## ")[0]
+    return section.split("\n```\n")[1]
+
+
+def page(slurm):
+    """What the page says to type, in a copy of the example of GHDL; then a run without the engine has nothing to do."""
+    if not shutil.which("ghdl"):
+        print("not tried: ghdl is missing, so the lines of the page weren't run")
+        return
+    place = slurm_place(slurm, "page")
+    shutil.copytree(os.path.join(TOP, "examples", "ghdl_counter"), place.path("project"))
+    for folder in "home", "programs":
+        os.mkdir(place.path(folder))
+    os.symlink(TOP, place.path("home", "vunit_run"))
+    os.symlink(os.environ["VUNIT_RUN"], place.path("programs", "vunit_run"))
+    path = os.pathsep.join([place.path("programs"), place.environment["PATH"]])
+    given = {**place.environment, "HOME": place.path("home"), "PATH": path}
+    lines = f"set -e\n{commands_of_the_page()}\nvunit_run --compile\n"
+    ran = subprocess.run(["sh", "-c", lines], cwd=place.path("project"), env=given, capture_output=True, timeout=200)
+    assert ran.returncode == 0 and ran.stdout.endswith(b"Compile passed\nRe-compile not needed\n"), f"the lines of the page: it is {ran}"
+    jobs = slurm.asks("squeue", "-h", "--states=all", "--partition=fast", "-o", "%l").split()
+    assert jobs and set(jobs) == {"30:00"}, f"the lines of the page: in its partition are {jobs}"
+    place.seconds_until_nothing_is_left()
+
+
 def ghdl_examples(slurm):
     """The examples of GHDL by links of its wrappers' names."""
     if not shutil.which("ghdl"):
@@ -113,7 +141,7 @@ def ghdl_examples(slurm):
 
 with OwnSlurm("slurm") as slurm:
     # (the last one loses a node)
-    for work in answers, builds, ends, ghdl_examples, lost_node:
+    for work in answers, builds, page, ends, ghdl_examples, lost_node:
         begun = time.monotonic()
         work(slurm)
         print(f"{work.__name__}: {time.monotonic() - begun:.0f} s", flush=True)
