@@ -35,13 +35,13 @@ const COMMIT: u64 = 14;
 
 const NEXT: u64 = 18;
 
-fn disk(alloc: Global, failing: &[u64]) -> Result<MemDisk, NoMemory> {
+pub fn disk(alloc: Global, failing: &[u64]) -> Result<MemDisk, NoMemory> {
     let failing: Numbers = Items::from_vec(Vec::from_slice(alloc, failing)?);
     Ok(MemDisk::new(alloc, failing))
 }
 
 /// Whether the payloads are those of a letter: `a` is `ab` alone, `c` is `cd` alone, and `-` none.
-fn are(payloads: &Payloads, letter: u8) -> bool {
+pub fn are(payloads: &Payloads, letter: u8) -> bool {
     match letter {
         b'a' => payloads.len() == 1 && payloads.get(0) == b"ab".as_slice(),
         b'c' => payloads.len() == 1 && payloads.get(0) == b"cd".as_slice(),
@@ -160,7 +160,7 @@ fn with_cd(alloc: Global, disk: &mut MemDisk) -> Result<Journal, StoreFault> {
 /// A journal that was emptied, with `ab` before.
 fn emptied(alloc: Global, disk: &mut MemDisk) -> Result<Journal, StoreFault> {
     with_ab(alloc, disk)?;
-    Journal::emptied(alloc, disk, 1)
+    Journal::emptied(alloc, disk, 1, 1)
 }
 
 /// What is done to an empty disk: a journal is opened; `ab` is committed; then `cd` takes its place, or it is emptied.
@@ -259,7 +259,7 @@ fn empties_on(
 ) -> Result<bool, StoreFault> {
     write_durably(disk, Side::A, 0, sides[0])?;
     write_durably(disk, Side::B, 0, sides[1])?;
-    Journal::emptied(alloc, disk, 1)?;
+    Journal::emptied(alloc, disk, 1, 1)?;
     Ok(disk.reads(Side::A) == left[0] && disk.reads(Side::B) == left[1])
 }
 

@@ -4,6 +4,8 @@
 #[cfg(test)]
 mod disks;
 #[cfg(test)]
+mod forms;
+#[cfg(test)]
 mod journals;
 #[cfg(test)]
 mod objects;

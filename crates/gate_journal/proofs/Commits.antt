@@ -133,6 +133,12 @@ opened_holds form side generation len list payload old new more torn one =
     torn_holds form side generation len (len - 1) 1 (len + length (after_bytes payload)) list (list ++ payload ∷ []) old new more.holds torn (omega arith)
     (gate_open len list payload (image_side side old) (image_side side new) more.rest more.holds.closed more.small more.after torn.torn one)
 
+-- while the gate alone is written, the side counts
+pub gate_counts : (form : ℕ) (side : Side) (generation len : ℕ) (list : List (List ℕ)) (payload : List ℕ) (old new : Image) → HoldsMore form side generation len list payload old → IsTornImage side (len - 1) 1 old new → counting form new ≡ Some side
+gate_counts form side generation len list payload old new more torn =
+    let header = torn_header len (len - 1) 1 list (image_side side old) (image_side side new) more.holds.closed torn.torn (omega arith) in
+    counting_still form side old new header torn.other ∙ more.holds.counts
+
 -- while the gate alone is written, the payloads are those from before, or with the new one
 pub gate_payloads : (form : ℕ) (side : Side) (generation len : ℕ) (list : List (List ℕ)) (payload : List ℕ) (old new : Image) → HoldsMore form side generation len list payload old → IsTornImage side (len - 1) 1 old new → IsEither (payloads form new) list (list ++ payload ∷ [])
 gate_payloads form side generation len list payload old new more torn =

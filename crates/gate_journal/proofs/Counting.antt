@@ -182,7 +182,7 @@ leaves_other form side one other counts =
     }
 
 -- a prefix of a side that isn't live isn't live
-dead_prefix : (form k : ℕ) (bytes : List ℕ) → is_live form bytes ≡ false → is_live form (take k bytes) ≡ false
+pub dead_prefix : (form k : ℕ) (bytes : List ℕ) → is_live form bytes ≡ false → is_live form (take k bytes) ≡ false
 dead_prefix form k bytes dead = not_true (is_live form (take k bytes)) (λ live.
     let whole = live_still form bytes (take k bytes) (prefix_header form k bytes live) in
     let nothing : ⊥ = cc in

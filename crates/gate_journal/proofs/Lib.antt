@@ -23,3 +23,8 @@ pub mod Openings
 pub mod Readings
 pub mod Resting
 pub mod Framed
+pub mod Forms
+pub mod Changing
+pub mod Stays
+pub mod Counted
+pub mod LiveForms

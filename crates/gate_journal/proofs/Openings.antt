@@ -47,7 +47,7 @@ no_payload gate rest-gate rest one none =
     ]
 
 -- a torn write of the gate alone keeps the header
-gate_header : (len : ℕ) (list : List (List ℕ)) (old new : List ℕ) → IsSpelled len list old → IsTorn (len - 1) 1 old new → SameHeader old new
+pub gate_header : (len : ℕ) (list : List (List ℕ)) (old new : List ℕ) → IsSpelled len list old → IsTorn (len - 1) 1 old new → SameHeader old new
 gate_header len list old new spelled torn =
     let there = gate_there len list old spelled in
     record {
@@ -80,7 +80,7 @@ gate_ends len list old new ends one torn =
     }
 
 -- while the gate is closed the payloads stay
-closing_ends : (form : ℕ) (side : Side) (generation len : ℕ) (list : List (List ℕ)) (old new : Image) (ends : Ends form side generation len list old) → get_or (image_side side old) (len - 1) 0 ≡ 1 → IsTornImage side (len - 1) 1 old new → Ends form side generation len list new
+pub closing_ends : (form : ℕ) (side : Side) (generation len : ℕ) (list : List (List ℕ)) (old new : Image) (ends : Ends form side generation len list old) → get_or (image_side side old) (len - 1) 0 ≡ 1 → IsTornImage side (len - 1) 1 old new → Ends form side generation len list new
 closing_ends form side generation len list old new ends one torn =
     let header = gate_header len list (image_side side old) (image_side side new) ends.ends.spelled torn.torn in
     record {

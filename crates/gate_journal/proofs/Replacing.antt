@@ -24,7 +24,7 @@ pub live_is : (live side : Side) → side ≡ other_side live → live ≡ other
 live_is live side is = sym (other_again live) ∙ ap other_side (sym is)
 
 -- until then the other side counts
-other_is_live : (journal : JournalState) (disk : DiskState) (side : Side) (bytes : List ℕ) (content : SideContent) → Replaces journal disk side bytes content → counting journal.form (reads_of disk) ≡ Some (other_side side)
+pub other_is_live : (journal : JournalState) (disk : DiskState) (side : Side) (bytes : List ℕ) (content : SideContent) → Replaces journal disk side bytes content → counting journal.form (reads_of disk) ≡ Some (other_side side)
 other_is_live journal disk side bytes content known = known.in_step.counts ∙ ap (λ (s : Side). Some s) (live_is journal.live side known.other)
 
 -- the bytes are a side's in the journal's form

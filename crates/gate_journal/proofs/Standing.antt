@@ -25,7 +25,7 @@ LeavesImage form side image held = Leaves form side (image_side side image) (ima
 abbrev pub with_side : Side → List ℕ → Image → Image
 with_side side bytes image = paired side bytes (image_side (other_side side) image)
 
-steps_are : (side : Side) (bytes : List ℕ) (image : Image) (disk : DiskState) → disk ≡ settled_disk image → making side bytes disk ≡ made_steps side bytes (image_side side image) (image_side (other_side side) image)
+pub steps_are : (side : Side) (bytes : List ℕ) (image : Image) (disk : DiskState) → disk ≡ settled_disk image → making side bytes disk ≡ made_steps side bytes (image_side side image) (image_side (other_side side) image)
 steps_are side bytes image disk is = ap (making side bytes) (is ∙ settled_states side image) ∙ making_is side bytes (image_side side image) (image_side (other_side side) image)
 
 held_before : (form : ℕ) (side : Side) (image : Image) (held : List (List ℕ)) → LeavesImage form side image held → payloads form image ≡ held

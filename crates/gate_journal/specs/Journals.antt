@@ -81,18 +81,6 @@ OpensAt image (Some side) journal = CountsAs side (generation_of (image_side sid
 abbrev pub OpensAs : ℕ → Image → JournalState → Type 0
 OpensAs form image journal = OpensAt image (counting form image) journal
 
--- Both sides of a disk are emptied, or were being emptied: at any moment an image has the payloads that reads gave before,
--- or none, and once no image has a payload, none has one. Once it is done there is none, and the journal is in step.
-pub record EmptiesSides {E : Type 0} (form : ℕ) (result : Result JournalState E) (old new : Moments) : Type 0 where
-  pub any_moment : AtAnyMoment old new (λ image. IsEither (payloads form image) (payloads form (reads_of old.now)) [])
-  pub loses : NeverLoses old new (λ image. payloads form image ≡ [])
-  pub emptied : OnOk result (payloads form (reads_of new.now) ≡ [])
-  pub in_step : IfOk result (λ journal. IsInStep journal new.now)
-
--- Images only become fewer until both sides are synced, and from then on both are emptied. It may end before that.
-abbrev pub OpensEmpty : {E : Type 0} → ℕ → Result JournalState E → (old new : Moments) → Type 0
-OpensEmpty form result old new = Goes old.now old new ⊎ ((middle : Moments) × Goes old.now old middle × (middle.now ≡ settled_disk (reads_of old.now)) × EmptiesSides form result middle new)
-
 -- a side that is ready to be written: its form, its generation and its payloads
 pub record SideContent : Type 0 where
   pub form : ℕ

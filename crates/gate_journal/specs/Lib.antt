@@ -4,3 +4,4 @@ pub mod Places
 pub mod Headers
 pub mod Journals
 pub mod Steps
+pub mod Forms

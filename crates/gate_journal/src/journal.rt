@@ -1,9 +1,20 @@
-//! The journal of payloads: commits and replacements.
+//! The journal of payloads: commits, replacements, and a change to a newer form.
+//!
+//! What the two sides of a disk are, for one form, and what leads from one to the other:
+//!
+//!     neither live --open--> A live --replace--> both live, and the higher generation counts --replace--> ..
+//!     one live for an older form --change_form--> one live for each form
+//!
+//! 1. The side that counts is written after its closed gate alone, and then at that gate, once all after it is synced.
+//! 2. The other side is written while it isn't live, and made live by its first byte, once all after that is synced.
+//! 3. A side that is made in the place of one of its form has the next generation.
+//! 4. A side is live for one form at most, so that making one for a newer form leaves what the older one has.
 
-ghost use Rattle.std.specs.Prelude.{◌≡◌, ◌≤◌, ◌+◌, ◌-◌, ◌^◌, ◌<◌, ◌++◌, ◌∷◌, [], false, length, IfOk, OnOk, is_err};
+ghost use Rattle.std.specs.Prelude.{◌≡◌, ◌≢◌, ◌≤◌, ◌+◌, ◌-◌, ◌^◌, ◌<◌, ◌++◌, ◌∷◌, [], true, false, length, IfOk, OnErr, OnOk, is_err};
 ghost use Rattle.vr_base.specs.Bytes.{text_bytes};
 ghost use Rattle.vr_outside.specs.Counts.{DiskCounts};
 ghost use Rattle.vr_outside.specs.Disks.{reads_of, IsEither, AtAnyMoment, NeverLoses};
+ghost use Rattle.gate_journal.specs.Forms.{ChangesForm, has_form};
 ghost use Rattle.gate_journal.specs.Payloads.{payloads};
 ghost use Rattle.gate_journal.specs.Journals.{IsInStep, CountsAs, IsWithTwo, other_side};
 ghost use Rattle.gate_journal.specs.Steps.{Went, last_moment, committing};
@@ -59,6 +70,13 @@ impl Journal {
         }
     }
 
+    /// The form of the payloads.
+    pub fn form(&self) -> u8
+        ensures { result ≡ self.now.form }
+    {
+        self.form
+    }
+
     /// The generation of the side that counts.
     pub fn generation(&self) -> u64
         requires { self.now.broken ≡ false }
@@ -108,6 +126,10 @@ impl Journal {
             (payloads self.old.form (reads_of (D.moments disk.old).now))
             (payloads self.old.form (reads_of (D.moments disk.old).now)
             ++ ready.now ∷ [])) }
+        // The form is live in each.
+        ensures live { D.tells →
+            AtAnyMoment (D.moments disk.old) (D.moments disk.new)
+            (λ image. has_form self.old.form image ≡ true) }
         // Once each image has the new one, each image has it.
         ensures loses { D.tells →
             NeverLoses (D.moments disk.old) (D.moments disk.new)
@@ -149,6 +171,7 @@ impl Journal {
         ensures cause { DiskCounts result (D.failed_disk_calls disk.old)
             (D.failed_disk_calls disk.new) }
     {
+        // By 1.
         write_durably(disk, self.live, self.len, bytes)?;
         write_durably(disk, self.live, self.len - 1, &[1])
     }
@@ -190,6 +213,9 @@ impl Journal {
             IsEither (payloads self.old.form image)
             (payloads self.old.form (reads_of (D.moments disk.old).now))
             side.payloads) }
+        ensures live { D.tells →
+            AtAnyMoment (D.moments disk.old) (D.moments disk.new)
+            (λ image. has_form self.old.form image ≡ true) }
         ensures loses { D.tells →
             NeverLoses (D.moments disk.old) (D.moments disk.new)
             (λ image. payloads self.old.form image ≡ side.payloads) }
@@ -203,10 +229,69 @@ impl Journal {
         let other = other(self.live);
         let generation = side.generation();
         let bytes = side.bytes();
+        // By 2 and 3.
         match make_side(disk, other, bytes) {
             Ok(()) => {
                 self.live = other;
                 self.generation = generation;
+                self.len = bytes.len() as u64 + 1;
+                Ok(())
+            }
+            Err(fault) => {
+                self.broken = true;
+                Err(fault)
+            }
+        }
+    }
+
+    /// Makes a side of a form ready that has these payloads alone, of the first generation.
+    pub fn first_side(alloc: Global, form: u8, payloads: &Payloads) -> Result<ReadySide, NoMemory>
+        ensures { IfOk result
+            (λ side.
+            side ≡ record { form = form; generation = 1; payloads = payloads.now }) }
+    {
+        ReadySide::new(alloc, form, 1, payloads)
+    }
+
+    /// Puts a prepared side of another form beside the one that counts, which stays as it is: the journal is one of the new
+    /// form from then on. It takes no memory.
+    pub fn change_form<D: Disk>(&mut self, disk: &mut D, side: ReadySide) -> Result<(), DiskFailed>
+        requires usable { self.old.broken ≡ false }
+        requires form { side.form ≢ self.old.form }
+        requires generation { side.generation ≡ 1 }
+        requires in_step { D.tells → IsInStep self.old (D.moments disk.old).now }
+        requires none { D.tells →
+            has_form side.form (reads_of (D.moments disk.old).now) ≡ false }
+        ensures in_step { D.tells → OnOk result (IsInStep self.new (D.moments disk.new).now) }
+        ensures changed { D.tells →
+            OnOk result
+            (payloads side.form (reads_of (D.moments disk.new).now) ≡ side.payloads) }
+        // At any moment, after a fault too, a stop can leave the old form as it was, and the new one not live, or with the new
+        // payloads.
+        ensures any_moment { D.tells →
+            AtAnyMoment (D.moments disk.old) (D.moments disk.new)
+            (ChangesForm self.old.form side.form
+            (payloads self.old.form (reads_of (D.moments disk.old).now)) side.payloads) }
+        // Once the new form is live in each image, it is live in each.
+        ensures loses { D.tells →
+            NeverLoses (D.moments disk.old) (D.moments disk.new)
+            (λ image. has_form side.form image ≡ true) }
+        ensures counts { OnOk result (CountsAs (other_side self.old.live) 1 self.new) }
+        ensures form { OnOk result (self.new.form ≡ side.form) }
+        ensures old_form { OnErr result (self.new.form ≡ self.old.form) }
+        ensures broken { self.new.broken ≡ is_err result }
+        ensures cause { DiskCounts result (D.failed_disk_calls disk.old)
+            (D.failed_disk_calls disk.new) }
+    {
+        let beside = other(self.live);
+        let form = side.form();
+        let bytes = side.bytes();
+        // By 2 and 4.
+        match make_side(disk, beside, bytes) {
+            Ok(()) => {
+                self.form = form;
+                self.live = beside;
+                self.generation = 1;
                 self.len = bytes.len() as u64 + 1;
                 Ok(())
             }

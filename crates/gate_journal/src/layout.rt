@@ -2,6 +2,7 @@
 ghost use Rattle.std.specs.Prelude.{◌≡◌, ℕ, ◌^◌, ◌<◌, ◌≤◌, ◌∷◌, List, [], length, take, min, All, Some, None, IfOk, IfSome, if◌then◌else◌};
 ghost use Rattle.vr_outside.specs.Disks.{Image};
 ghost use Rattle.gate_journal.specs.Payloads.{mark, is_live, generation_of, side_bytes};
+ghost use Rattle.gate_journal.specs.Forms.{found_form, has_form, older_counts};
 ghost use Rattle.gate_journal.specs.Headers.{header_in, headers_in, IsFoundLive};
 
 use crate::Payloads;
@@ -25,6 +26,13 @@ pub struct Header {
 pub struct Headers {
     pub a: Option<Header>,
     pub b: Option<Header>,
+}
+
+/// What the sides say of themselves, by two forms.
+#[derive(Clone, Copy)]
+pub struct FormHeaders {
+    pub newer: Headers,
+    pub older: Headers,
 }
 
 /// The side that counts, its generation, and the number of its bytes.
@@ -68,6 +76,29 @@ pub fn header_of(form: u8, len: u64, first: &[u8]) -> Option<Header>
     }
 }
 
+/// Whether a side is live.
+pub fn has_live(headers: Headers) -> bool
+    ensures { (form : ℕ) → (image : Image) →
+        headers ≡ headers_in form image → result ≡ has_form form image }
+{
+    match live_side(headers) {
+        None => false,
+        Some(_live) => true,
+    }
+}
+
+/// Whether the older form alone is live.
+pub fn is_older(headers: FormHeaders) -> bool
+    ensures { (newer older : ℕ) → (image : Image) →
+        headers.newer ≡ headers_in newer image →
+        headers.older ≡ headers_in older image →
+        result ≡ older_counts newer older image }
+{
+    let newer = has_live(headers.newer);
+    let older = has_live(headers.older);
+    !newer && older
+}
+
 /// The side that counts: the live one of the higher generation, and A where both have the same.
 pub fn live_side(headers: Headers) -> Option<Live>
     ensures counts { (form : ℕ) → (image : Image) →
@@ -88,6 +119,19 @@ pub fn live_side(headers: Headers) -> Option<Live>
         return Some(live_as(Side::B, second));
     }
     Some(live_as(Side::A, first))
+}
+
+/// The side that counts for the form that does.
+pub fn found_side(headers: FormHeaders) -> Option<Live>
+    ensures { (newer older : ℕ) → (image : Image) →
+        headers.newer ≡ headers_in newer image →
+        headers.older ≡ headers_in older image →
+        IsFoundLive (found_form newer older image) image result }
+{
+    if is_older(headers) {
+        return live_side(headers.older);
+    }
+    live_side(headers.newer)
 }
 
 /// A side that counts.

@@ -3,6 +3,7 @@
 #![tactic(auto)]
 
 mod clearing;
+mod finding;
 mod journal;
 mod layout;
 mod making;

@@ -1,9 +1,10 @@
 //! Opening a journal over whatever a disk holds.
 
-ghost use Rattle.std.specs.Prelude.{◌≡◌, ◌≤◌, [], false, None, length, IfOk, IfSome, OnOk};
+ghost use Rattle.std.specs.Prelude.{◌≡◌, ◌≢◌, ◌≤◌, ℕ, [], true, false, None, length, IfOk, IfSome, OnOk};
 ghost use Rattle.vr_outside.specs.Counts.{StoreCounts};
 ghost use Rattle.vr_outside.specs.Disks.{reads_of, settled_disk, image_side, AtAnyMoment, OpensWith};
 ghost use Rattle.vr_outside.specs.declared.disk.Side.TheVariants.{A};
+ghost use Rattle.gate_journal.specs.Forms.{HoldsSame, has_form};
 ghost use Rattle.gate_journal.specs.Payloads.{payloads, counting, generation_of, side_bytes};
 ghost use Rattle.gate_journal.specs.Journals.{IsInStep, HasPayloadsOf, IsHealthy, Rests, OpensAs, CountsAs};
 ghost use Rattle.gate_journal.specs.Headers.{headers_in, IsLiveOf};
@@ -68,7 +69,7 @@ impl Journal {
 }
 
 /// Opens the side that counts, or makes one.
-fn open_sides<D: Disk>(
+pub(crate) fn open_sides<D: Disk>(
     alloc: Global,
     disk: &mut D,
     form: u8,
@@ -82,6 +83,18 @@ fn open_sides<D: Disk>(
     ensures any_moment { D.tells →
         AtAnyMoment (D.moments disk.old) (D.moments disk.new)
         (λ image. payloads form image ≡ payloads form (reads_of (D.moments disk.old).now)) }
+    // Where the form is live, each form is live where it was, with the payloads that it had.
+    ensures holds { D.tells →
+        has_form form (reads_of (D.moments disk.old).now) ≡ true →
+        AtAnyMoment (D.moments disk.old) (D.moments disk.new)
+        (HoldsSame (reads_of (D.moments disk.old).now)) }
+    // Where it isn't, no other form becomes live.
+    ensures apart { D.tells →
+        has_form form (reads_of (D.moments disk.old).now) ≡ false →
+        (other : ℕ) → other ≢ form →
+        has_form other (reads_of (D.moments disk.old).now) ≡ false →
+        AtAnyMoment (D.moments disk.old) (D.moments disk.new)
+        (λ image. has_form other image ≡ false) }
     ensures rests { D.tells →
         IsHealthy form (reads_of (D.moments disk.old).now) →
         Rests result (D.moments disk.old) (D.moments disk.new) }
@@ -117,6 +130,11 @@ pub(crate) fn begin<D: Disk>(alloc: Global, disk: &mut D, form: u8) -> Result<Op
     ensures any_moment { D.tells →
         AtAnyMoment (D.moments disk.old) (D.moments disk.new)
         (λ image. payloads form image ≡ payloads form (reads_of (D.moments disk.old).now)) }
+    ensures apart { D.tells →
+        (other : ℕ) → other ≢ form →
+        has_form other (reads_of (D.moments disk.old).now) ≡ false →
+        AtAnyMoment (D.moments disk.old) (D.moments disk.new)
+        (λ image. has_form other image ≡ false) }
     ensures in_step { D.tells →
         IfOk result (λ opened. IsInStep opened.journal (D.moments disk.new).now) }
     ensures payloads { D.tells →
@@ -148,6 +166,9 @@ fn open<D: Disk>(alloc: Global, disk: &mut D, form: u8, live: Live) -> Result<Op
     ensures any_moment { D.tells →
         AtAnyMoment (D.moments disk.old) (D.moments disk.new)
         (λ image. payloads form image ≡ payloads form (reads_of (D.moments disk.old).now)) }
+    ensures holds { D.tells →
+        AtAnyMoment (D.moments disk.old) (D.moments disk.new)
+        (HoldsSame (reads_of (D.moments disk.old).now)) }
     ensures rests { D.tells →
         IsHealthy form (reads_of (D.moments disk.old).now) →
         Rests result (D.moments disk.old) (D.moments disk.new) }
@@ -183,6 +204,9 @@ fn open_bytes<D: Disk>(
     ensures any_moment { D.tells →
         AtAnyMoment (D.moments disk.old) (D.moments disk.new)
         (λ image. payloads form image ≡ payloads form (reads_of (D.moments disk.old).now)) }
+    ensures holds { D.tells →
+        AtAnyMoment (D.moments disk.old) (D.moments disk.new)
+        (HoldsSame (reads_of (D.moments disk.old).now)) }
     ensures rests { D.tells →
         IsHealthy form (reads_of (D.moments disk.old).now) →
         Rests result (D.moments disk.old) (D.moments disk.new) }

@@ -123,6 +123,12 @@ impl ReadySide {
         })
     }
 
+    pub(crate) fn form(&self) -> u8
+        ensures { result ≡ self.now.form }
+    {
+        self.form
+    }
+
     pub(crate) fn generation(&self) -> u64
         ensures { result ≡ self.now.generation }
     {

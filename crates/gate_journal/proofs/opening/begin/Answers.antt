@@ -2,6 +2,7 @@ use Rattle.std.proofs.Common.{sym, ◌∙◌}
 use Rattle.vr_outside.specs.Disks.{reads_of}
 use Rattle.gate_journal.proofs.Counting.{payloads_none}
 use Rattle.gate_journal.proofs.Fresh.{begun_moments, begun_in_step}
+use Rattle.gate_journal.proofs.Stays.{begun_apart}
 use Rattle.gate_journal.proofs.opening.begin.Goals as goal
 
 pub returns-in_err-make_side-clause-any_moment : goal.returns-in_err-make_side-clause-any_moment
@@ -22,3 +23,13 @@ returns-clause-in_step g c = λ told.
 pub returns-clause-payloads : goal.returns-clause-payloads
 returns-clause-payloads g c = λ told.
     c.new.ensures ∙ sym (payloads_none c.args.form (reads_of (g.D.Disk.moments c.args.disk.now).now) (c.requires.none told))
+
+pub returns-in_err-make_side-clause-apart : goal.returns-in_err-make_side-clause-apart
+returns-in_err-make_side-clause-apart g c = λ told other differs none.
+    let moments = g.D.Disk.moments in
+    begun_apart c.args.form other c.empty_side.result (moments c.args.disk.now) (moments c.make_side.new.disk) (c.requires.settled told) differs none c.empty_side.ensures (c.make_side.ensures.steps told)
+
+pub returns-clause-apart : goal.returns-clause-apart
+returns-clause-apart g c = λ told other differs none.
+    let moments = g.D.Disk.moments in
+    begun_apart c.args.form other c.empty_side.result (moments c.args.disk.now) (moments c.make_side.new.disk) (c.requires.settled told) differs none c.empty_side.ensures (c.make_side.ensures.steps told)

@@ -4,6 +4,7 @@ use Rattle.gate_journal.specs.Payloads.{generation_of}
 use Rattle.gate_journal.specs.Journals.{JournalState, IsInStep}
 use Rattle.gate_journal.proofs.Openings.{begun_moments, closing_moments, closed_in_step, ends_payloads, found_ends, shut_in_step}
 use Rattle.gate_journal.proofs.Resting.{healthy_shut, opened, rests_at_once, unopened}
+use Rattle.gate_journal.proofs.Stays.{at_once_holds, closing_holds}
 use Rattle.gate_journal.proofs.opening.open_bytes.Goals as goal
 
 pub returns-in_err-found-clause-any_moment : goal.returns-in_err-found-clause-any_moment
@@ -78,3 +79,23 @@ returns-clause-payloads g c = λ told.
     let live = c.requires.live told in
     let ends = found_ends c.args.form c.args.live.side c.args.live.generation c.in_ok-found.found.len c.in_ok-found.found.payloads c.args.bytes.items (reads_of old.now) live.counts (live.generation ∙ ap generation_of (c.requires.bytes told)) (c.requires.bytes told) c.in_ok-found.ensures.end in
     c.as_found-2.ensures.payloads ∙ sym (ends_payloads c.args.form c.args.live.side c.args.live.generation c.in_ok-found.found.len c.in_ok-found.found.payloads (reads_of old.now) ends)
+
+pub returns-in_err-found-clause-holds : goal.returns-in_err-found-clause-holds
+returns-in_err-found-clause-holds g c = λ told. at_once_holds (g.D.Disk.moments c.args.disk.now) (c.requires.settled told)
+
+pub returns-then-not-found-clause-holds : goal.returns-then-not-found-clause-holds
+returns-then-not-found-clause-holds g c = λ told. at_once_holds (g.D.Disk.moments c.args.disk.now) (c.requires.settled told)
+
+pub returns-in_err-write_durably-clause-holds : goal.returns-in_err-write_durably-clause-holds
+returns-in_err-write_durably-clause-holds g c = λ told.
+    let old = g.D.Disk.moments c.args.disk.now in
+    let live = c.requires.live told in
+    let ends = found_ends c.args.form c.args.live.side c.args.live.generation c.in_ok-found.found.len c.in_ok-found.found.payloads c.args.bytes.items (reads_of old.now) live.counts (live.generation ∙ ap generation_of (c.requires.bytes told)) (c.requires.bytes told) c.in_ok-found.ensures.end in
+    closing_holds c.args.form c.args.live.side c.args.live.generation c.in_ok-found.found.len c.in_ok-found.found.payloads (reads_of old.now) old (g.D.Disk.moments c.write_durably.new.disk) ends (ap (λ (l : List ℕ). get_or l (c.in_ok-found.found.len - 1) 0) (c.requires.bytes told) ∙ c.in_ok-found.ensures.gate.0 (opened c.in_ok-found.found.is_open c.if-not-found.false)) (c.requires.settled told) (c.write_durably.ensures.moments told)
+
+pub returns-clause-holds : goal.returns-clause-holds
+returns-clause-holds g c = λ told.
+    let old = g.D.Disk.moments c.args.disk.now in
+    let live = c.requires.live told in
+    let ends = found_ends c.args.form c.args.live.side c.args.live.generation c.in_ok-found.found.len c.in_ok-found.found.payloads c.args.bytes.items (reads_of old.now) live.counts (live.generation ∙ ap generation_of (c.requires.bytes told)) (c.requires.bytes told) c.in_ok-found.ensures.end in
+    closing_holds c.args.form c.args.live.side c.args.live.generation c.in_ok-found.found.len c.in_ok-found.found.payloads (reads_of old.now) old (g.D.Disk.moments c.write_durably.new.disk) ends (ap (λ (l : List ℕ). get_or l (c.in_ok-found.found.len - 1) 0) (c.requires.bytes told) ∙ c.in_ok-found.ensures.gate.0 (opened c.in_ok-found.found.is_open c.if-not-found.false)) (c.requires.settled told) (c.write_durably.ensures.moments told)

@@ -1,6 +1,7 @@
 use Rattle.std.proofs.Common.{◌+◌, ℕ, List, length, sym, subst, ◌∙◌}
 use Rattle.gate_journal.specs.Journals.{JournalState, IsInStep}
 use Rattle.gate_journal.proofs.Commits.{commit_adds, commit_any, commit_never_loses, commit_in_step}
+use Rattle.gate_journal.proofs.LiveForms.{commit_live}
 use Rattle.gate_journal.proofs.journal.Journal.commit.Goals as goal
 
 pub returns-in-Ok-clause-in_step : goal.returns-in-Ok-clause-in_step
@@ -35,3 +36,13 @@ pub returns-in-Err-clause-loses : goal.returns-in-Err-clause-loses
 returns-in-Err-clause-loses g c = λ told.
     let moments = g.D.Disk.moments in
     commit_never_loses c.args.self.now c.args.ready.now c.bytes.result.now (moments c.args.disk.now) (moments c.append.new.disk) (c.requires.in_step told) c.bytes.ensures.small c.bytes.ensures.bytes (c.append.ensures.steps told)
+
+pub returns-in-Ok-clause-live : goal.returns-in-Ok-clause-live
+returns-in-Ok-clause-live g c = λ told.
+    let moments = g.D.Disk.moments in
+    commit_live c.args.self.now c.args.ready.now c.bytes.result.now (moments c.args.disk.now) (moments c.append.new.disk) (c.requires.in_step told) c.bytes.ensures.small c.bytes.ensures.bytes (c.append.ensures.steps told)
+
+pub returns-in-Err-clause-live : goal.returns-in-Err-clause-live
+returns-in-Err-clause-live g c = λ told.
+    let moments = g.D.Disk.moments in
+    commit_live c.args.self.now c.args.ready.now c.bytes.result.now (moments c.args.disk.now) (moments c.append.new.disk) (c.requires.in_step told) c.bytes.ensures.small c.bytes.ensures.bytes (c.append.ensures.steps told)

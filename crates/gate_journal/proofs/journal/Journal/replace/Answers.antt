@@ -2,6 +2,7 @@ use Rattle.std.proofs.Common.{length, refl, ap, ◌∙◌, arith}
 use Rattle.gate_journal.specs.Journals.{JournalState, other_side}
 use Rattle.gate_journal.proofs.Replacing.{Replaces, replacing_moments, replacing_loses, replaced_payloads, replaced_in_step}
 use Rattle.gate_journal.proofs.SideBytes.{side_length}
+use Rattle.gate_journal.proofs.LiveForms.{replacing_live}
 use Rattle.gate_journal.proofs.journal.Journal.replace.Given as given
 use Rattle.gate_journal.proofs.journal.Journal.replace.Goals as goal
 
@@ -68,3 +69,15 @@ returns-clause-loses g c = λ told.
     let moments = g.D.Disk.moments in
     let old = moments c.args.disk.now in
     replacing_loses c.args.self.now c.other-other.result c.bytes-bytes.result.now c.args.side old (moments c.make_side.new.disk) (known_after_fault g c told) (c.make_side.ensures.steps told)
+
+pub returns-in-Ok-clause-live : goal.returns-in-Ok-clause-live
+returns-in-Ok-clause-live g c = λ told.
+    let moments = g.D.Disk.moments in
+    let old = moments c.args.disk.now in
+    replacing_live c.args.self.now c.other-other.result c.bytes-bytes.result.now c.args.side old (moments c.make_side.new.disk) (known g c told) (c.make_side.ensures.steps told)
+
+pub returns-clause-live : goal.returns-clause-live
+returns-clause-live g c = λ told.
+    let moments = g.D.Disk.moments in
+    let old = moments c.args.disk.now in
+    replacing_live c.args.self.now c.other-other.result c.bytes-bytes.result.now c.args.side old (moments c.make_side.new.disk) (known_after_fault g c told) (c.make_side.ensures.steps told)

@@ -1,6 +1,6 @@
 use Rattle.vr_outside.proofs.MomentLaws.{goes_then}
 use Rattle.vr_outside.specs.Disks.{Goes}
-use Rattle.gate_journal.proofs.sides.read_headers.Goals as goal
+use Rattle.gate_journal.proofs.sides.read_form_headers.Goals as goal
 
 pub returns-in_err-sync-2-clause-moments : goal.returns-in_err-sync-2-clause-moments
 returns-in_err-sync-2-clause-moments g c = λ told.
