@@ -1,60 +1,59 @@
 //! Builds are compared with a plain build that is fed the same ends.
 
-use crate::objects::Told;
-use crate::plain::{Plain, Way, mark_of};
-use crate::sets::upto;
-use crate::shapes::{Shape, letter, text};
+use crate::kept::AllKept;
+use crate::objects::{Told, told_build};
+use crate::plain::{Plain, Way, mark_of, plain_build};
+use crate::shapes::{Project, file_at, given, letter, library};
 use std::alloc::Global;
+use std::process::Abort;
+use std::test::Fail;
 use vr_base::NoMemory;
+use vr_memory::MemDisk;
 
 /// The marks of a plain build.
 pub(super) fn plain_marks(
     alloc: Global,
     plain: &Plain,
-    shape: &Shape,
-    stale: u8,
+    project: &Project,
     keep_going: bool,
 ) -> Result<Vec<u8>, NoMemory> {
     let mut marks = Vec::new(alloc);
-    for at in 0..shape.count {
-        marks.push(mark_of(plain, shape, stale, keep_going, at))?;
+    for position in 0..project.shape.count {
+        marks.push(mark_of(plain, keep_going, file_at(project, position)))?;
     }
     Ok(marks)
 }
 
-/// The artefacts of a plain build, where each stale file was compiled.
-fn plain_whole(
-    alloc: Global,
-    plain: &Plain,
-    shape: &Shape,
-    stale: u8,
-    changed: u8,
-) -> Result<Vec<u8>, NoMemory> {
+/// The artefacts of a plain build, where each file is made.
+fn plain_whole(alloc: Global, plain: &Plain, project: &Project) -> Result<Vec<u8>, NoMemory> {
     let mut whole = Vec::new(alloc);
-    if stale & !plain.compiled != 0 {
-        return Ok(whole);
-    }
-    for at in 0..shape.count {
+    for position in 0..project.shape.count {
+        let at = file_at(project, position);
+        let made = plain.made[(at % 8) as usize];
+        if made == 0 {
+            return Ok(Vec::new(alloc));
+        }
         whole.push(letter(at))?;
-        whole.push(text(changed, at))?;
+        whole.push(made)?;
     }
     Ok(whole)
 }
 
 /// What is printed of a file with this mark.
-fn put_file_line(out: &mut Vec<u8>, changed: u8, at: u8, mark: u8) -> Result<(), NoMemory> {
+fn put_file_line(out: &mut Vec<u8>, project: &Project, at: u8, mark: u8) -> Result<(), NoMemory> {
     if mark == b'f' || mark == b'l' {
         return Ok(());
     }
-    out.extend_from_slice(b"Compiling into lib: ")?;
-    out.push(letter(at))?;
+    out.extend_from_slice(b"Compiling into ")?;
+    out.extend_from_slice(library(project, at))?;
+    out.extend_from_slice(&[b':', b' ', letter(at)])?;
     if mark == b'c' {
         out.extend_from_slice(b" passed\n")?;
     } else if mark == b's' {
         out.extend_from_slice(b" skipped\n")?;
     } else {
         out.extend_from_slice(b" failed\n")?;
-        out.extend_from_slice(&[letter(at), text(changed, at), b'\n'])?;
+        out.extend_from_slice(&[letter(at), given(project, at), b'\n'])?;
     }
     Ok(())
 }
@@ -71,11 +70,12 @@ fn last_line(marks: &[u8]) -> &'static [u8] {
 }
 
 /// What is printed of these marks, which are those of the files in order.
-fn plain_text(alloc: Global, changed: u8, marks: &[u8]) -> Result<Vec<u8>, NoMemory> {
+fn plain_text(alloc: Global, project: &Project, marks: &[u8]) -> Result<Vec<u8>, NoMemory> {
     let mut out = Vec::new(alloc);
-    for at in 0..8u8 {
-        if (at as usize) < marks.len() {
-            put_file_line(&mut out, changed, at, marks[at as usize])?;
+    for position in 0..8u8 {
+        if (position as usize) < marks.len() {
+            let at = file_at(project, position);
+            put_file_line(&mut out, project, at, marks[position as usize])?;
         }
     }
     out.extend_from_slice(last_line(marks))?;
@@ -87,10 +87,8 @@ pub(super) fn agree(
     alloc: Global,
     told: &Told,
     plain: &Plain,
-    shape: &Shape,
-    stale: u8,
-    changed: u8,
-    way: &Way,
+    project: &Project,
+    keep_going: bool,
 ) -> Result<bool, NoMemory> {
     if told.events.as_slice() != plain.events.as_slice() {
         return Ok(false);
@@ -98,9 +96,9 @@ pub(super) fn agree(
     if plain.fault.is_some() {
         return Ok(told.fault == plain.fault);
     }
-    let marks = plain_marks(alloc, plain, shape, stale, way.keep_going)?;
-    let whole = plain_whole(alloc, plain, shape, stale, changed)?;
-    let printed = plain_text(alloc, changed, marks.as_slice())?;
+    let marks = plain_marks(alloc, plain, project, keep_going)?;
+    let whole = plain_whole(alloc, plain, project)?;
+    let printed = plain_text(alloc, project, marks.as_slice())?;
     Ok(
         told.fault.is_none()
             && told.marks.as_slice() == marks.as_slice()
@@ -109,7 +107,17 @@ pub(super) fn agree(
     )
 }
 
-/// The files of a shape whose records are current after a plain build.
-pub(super) fn recorded_after(plain: &Plain, shape: &Shape) -> u8 {
-    plain.recorded & upto(shape.count)
+/// Builds a project over a disk that has these records, as the plain build does.
+pub(super) fn build_alike(
+    rt: &impl Abort,
+    alloc: Global,
+    project: &Project,
+    kept: &AllKept,
+    way: &Way,
+    disk: &mut MemDisk,
+) -> Result<Plain, Fail> {
+    let plain = plain_build(alloc, project, kept, way)?;
+    let told = told_build(rt, alloc, project, &plain.made, way, disk)?;
+    assert!(rt; agree(alloc, &told, &plain, project, way.keep_going)?);
+    Ok(plain)
 }

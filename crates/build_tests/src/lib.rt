@@ -4,6 +4,8 @@
 #[cfg(test)]
 mod compare;
 #[cfg(test)]
+mod kept;
+#[cfg(test)]
 mod objects;
 #[cfg(test)]
 mod parts;

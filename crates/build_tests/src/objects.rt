@@ -2,10 +2,10 @@
 
 use crate::plain::{NEVER, Way, pick_of};
 use crate::sets::has;
-use crate::shapes::{Shape, file_of, graph_of, input_of, letter, text};
+use crate::shapes::{Project, file_at, file_of, given, graph_of, input_of, letter, word};
 use build_plan::{Need, plan};
 use compile_loop::{BuildEnd, BuildFault, build, build_marks};
-use record_store::RecordStore;
+use request_store::RequestStore;
 use run_report::build_text;
 use run_spec::{Mark, MarkList};
 use std::alloc::Global;
@@ -54,49 +54,56 @@ fn picks_of(alloc: Global, picks: u32) -> Result<Positions, NoMemory> {
     Ok(list)
 }
 
-fn words(alloc: Global) -> Result<TextList, NoMemory> {
+fn words(alloc: Global, project: &Project, at: u8) -> Result<TextList, NoMemory> {
     let mut words = TextList::new(alloc);
-    words.push(Text::from_slice(alloc, b"cc")?)?;
+    words.push(Text::from_slice(alloc, word(project, at))?)?;
     Ok(words)
 }
 
-fn request(alloc: Global, shape: &Shape, changed: u8, at: u8) -> Result<Request, NoMemory> {
+fn request(alloc: Global, project: &Project, made: &[u8; 8], at: u8) -> Result<Request, NoMemory> {
     Ok(Request {
-        command: words(alloc)?,
-        input: Text::from_vec(input_of(alloc, shape, changed, at)?),
+        command: words(alloc, project, at)?,
+        input: Text::from_vec(input_of(alloc, project, made, at)?),
         results: MaybeText::Nothing,
     })
 }
 
-/// A compiler's exit: the letter and the text of the file, whether it is refused or not.
-fn exit(alloc: Global, changed: u8, at: u8, refused: bool) -> Result<Exit, NoMemory> {
+/// A compiler's exit: what it gives for the file, whether it is refused or not.
+fn exit(alloc: Global, project: &Project, at: u8, refused: bool) -> Result<Exit, NoMemory> {
     Ok(Exit {
         code: if refused { 1 } else { 0 },
-        output: Text::from_slice(alloc, &[letter(at), text(changed, at)])?,
+        output: Text::from_slice(alloc, &[letter(at), given(project, at)])?,
         results: MaybeText::Nothing,
     })
 }
 
-fn answers(alloc: Global, shape: &Shape, changed: u8, refused: u8) -> Result<AnswerList, NoMemory> {
+/// What compilers answer that are asked over files with these artefacts.
+fn answers(
+    alloc: Global,
+    project: &Project,
+    made: &[u8; 8],
+    refused: u8,
+) -> Result<AnswerList, NoMemory> {
     let mut answers: AnswerList = Items::new(alloc);
-    for at in 0..shape.count {
+    for position in 0..project.shape.count {
+        let at = file_at(project, position);
         answers.push(Answer {
-            request: request(alloc, shape, changed, at)?,
-            exit: exit(alloc, changed, at, has(refused, at))?,
+            request: request(alloc, project, made, at)?,
+            exit: exit(alloc, project, at, has(refused, at))?,
         })?;
     }
     Ok(answers)
 }
 
-/// Children of a shape that go a way.
+/// Children of a project that go a way, where files have these artefacts once they are made.
 fn script(
     rt: &impl Abort,
     alloc: Global,
-    shape: &Shape,
-    changed: u8,
+    project: &Project,
+    made: &[u8; 8],
     way: &Way,
 ) -> Result<ScriptProcs, NoMemory> {
-    let answers = answers(alloc, shape, changed, way.refused)?;
+    let answers = answers(alloc, project, made, way.refused)?;
     assert!(rt; can_answer(&answers));
     let picks = picks_of(alloc, way.picks)?;
     Ok(ScriptProcs::new(alloc, answers, picks, one(alloc, way.failing)?))
@@ -112,7 +119,7 @@ fn build_over(
     limit: u32,
     keep_going: bool,
 ) -> Result<BuildEnd, BuildFault> {
-    let mut store = match RecordStore::from_disk(alloc, disk) {
+    let mut store = match RequestStore::from_disk(alloc, disk) {
         Ok(store) => store,
         Err(StoreFault::NoMemory) => return Err(BuildFault::NoMemory),
         Err(StoreFault::DiskFailed) => return Err(BuildFault::DiskFailed),
@@ -238,31 +245,18 @@ fn told_over(
     tell(alloc, graph, procs.journal().as_slice(), &end)
 }
 
-/// Builds a shape, of which some files have changed, over a disk.
+/// Builds a project over a disk, where files have these artefacts once they are made.
 pub(super) fn told_build(
     rt: &impl Abort,
     alloc: Global,
-    shape: &Shape,
-    changed: u8,
+    project: &Project,
+    made: &[u8; 8],
     way: &Way,
     disk: &mut MemDisk,
 ) -> Result<Told, Fail> {
-    let graph = graph_of(alloc, shape, changed)?;
-    let mut procs = script(rt, alloc, shape, changed, way)?;
+    let graph = graph_of(alloc, project)?;
+    let mut procs = script(rt, alloc, project, made, way)?;
     Ok(told_over(rt, alloc, &graph, disk, &mut procs, way)?)
-}
-
-/// The fault that ends such a build, if one does.
-pub(super) fn build_fault(
-    rt: &impl Abort,
-    alloc: Global,
-    shape: &Shape,
-    changed: u8,
-    way: &Way,
-    disk: &mut MemDisk,
-) -> Result<Option<BuildFault>, Fail> {
-    let told = told_build(rt, alloc, shape, changed, way, disk)?;
-    Ok(told.fault)
 }
 
 /// Builds over a store that is opened over the disk, for the marks alone.
@@ -273,12 +267,13 @@ fn build_marks_over(
     disk: &mut MemDisk,
     procs: &mut ScriptProcs,
     limit: u32,
+    keep_going: bool,
 ) -> Result<MarkList, Fail> {
-    let mut store = RecordStore::from_disk(alloc, disk)?;
+    let mut store = RequestStore::from_disk(alloc, disk)?;
     assert!(rt; procs.running().is_empty());
     assert!(rt; limit >= 1);
     assert!(rt; limit <= 64);
-    Ok(build_marks(alloc, graph, &mut store, disk, procs, limit, true)?)
+    Ok(build_marks(alloc, graph, &mut store, disk, procs, limit, keep_going)?)
 }
 
 /// The marks of such a build as letters.
@@ -288,23 +283,24 @@ fn marks_over(
     graph: &Graph,
     disk: &mut MemDisk,
     procs: &mut ScriptProcs,
-    limit: u32,
+    way: &Way,
 ) -> Result<Vec<u8>, Fail> {
-    let marks = build_marks_over(rt, alloc, graph, disk, procs, limit)?;
+    let marks = build_marks_over(rt, alloc, graph, disk, procs, way.limit, way.keep_going)?;
     Ok(tell_marks(alloc, &marks)?)
 }
 
-/// The marks of a build of a shape over a disk.
+/// The marks of a build of a project over a disk, by the call that gives marks alone.
 pub(super) fn told_marks(
     rt: &impl Abort,
     alloc: Global,
-    shape: &Shape,
+    project: &Project,
+    made: &[u8; 8],
     way: &Way,
     disk: &mut MemDisk,
 ) -> Result<Vec<u8>, Fail> {
-    let graph = graph_of(alloc, shape, 0)?;
-    let mut procs = script(rt, alloc, shape, 0, way)?;
-    marks_over(rt, alloc, &graph, disk, &mut procs, way.limit)
+    let graph = graph_of(alloc, project)?;
+    let mut procs = script(rt, alloc, project, made, way)?;
+    marks_over(rt, alloc, &graph, disk, &mut procs, way)
 }
 
 /// The plan over a store as letters: fresh, stale, or to be checked later.
@@ -326,14 +322,13 @@ fn plan_letters<K: Records>(
     Ok(letters)
 }
 
-/// The plan of a build of a shape over a disk, of which some files have changed.
+/// The plan of a build of a project over a disk.
 pub(super) fn told_plan(
     alloc: Global,
-    shape: &Shape,
-    changed: u8,
+    project: &Project,
     disk: &mut MemDisk,
 ) -> Result<Vec<u8>, Fail> {
-    let graph = graph_of(alloc, shape, changed)?;
-    let mut store = RecordStore::from_disk(alloc, disk)?;
+    let graph = graph_of(alloc, project)?;
+    let mut store = RequestStore::from_disk(alloc, disk)?;
     Ok(plan_letters(alloc, &graph, &mut store)?)
 }

@@ -1,6 +1,5 @@
-//! What tests of small projects share: their shapes, and how their builds go.
+//! The small projects that tests build.
 
-use crate::plain::{NEVER, Way};
 use crate::shapes::Shape;
 
 /// A package and two users of it, a file alone, a user of the second; and a file that depends on all of them.
@@ -9,14 +8,44 @@ pub(super) const USERS: Shape = Shape {
     deps: [0, 0b1, 0, 0b1, 0b11, 0b11111, 0, 0],
 };
 
-/// A build whose calls don't fail, with a place of four bits for each wait.
-pub(super) fn way(limit: u32, keep_going: bool, refused: u8, picks: u32) -> Way {
-    Way {
-        limit,
-        keep_going,
-        refused,
-        picks,
-        failing: NEVER,
-        failing_commit: NEVER,
+/// A package, its user, a file alone, a user of the user; and a file that depends on all of them.
+const CHAIN: Shape = Shape {
+    count: 5,
+    deps: [0, 0b1, 0, 0b11, 0b1111, 0, 0, 0],
+};
+
+/// Three files alone, and a file that depends on all of them.
+const ALONE: Shape = Shape {
+    count: 4,
+    deps: [0, 0, 0, 0b111, 0, 0, 0, 0],
+};
+
+/// Two files alone, a user of both, and a file that depends on all of them.
+const TWO: Shape = Shape {
+    count: 4,
+    deps: [0, 0, 0b11, 0b111, 0, 0, 0, 0],
+};
+
+/// A file alone, a file with a user, and a file that depends on all of them.
+const ONE: Shape = Shape {
+    count: 4,
+    deps: [0, 0, 0b10, 0b111, 0, 0, 0, 0],
+};
+
+/// A package, its user, a user of the user; and a file that depends on all of them.
+const LINE: Shape = Shape {
+    count: 4,
+    deps: [0, 0b1, 0b11, 0b111, 0, 0, 0, 0],
+};
+
+/// The project of a letter.
+pub(super) fn shape_of(letter: u8) -> Shape {
+    match letter {
+        b'U' => USERS,
+        b'C' => CHAIN,
+        b'A' => ALONE,
+        b'T' => TWO,
+        b'O' => ONE,
+        _ => LINE,
     }
 }

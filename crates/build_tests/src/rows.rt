@@ -1,267 +1,283 @@
-//! Builds of small projects, event by event, for each number of slots.
+//! Builds of small projects by hand, event by event.
 
-use crate::objects::{Told, build_fault, empty_disk, told_build, told_marks, told_plan};
-use crate::parts::{USERS, way};
-use crate::plain::{NEVER, Way};
-use crate::shapes::Shape;
+use crate::compare::agree;
+use crate::kept::{AllKept, none_kept};
+use crate::objects::{Told, empty_disk, told_build, told_marks, told_plan};
+use crate::parts::shape_of;
+use crate::plain::{NEVER, Plain, Way, plain_build, steady_way};
+use crate::sets::with;
+use crate::shapes::{Project, first};
 use compile_loop::BuildFault;
 use std::alloc::Global;
 use std::process::Abort;
 use std::test::Fail;
 use vr_memory::MemDisk;
 
-/// A package, its user, a file alone, a user of the user; and a file that depends on all of them.
-const REFUSED: Shape = Shape {
-    count: 5,
-    deps: [0, 0b1, 0, 0b11, 0b1111, 0, 0, 0],
-};
+/// A row a line: what it shows, and builds over one disk that is empty at first, with `|` between two. A build has words: the
+/// letter of its shape, and what is other than at first, as the letters of files after `t` (another text, and another
+/// artefact), `c` (another comment, and the same artefact), `o` (other words of the compiler), `m` (another library) and `n`
+/// (another artefact, whatever is asked), and `s` where the first two files are in the other order; then `p` and the number of slots, where it isn't 1, `k` where the build
+/// goes on after a refusal, `r` and the files that are refused, `f` and the start or wait that fails, counted from 0, and `w` and the
+/// places that waits take among the running children. After `>` come what is started and ends, as in what is told, or `.`
+/// where nothing is; the marks, or the fault; and the letters and artefacts of all files, or `.` where one has none. After `=` come
+/// the marks alone, and after `?` the plan.
+static ROWS: &str = "\
+all files are compiled once|U > +0-0+1-1+2-2+3-3+4-4+5-5 cccccc a1b1c1d1e1f1|U > . ffffff a1b1c1d1e1f1
+a free slot is used before the first wait|U p3 > +0+2-0+1+3-2-1+4-3-4+5-5 cccccc a1b1c1d1e1f1
+a changed package and its users are compiled|U = cccccc|U ta > +0-0+1-1+3-3+4-4+5-5 ccfccc a2b1c1d1e1f1
+a changed package and its users are compiled|U = cccccc|U ta p2 > +0-0+1+3-1+4-3-4+5-5 ccfccc a2b1c1d1e1f1
+a changed package and its users are compiled|U = cccccc|U ta p3 > +0-0+1+3-1+4-3-4+5-5 ccfccc a2b1c1d1e1f1
+a changed package and its users are compiled|U = cccccc|U ta p64 > +0-0+1+3-1+4-3-4+5-5 ccfccc a2b1c1d1e1f1
+a comment in the package compiles it alone|U = cccccc|U ca > +0-0 cfffff a1b1c1d1e1f1|U ca > . ffffff a1b1c1d1e1f1
+a comment in the package compiles it alone|U = cccccc|U ca p64 > +0-0 cfffff a1b1c1d1e1f1|U > +0-0 cfffff a1b1c1d1e1f1
+a comment in the file alone compiles it alone|U = cccccc|U cc > +2-2 ffcfff a1b1c1d1e1f1
+the file alone shares nothing with the users|U = cccccc|U tc p3 > +2-2+5-5 ffcffc a1b1c2d1e1f1
+a comment in all files compiles each|U = cccccc|U cabcdef p3 > +0+2-0+1+3-2-1+4-3-4+5-5 cccccc a1b1c1d1e1f1
+a comment below a comment|U = cccccc|U cab > +0-0+1-1 ccffff a1b1c1d1e1f1
+a comment below a change|U = cccccc|U ca tb > +0-0+1-1+4-4+5-5 ccffcc a1b2c1d1e1f1
+a comment above a change|U = cccccc|U ta cb > +0-0+1-1+3-3+4-4+5-5 ccfccc a2b1c1d1e1f1
+both files below a user change, and end in order|T = cccc|T tab p2 > +0+1-0-1+2-2+3-3 cccc a2b2c1d1
+both files below a user change, and end in the other order|T = cccc|T tab p2 w1 > +0+1-1-0+2-2+3-3 cccc a2b2c1d1
+one of two files below a user changes|T = cccc|T ca tb p2 > +0+1-0-1+2-2+3-3 cccc a1b2c1d1
+one of two files below a user changes, and ends first|T = cccc|T ca tb p2 w1 > +0+1-1-0+2-2+3-3 cccc a1b2c1d1
+none of two files below a user changes|T = cccc|T cab p2 w1 > +0+1-1-0 ccff a1b1c1d1
+a file that drops a use leaves the lists above it|L = cccc|O cb > +1-1+2-2 fccf a1b1c1d1|L > +1-1+2-2 fccf a1b1c1d1
+files of other lists|U = cccccc|C > +3-3+4-4 fffcc a1b1c1d1e1|U > +3-3+4-4 fffccf a1b1c1d1e1f1
+a list in another order|T = cccc|T s > +2-2+3-3 ffcc b1a1c1d1|T > +2-2+3-3 ffcc a1b1c1d1
+other words of a compiler with the same artefact|U = cccccc|U oa > +0-0 cfffff a1b1c1d1e1f1|U > +0-0 cfffff a1b1c1d1e1f1
+other words of all compilers|A = cccc|A oabcd > +0-0+1-1+2-2+3-3 cccc a1b1c1d1
+a name in another library, and back|U = cccccc|U ma > +0-0+1-1+3-3+4-4+5-5 ccfccc a1b1c1d1e1f1|U > +1-1+3-3+4-4+5-5 fcfccc a1b1c1d1e1f1
+a compiler that would give another artefact isn't asked|U = cccccc|U nabcdef > . ffffff a1b1c1d1e1f1
+a compiler that gives another artefact at a comment|U = cccccc|U ca na > +0-0+1-1+3-3+4-4+5-5 ccfccc a3b1c1d1e1f1|U ca > . ffffff a3b1c1d1e1f1
+an undone change compiles the package alone|U = cccccc|U ta f2 > +0-0 start .|U > +0-0 cfffff a1b1c1d1e1f1
+an undone change compiles the package alone|U = cccccc|U ta f2 > +0-0 start .|U p64 > +0-0 cfffff a1b1c1d1e1f1
+an undone change, after which the compiler gives another artefact|U = cccccc|U ta f2 > +0-0 start .|U na > +0-0+1-1+3-3+4-4+5-5 ccfccc a3b1c1d1e1f1
+a change that is undone once all was compiled|U = cccccc|U ta = ccfccc|U > +0-0+1-1+3-3+4-4+5-5 ccfccc a1b1c1d1e1f1
+a change of the user alone that is undone|U = cccccc|U tb f2 > +1-1 start .|U > +1-1 fcffff a1b1c1d1e1f1
+a refused change that is undone|U = cccccc|U tb rb k > +1!1 frffss .|U > . ffffff a1b1c1d1e1f1
+a refusal skips what depends on it|C k ra > +0!0+2-2 rscss .
+a refusal skips what depends on it|C k ra p2 > +0+2!0-2 rscss .
+a refusal skips what depends on it|C k ra p3 > +0+2!0-2 rscss .
+a refusal skips what depends on it|C k ra p64 > +0+2!0-2 rscss .
+a refusal ends a build that does not keep going|C ra > +0!0 rllll .
+a refusal ends a build that does not keep going|C ra p2 > +0+2!0-2 rlcll .
+a refusal ends a build that does not keep going|C ra p64 > +0+2!0-2 rlcll .
+marks alone are those of the build|C p2 k ra = rscss
+what waits for a refused package is not fresh|U = cccccc|U ta f2 > +0-0 start .|U ra p3 > +0!0 rlflll .|U ra k > +0!0 rsfsss .|U > +0-0 cfffff a1b1c1d1e1f1
+what waits for a file that was made is fresh after a refusal|O = cccc|O ta cb ra p2 > +0+1!0-1 rcfl .
+what waits for a file that was not started is left|O = cccc|O ta cb ra > +0!0 rlll .
+what waits for a file that was made is fresh|O = cccc|O ta cb ra k > +0!0+1-1 rcfs .
+ends come in any order|A p2 > +0+1-0+2-1-2+3-3 cccc a1b1c1d1
+ends come in any order|A p3 w210 > +0+1+2-2-1-0+3-3 cccc a1b1c1d1
+ends come in any order|A p64 w210 > +0+1+2-2-1-0+3-3 cccc a1b1c1d1
+the others are waited for and recorded after a loss|A p3 w210 f3 > +0+1+2?2-1-0 lost .|A > +2-2+3-3 ffcc a1b1c1d1
+no check comes after a loss|U = cccccc|U ta f2 > +0-0 start .|U p3 f1 > +0?0 lost .
+a loss while a check is due|O = cccc|O ta cb p2 f2 > +0+1?0-1 lost .|O ta cb > +0-0+3-3 cffc a2b1c1d1
+what depends on a stale file is planned for later|U = cccccc|U ta f2 > +0-0 start .|U ? slflll|U ta ? fsfsll|U tac ? fsssll
+a plan does not know yet what a comment changes|U = cccccc|U ca ? slflll|U oc ? ffsffl|U na ? ffffff|T ? fsll";
 
-/// Three files alone, and a file that depends on all of them.
-const ALONE: Shape = Shape {
-    count: 4,
-    deps: [0, 0, 0, 0b111, 0, 0, 0, 0],
-};
-
-/// Builds the users with one slot and no refusal.
-fn build_users(rt: &impl Abort, alloc: Global, disk: &mut MemDisk) -> Result<(), Fail> {
-    let fault = build_fault(rt, alloc, &USERS, 0, &way(1, false, 0, 0), disk)?;
-    assert!(rt; fault.is_none());
-    Ok(())
-}
-
-/// Builds the users from an empty disk, and then once more after the package has changed.
-fn told_again(rt: &impl Abort, alloc: Global, limit: u32) -> Result<Told, Fail> {
-    let mut disk = empty_disk(alloc, NEVER)?;
-    build_users(rt, alloc, &mut disk)?;
-    told_build(rt, alloc, &USERS, 0b1, &way(limit, false, 0, 0), &mut disk)
-}
-
-fn is(told: &Told, events: &[u8], marks: &[u8]) -> bool {
-    told.events.as_slice() == events && told.marks.as_slice() == marks
-}
-
-/// Builds again after the package has changed.
-fn users_go(rt: &impl Abort, alloc: Global, limit: u32, events: &[u8]) -> Result<(), Fail> {
-    let told = told_again(rt, alloc, limit)?;
-    assert!(rt; is(&told, events, b"ccfccc"));
-    assert!(rt; told.whole.as_slice() == b"a2b1c1d1e1f1".as_slice());
-    Ok(())
-}
-
-#[test]
-fn a_changed_package_and_its_users_are_compiled(rt: HostRuntime) -> Result<(), Fail> {
-    users_go(&rt, rt.alloc(), 1, b"+0-0+1-1+3-3+4-4+5-5")?;
-    for limit in [2, 3, 64] {
-        users_go(&rt, rt.alloc(), limit, b"+0-0+1+3-1+4-3-4+5-5")?;
+/// What follows a letter in the first word that begins with it, or nothing.
+fn after(words: &str, letter: u8) -> &str {
+    for word in words.split(' ') {
+        if word.as_bytes().first() == Some(&letter) {
+            return word.split_at_checked(1).map_or("", |parts| parts.1);
+        }
     }
-    Ok(())
+    ""
 }
 
-/// The project of a letter.
-fn shape_of(letter: u8) -> Shape {
-    match letter {
-        b'u' => USERS,
-        b'r' => REFUSED,
-        _ => ALONE,
+/// Whether a word is this letter alone.
+fn has_word(words: &str, letter: u8) -> bool {
+    words
+        .split(' ')
+        .any(|word| word.as_bytes() == [letter].as_slice())
+}
+
+/// The files whose letters follow a letter.
+fn files_in(words: &str, letter: u8) -> u8 {
+    let mut files = 0;
+    for file in after(words, letter).bytes() {
+        files = with(files, file.wrapping_sub(b'a'));
+    }
+    files
+}
+
+/// The number that follows a letter, or another one where there is none.
+fn number_in(words: &str, letter: u8, other: u32) -> u32 {
+    after(words, letter).parse::<u32>().unwrap_or(other)
+}
+
+/// The project of a build.
+fn project_in(words: &str) -> Project {
+    let letter = words.as_bytes().first().copied().unwrap_or(0);
+    let mut project = first(&shape_of(letter));
+    project.changed = files_in(words, b't');
+    project.commented = files_in(words, b'c');
+    project.optioned = files_in(words, b'o');
+    project.moved = files_in(words, b'm');
+    project.newer = files_in(words, b'n');
+    project.swapped = has_word(words, b's');
+    project
+}
+
+/// The places that waits take, four bits each, the first one low.
+fn picks_in(words: &str) -> u32 {
+    let mut picks = 0u32;
+    for digit in after(words, b'w').bytes().rev() {
+        picks = picks.wrapping_mul(16).wrapping_add((digit % 16) as u32);
+    }
+    picks
+}
+
+/// The way of a build.
+fn way_in(words: &str) -> Way {
+    let mut way = steady_way(
+        number_in(words, b'p', 1),
+        has_word(words, b'k'),
+        files_in(words, b'r'),
+        picks_in(words),
+    );
+    way.failing = number_in(words, b'f', NEVER);
+    way
+}
+
+/// The word of a fault.
+fn fault_word(fault: &BuildFault) -> &'static [u8] {
+    match fault {
+        BuildFault::NoMemory => b"memory",
+        BuildFault::StartFailed => b"start",
+        BuildFault::ChildLost => b"lost",
+        BuildFault::DiskFailed => b"disk",
     }
 }
 
-/// Whether a build over a disk starts, ends and marks so.
-fn goes_over(
+/// Whether letters are those of a word, of which one dot is nothing.
+fn are(letters: &[u8], word: &str) -> bool {
+    if word == "." {
+        return letters.is_empty();
+    }
+    letters == word.as_bytes()
+}
+
+/// Whether the marks, or the fault, are these.
+fn ends_so(told: &Told, word: &str) -> bool {
+    match &told.fault {
+        None => are(told.marks.as_slice(), word),
+        Some(fault) => are(fault_word(fault), word),
+    }
+}
+
+/// A word of some.
+fn word_at(words: &str, at: usize) -> &str {
+    words.split(' ').nth(at).unwrap_or("")
+}
+
+/// Whether a build did and answered this.
+fn is(told: &Told, wanted: &str) -> bool {
+    are(told.events.as_slice(), word_at(wanted, 0))
+        && ends_so(told, word_at(wanted, 1))
+        && are(told.whole.as_slice(), word_at(wanted, 2))
+}
+
+/// Builds, and says whether it is as wanted, and as the plain build.
+fn builds(
     rt: &impl Abort,
     alloc: Global,
-    shape: &Shape,
+    project: &Project,
+    plain: &Plain,
     way: &Way,
-    wanted: (&[u8], &[u8]),
+    wanted: &str,
     disk: &mut MemDisk,
 ) -> Result<bool, Fail> {
-    let told = told_build(rt, alloc, shape, 0, way, disk)?;
-    Ok(is(&told, wanted.0, wanted.1))
+    let told = told_build(rt, alloc, project, &plain.made, way, disk)?;
+    Ok(is(&told, wanted) && agree(alloc, &told, plain, project, way.keep_going)?)
 }
 
-/// Builds a project of a letter from an empty disk.
-fn first_goes(
+/// Whether the marks alone are as wanted.
+fn marks(
     rt: &impl Abort,
     alloc: Global,
-    letter: u8,
+    project: &Project,
+    plain: &Plain,
     way: &Way,
-    events: &str,
-    marks: &str,
-) -> Result<(), Fail> {
-    let mut disk = empty_disk(alloc, NEVER)?;
-    let wanted = (events.as_bytes(), marks.as_bytes());
-    assert!(rt; goes_over(rt, alloc, &shape_of(letter), way, wanted, &mut disk)?);
-    Ok(())
+    wanted: &str,
+    disk: &mut MemDisk,
+) -> Result<bool, Fail> {
+    let told = told_marks(rt, alloc, project, &plain.made, way, disk)?;
+    Ok(are(told.as_slice(), wanted))
 }
 
-#[test]
-fn a_free_slot_is_used_before_the_first_wait(rt: HostRuntime) -> Result<(), Fail> {
-    let way = way(3, false, 0, 0);
-    first_goes(
-        &rt,
-        rt.alloc(),
-        b'u',
-        &way,
-        "+0+2-0+1+3-2-1+4-3-4+5-5",
-        "cccccc",
-    )
+/// Whether the plan is as wanted.
+fn plans(alloc: Global, project: &Project, wanted: &str, disk: &mut MemDisk) -> Result<bool, Fail> {
+    let told = told_plan(alloc, project, disk)?;
+    Ok(are(told.as_slice(), wanted))
 }
 
-#[test]
-fn a_refusal_skips_what_depends_on_it(rt: HostRuntime) -> Result<(), Fail> {
-    for limit in [1, 2, 3, 64] {
-        let events = if limit == 1 { "+0!0+2-2" } else { "+0+2!0-2" };
-        let way = way(limit, true, 0b1, 0);
-        first_goes(&rt, rt.alloc(), b'r', &way, events, "rscss")?;
-    }
-    Ok(())
-}
-
-#[test]
-fn a_refusal_ends_a_build_that_does_not_keep_going(rt: HostRuntime) -> Result<(), Fail> {
-    first_goes(
-        &rt,
-        rt.alloc(),
-        b'r',
-        &way(1, false, 0b1, 0),
-        "+0!0",
-        "rllll",
-    )?;
-    for limit in [2, 3, 64] {
-        let way = way(limit, false, 0b1, 0);
-        first_goes(&rt, rt.alloc(), b'r', &way, "+0+2!0-2", "rlcll")?;
-    }
-    Ok(())
-}
-
-/// What comes with so many slots, where the picks are 2, 1 and 0, but 0 with two slots.
-fn ends_so(rt: &impl Abort, alloc: Global, limit: u32, events: &str) -> Result<(), Fail> {
-    let picks = if limit == 2 { 0 } else { 0x012 };
-    first_goes(
-        rt,
-        alloc,
-        b'a',
-        &way(limit, false, 0, picks),
-        events,
-        "cccc",
-    )
-}
-
-#[test]
-fn ends_come_in_any_order(rt: HostRuntime) -> Result<(), Fail> {
-    ends_so(&rt, rt.alloc(), 1, "+0-0+1-1+2-2+3-3")?;
-    ends_so(&rt, rt.alloc(), 2, "+0+1-0+2-1-2+3-3")?;
-    ends_so(&rt, rt.alloc(), 3, "+0+1+2-2-1-0+3-3")?;
-    ends_so(&rt, rt.alloc(), 64, "+0+1+2-2-1-0+3-3")
-}
-
-/// Loses the third file.
-fn loses(rt: &impl Abort, alloc: Global, limit: u32, disk: &mut MemDisk) -> Result<(), Fail> {
-    let mut losing = way(limit, false, 0, 0x012);
-    losing.failing = 3;
-    let told = told_build(rt, alloc, &ALONE, 0, &losing, disk)?;
-    assert!(rt; is(&told, b"+0+1+2?2-1-0", b""));
-    assert!(rt; told.fault == Some(BuildFault::ChildLost));
-    Ok(())
-}
-
-/// Builds what is left after that.
-fn goes_on(rt: &impl Abort, alloc: Global, limit: u32, disk: &mut MemDisk) -> Result<(), Fail> {
-    let told = told_build(rt, alloc, &ALONE, 0, &way(limit, false, 0, 0), disk)?;
-    assert!(rt; is(&told, b"+2-2+3-3", b"ffcc"));
-    Ok(())
-}
-
-/// Loses the third file, and builds again.
-fn lost_goes(rt: &impl Abort, alloc: Global, limit: u32) -> Result<(), Fail> {
-    let mut disk = empty_disk(alloc, NEVER)?;
-    loses(rt, alloc, limit, &mut disk)?;
-    goes_on(rt, alloc, limit, &mut disk)
-}
-
-#[test]
-fn the_others_are_waited_for_and_recorded_after_a_loss(rt: HostRuntime) -> Result<(), Fail> {
-    for limit in [3, 64] {
-        lost_goes(&rt, rt.alloc(), limit)?;
-    }
-    Ok(())
-}
-
-#[test]
-fn marks_alone_are_those_of_the_build(rt: HostRuntime) -> Result<(), Fail> {
-    let mut disk = empty_disk(rt.alloc(), NEVER)?;
-    let marks = told_marks(&rt, rt.alloc(), &REFUSED, &way(2, true, 0b1, 0), &mut disk)?;
-    assert!(rt; marks.as_slice() == b"rscss".as_slice());
-    Ok(())
-}
-
-/// Builds the users, changes the package, and stops once it is compiled.
-fn stops_after_the_package(rt: &impl Abort, alloc: Global, disk: &mut MemDisk) -> Result<(), Fail> {
-    build_users(rt, alloc, disk)?;
-    let mut stopping = way(1, false, 0, 0);
-    stopping.failing = 2;
-    let told = told_build(rt, alloc, &USERS, 0b1, &stopping, disk)?;
-    assert!(rt; is(&told, b"+0-0", b""));
-    assert!(rt; told.fault == Some(BuildFault::StartFailed));
-    Ok(())
-}
-
-/// The build after that, of the package as it was at first.
-fn undone_goes(
+/// Whether a build of a row, by words before and after its sign, goes as it says; and the records after it.
+fn goes(
     rt: &impl Abort,
     alloc: Global,
-    way: &Way,
-    events: &str,
-    marks: &str,
-) -> Result<(), Fail> {
+    words: &str,
+    sign: u8,
+    wanted: &str,
+    kept: &mut AllKept,
+    disk: &mut MemDisk,
+) -> Result<bool, Fail> {
+    let project = project_in(words);
+    let way = way_in(words);
+    if sign == b'?' {
+        return plans(alloc, &project, wanted, disk);
+    }
+    let plain = plain_build(alloc, &project, kept, &way)?;
+    *kept = plain.kept;
+    if sign == b'=' {
+        return marks(rt, alloc, &project, &plain, &way, wanted, disk);
+    }
+    builds(rt, alloc, &project, &plain, &way, wanted, disk)
+}
+
+/// The same of a build as it is in its row.
+fn build_goes(
+    rt: &impl Abort,
+    alloc: Global,
+    build: &str,
+    kept: &mut AllKept,
+    disk: &mut MemDisk,
+) -> Result<bool, Fail> {
+    if let Some((words, wanted)) = build.split_once(" > ") {
+        return goes(rt, alloc, words, b'>', wanted, kept, disk);
+    }
+    if let Some((words, wanted)) = build.split_once(" = ") {
+        return goes(rt, alloc, words, b'=', wanted, kept, disk);
+    }
+    if let Some((words, wanted)) = build.split_once(" ? ") {
+        return goes(rt, alloc, words, b'?', wanted, kept, disk);
+    }
+    Ok(false)
+}
+
+/// Whether all builds of a row go as it says.
+fn row_goes(rt: &impl Abort, alloc: Global, row: &str, disk: &mut MemDisk) -> Result<bool, Fail> {
+    let mut kept = none_kept();
+    for build in row.split('|').skip(1) {
+        if !build_goes(rt, alloc, build, &mut kept, disk)? {
+            return Ok(false);
+        }
+    }
+    Ok(true)
+}
+
+/// The same over an empty disk.
+fn passes(rt: &impl Abort, alloc: Global, row: &str) -> Result<bool, Fail> {
     let mut disk = empty_disk(alloc, NEVER)?;
-    stops_after_the_package(rt, alloc, &mut disk)?;
-    let wanted = (events.as_bytes(), marks.as_bytes());
-    assert!(rt; goes_over(rt, alloc, &USERS, way, wanted, &mut disk)?);
-    Ok(())
+    row_goes(rt, alloc, row, &mut disk)
 }
 
 #[test]
-fn an_undone_change_compiles_the_package_alone(rt: HostRuntime) -> Result<(), Fail> {
-    for limit in [1, 2, 3, 64] {
-        undone_goes(&rt, rt.alloc(), &way(limit, false, 0, 0), "+0-0", "cfffff")?;
+fn small_projects_are_built_as_by_hand(rt: HostRuntime) -> Result<(), Fail> {
+    for row in ROWS.lines() {
+        let passed = passes(&rt, rt.alloc(), row)?;
+        assert!(rt; passed, "{row}");
     }
     Ok(())
-}
-
-#[test]
-fn what_waits_for_a_refused_package_is_not_fresh(rt: HostRuntime) -> Result<(), Fail> {
-    for limit in [1, 2, 3, 64] {
-        undone_goes(
-            &rt,
-            rt.alloc(),
-            &way(limit, false, 0b1, 0),
-            "+0!0",
-            "rlflll",
-        )?;
-        undone_goes(&rt, rt.alloc(), &way(limit, true, 0b1, 0), "+0!0", "rsfsss")?;
-    }
-    Ok(())
-}
-
-#[test]
-fn no_check_comes_after_a_loss(rt: HostRuntime) -> Result<(), Fail> {
-    let mut losing = way(3, false, 0, 0);
-    losing.failing = 1;
-    undone_goes(&rt, rt.alloc(), &losing, "+0?0", "")
-}
-
-/// Whether the plan of the users is this one once the package was compiled after a change, where these files have changed.
-fn plans(rt: &impl Abort, alloc: Global, changed: u8, letters: &str) -> Result<(), Fail> {
-    let mut disk = empty_disk(alloc, NEVER)?;
-    stops_after_the_package(rt, alloc, &mut disk)?;
-    assert!(rt; told_plan(alloc, &USERS, changed, &mut disk)?.as_slice() == letters.as_bytes());
-    Ok(())
-}
-
-#[test]
-fn what_depends_on_a_stale_file_is_planned_for_later(rt: HostRuntime) -> Result<(), Fail> {
-    plans(&rt, rt.alloc(), 0, "slflll")?;
-    plans(&rt, rt.alloc(), 0b1, "fsfsll")?;
-    plans(&rt, rt.alloc(), 0b101, "fsssll")
 }

@@ -1,10 +1,11 @@
-//! Random graphs, refusals, changes and orders of ends, compared with a plain build that is fed the same ends.
+//! Random projects, refusals, edits and orders of ends, compared with a plain build that is fed the same ends.
 
-use crate::compare::{agree, plain_marks, recorded_after};
-use crate::objects::{empty_disk, told_build};
-use crate::plain::{NEVER, Plain, Way, plain_build};
+use crate::compare::{build_alike, plain_marks};
+use crate::kept::{AllKept, none_kept};
+use crate::objects::empty_disk;
+use crate::plain::{NEVER, Plain, Way, late_fresh, plain_build, steady_way};
 use crate::sets::{has, upto};
-use crate::shapes::{Shape, deps_of, stale_files, touched};
+use crate::shapes::{Project, Shape, files_of, first};
 use std::alloc::Global;
 use std::process::Abort;
 use std::test::Fail;
@@ -57,37 +58,31 @@ fn shape_of(seed: u32) -> Shape {
     Shape { count, deps }
 }
 
-/// A way of a row: how many slots there are, and whether the build goes on after a refusal.
+/// A way of a build: how many slots there are, and whether it goes on after a refusal.
 fn way_of(seed: u32, limit: u32, keep_going: bool) -> Way {
     let refused = if byte(seed, 20) % 3 == 0 {
         0
     } else {
         few(seed, 21)
     };
-    Way {
-        limit,
-        keep_going,
-        refused,
-        picks: mixed(seed, limit.wrapping_add(30)),
-        failing: NEVER,
-        failing_commit: NEVER,
-    }
+    let picks = mixed(seed, limit.wrapping_add(30));
+    steady_way(limit, keep_going, refused, picks)
 }
 
-/// Builds a shape whose stale files are these, as the plain build does.
-fn build_alike(
-    rt: &impl Abort,
-    alloc: Global,
-    shape: &Shape,
-    stale: u8,
-    changed: u8,
-    way: &Way,
-    disk: &mut MemDisk,
-) -> Result<Plain, Fail> {
-    let told = told_build(rt, alloc, shape, changed, way, disk)?;
-    let plain = plain_build(alloc, shape, stale, way)?;
-    assert!(rt; agree(alloc, &told, &plain, shape, stale, changed, way)?);
-    Ok(plain)
+/// A project of which random files are other than at first: some texts, and in half of all one thing more.
+fn edited(seed: u32, shape: &Shape) -> Project {
+    let mut project = first(shape);
+    let files = files_of(&project);
+    project.changed = few(seed, 40) & few(seed, 41) & files;
+    project.commented = few(seed, 42) & files;
+    match byte(seed, 43) % 8 {
+        0 => project.optioned = few(seed, 44) & files,
+        1 => project.moved = few(seed, 44) & files,
+        2 => project.newer = few(seed, 44) & files,
+        3 => project.swapped = !has(shape.deps[1], 0),
+        _ => {}
+    }
+    project
 }
 
 /// Whether two plain builds give the same marks.
@@ -95,122 +90,119 @@ fn same_marks(
     alloc: Global,
     plain: &Plain,
     other: &Plain,
-    shape: &Shape,
-    stale: u8,
+    project: &Project,
     keep_going: bool,
 ) -> Result<bool, NoMemory> {
-    let marks = plain_marks(alloc, plain, shape, stale, keep_going)?;
-    let others = plain_marks(alloc, other, shape, stale, keep_going)?;
+    let marks = plain_marks(alloc, plain, project, keep_going)?;
+    let others = plain_marks(alloc, other, project, keep_going)?;
     Ok(marks.as_slice() == others.as_slice())
 }
 
-/// Builds a copy of the disk. With keep going, or where nothing is refused, the marks are those of one slot.
+/// Builds a copy of a disk that has these records. With keep going, or where nothing is refused, the marks are those of one
+/// slot. Says whether a file is found fresh in the middle, over one that was compiled.
 fn build_copy(
     rt: &impl Abort,
     alloc: Global,
-    shape: &Shape,
-    stale: u8,
-    changed: u8,
+    project: &Project,
+    kept: &AllKept,
     way: &Way,
     disk: &MemDisk,
-) -> Result<(), Fail> {
+) -> Result<bool, Fail> {
     let mut copy = disk.crash(alloc, u64::MAX, 0, 0)?;
-    let plain = build_alike(rt, alloc, shape, stale, changed, way, &mut copy)?;
-    if way.keep_going || way.refused & stale == 0 {
+    let plain = build_alike(rt, alloc, project, kept, way, &mut copy)?;
+    if way.keep_going || plain.refused == 0 {
         let mut slow = *way;
         slow.limit = 1;
-        let other = plain_build(alloc, shape, stale, &slow)?;
-        assert!(rt; same_marks(alloc, &plain, &other, shape, stale, way.keep_going)?);
+        let other = plain_build(alloc, project, kept, &slow)?;
+        assert!(rt; same_marks(alloc, &plain, &other, project, way.keep_going)?);
     }
-    Ok(())
+    Ok(late_fresh(&plain, project) != 0)
 }
 
-/// What a first build recorded of a row, and its disk.
-#[derive(Drop)]
-struct First {
-    disk: MemDisk,
-    recorded: u8,
-}
-
-/// Builds a row from an empty disk, where some files are refused.
-fn first_build(rt: &impl Abort, alloc: Global, seed: u32, shape: &Shape) -> Result<First, Fail> {
-    let way = way_of(seed ^ 0x5555, 3, true);
-    let mut disk = empty_disk(alloc, NEVER)?;
-    let plain = build_alike(rt, alloc, shape, upto(shape.count), 0, &way, &mut disk)?;
-    let recorded = recorded_after(&plain, shape);
-    Ok(First { disk, recorded })
-}
-
-/// Builds a row twice: the second time after files have changed, with each number of slots.
-fn row(rt: &impl Abort, alloc: Global, seed: u32, keep_going: bool) -> Result<(), Fail> {
-    let shape = shape_of(seed);
-    let First { disk, recorded } = first_build(rt, alloc, seed, &shape)?;
-    let changed = few(seed, 40) & upto(shape.count);
-    let stale = stale_files(&shape, recorded, changed);
-    for limit in [1, 2, 3, 64] {
-        let way = way_of(seed, limit, keep_going);
-        build_copy(rt, alloc, &shape, stale, changed, &way, &disk)?;
-    }
-    Ok(())
-}
-
-#[test]
-fn random_builds_go_as_plain_ones(rt: HostRuntime) -> Result<(), Fail> {
-    for seed in 0..ROWS {
-        row(&rt, rt.alloc(), seed, seed % 2 == 0)?;
-    }
-    Ok(())
-}
-
-/// Builds once more after files have changed, of which some may be refused, and gives what is stale once they are as they
-/// were: a file that was compiled then, and one that has no record.
-fn change_and_undo(
+/// Builds copies of a disk with each number of slots.
+fn build_copies(
     rt: &impl Abort,
     alloc: Global,
     seed: u32,
-    shape: &Shape,
-    recorded: u8,
-    disk: &mut MemDisk,
-) -> Result<u8, Fail> {
-    let changed = few(seed, 40) & upto(shape.count);
-    let stale = stale_files(shape, recorded, changed);
-    let way = way_of(seed ^ 0x3333, 2, seed % 3 == 0);
-    let plain = build_alike(rt, alloc, shape, stale, changed, &way, disk)?;
-    let none = upto(shape.count) & !(recorded | plain.compiled);
-    Ok(touched(shape, changed) & plain.compiled | none)
-}
-
-/// Whether a file that isn't stale depends on one that is: whether it is fresh shows in the middle of the build.
-fn has_late_fresh(shape: &Shape, stale: u8) -> bool {
-    for at in 0..shape.count {
-        if !has(stale, at) && deps_of(shape, at) & stale != 0 {
-            return true;
+    project: &Project,
+    kept: &AllKept,
+    keep_going: bool,
+    disk: &MemDisk,
+) -> Result<bool, Fail> {
+    let mut late = false;
+    for limit in [1, 2, 3, 64] {
+        let way = way_of(seed, limit, keep_going);
+        if build_copy(rt, alloc, project, kept, &way, disk)? {
+            late = true;
         }
     }
-    false
+    Ok(late)
 }
 
-/// Builds a row, changes files, and then builds it as it was at first, with each number of slots. Says whether there is a
-/// file to be found fresh in the middle.
-fn undone(rt: &impl Abort, alloc: Global, seed: u32, keep_going: bool) -> Result<bool, Fail> {
-    let shape = shape_of(seed);
-    let First { mut disk, recorded } = first_build(rt, alloc, seed, &shape)?;
-    let stale = change_and_undo(rt, alloc, seed, &shape, recorded, &mut disk)?;
-    for limit in [1, 2, 3, 64] {
-        let way = way_of(seed ^ 0x7777, limit, keep_going);
-        build_copy(rt, alloc, &shape, stale, 0, &way, &disk)?;
+/// A project after so many edits: as it was at first, or with random files that are other than at first, and seldom with another
+/// shape.
+fn project_after(seed: u32, edits: u32) -> Project {
+    let other = mixed(seed, edits.wrapping_add(60));
+    let shape = if byte(other, 0) % 8 == 0 {
+        shape_of(other)
+    } else {
+        shape_of(seed)
+    };
+    if edits % 2 == 0 {
+        first(&shape)
+    } else {
+        edited(other, &shape)
     }
-    Ok(has_late_fresh(&shape, stale))
 }
 
-#[test]
-fn random_builds_find_files_fresh_in_the_middle(rt: HostRuntime) -> Result<(), Fail> {
+/// Builds a project on a disk once for each of so many edits, and then copies of the disk after one edit more. Says whether a file is
+/// found fresh in the middle then.
+fn row(
+    rt: &impl Abort,
+    alloc: Global,
+    seed: u32,
+    edits: u32,
+    disk: &mut MemDisk,
+) -> Result<bool, Fail> {
+    let mut kept = none_kept();
+    for edit in 0..edits {
+        let way = way_of(mixed(seed, edit), 3, seed % 3 != 0);
+        let plain = build_alike(rt, alloc, &project_after(seed, edit), &kept, &way, disk)?;
+        kept = plain.kept;
+    }
+    let project = project_after(seed, edits);
+    build_copies(rt, alloc, seed, &project, &kept, seed % 2 == 0, disk)
+}
+
+/// The same from an empty disk on.
+fn row_over(rt: &impl Abort, alloc: Global, seed: u32, edits: u32) -> Result<bool, Fail> {
+    let mut disk = empty_disk(alloc, NEVER)?;
+    row(rt, alloc, seed, edits, &mut disk)
+}
+
+/// Builds rows of so many edits, of which more than this many find a file fresh in the middle.
+fn rows_go(rt: &impl Abort, alloc: Global, edits: u32, least: u32) -> Result<(), Fail> {
     let mut found = 0u32;
     for seed in 0..ROWS {
-        if undone(&rt, rt.alloc(), seed, seed % 2 == 0)? {
+        if row_over(rt, alloc, seed, edits)? {
             found = found.wrapping_add(1);
         }
     }
-    assert!(rt; found > 0);
+    assert!(rt; found > least, "{found}");
     Ok(())
+}
+
+#[test]
+fn random_projects_are_built_as_by_a_plain_build(rt: HostRuntime) -> Result<(), Fail> {
+    rows_go(&rt, rt.alloc(), 1, 10)
+}
+
+#[test]
+fn random_edits_are_undone_as_by_a_plain_build(rt: HostRuntime) -> Result<(), Fail> {
+    rows_go(&rt, rt.alloc(), 2, 10)
+}
+
+#[test]
+fn random_edits_are_built_one_after_the_other(rt: HostRuntime) -> Result<(), Fail> {
+    rows_go(&rt, rt.alloc(), 5, 10)
 }

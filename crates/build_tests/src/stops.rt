@@ -1,10 +1,11 @@
 //! Builds on what a stop leaves, and after calls that fail.
 
 use crate::compare::agree;
-use crate::objects::{Told, build_fault, empty_disk, told_build};
-use crate::parts::{USERS, way};
-use crate::plain::{NEVER, Plain, Way, plain_build};
-use crate::sets::{upto, with};
+use crate::kept::{AllKept, keep, none_kept};
+use crate::objects::{Told, empty_disk, told_build};
+use crate::parts::USERS;
+use crate::plain::{NEVER, Plain, Way, plain_build, steady_way};
+use crate::shapes::{Project, changed, first, given};
 use compile_loop::BuildFault;
 use std::alloc::Global;
 use std::process::Abort;
@@ -24,14 +25,46 @@ const WRITING: u32 = 2;
 /// of the disk, and the last one ends the build.
 const COMMITS: [u8; 5] = [0, 1, 3, 4, 5];
 
+/// The users before the package has changed.
+fn before() -> Project {
+    first(&USERS)
+}
+
+/// The users after the package has changed.
+fn after() -> Project {
+    changed(&USERS, 0b1)
+}
+
+/// What artefacts are once all files of a project are compiled.
+fn all_made(project: &Project) -> [u8; 8] {
+    let mut made = [0; 8];
+    for at in 0..8u8 {
+        made[(at % 8) as usize] = given(project, at);
+    }
+    made
+}
+
+/// The fault of a build of the users, if there is one.
+fn build_fault(
+    rt: &impl Abort,
+    alloc: Global,
+    project: &Project,
+    limit: u32,
+    disk: &mut MemDisk,
+) -> Result<Option<BuildFault>, Fail> {
+    let way = steady_way(limit, false, 0, 0);
+    let told = told_build(rt, alloc, project, &all_made(project), &way, disk)?;
+    Ok(told.fault)
+}
+
 /// Builds all users, before the package changes or after, without a fault.
 fn build_users(
     rt: &impl Abort,
     alloc: Global,
-    changed: u8,
+    project: &Project,
     disk: &mut MemDisk,
 ) -> Result<(), Fail> {
-    let fault = build_fault(rt, alloc, &USERS, changed, &way(3, false, 0, 0), disk)?;
+    let fault = build_fault(rt, alloc, project, 3, disk)?;
     assert!(rt; fault.is_none());
     Ok(())
 }
@@ -45,7 +78,7 @@ fn copy_side(disk: &mut MemDisk, from: &MemDisk) -> Result<(), Fail> {
 /// Writes what a disk has after a build of all users.
 fn write_built(rt: &impl Abort, alloc: Global, disk: &mut MemDisk) -> Result<(), Fail> {
     let mut first = empty_disk(alloc, NEVER)?;
-    build_users(rt, alloc, 0, &mut first)?;
+    build_users(rt, alloc, &before(), &mut first)?;
     copy_side(disk, &first)
 }
 
@@ -56,41 +89,49 @@ fn built_disk(rt: &impl Abort, alloc: Global, failing: u32) -> Result<MemDisk, F
     Ok(disk)
 }
 
-/// The files that are stale after the first so many commits of a build, once the package has changed.
-fn stale_after(count: u32) -> u8 {
-    let mut recorded = 0b100;
+/// The records after the first so many commits of a build, once the package has changed.
+fn kept_after(count: u32) -> AllKept {
+    let mut kept = none_kept();
+    for at in 0..6u8 {
+        keep(&mut kept, &before(), &all_made(&before()), at);
+    }
     for i in 0..5u32 {
         if i < count {
-            recorded = with(recorded, COMMITS[(i % 5) as usize]);
+            keep(
+                &mut kept,
+                &after(),
+                &all_made(&after()),
+                COMMITS[(i % 5) as usize],
+            );
         }
     }
-    upto(USERS.count) & !recorded
+    kept
 }
 
-/// Whether a build is as the plain one of these stale files.
-fn is_of(alloc: Global, told: &Told, stale: u8, way: &Way) -> Result<bool, Fail> {
-    let plain = plain_build(alloc, &USERS, stale, way)?;
-    Ok(agree(alloc, told, &plain, &USERS, stale, 0b1, way)?)
+/// Whether a build is as the plain one over these records.
+fn is_of(alloc: Global, told: &Told, kept: &AllKept, way: &Way) -> Result<bool, Fail> {
+    let plain = plain_build(alloc, &after(), kept, way)?;
+    Ok(agree(alloc, told, &plain, &after(), false)?)
 }
 
-/// Builds without a fault, where these files are stale, or those.
+/// Builds without a fault, over these records, or those.
 fn builds_on(
     rt: &impl Abort,
     alloc: Global,
     disk: &mut MemDisk,
-    stale: u8,
-    other: u8,
+    kept: &AllKept,
+    other: &AllKept,
 ) -> Result<(), Fail> {
-    let way = way(2, false, 0, 0);
-    let told = told_build(rt, alloc, &USERS, 0b1, &way, disk)?;
-    assert!(rt; is_of(alloc, &told, stale, &way)? || is_of(alloc, &told, other, &way)?);
+    let way = steady_way(2, false, 0, 0);
+    let told = told_build(rt, alloc, &after(), &all_made(&after()), &way, disk)?;
+    assert!(rt; is_of(alloc, &told, kept, &way)? || is_of(alloc, &told, other, &way)?);
     Ok(())
 }
 
 /// Whether a build after the change has no fault where one call is to fail.
 fn builds_at_all(rt: &impl Abort, alloc: Global, call: u32) -> Result<bool, Fail> {
     let mut disk = built_disk(rt, alloc, call)?;
-    let fault = build_fault(rt, alloc, &USERS, 0b1, &way(1, false, 0, 0), &mut disk)?;
+    let fault = build_fault(rt, alloc, &after(), 1, &mut disk)?;
     Ok(fault.is_none())
 }
 
@@ -119,12 +160,12 @@ fn builds_on_all(
     moment: u32,
     acknowledged: u32,
 ) -> Result<(), Fail> {
-    let stale = stale_after(acknowledged);
-    let other = stale_after(acknowledged.wrapping_add(1));
+    let kept = kept_after(acknowledged);
+    let other = kept_after(acknowledged.wrapping_add(1));
     for fill in [0, 1, 255] {
         for length in [0, LONG] {
             let mut image = disk.crash(alloc, moment as u64, length, fill)?;
-            builds_on(rt, alloc, &mut image, stale, other)?;
+            builds_on(rt, alloc, &mut image, &kept, &other)?;
         }
     }
     Ok(())
@@ -135,7 +176,7 @@ fn what_was_acknowledged_outlives_a_stop(rt: HostRuntime) -> Result<(), Fail> {
     let alloc = rt.alloc();
     let calls = calls_of(&rt, alloc)?;
     let mut disk = built_disk(&rt, alloc, NEVER)?;
-    build_users(&rt, alloc, 0b1, &mut disk)?;
+    build_users(&rt, alloc, &after(), &mut disk)?;
     for moment in WRITING..calls.saturating_add(2) {
         builds_on_all(
             &rt,
@@ -156,17 +197,18 @@ fn builds_after(
     disk: &mut MemDisk,
     plain: &Plain,
 ) -> Result<(), Fail> {
-    let stale = upto(USERS.count) & !plain.recorded;
-    if plain.broken {
-        return builds_on(rt, alloc, disk, stale, stale & !plain.torn);
+    if plain.torn < 8 {
+        let mut torn = plain.kept;
+        keep(&mut torn, &after(), &plain.made, plain.torn);
+        return builds_on(rt, alloc, disk, &plain.kept, &torn);
     }
-    builds_copy(rt, alloc, disk, stale)
+    builds_copy(rt, alloc, disk, &plain.kept)
 }
 
 /// Builds a copy of a disk.
-fn builds_copy(rt: &impl Abort, alloc: Global, disk: &MemDisk, stale: u8) -> Result<(), Fail> {
+fn builds_copy(rt: &impl Abort, alloc: Global, disk: &MemDisk, kept: &AllKept) -> Result<(), Fail> {
     let mut copy = disk.crash(alloc, u64::MAX, 0, 0)?;
-    builds_on(rt, alloc, &mut copy, stale, stale)
+    builds_on(rt, alloc, &mut copy, kept, kept)
 }
 
 /// The number of the call of the disk that fails with a commit, which may be any of its four.
@@ -188,8 +230,8 @@ fn fails_as(
     plain: &Plain,
     disk: &mut MemDisk,
 ) -> Result<(), Fail> {
-    let told = told_build(rt, alloc, &USERS, 0b1, way, disk)?;
-    assert!(rt; agree(alloc, &told, plain, &USERS, stale_after(0), 0b1, way)?);
+    let told = told_build(rt, alloc, &after(), &plain.made, way, disk)?;
+    assert!(rt; agree(alloc, &told, plain, &after(), false)?);
     Ok(())
 }
 
@@ -201,7 +243,7 @@ fn fails_so(
     calls: u32,
     inside: u32,
 ) -> Result<(), Fail> {
-    let plain = plain_build(alloc, &USERS, stale_after(0), way)?;
+    let plain = plain_build(alloc, &after(), &kept_after(0), way)?;
     let mut disk = built_disk(rt, alloc, failing_call(way, calls, inside))?;
     fails_as(rt, alloc, way, &plain, &mut disk)?;
     builds_after(rt, alloc, &mut disk, &plain)
@@ -209,7 +251,7 @@ fn fails_so(
 
 /// A build of which a start or wait fails, and a commit.
 fn failing(limit: u32, call: u32, commit: u32) -> Way {
-    let mut way = way(limit, false, 0, 0);
+    let mut way = steady_way(limit, false, 0, 0);
     way.failing = call;
     way.failing_commit = commit;
     way
@@ -250,7 +292,8 @@ fn the_first_of_two_faults_is_answered(rt: HostRuntime) -> Result<(), Fail> {
 
 /// The store can't be opened, and nothing is started.
 fn refuses(rt: &impl Abort, alloc: Global, disk: &mut MemDisk) -> Result<(), Fail> {
-    let told = told_build(rt, alloc, &USERS, 0b1, &way(3, false, 0, 0), disk)?;
+    let way = steady_way(3, false, 0, 0);
+    let told = told_build(rt, alloc, &after(), &all_made(&after()), &way, disk)?;
     assert!(rt; told.events.is_empty() && told.fault == Some(BuildFault::DiskFailed));
     Ok(())
 }
@@ -259,7 +302,7 @@ fn refuses(rt: &impl Abort, alloc: Global, disk: &mut MemDisk) -> Result<(), Fai
 fn opening_fails(rt: &impl Abort, alloc: Global, call: u32) -> Result<(), Fail> {
     let mut disk = built_disk(rt, alloc, call)?;
     refuses(rt, alloc, &mut disk)?;
-    builds_on(rt, alloc, &mut disk, stale_after(0), stale_after(0))
+    builds_on(rt, alloc, &mut disk, &kept_after(0), &kept_after(0))
 }
 
 #[test]

@@ -1,56 +1,59 @@
--- What a build commits are true records, where what is recorded before is what a clean build makes.
-use Rattle.std.proofs.Common.{◌≡◌, ◌<◌, eqb, List, [], ◌∷◌, length, Some, arith, sym, ap, subst, ◌∙◌, inl, inr}
+-- What a build commits are true records.
+use Rattle.std.proofs.Common.{◌≡◌, ◌<◌, eqb, List, [], ◌∷◌, Option, Some, None, refl, sym, ap, subst, ◌∙◌, inl, inr}
 use Rattle.std.specs.Prelude.{All, slice_get}
-use Rattle.std.proofs.lemmas.Bool.{cases_Bool, cond-true, cond-false}
-use Rattle.std.proofs.lemmas.Option.{slice_get_cases}
+use Rattle.std.specs.Option.{option_map}
+use Rattle.std.proofs.lemmas.Bool.{cases_Bool, cond-true, cond-false, eqb-true}
+use Rattle.std.proofs.lemmas.Option.{none-some, same_Some}
 use Rattle.std.proofs.lemmas.List.Concat.{flat_map-cons}
 use Rattle.std.proofs.lemmas.List.Elements.{All-nil, All-cons, All-head, All-tail, All-append}
+use Rattle.vr_base.specs.declared.graph.Entry.{Entry}
 use Rattle.vr_base.specs.declared.child.Request.{Request}
 use Rattle.vr_base.specs.declared.child.Exit.{Exit}
 use Rattle.vr_base.specs.declared.child.Event.{Event}
 use Rattle.vr_base.specs.Graphs.{IsGraph}
+use Rattle.vr_base.specs.Jobs.{compile_request}
+use Rattle.vr_outside.specs.Records.{Asked, request_of}
 use Rattle.run_spec.specs.ChildJournal.{Work, End, Book, Lawful, Answered, book_of}
-use Rattle.run_spec.specs.CleanBuild.{Made, RecordsClean, clean_build}
-use Rattle.run_spec.specs.Settled as settled
-use Rattle.run_spec.specs.Settled.{settled_artefact, settled_by_exit, settle, artefact_settled, IsAnswered}
-use Rattle.run_spec.proofs.Artefacts.{deps_before}
-use Rattle.run_spec.proofs.SettledBuild.{asked_settle}
-use Rattle.run_spec.specs.Commits.{record_at, commit_of, commits_of, commits}
+use Rattle.run_spec.specs.Settled.{request_over, IsAnswered}
+use Rattle.run_spec.specs.Commits.{asked_over, record_at, commit_of, commits_of, commits}
 use Rattle.run_spec.specs.Faithful.{IsTrueRecord}
-use Rattle.clean_laws.proofs.CleanSettled.{made_settled}
-use Rattle.clean_laws.proofs.JournalAnswers.{AreAnswered, answers_of, asked_within}
-use Rattle.clean_laws.proofs.TrueRecords.{made_record}
+use Rattle.run_spec.proofs.Artefacts.{deps_before}
+use Rattle.run_spec.proofs.RecordNames.{asked_is}
+use Rattle.clean_laws.proofs.JournalAnswers.{AreAnswered, IsEndOver, answers_of}
 
-module _ (answer : Request → Exit) (work : Work) (graph : IsGraph work.graph) (records : RecordsClean answer work.graph work.current) where
+-- the request of what is asked for a file
+request_asked : (work : Work) (end : End) → IsEndOver work end → request_of (asked_over work.graph end.position end.below) ≡ end.request
+request_asked work end over = from (slice_get work.graph end.position) refl
+  where
+    from : (here : Option Entry) → slice_get work.graph end.position ≡ here → request_of (asked_over work.graph end.position end.below) ≡ end.request
+    from None none = absurd (none-some end.request (sym (ap (option_map (λ (entry : Entry). compile_request entry end.below)) none) ∙ over))
+    from (Some entry) found =
+        ap request_of (asked_is work.graph end.position entry found end.below)
+        ∙ same_Some (compile_request entry end.below) end.request (sym (ap (option_map (λ (entry : Entry). compile_request entry end.below)) found) ∙ over)
+
+module _ (answer : Request → Exit) (work : Work) where
   -- what is committed of one child
-  commit_true : (ends : List End) → All (IsAnswered answer work ends) ends → (end : End) → IsAnswered answer work ends end → All (IsTrueRecord answer) (commit_of work.graph end.position end.exit)
-  commit_true ends answered end is =
+  commit_true : (ends : List End) (end : End) → IsAnswered answer work ends end → IsEndOver work end → All (IsTrueRecord answer) (commit_of work.graph end)
+  commit_true ends end is over =
       elim (cases_Bool (eqb end.exit.code 0)) [
         | inl good ↦
-            let lt : end.position < length work.graph = asked_within work ends end.position end.request is.is in
-            let settles : settle answer work.graph work.current end.position ≡ settled.Compiled end.exit.output =
-            asked_settle answer work ends (deps_before work.graph graph) answered end.position end.request lt is.is ∙ ap settled_by_exit (sym is.answered)
-            ∙ cond-true (eqb end.exit.code 0) (settled.Compiled end.exit.output) (settled.Refused end.exit.code end.exit.output) good in
-            elim (slice_get_cases work.graph end.position).1 [
-              | inl here ↦
-                  let made : slice_get (clean_build answer work.graph) end.position ≡ Some (Made (record { name = here.0.name; artefact = end.exit.output })) =
-                  made_settled answer work.graph graph work.current records end.position here.0 end.exit.output here.2 (ap settled_artefact settles) in
-                  subst (All (IsTrueRecord answer)) (sym (cond-true (eqb end.exit.code 0) (record_at work.graph end.position end.exit.output ∷ []) [] good))
-                  (All-cons (IsTrueRecord answer) (record_at work.graph end.position end.exit.output) [] (made_record answer work.graph graph end.position here.0 end.exit.output here.2 made) (All-nil (IsTrueRecord answer)))
-              | inr past ↦ absurd (omega (arith, past.0, lt))
-            ]
-        | inr bad ↦ subst (All (IsTrueRecord answer)) (sym (cond-false (eqb end.exit.code 0) (record_at work.graph end.position end.exit.output ∷ []) [] bad)) (All-nil (IsTrueRecord answer))
+            let exit : answer (request_of (asked_over work.graph end.position end.below)) ≡ end.exit = ap answer (request_asked work end over) ∙ sym is.answered in
+            let true_one : IsTrueRecord answer (record_at work.graph end.position end.below end.exit.output) =
+            record { code = ap (λ (e : Exit). e.code) exit ∙ eqb-true end.exit.code 0 good; output = ap (λ (e : Exit). e.output) exit } in
+            subst (All (IsTrueRecord answer)) (sym (cond-true (eqb end.exit.code 0) (record_at work.graph end.position end.below end.exit.output ∷ []) [] good))
+            (All-cons (IsTrueRecord answer) (record_at work.graph end.position end.below end.exit.output) [] true_one (All-nil (IsTrueRecord answer)))
+        | inr bad ↦ subst (All (IsTrueRecord answer)) (sym (cond-false (eqb end.exit.code 0) (record_at work.graph end.position end.below end.exit.output ∷ []) [] bad)) (All-nil (IsTrueRecord answer))
       ]
 
-  all_true : (ends : List End) → All (IsAnswered answer work ends) ends → (xs : List End) → All (IsAnswered answer work ends) xs → All (IsTrueRecord answer) (commits_of work.graph xs)
-  all_true ends answered [] all = All-nil (IsTrueRecord answer)
-  all_true ends answered (end ∷ xs) all =
-      subst (All (IsTrueRecord answer)) (sym (flat_map-cons (λ (e : End). commit_of work.graph e.position e.exit) end xs))
-      (All-append (IsTrueRecord answer) (commit_of work.graph end.position end.exit) (commits_of work.graph xs) (commit_true ends answered end (All-head (IsAnswered answer work ends) end xs all))
-      (all_true ends answered xs (All-tail (IsAnswered answer work ends) end xs all)))
+  all_true : (ends xs : List End) → All (IsAnswered answer work ends) xs → All (IsEndOver work) xs → All (IsTrueRecord answer) (commits_of work.graph xs)
+  all_true ends [] all over = All-nil (IsTrueRecord answer)
+  all_true ends (end ∷ xs) all over =
+      subst (All (IsTrueRecord answer)) (sym (flat_map-cons (commit_of work.graph) end xs))
+      (All-append (IsTrueRecord answer) (commit_of work.graph end) (commits_of work.graph xs) (commit_true ends end (All-head (IsAnswered answer work ends) end xs all) (All-head (IsEndOver work) end xs over))
+      (all_true ends xs (All-tail (IsAnswered answer work ends) end xs all) (All-tail (IsEndOver work) end xs over)))
 
-  pub commits_true : (events : List Event) → Lawful work events → Answered answer events → All (IsTrueRecord answer) (commits work events)
-  commits_true events lawful answered =
+  pub commits_true : IsGraph work.graph → (events : List Event) → Lawful work events → Answered answer events → All (IsTrueRecord answer) (commits work events)
+  commits_true graph events lawful answered =
       let book : Book = book_of work events in
       let is : AreAnswered answer work book = answers_of answer work (deps_before work.graph graph) events lawful answered in
-      all_true book.ends is.ends book.ends is.ends
+      all_true book.ends book.ends is.ends is.ends_over

@@ -101,12 +101,12 @@ module _ (answer : Request → Exit) (graph : List Entry) (valid : IsGraph graph
   pub records_settled : (current : ℕ → List BuiltFile → Option (List ℕ)) → RecordsClean answer graph current → (at : ℕ) → artefact_settled answer graph current at ≡ bare at
   records_settled current records = true_same answer graph current (deps_before graph valid) true_at
     where
-      true_at : (k : ℕ) → k < length graph → IsTrueOver answer graph current k (built_at graph bare (deps_at graph k))
-      true_at k less x says = elim (slice_get_cases graph k).1 [
+      true_at : (k : ℕ) → k < length graph → has_all bare (deps_at graph k) ≡ true → IsTrueOver answer graph current k (built_at graph bare (deps_at graph k))
+      true_at k less every x says = elim (slice_get_cases graph k).1 [
         | inl here ↦
             let entry : Entry = here.0 in
             let made : slice_get clean k ≡ Some (Made (record { name = entry.name; artefact = x })) =
-            records k x entry here.2 (ap (current k) (sym (same_below k entry here.2 (λ dep under. bare_clean dep))) ∙ says) in
+            records k x entry here.2 (sym (same_free k entry here.2 (λ dep under. bare_clean dep)) ∙ every) (ap (current k) (sym (same_below k entry here.2 (λ dep under. bare_clean dep))) ∙ says) in
             let is : bare k ≡ Some x = made_file entry (bare k) x (ap (λ (o : Option Entry). built_file o (bare k)) (sym here.2) ∙ bare_clean k ∙ ap built_of made) in
             free_part (has_all bare (deps_at graph k)) (settled_by None (option_map answer (request_over graph k (built_at graph bare (deps_at graph k))))) x
             (sym (ap settled_artefact (settle_at answer graph none_current (deps_before graph valid) k less)) ∙ is)

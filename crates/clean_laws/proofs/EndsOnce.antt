@@ -9,7 +9,7 @@ use Rattle.vr_base.specs.declared.child.Request.{Request}
 use Rattle.vr_base.specs.declared.child.Exit.{Exit}
 use Rattle.vr_base.specs.declared.child.Event.{Event}
 use Rattle.vr_base.specs.declared.child.Event.TheVariants.{Started, Ended, Gone}
-use Rattle.run_spec.specs.ChildJournal.{Work, Run, End, Book, empty_book, next_position, request_at, run_of, others_of, end_of, after, after_all, book_of, Lawful, Answered}
+use Rattle.run_spec.specs.ChildJournal.{Work, Run, End, Book, empty_book, next_position, files_below, request_at, run_of, others_of, end_of, after, after_all, book_of, Lawful, Answered}
 use Rattle.run_spec.proofs.Steps.{Steps, steps_of}
 use Rattle.clean_laws.proofs.JournalBooks.{startable_parts, next_parts}
 use Rattle.clean_laws.proofs.JournalKeeps.{was_taken, IsOrderly, started_orderly, ended_orderly, gone_orderly, orderly_at_first, ended_run}
@@ -84,10 +84,10 @@ module _ (answer : Request → Exit) (setting : Work) (k : ℕ) where
   IsOnce book = count_runs k book.runs + count_ends k book.ends ≤ 1
 
   once_start : (lost : Bool) (book : Book) → IsOrderly setting lost book → IsOnce book → (ticket : ℕ) (request : Request) (next : Option ℕ) → next_position setting book ≡ next →
-      option_and_then (request_at setting book.ends) next ≡ Some request → count_runs k (book.runs ++ (record { ticket = ticket; position = unwrap_or next 0; request = request }) ∷ []) + count_ends k book.ends ≤ 1
+      option_and_then (request_at setting book.ends) next ≡ Some request → count_runs k (book.runs ++ (record { ticket = ticket; position = unwrap_or next 0; request = request; below = files_below setting book.ends (unwrap_or next 0) }) ∷ []) + count_ends k book.ends ≤ 1
   once_start lost book orderly once ticket request None e asks = absurd (none-some request asks)
   once_start lost book orderly once ticket request (Some position) e asks =
-      let run : Run = record { ticket = ticket; position = position; request = request } in
+      let run : Run = record { ticket = ticket; position = position; request = request; below = files_below setting book.ends position } in
       let pushed : count_runs k (book.runs ++ run ∷ []) ≡ count_runs k book.runs + own (eqb position k) = count_runs-push k book.runs run in
       elim (cases_Bool (eqb position k)) [
         | inl t ↦

@@ -11,7 +11,7 @@ use Rattle.vr_base.specs.declared.child.Event.{Event}
 use Rattle.vr_base.specs.declared.child.Event.TheVariants.{Started, Ended, Gone}
 use Rattle.vr_base.specs.Jobs.{compile_request}
 use Rattle.vr_outside.specs.Records.{deps_at}
-use Rattle.run_spec.specs.ChildJournal.{Work, Run, End, Book, empty_book, child_of_end, or_else, output_at, built_at, artefact_so_far, next_position, request_at, run_of, others_of, end_of, after, after_all, book_of, Lawful, Answered}
+use Rattle.run_spec.specs.ChildJournal.{Work, Run, End, Book, empty_book, child_of_end, or_else, output_at, built_at, artefact_so_far, next_position, files_below, request_at, run_of, others_of, end_of, after, after_all, book_of, Lawful, Answered}
 use Rattle.run_spec.specs.Settled.{request_over, IsAsked, IsAnswered}
 use Rattle.run_spec.proofs.Artefacts.{artefact_free}
 use Rattle.run_spec.proofs.SettledBuild.{asked_more, is_answered_more}
@@ -53,11 +53,20 @@ start_asked work ordered book position request next asks =
           (sym (artefact_free work ordered (map child_of_end book.ends) position place.0 parts.2) ∙ parts.1);
     }
 
+-- a child was started with what is asked for its file over the files below that were built
+abbrev pub IsRunOver : Work → Run → Type 0
+IsRunOver work run = request_over work.graph run.position run.below ≡ Some run.request
+
+abbrev pub IsEndOver : Work → End → Type 0
+IsEndOver work end = request_over work.graph end.position end.below ≡ Some end.request
+
 -- each file that was started was asked for so, and each child that has ended has answered
 pub record AreAnswered (answer : Request → Exit) (work : Work) (book : Book) : Type 0 where
   pub taken : All (λ position. (request : Request) × IsAsked work book.ends position request) book.taken
   pub runs : All (λ run. IsAsked work book.ends run.position run.request) book.runs
   pub ends : All (IsAnswered answer work book.ends) book.ends
+  pub runs_over : All (IsRunOver work) book.runs
+  pub ends_over : All (IsEndOver work) book.ends
 
 module _ (answer : Request → Exit) (work : Work) (ordered : (position : ℕ) → All (λ dep. dep < position) (deps_at work.graph position)) where
   -- more ends change none of it
@@ -68,15 +77,22 @@ module _ (answer : Request → Exit) (work : Work) (ordered : (position : ℕ) �
   run_start book ticket request None e asks = absurd (none-some request asks)
   run_start book ticket request (Some position) e asks = start_asked work ordered book position request e asks
 
+  run_over : (book : Book) (request : Request) (next : Option ℕ) → option_and_then (request_at work book.ends) next ≡ Some request → request_over work.graph (unwrap_or next 0) (files_below work book.ends (unwrap_or next 0)) ≡ Some request
+  run_over book request None asks = absurd (none-some request asks)
+  run_over book request (Some position) asks = sym (request_is work book.ends position) ∙ asks
+
   started_answers : (book : Book) → AreAnswered answer work book → (ticket : ℕ) (request : Request) → option_and_then (request_at work book.ends) (next_position work book) ≡ Some request → AreAnswered answer work (after work book (Started ticket request))
   unfolding after
   started_answers book is ticket request asks =
       let position : ℕ = unwrap_or (next_position work book) 0 in
       let new : IsAsked work book.ends position request = run_start book ticket request (next_position work book) refl asks in
+      let run : Run = record { ticket = ticket; position = position; request = request; below = files_below work book.ends position } in
       record {
         taken = All-push (λ position. (r : Request) × IsAsked work book.ends position r) book.taken position is.taken (request, new);
-        runs = All-push (λ run. IsAsked work book.ends run.position run.request) book.runs (record { ticket = ticket; position = position; request = request }) is.runs new;
+        runs = All-push (λ run. IsAsked work book.ends run.position run.request) book.runs run is.runs new;
         ends = is.ends;
+        runs_over = All-push (IsRunOver work) book.runs run is.runs_over (run_over book request (next_position work book) asks);
+        ends_over = is.ends_over;
       }
 
   -- the end of a child that was asked
@@ -84,10 +100,15 @@ module _ (answer : Request → Exit) (work : Work) (ordered : (position : ℕ) �
       → All (IsAnswered answer work (book.ends ++ end_of run exit)) (end_of run exit)
   end_answers book is ticket exit None e says = absurd (none-some exit says)
   end_answers book is ticket exit (Some run) e says =
-      let end : End = record { position = run.position; request = run.request; exit = exit } in
+      let end : End = record { position = run.position; request = run.request; below = run.below; exit = exit } in
       let asked : IsAsked work book.ends run.position run.request = run_found (λ r. IsAsked work book.ends r.position r.request) book.runs ticket run e is.runs in
       All-cons (IsAnswered answer work (book.ends ++ end ∷ [])) end [] (record { is = asked_more work book.ends (end ∷ []) run.position run.request asked; answered = sym (same_Some (answer run.request) exit says) })
       (All-nil (IsAnswered answer work (book.ends ++ end ∷ [])))
+
+  end_over : (book : Book) → AreAnswered answer work book → (ticket : ℕ) (exit : Exit) (run : Option Run) → run_of ticket book.runs ≡ run → option_map (λ r. answer r.request) run ≡ Some exit → All (IsEndOver work) (end_of run exit)
+  end_over book is ticket exit None e says = absurd (none-some exit says)
+  end_over book is ticket exit (Some run) e says =
+      All-cons (IsEndOver work) (record { position = run.position; request = run.request; below = run.below; exit = exit }) [] (run_found (IsRunOver work) book.runs ticket run e is.runs_over) (All-nil (IsEndOver work))
 
   ended_answers : (book : Book) → AreAnswered answer work book → (ticket : ℕ) (exit : Exit) → option_map (λ r. answer r.request) (run_of ticket book.runs) ≡ Some exit → AreAnswered answer work (after work book (Ended ticket exit))
   unfolding after
@@ -100,11 +121,19 @@ module _ (answer : Request → Exit) (work : Work) (ordered : (position : ℕ) �
         ends = All-append (IsAnswered answer work (book.ends ++ more)) book.ends more
             (All-weaker (IsAnswered answer work book.ends) (IsAnswered answer work (book.ends ++ more)) (λ end answered. is_answered_more answer work book.ends more end answered) book.ends is.ends)
             (end_answers book is ticket exit (run_of ticket book.runs) refl says);
+        runs_over = All-others (IsRunOver work) book.runs ticket is.runs_over;
+        ends_over = All-append (IsEndOver work) book.ends more is.ends_over (end_over book is ticket exit (run_of ticket book.runs) refl says);
       }
 
   gone_answers : (book : Book) → AreAnswered answer work book → (ticket : ℕ) → AreAnswered answer work (after work book (Gone ticket))
   unfolding after
-  gone_answers book is ticket = record { taken = is.taken; runs = All-others (λ run. IsAsked work book.ends run.position run.request) book.runs ticket is.runs; ends = is.ends }
+  gone_answers book is ticket = record {
+    taken = is.taken;
+    runs = All-others (λ run. IsAsked work book.ends run.position run.request) book.runs ticket is.runs;
+    ends = is.ends;
+    runs_over = All-others (IsRunOver work) book.runs ticket is.runs_over;
+    ends_over = is.ends_over;
+  }
 
   answers_after : (book : Book) → AreAnswered answer work book → (events : List Event) → Steps answer work book events → AreAnswered answer work (after_all work book events)
   unfolding after_all Steps
@@ -120,4 +149,6 @@ module _ (answer : Request → Exit) (work : Work) (ordered : (position : ℕ) �
         taken = All-nil (λ position. (request : Request) × IsAsked work [] position request);
         runs = All-nil (λ run. IsAsked work [] run.position run.request);
         ends = All-nil (IsAnswered answer work []);
+        runs_over = All-nil (IsRunOver work);
+        ends_over = All-nil (IsEndOver work);
       }) events (steps_of answer work events lawful answered)

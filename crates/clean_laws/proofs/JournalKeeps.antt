@@ -11,7 +11,7 @@ use Rattle.vr_base.specs.declared.child.Request.{Request}
 use Rattle.vr_base.specs.declared.child.Exit.{Exit}
 use Rattle.vr_base.specs.declared.child.Event.{Event}
 use Rattle.vr_base.specs.declared.child.Event.TheVariants.{Started, Ended, Gone}
-use Rattle.run_spec.specs.ChildJournal.{Work, Run, End, Book, empty_book, exit_at, next_position, run_of, others_of, end_of, after, after_all, book_of, Answered, Lawful, is_gone}
+use Rattle.run_spec.specs.ChildJournal.{Work, Run, End, Book, empty_book, exit_at, next_position, files_below, run_of, others_of, end_of, after, after_all, book_of, Answered, Lawful, is_gone}
 use Rattle.run_spec.specs.Settled.{has_ended}
 use Rattle.run_spec.proofs.Steps.{Steps, run_found, All-others, steps_of}
 
@@ -77,7 +77,7 @@ module _ (answer : Request → Exit) (setting : Work) where
   unfolding after
   started_orderly lost book is ticket request =
       let position : ℕ = unwrap_or (next_position setting book) 0 in
-      let run : Run = record { ticket = ticket; position = position; request = request } in
+      let run : Run = record { ticket = ticket; position = position; request = request; below = files_below setting book.ends position } in
       let grows : (k : ℕ) → was_taken book k ≡ true → list_any (λ other. eqb other k) (book.taken ++ position ∷ []) ≡ true =
       λ k t. list_any-append (λ other. eqb other k) book.taken (position ∷ []) ∙ or_left _ _ t in
       let own : list_any (λ other. eqb other position) (book.taken ++ position ∷ []) ≡ true =
@@ -105,7 +105,7 @@ module _ (answer : Request → Exit) (setting : Work) where
   ended_orderly lost book is ticket exit h =
       let found = ended_run answer (run_of ticket book.runs) exit h in
       let run : Run = found.0 in
-      let end : End = record { position = run.position; request = run.request; exit = exit } in
+      let end : End = record { position = run.position; request = run.request; below = run.below; exit = exit } in
       let is_end : end_of (run_of ticket book.runs) exit ≡ end ∷ [] = ap (λ (r : Option Run). end_of r exit) found.1 in
       let taken : was_taken book run.position ≡ true = run_found (λ r. was_taken book r.position ≡ true) book.runs ticket run found.1 is.runs in
       record {

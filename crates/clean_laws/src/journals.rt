@@ -92,9 +92,8 @@ pub fn laws_of_journals()
         artefact_settled answer setting.graph setting.current position ≡ Some artefact →
         slice_get (clean_build answer setting.graph) position
         ≡ Some (Made (record { name = entry.name; artefact = artefact })) }
-    // and what is committed of it are true records.
+    // and what is committed are true records, whatever is recorded.
     ensures commits { (answer : Request → Exit) (setting : Work) → IsGraph setting.graph →
-        RecordsClean answer setting.graph setting.current →
         (events : List Event) → Lawful setting events → Answered answer events →
         All (IsTrueRecord answer) (commits setting events) }
 {}

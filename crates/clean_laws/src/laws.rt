@@ -7,13 +7,12 @@ ghost use Rattle.vr_base.specs.declared.graph.Entry.{Entry};
 ghost use Rattle.vr_base.specs.declared.child.Request.{Request};
 ghost use Rattle.vr_base.specs.declared.child.Exit.{Exit};
 ghost use Rattle.vr_base.specs.Graphs.{IsGraph};
-ghost use Rattle.vr_base.specs.View.{part, view};
-ghost use Rattle.vr_outside.specs.declared.records.Record.{Record};
-ghost use Rattle.vr_outside.specs.Records.{latest, latest_alone};
+ghost use Rattle.vr_base.specs.View.{part};
+ghost use Rattle.vr_outside.specs.Records.{Record, latest, latest_alone};
 ghost use Rattle.source_view.specs.Parts.{IsPart};
-ghost use Rattle.run_spec.specs.CleanBuild.{Made, clean_build, RecordsClean};
+ghost use Rattle.run_spec.specs.CleanBuild.{clean_build, RecordsClean};
 ghost use Rattle.run_spec.specs.Faithful.{IsTrueRecord};
-ghost use Rattle.run_spec.specs.Recorded.{current_by_view};
+ghost use Rattle.run_spec.specs.Recorded.{current_by_request};
 
 /// What a clean build gives of a closed part of a graph, and how it bears on the records of compiled files.
 pub fn laws_of_clean_builds()
@@ -29,13 +28,7 @@ pub fn laws_of_clean_builds()
         IsGraph graph →
         ((name : FileName) (kept : Record) → latest_of name ≡ Some kept →
         IsTrueRecord answer kept) →
-        RecordsClean answer graph (current_by_view latest_of graph) }
-    // What a clean build makes of a file is a true record of its view.
-    ensures true_record { (answer : Request → Exit) (graph : List Entry) → IsGraph graph →
-        (at : ℕ) (entry : Entry) (artefact : List ℕ) → slice_get graph at ≡ Some entry →
-        slice_get (clean_build answer graph) at
-        ≡ Some (Made (record { name = entry.name; artefact = artefact })) →
-        IsTrueRecord answer (record { view = view graph at; artefact = artefact }) }
+        RecordsClean answer graph (current_by_request latest_of graph) }
     // The latest record of a name stays where the latest of each name alone are kept.
     ensures latest { (name : FileName) (records : List Record) →
         latest name (latest_alone records) ≡ latest name records }

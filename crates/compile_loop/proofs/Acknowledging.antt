@@ -6,7 +6,7 @@ use Rattle.std.proofs.lemmas.Bool.{OnTrue_at, OnTrue_from}
 use Rattle.std.proofs.lemmas.List.{append-nil, append_assoc, length-append, take-append-le}
 use Rattle.vr_base.specs.declared.file.FileName.{FileName}
 use Rattle.vr_base.specs.declared.child.Event.{Event}
-use Rattle.vr_outside.specs.declared.records.Record.{Record}
+use Rattle.vr_outside.specs.Records.{Record}
 use Rattle.vr_outside.specs.Disks.{Image, Moments, reads_of}
 use Rattle.vr_outside.specs.Commits.{CommitsFirst, one_if}
 use Rattle.vr_outside.proofs.CommitLaws.{commits_longer, commits_then}

@@ -6,23 +6,24 @@ use Rattle.std.proofs.lemmas.Bool.{and_parts}
 use Rattle.std.proofs.lemmas.List.Elements.{All-head, All-tail}
 use Rattle.std.proofs.lemmas.List.{length-map, get_or-map, take_all}
 use Rattle.vr_base.specs.declared.file.FileName.{FileName}
+use Rattle.vr_base.specs.declared.graph.BuiltFile.{BuiltFile}
 use Rattle.vr_base.specs.declared.graph.Entry.{Entry}
 use Rattle.vr_base.specs.declared.child.Exit.{Exit}
 use Rattle.vr_base.specs.Graphs.{IsGraph}
 use Rattle.vr_base.specs.PresentGraph.{below}
 use Rattle.run_spec.specs.declared.marks.Mark.{Mark}
 use Rattle.vr_base.proofs.Below.{map-below_is}
-use Rattle.vr_outside.specs.declared.records.Record.{Record}
-use Rattle.vr_outside.specs.Records.{IsRecorded, deps_at}
+use Rattle.vr_outside.specs.Records.{Record, IsRecorded, deps_at}
 use Rattle.build_plan.specs.declared.plans.Need.{Need}
 use Rattle.build_plan.specs.declared.plans.Need.TheVariants.{Fresh, Stale, Later}
 use Rattle.build_plan.specs.Plans.{is_fresh, is_later, need_at, ArePlanned}
-use Rattle.run_spec.specs.ChildJournal.{Work, job_of, or_else, has_all, output_at, exit_at, artefact_by, artefact_so_far}
+use Rattle.run_spec.specs.ChildJournal.{Work, empty_book, files_below, job_of, or_else, has_all, output_at, exit_at, artefact_by, artefact_so_far}
 use Rattle.run_spec.specs.Marks.{mark_of, mark_at}
-use Rattle.run_spec.specs.Recorded.{recorded_at}
+use Rattle.run_spec.proofs.BuiltLists.{has_all_at}
 use Rattle.run_spec.specs.Commits.{work_of}
 use Rattle.run_spec.proofs.Artefacts.{deps_before, artefact_free, stepwise}
-use Rattle.compile_loop.proofs.Lent.{item_at}
+use Rattle.compile_loop.proofs.Lent.{item_at, files_latest, deps_latest}
+use Rattle.compile_loop.proofs.RecordsThen.{records_at_first}
 use Rattle.compile_loop.proofs.Unchecked.{fits_as}
 use Rattle.slot_machine.specs.declared.slots.Slots.{Slots}
 use Rattle.slot_machine.specs.Machines.{IsJobOf, is_checked}
@@ -72,11 +73,18 @@ module _ (latest_of : FileName → Option Record) (graph : List Entry) (is : IsG
       list_all_then (λ dep. is_fresh (need_at needs dep)) (λ dep. is_some (artefact_by s [] dep)) at (λ dep less fresh. before dep (omega (arith, less, le)) (omega (arith, less, lt)) fresh) (deps_at graph at) (ordered at)
       (is_true (list_all (λ dep. is_fresh (need_at needs dep)) (deps_at graph at)) (sym (plan.later at lt) ∙ sure))
 
+  all_there : (at : ℕ) → has_all (artefact_by s []) (deps_at graph at) ≡ true → All (λ dep. is_some (artefact_so_far s [] dep) ≡ true) (deps_at graph at)
+  all_there at all = has_all_at (artefact_so_far s []) (deps_at graph at) all
+
   made_free : (at : ℕ) → at < length graph → has_all (artefact_by s []) (deps_at graph at) ≡ true → is_later (need_at needs at) ≡ false → is_some (artefact_by s [] at) ≡ is_fresh (need_at needs at)
   made_free at lt all sure =
       let entry = item_at graph at lt in
-      ap is_some (artefact_free s ordered [] at lt all ∙ ap (or_else (recorded_at latest_of graph at)) (nothing_ended at) ∙ or_nothing (recorded_at latest_of graph at))
-      ∙ sym (fits_as latest_of latest_of graph at entry.0 entry.1 refl (is_fresh (need_at needs at)) (plan.fresh at lt sure))
+      let files : List BuiltFile = files_below s [] at in
+      ap is_some (artefact_free s ordered [] at lt all ∙ ap (or_else (s.current at files)) (nothing_ended at) ∙ or_nothing (s.current at files))
+      ∙ sym (fits_as latest_of latest_of graph at entry.0 entry.1 refl files
+      (files_latest graph latest_of slots keep_going empty_book latest_of is (records_at_first s latest_of) (λ name. refl) at entry.0 entry.1 (all_there at all))
+      (deps_latest graph latest_of slots keep_going empty_book latest_of is (records_at_first s latest_of) (λ name. refl) at entry.0 entry.1 (all_there at all))
+      (is_fresh (need_at needs at)) (plan.fresh at lt sure))
 
   made_to : (end : ℕ) (k : ℕ) → k < end → k < length graph → is_fresh (need_at needs k) ≡ true → is_some (artefact_by s [] k) ≡ true
   made_to zero k less lt h = absurd (omega (arith, less))

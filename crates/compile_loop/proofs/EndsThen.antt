@@ -1,23 +1,23 @@
 -- The end of a child that is taken: refused, compiled and not committed, or compiled and to be committed.
-use Rattle.std.proofs.Common.{◌≡◌, ℕ, ◌+◌, ◌<◌, Bool, true, false, not, eqb, List, [], ◌∷◌, ◌++◌, length, take, Option, Some, None, Err, refl, sym, ap, subst, ◌∙◌, arith}
+use Rattle.std.proofs.Common.{◌≡◌, ℕ, ◌+◌, ◌<◌, Bool, true, false, not, eqb, List, [], ◌∷◌, ◌++◌, length, map, take, Option, Some, None, Err, refl, sym, ap, subst, ◌∙◌, arith}
 use Rattle.std.specs.Prelude.{is_some}
 use Rattle.std.specs.List.{list_all}
-use Rattle.vr_outside.specs.Records.{deps_at}
 use Rattle.std.proofs.Math.ListN.{set}
 use Rattle.std.proofs.lemmas.Bool.{and_parts, not-true, cond-true, cond-false}
 use Rattle.std.proofs.lemmas.List.{append-nil}
 use Rattle.vr_base.specs.declared.file.FileName.{FileName}
+use Rattle.vr_base.specs.declared.graph.BuiltFile.{BuiltFile}
 use Rattle.vr_base.specs.declared.graph.Entry.{Entry}
 use Rattle.vr_base.specs.declared.child.Exit.{Exit}
 use Rattle.vr_base.specs.declared.child.Event.{Event}
 use Rattle.vr_base.specs.declared.child.Event.TheVariants.{Ended}
 use Rattle.run_spec.specs.declared.marks.Mark.{Mark}
 use Rattle.run_spec.specs.declared.marks.Mark.TheVariants.{Compiled, Refused}
-use Rattle.vr_outside.specs.declared.records.Record.{Record}
+use Rattle.vr_outside.specs.Records.{Record, deps_at, latest_built}
 use Rattle.vr_outside.specs.Disks.{Image, Moments}
 use Rattle.vr_outside.proofs.CommitLaws.{one_if}
 use Rattle.run_spec.specs.Moves.{Job, Core, Ends, is_made_so_far, start_now, is_running, position_of, after_move}
-use Rattle.run_spec.specs.ChildJournal.{Work, job_of, core_of, book_of}
+use Rattle.run_spec.specs.ChildJournal.{Work, End, job_of, core_of, book_of}
 use Rattle.run_spec.specs.Commits.{record_at, commit_of, commits}
 use Rattle.slot_machine.specs.declared.slots.Slots.{Slots}
 use Rattle.slot_machine.specs.Machines.{IsMachineOf, is_checked, is_stopped_in}
@@ -31,7 +31,7 @@ use Rattle.compile_loop.proofs.MarksThen.{mark_of_exit}
 use Rattle.compile_loop.proofs.RecordsThen.{record_of_good, no_record}
 use Rattle.compile_loop.proofs.Acknowledging.{all_few, acknowledges_left, acknowledges_one, holds_left, holds_one}
 use Rattle.compile_loop.proofs.FirstFaults.{first_kept, first_acknowledged, first_uncommitted}
-use Rattle.compile_loop.proofs.UnderWayThen.{commits_ended, machine_ended, ended_under_way}
+use Rattle.compile_loop.proofs.UnderWayThen.{end, built_now, commits_ended, machine_ended, ended_under_way}
 
 -- what failed to be committed isn't among what is
 pub failed_commit : (noted : Option BuildFault) (fault : BuildFault) (before now : ℕ) → CountsCommit {T = Unit {0}} (Err fault) before now → (broken : Bool) → broken ≡ is_disk_failed {T = Unit {0}} (Err fault) →
@@ -78,12 +78,15 @@ module _ (told : Type 0) (records_of : Image → List Record) (graph : List Entr
     in_step : IsMachineOf machine' (job_of s) (halted_if (is_some state.noted) (core_of (book_of s (events ++ ended ∷ []))))
     in_step = machine_ended graph from events acknowledged state is ticket at exit there inside machine' step
 
-    commits_are : commits s (events ++ ended ∷ []) ≡ commits s events ++ commit_of graph at exit
+    abbrev one_end : End
+    one_end = end graph from events acknowledged state is ticket at exit there inside
+
+    commits_are : commits s (events ++ ended ∷ []) ≡ commits s events ++ commit_of graph one_end
     commits_are = commits_ended graph from events acknowledged state is ticket at exit there inside
 
     pub takes_refused : eqb exit.code 0 ≡ false → TakesEnd told records_of graph from (events ++ ended ∷ []) (with_mark (Refused exit.code exit.output)) moments
     takes_refused code =
-        let none : commits s (events ++ ended ∷ []) ≡ commits s events ++ [] = commits_are ∙ ap (λ (l : List Record). commits s events ++ l) (no_record graph at exit code) in
+        let none : commits s (events ++ ended ∷ []) ≡ commits s events ++ [] = commits_are ∙ ap (λ (l : List Record). commits s events ++ l) (no_record graph one_end code) in
         record {
           acknowledged = acknowledged;
           under_way = ended_under_way graph from events acknowledged state is ticket at exit there inside runs greedy (Refused exit.code exit.output)
@@ -95,10 +98,17 @@ module _ (told : Type 0) (records_of : Image → List Record) (graph : List Entr
 
     module _ (code : eqb exit.code 0 ≡ true) where
       abbrev one : Record
-      one = record_at graph at exit.output
+      one = record_at graph at one_end.below exit.output
+
+      -- the record over the files that the store has now
+      abbrev one_now : Record
+      one_now = record_at graph at (map (latest_built state.latest_of graph) (deps_at graph at)) exit.output
+
+      same_one : all ≡ true → one_now ≡ one
+      same_one on = ap (λ (b : List BuiltFile). record_at graph at b exit.output) (sym (built_now graph from events acknowledged state is ticket at exit there inside on))
 
       commits_one_more : commits s (events ++ ended ∷ []) ≡ commits s events ++ one ∷ []
-      commits_one_more = commits_are ∙ ap (λ (l : List Record). commits s events ++ l) (record_of_good graph at exit code)
+      commits_one_more = commits_are ∙ ap (λ (l : List Record). commits s events ++ l) (record_of_good graph one_end code)
 
       compiled_is : Compiled ≡ mark_of_exit exit
       compiled_is = sym (cond-true (eqb exit.code 0) Compiled (Refused exit.code exit.output) code)
@@ -118,19 +128,22 @@ module _ (told : Type 0) (records_of : Image → List Record) (graph : List Entr
           (noted' ≡ None → (state.noted ≡ None) × (broken' ≡ false)) → (is_all_committed noted' broken' ≡ true → ok ≡ true) →
           ((k : ℕ) → is_checked machine'' k ≡ is_checked machine' k) → is_stopped_in machine'' ≡ is_some noted' →
           ((job : Job) (c : Core) → IsMachineOf machine' job (halted_if (is_some state.noted) c) → IsMachineOf machine'' job (halted_if (is_some noted') c)) →
-          ((name : FileName) → later name ≡ latest_after (take (one_if ok) (one ∷ [])) state.latest_of name) → (told → HoldsFirst (one_if ok) broken' (one ∷ []) records_of moments last) →
+          ((name : FileName) → later name ≡ latest_after (take (one_if ok) (one_now ∷ [])) state.latest_of name) → (told → HoldsFirst (one_if ok) broken' (one_now ∷ []) records_of moments last) →
           ComesFirst noted' s (events ++ ended ∷ []) (acknowledged + one_if ok) broken' → TakesEnd told records_of graph from (events ++ ended ∷ []) (record { machine = machine''; marks = set state.marks at Compiled; noted = noted'; latest_of = later; broken = broken' }) last
       takes_commit on ok machine'' noted' later broken' last none still same on_still halts latest images comes =
           let usable : state.broken ≡ false = usable_where_all state.noted state.broken on in
           let count : acknowledged ≡ length (commits s events) = all_few s events all from.latest_of state.latest_of acknowledged is.committed on in
+          let latest_one : (name : FileName) → later name ≡ latest_after (take (one_if ok) (one ∷ [])) state.latest_of name =
+          subst (λ (r : Record). (name : FileName) → later name ≡ latest_after (take (one_if ok) (r ∷ [])) state.latest_of name) (same_one on) latest in
+          let images_one : told → HoldsFirst (one_if ok) broken' (one ∷ []) records_of moments last = subst (λ (r : Record). told → HoldsFirst (one_if ok) broken' (r ∷ []) records_of moments last) (same_one on) images in
           record {
             acknowledged = acknowledged + one_if ok;
             under_way = ended_under_way graph from events acknowledged state is ticket at exit there inside runs greedy Compiled compiled_is
                 (acknowledged + one_if ok) machine'' noted' later broken' here (λ k. same k ∙ checked k) ready on_still none (halts (job_of s) (core_of (book_of s (events ++ ended ∷ []))) in_step)
-                (acknowledges_one s events all from.latest_of state.latest_of acknowledged is.committed ended one ok (is_all_committed noted' broken') later on tt commits_one_more latest still) comes;
+                (acknowledges_one s events all from.latest_of state.latest_of acknowledged is.committed ended one ok (is_all_committed noted' broken') later on tt commits_one_more latest_one still) comes;
             images = λ t. subst (λ (l : List Record). HoldsFirst (acknowledged + one_if ok) broken' l records_of from.moments last) (sym commits_one_more)
                 (holds_one acknowledged ok broken' (commits s events) one records_of from.moments moments last count
-                (subst (λ (b : Bool). HoldsFirst acknowledged b (commits s events) records_of from.moments moments) usable (holds t)) (images t));
+                (subst (λ (b : Bool). HoldsFirst acknowledged b (commits s events) records_of from.moments moments) usable (holds t)) (images_one t));
           }
 
       -- the fault that is noted after a commit

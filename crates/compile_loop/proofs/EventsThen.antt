@@ -84,7 +84,7 @@ run_at ticket position (run ∷ runs) is =
 
 -- what a running child's end adds
 pub ends_then : (s : Work) (events : List Event) (ticket : ℕ) (exit : Exit) (run : Run) → run_of ticket (book_of s events).runs ≡ Some run →
-    (book_of s (events ++ Ended ticket exit ∷ [])).ends ≡ (book_of s events).ends ++ (record { position = run.position; request = run.request; exit = exit }) ∷ []
+    (book_of s (events ++ Ended ticket exit ∷ [])).ends ≡ (book_of s events).ends ++ (record { position = run.position; request = run.request; below = run.below; exit = exit }) ∷ []
 unfolding after
 ends_then s events ticket exit run found =
     ap (λ (b : Book). b.ends) (book_then s events (Ended ticket exit)) ∙ ap (λ (r : Option Run). (book_of s events).ends ++ end_of r exit) found

@@ -7,7 +7,7 @@ use Rattle.std.proofs.lemmas.List.Folds.{list_any-append}
 use Rattle.std.proofs.lemmas.List.Sums.{take_while-cons}
 use Rattle.vr_base.specs.declared.child.Event.{Event}
 use Rattle.vr_base.specs.declared.child.Event.TheVariants.{Gone}
-use Rattle.vr_outside.specs.declared.records.Record.{Record}
+use Rattle.vr_outside.specs.Records.{Record}
 use Rattle.run_spec.specs.ChildJournal.{Work, is_gone}
 use Rattle.run_spec.specs.Commits.{commits}
 use Rattle.run_spec.proofs.Prefixes.{commits_prefix}

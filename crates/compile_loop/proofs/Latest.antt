@@ -3,10 +3,10 @@ use Rattle.std.proofs.Common.{◌≡◌, ℕ, cond, List, [], ◌∷◌, ◌++�
 use Rattle.std.specs.Prelude.{slice_get}
 use Rattle.std.proofs.lemmas.Bool.{cond-true, cond-false}
 use Rattle.vr_base.specs.declared.file.FileName.{FileName}
+use Rattle.vr_base.specs.declared.graph.BuiltFile.{BuiltFile}
 use Rattle.vr_base.specs.declared.graph.Entry.{Entry}
 use Rattle.vr_base.specs.Graphs.{IsGraph}
-use Rattle.vr_outside.specs.declared.records.Record.{Record}
-use Rattle.vr_outside.specs.Records.{is_of, with_record}
+use Rattle.vr_outside.specs.Records.{Record, is_of, with_record}
 use Rattle.run_spec.proofs.RecordNames.{is_of_own, is_of_other}
 use Rattle.run_spec.specs.Commits.{record_at}
 use Rattle.compile_loop.specs.Commits.{latest_after}
@@ -26,12 +26,12 @@ latest_then xs ys before middle now first second name = second name ∙ latest_a
 
 module _ (graph : List Entry) (position : ℕ) (entry : Entry) (at : slice_get graph position ≡ Some entry) where
   -- once it is committed it is the latest of that name
-  pub latest_here : (artefact : List ℕ) (before : FileName → Option Record) → with_record (record_at graph position artefact) before entry.name ≡ Some (record_at graph position artefact)
-  latest_here artefact before =
-      cond-true (is_of entry.name (record_at graph position artefact)) (Some (record_at graph position artefact)) (before entry.name) (is_of_own graph position entry at artefact)
+  pub latest_here : (below : List BuiltFile) (artefact : List ℕ) (before : FileName → Option Record) → with_record (record_at graph position below artefact) before entry.name ≡ Some (record_at graph position below artefact)
+  latest_here below artefact before =
+      cond-true (is_of entry.name (record_at graph position below artefact)) (Some (record_at graph position below artefact)) (before entry.name) (is_of_own graph position entry at below artefact)
 
 -- the record of another file leaves the latest record of a name as it is
-pub latest_elsewhere : (graph : List Entry) → IsGraph graph → (i j : ℕ) (e f : Entry) → slice_get graph i ≡ Some e → slice_get graph j ≡ Some f → (i ≡ j → ⊥) → (artefact : List ℕ) (before : FileName → Option Record)
-    → with_record (record_at graph i artefact) before f.name ≡ before f.name
-latest_elsewhere graph is i j e f at_i at_j differ artefact before =
-    cond-false (is_of f.name (record_at graph i artefact)) (Some (record_at graph i artefact)) (before f.name) (is_of_other graph i j artefact f is at_j differ)
+pub latest_elsewhere : (graph : List Entry) → IsGraph graph → (i j : ℕ) (f : Entry) → slice_get graph j ≡ Some f → (i ≡ j → ⊥) → (below : List BuiltFile) (artefact : List ℕ) (before : FileName → Option Record)
+    → with_record (record_at graph i below artefact) before f.name ≡ before f.name
+latest_elsewhere graph is i j f at_j differ below artefact before =
+    cond-false (is_of f.name (record_at graph i below artefact)) (Some (record_at graph i below artefact)) (before f.name) (is_of_other graph i j below artefact f is at_j differ)

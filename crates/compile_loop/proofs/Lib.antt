@@ -13,3 +13,4 @@ mod EndsThen
 mod JournalThen
 mod BeginThen
 mod WholeBuilds
+pub mod Preparing

@@ -3,6 +3,7 @@ use Rattle.std.proofs.Common.{◌≡◌, ℕ, ◌<◌, Bool, true, false, eqb, �
 use Rattle.std.proofs.Math.ListN.{set, length-set}
 use Rattle.std.proofs.lemmas.Bool.{cases_eq, cases_Bool, eq-eqb, ne_eqb, cond-true, cond-false, true≢false}
 use Rattle.std.proofs.lemmas.List.{length-map, get_or-map, get_or-set_same, get_or-set_other, take_all, map-append}
+use Rattle.vr_base.specs.declared.graph.BuiltFile.{BuiltFile}
 use Rattle.vr_base.specs.declared.child.Request.{Request}
 use Rattle.vr_base.specs.declared.child.Exit.{Exit}
 use Rattle.run_spec.specs.declared.marks.Mark.{Mark}
@@ -67,10 +68,10 @@ free_then work graph ended more at lt all =
     artefact_free work (deps_before work.graph graph) (ended ++ more) at lt (has_all_more f g (artefact_stays work ended more) deps all)
     ∙ ap (λ built. or_else (work.current at built) (output_at (ended ++ more) at)) (built_more work.graph f g (artefact_stays work ended more) deps all)
 
-module _ (setting : Work) (graph : IsGraph setting.graph) (ends : List End) (position : ℕ) (request : Request) (exit : Exit) (inside : position < length setting.graph)
+module _ (setting : Work) (graph : IsGraph setting.graph) (ends : List End) (position : ℕ) (request : Request) (built : List BuiltFile) (exit : Exit) (inside : position < length setting.graph)
     (free : has_all (artefact_so_far setting ends) (deps_at setting.graph position) ≡ true) (unmade : artefact_so_far setting ends position ≡ None) where
   abbrev end : End
-  end = record { position = position; request = request; exit = exit }
+  end = record { position = position; request = request; below = built; exit = exit }
 
   abbrev then : List End
   then = ends ++ end ∷ []
@@ -101,14 +102,14 @@ module _ (setting : Work) (graph : IsGraph setting.graph) (ends : List End) (pos
   module _ (unended : exit_at ends position ≡ None) where
     marked_here : mark_at setting then position ≡ mark_of_exit exit
     marked_here =
-        ap (λ (e : Option Exit). mark_of setting.keep_going e (artefact_so_far setting then position)) (exit_at-pushed ends position request exit unended)
+        ap (λ (e : Option Exit). mark_of setting.keep_going e (artefact_so_far setting then position)) (exit_at-pushed ends position request built exit unended)
         ∙ ap (mark_of setting.keep_going (Some exit)) (ap (λ es. artefact_by setting es position) same_ends ∙ free_then setting graph ended (child_of_end end ∷ []) position inside free)
         ∙ ap (λ (o : Option (List ℕ)). mark_of setting.keep_going (Some exit) (or_else o (output_at (ended ++ child_of_end end ∷ []) position))) parts_of.0
         ∙ mark_here setting.keep_going exit (output_at (ended ++ child_of_end end ∷ []) position) (eqb exit.code 0) refl output_here
 
     marked_elsewhere : (k : ℕ) → k < length setting.graph → has_all (artefact_so_far setting ends) (deps_at setting.graph k) ≡ true → (position ≡ k → ⊥) → mark_at setting then k ≡ mark_at setting ends k
     marked_elsewhere k lt all other =
-        ap (λ (e : Option Exit). mark_of setting.keep_going e (artefact_so_far setting then k)) (exit_at-push_other ends position k request exit other)
+        ap (λ (e : Option Exit). mark_of setting.keep_going e (artefact_so_far setting then k)) (exit_at-push_other ends position k request built exit other)
         ∙ ap (mark_of setting.keep_going (exit_at ends k)) (artefact_elsewhere k lt all other)
 
     -- one mark changes

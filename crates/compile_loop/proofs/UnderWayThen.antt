@@ -1,5 +1,5 @@
 -- A build that is under way, and one event more.
-use Rattle.std.proofs.Common.{◌≡◌, ℕ, ◌<◌, ◌≤◌, Bool, true, false, not, ◌||◌, eqb, cond, List, map, [], ◌∷◌, ◌++◌, length, get_or, Option, Some, None, Err, refl, sym, ap, subst, ◌∙◌, arith, inl, inr}
+use Rattle.std.proofs.Common.{◌≡◌, ℕ, ◌<◌, ◌≤◌, Bool, true, false, not, ◌||◌, ◌&&◌, eqb, cond, List, map, [], ◌∷◌, ◌++◌, length, get_or, Option, Some, None, Err, refl, sym, ap, subst, ◌∙◌, arith, inl, inr}
 use Rattle.std.specs.Prelude.{◌↔◌, All, IsTrue, is_some, slice_get, unwrap_or}
 use Rattle.std.specs.Option.{option_and_then}
 use Rattle.std.specs.Bool.{OnTrue}
@@ -9,6 +9,7 @@ use Rattle.std.proofs.lemmas.Bool.{cases_Bool, cond-true, cond-false}
 use Rattle.std.proofs.lemmas.List.{append-nil, length-map}
 use Rattle.std.proofs.lemmas.List.Elements.{All-weaker}
 use Rattle.vr_base.specs.declared.file.FileName.{FileName}
+use Rattle.vr_base.specs.declared.graph.BuiltFile.{BuiltFile}
 use Rattle.vr_base.specs.declared.graph.Entry.{Entry}
 use Rattle.vr_base.specs.declared.child.Request.{Request}
 use Rattle.vr_base.specs.declared.child.Exit.{Exit}
@@ -17,20 +18,20 @@ use Rattle.vr_base.specs.declared.child.Event.TheVariants.{Started, Ended, Gone}
 use Rattle.run_spec.specs.declared.marks.Mark.{Mark}
 use Rattle.vr_base.specs.PresentGraph.{below}
 use Rattle.vr_base.proofs.Below.{length-below}
-use Rattle.vr_outside.specs.declared.records.Record.{Record}
 use Rattle.vr_outside.specs.declared.procs.WaitFault.{WaitFault}
 use Rattle.vr_outside.specs.declared.procs.WaitFault.TheVariants as wait
 use Rattle.vr_outside.specs.Children.{end_event}
-use Rattle.vr_outside.specs.Records.{IsRecorded, deps_at}
+use Rattle.vr_outside.specs.Records.{Record, HasLatest, IsRecorded, deps_at, latest_built}
 use Rattle.run_spec.specs.Moves.{Job, Core, Starts, Ends, Loses, is_taken, is_made_so_far, start_now, is_running, position_of, IsLawfulMove, after_move}
-use Rattle.run_spec.specs.ChildJournal.{Work, Run, End, Book, job_of, core_of, child_of_end, next_position, request_at, run_of, exit_at, or_else, has_all, artefact_so_far, book_of, move_of}
+use Rattle.run_spec.specs.ChildJournal.{Work, Run, End, Book, job_of, core_of, child_of_end, next_position, request_at, files_below, run_of, others_of, end_of, exit_at, or_else, has_all, artefact_so_far, after, book_of, move_of}
+use Rattle.run_spec.specs.Settled.{IsAsked}
 use Rattle.run_spec.proofs.Artefacts.{deps_before, artefact_free}
 use Rattle.run_spec.specs.Commits.{commit_of, commits_of, commits}
 use Rattle.run_spec.specs.Marks.{mark_of, mark_at, marks_of}
-use Rattle.run_spec.specs.Recorded.{recorded_at}
 use Rattle.run_spec.specs.declared.marks.Mark.TheVariants.{Fresh}
-use Rattle.run_spec.proofs.Journal.{made_so_far, no_output}
-use Rattle.run_spec.proofs.Steps.{now_parts}
+use Rattle.run_spec.proofs.Journal.{made_so_far}
+use Rattle.run_spec.proofs.Steps.{now_parts, run_found}
+use Rattle.clean_laws.proofs.JournalAnswers.{start_asked}
 use Rattle.slot_machine.specs.declared.slots.Slots.{Slots}
 use Rattle.child_steps.specs.declared.step.Step.TheVariants.{Start}
 use Rattle.slot_machine.specs.Machines.{IsMachineOf, is_checked, is_stopped_in}
@@ -40,17 +41,17 @@ use Rattle.compile_loop.specs.declared.faults.BuildFault.TheVariants.{NoMemory, 
 use Rattle.compile_loop.specs.Commits.{latest_after, Acknowledges}
 use Rattle.compile_loop.specs.Faults.{noted_with, is_all_committed, is_of_disk, ComesFirst}
 use Rattle.compile_loop.specs.Requests.{lent_request}
-use Rattle.compile_loop.specs.UnderWay.{Origin, BuildState, with_machine, work_from, artefact_kept, HasRecords, IsUnderWay}
+use Rattle.compile_loop.specs.UnderWay.{Origin, BuildState, with_machine, work_from, IsDueOver, HasRecords, IsUnderWay}
 use Rattle.compile_loop.specs.Marks.{waiting_mark, known_mark, known_marks}
 use Rattle.child_steps.specs.Steps.{halted_if}
 use Rattle.compile_loop.proofs.Orderly.{AreOrderly, is_end_of, none_ended, found_child, startable_parts, started_now}
 use Rattle.child_steps.proofs.Halting.{halted_not, start_while}
-use Rattle.compile_loop.proofs.EventsThen.{moves_then, greedy_then, requests_then, none_lost_then, machine_then, machine_lost, orderly, run_at, ends_then, ends_started, ends_gone}
+use Rattle.compile_loop.proofs.EventsThen.{book_then, moves_then, greedy_then, requests_then, none_lost_then, machine_then, machine_lost, orderly, run_at, ends_then, ends_started, ends_gone}
 use Rattle.clean_laws.proofs.JournalSettled.{map-below_same}
-use Rattle.compile_loop.proofs.Lent.{item_at, All-from_test, made_recorded, request_is}
+use Rattle.compile_loop.proofs.Lent.{item_at, All-from_test, made_latest, made_recorded, files_latest, files_now, deps_latest, request_is}
 use Rattle.compile_loop.proofs.MarksThen.{mark_of_exit, marks_then, marks_same, mark_checked, marks_fresh, marks_stale}
-use Rattle.compile_loop.proofs.RecordsThen.{commits_then, records_then}
-use Rattle.compile_loop.proofs.Unchecked.{uncommitted, fits_as}
+use Rattle.compile_loop.proofs.RecordsThen.{commits_then, uncommitted, records_started, records_left, records_ended}
+use Rattle.compile_loop.proofs.Unchecked.{none_printed, fits_as}
 use Rattle.compile_loop.proofs.Acknowledging.{knows_all, all_few, acknowledges_left}
 use Rattle.compile_loop.proofs.FirstFaults.{first_of_none, first_lost}
 
@@ -136,7 +137,7 @@ module _ (graph : List Entry) (from : Origin) (events : List Event) (acknowledge
   -- and a record of its present view
   pub recorded_deps : all ≡ true → (position : ℕ) → position < length graph → list_all (is_made_so_far (job_of s) core) (deps_at graph position) ≡ true → All (IsRecorded state.latest_of graph) (deps_at graph position)
   recorded_deps on position lt made k d l =
-      made_recorded graph from book.ends state.latest_of ordered is.recorded (knows on) (get_or (deps_at graph position) k d) (omega (arith, ordered position k d l, lt)) (made_deps position made k d l)
+      made_recorded graph from.latest_of from.slots from.keep_going book state.latest_of is.is_graph is.recorded (knows on) (get_or (deps_at graph position) k d) (omega (arith, ordered position k d l, lt)) (made_deps position made k d l)
 
   -- a file is to be started
   module _ (at : ℕ) (start : start_now (job_of s) (halted_if (is_some state.noted) core) ≡ Some at) where
@@ -171,7 +172,7 @@ module _ (graph : List Entry) (from : Origin) (events : List Event) (acknowledge
       requested : option_and_then (request_at s book.ends) (next_position s book) ≡ Some request
       requested =
           ap (option_and_then (request_at s book.ends)) next_is
-          ∙ sym (request_is graph from book.ends state.latest_of ordered is.recorded (knows all_here) is.is_graph at inside (made_deps at deps_made)) ∙ asked
+          ∙ sym (request_is graph from.latest_of from.slots from.keep_going book state.latest_of is.is_graph is.recorded (knows all_here) at inside (made_deps at deps_made)) ∙ asked
 
       ends_same : (book_of s (events ++ event ∷ [])).ends ≡ book.ends
       ends_same = ends_started s events ticket request
@@ -181,6 +182,21 @@ module _ (graph : List Entry) (from : Origin) (events : List Event) (acknowledge
 
       in_time : length (commits s events) ≤ acknowledged
       in_time = omega (arith, all_few s events all from.latest_of state.latest_of acknowledged is.committed all_here)
+
+      -- it is started over files that stay, where no record is current
+      due_here : IsDueOver s book.ends at (files_below s book.ends at)
+      unfolding has_all
+      due_here =
+          let asked : IsAsked s book.ends at request = start_asked s ordered book at request next_is (sym (ap (option_and_then (request_at s book.ends)) next_is) ∙ requested) in
+          record { all_made = asked.over_all; below_is = refl; stale = asked.stale }
+
+      recorded_after : HasRecords s from.latest_of (after s book event)
+      unfolding after
+      recorded_after =
+          let position : ℕ = unwrap_or (next_position s book) 0 in
+          let same : at ≡ position = ap (λ (o : Option ℕ). unwrap_or o 0) (sym next_is) in
+          records_started s from.latest_of book is.recorded (record { ticket = ticket; position = position; request = request; below = files_below s book.ends position })
+          (subst (λ (p : ℕ). IsDueOver s book.ends p (files_below s book.ends p)) same due_here) (book.taken ++ position ∷ []) book.halted
 
       -- after its start
       pub started_under_way : (machine' : Slots) → ((k : ℕ) → is_checked machine' k ≡ is_checked state.machine k) → is_stopped_in machine' ≡ is_stopped_in state.machine → IsMachineOf machine' (job_of s) (after_move (job_of s) (halted_if (is_some state.noted) core) (Starts at ticket)) →
@@ -195,7 +211,7 @@ module _ (graph : List Entry) (from : Origin) (events : List Event) (acknowledge
         in_step = machine_then s events machine' (is_some state.noted) event (Starts at ticket) move_is step;
         halts = stopped ∙ is.halts;
         marked = is.marked ∙ marks_same s book.ends state.machine machine' checked ∙ ap (λ (ends : List End). known_marks s ends machine') (sym ends_same);
-        recorded = subst (HasRecords graph from) (sym ends_same) is.recorded;
+        recorded = subst (HasRecords s from.latest_of) (sym (book_then s events event)) recorded_after;
         committed = acknowledges_left s events all from.latest_of state.latest_of acknowledged is.committed event [] all in_time (commits_started ∙ sym (append-nil (commits s events))) (λ on. (on, refl));
         comes_first = first_of_none s (events ++ event ∷ []) acknowledged state.broken state.noted nothing_noted;
       }
@@ -209,30 +225,42 @@ module _ (graph : List Entry) (from : Origin) (events : List Event) (acknowledge
     no_end_here : list_any (is_end_of at) core.ended ≡ false
     no_end_here = none_ended core at untaken core.ended (orderly s events is.is_graph is.moves).ends_taken
 
-    -- it is made where a record of it is current
-    pub check_made : is_made_so_far (job_of s) core at ≡ is_some (recorded_at from.latest_of graph at)
+    -- the files below it that were built
+    abbrev files : List BuiltFile
+    files = files_below s book.ends at
+
+    -- it is made where a record of it is current over them
+    pub check_made : is_made_so_far (job_of s) core at ≡ is_some (s.current at files)
     unfolding has_all
     check_made =
-        ap is_some (artefact_free s ordered (map child_of_end book.ends) at inside made ∙ ap (or_else (recorded_at from.latest_of graph at)) (no_output book.ends at (no_exit at book.ends no_end_here)))
-        ∙ some_or (recorded_at from.latest_of graph at)
+        ap is_some (artefact_free s ordered (map child_of_end book.ends) at inside made ∙ ap (or_else (s.current at files)) (none_printed at book.ends no_end_here))
+        ∙ some_or (s.current at files)
       where
         some_or : (o : Option (List ℕ)) → is_some (or_else o None) ≡ is_some o
         some_or None = refl
         some_or (Some x) = refl
 
     module _ (entry : Entry) (found : slice_get graph at ≡ Some entry) (going : state.noted ≡ None) where
-      -- its latest record is still the one from before the build
-      pub latest_still : state.latest_of entry.name ≡ from.latest_of entry.name
-      latest_still =
-          knows (all_while state.noted state.broken going is.usable) entry.name ∙ uncommitted graph is.is_graph at entry found book.ends from.latest_of no_end_here
+      knows_now : (name : FileName) → state.latest_of name ≡ latest_after (commits_of graph book.ends) from.latest_of name
+      knows_now = knows (all_while state.noted state.broken going is.usable)
 
-    -- so that it fits exactly where it did then
-    pub still_recorded : state.noted ≡ None → (fits : Bool) → (IsTrue fits ↔ IsRecorded state.latest_of graph at) → fits ≡ is_some (recorded_at from.latest_of graph at)
+      -- its latest record is still the one from before the build
+      latest_still : state.latest_of entry.name ≡ from.latest_of entry.name
+      latest_still = knows_now entry.name ∙ uncommitted graph is.is_graph at entry found book.ends from.latest_of (none_printed at book.ends no_end_here)
+
+      still_fits : (fits : Bool) → (IsTrue fits ↔ IsRecorded state.latest_of graph at) → fits ≡ is_some (s.current at files)
+      still_fits =
+          fits_as from.latest_of state.latest_of graph at entry found latest_still files
+          (files_latest graph from.latest_of from.slots from.keep_going book state.latest_of is.is_graph is.recorded knows_now at entry found (made_deps at made))
+          (deps_latest graph from.latest_of from.slots from.keep_going book state.latest_of is.is_graph is.recorded knows_now at entry found (made_deps at made))
+
+    -- so that it fits exactly where it is current
+    pub still_recorded : state.noted ≡ None → (fits : Bool) → (IsTrue fits ↔ IsRecorded state.latest_of graph at) → fits ≡ is_some (s.current at files)
     still_recorded going fits says =
         let entry = item_at graph at inside in
-        fits_as from.latest_of state.latest_of graph at entry.0 entry.1 (latest_still entry.0 entry.1 going) fits says
+        still_fits entry.0 entry.1 going fits says
 
-    pub checked_under_way : (machine' : Slots) (fresh : Bool) (marks' : List Mark) → fresh ≡ is_some (recorded_at from.latest_of graph at) → is_checked state.machine at ≡ false → ((k : ℕ) → is_checked machine' k ≡ (is_checked state.machine k || eqb at k))
+    pub checked_under_way : (machine' : Slots) (fresh : Bool) (marks' : List Mark) → fresh ≡ is_some (s.current at files) → is_checked state.machine at ≡ false → ((k : ℕ) → is_checked machine' k ≡ (is_checked state.machine k || eqb at k))
         → is_stopped_in machine' ≡ is_stopped_in state.machine → marks' ≡ cond fresh (set state.marks at Fresh) state.marks → IsMachineOf machine' (job_of s) (halted_if (is_some state.noted) core)
         → IsUnderWay graph from events acknowledged (record { machine = machine'; marks = marks'; noted = state.noted; latest_of = state.latest_of; broken = state.broken })
     checked_under_way machine' fresh marks' says new checked stopped changed step = record {
@@ -301,6 +329,10 @@ module _ (graph : List Entry) (from : Origin) (events : List Event) (acknowledge
     weaker_all true h = all_few s events all from.latest_of state.latest_of acknowledged is.committed (h refl)
     weaker_all false h = tt
 
+  recorded_lost : (ticket : ℕ) → HasRecords s from.latest_of (after s book (Gone ticket))
+  unfolding after
+  recorded_lost ticket = records_left s from.latest_of book is.recorded ticket book.taken true
+
   -- the end of a child is lost
   pub lost_under_way : (ticket : ℕ) (machine' : Slots) (fault : BuildFault) → ((k : ℕ) → is_checked machine' k ≡ is_checked state.machine k) → is_stopped_in machine' ≡ true → is_of_disk fault ≡ false → is_running core ticket ≡ true → IsMachineOf machine' (job_of s) (after_move (job_of s) (halted_if (is_some state.noted) core) (Loses ticket)) →
       IsUnderWay graph from (events ++ Gone ticket ∷ []) acknowledged (with_machine machine' (Some (noted_with state.noted fault)) state)
@@ -318,7 +350,7 @@ module _ (graph : List Entry) (from : Origin) (events : List Event) (acknowledge
         in_step = machine_lost s events machine' (is_some state.noted) true ticket step;
         halts = stopped;
         marked = is.marked ∙ marks_same s book.ends state.machine machine' checked ∙ ap (λ (ends : List End). known_marks s ends machine') (sym same);
-        recorded = subst (HasRecords graph from) (sym same) is.recorded;
+        recorded = subst (HasRecords s from.latest_of) (sym (book_then s events (Gone ticket))) (recorded_lost ticket);
         committed = acknowledges_left s events all from.latest_of state.latest_of acknowledged is.committed (Gone ticket) [] (is_all_committed (Some fault) state.broken) tt (ap (commits_of graph) same ∙ sym (append-nil (commits s events))) (λ on. (still on, refl));
         comes_first = first_lost s events acknowledged state.broken ticket state.noted why kind (λ none. (is.none_lost none, all_at_first none)) is.comes_first;
       } where
@@ -337,7 +369,7 @@ module _ (graph : List Entry) (from : Origin) (events : List Event) (acknowledge
     abbrev ended : Event
     ended = Ended ticket exit
 
-    run : (r : Run) × (run_of ticket book.runs ≡ Some r) × (r.position ≡ at)
+    pub run : (r : Run) × (run_of ticket book.runs ≡ Some r) × (r.position ≡ at)
     run = run_at ticket at book.runs there
 
     children : AreOrderly (job_of s) core
@@ -354,27 +386,37 @@ module _ (graph : List Entry) (from : Origin) (events : List Event) (acknowledge
         let found = found_child (λ c. list_all (is_made_so_far (job_of s) core) ((job_of s).deps c.position) ≡ true) ticket at core.running there children.ready in
         subst (λ (p : ℕ). list_all (is_made_so_far (job_of s) core) (deps_at graph p) ≡ true) found.1 found.2
 
-    -- nor is a record of it current, or anything printed
-    unkept : artefact_kept graph from book.ends at ≡ None
-    unkept = sym (artefact_free s ordered (map child_of_end book.ends) at inside free) ∙ unmade
-
     unended : exit_at book.ends at ≡ None
     unended =
         let found = found_child (λ c. list_any (is_end_of c.position) core.ended ≡ false) ticket at core.running there children.unended in
         no_exit at book.ends (subst (λ (p : ℕ). list_any (is_end_of p) core.ended ≡ false) found.1 found.2)
 
-    -- all that its file depends on is recorded
-    pub end_recorded : all ≡ true → All (IsRecorded state.latest_of graph) (deps_at graph at)
+    -- all that its file depends on has a record
+    pub end_latest : all ≡ true → All (HasLatest state.latest_of graph) (deps_at graph at)
     unfolding has_all
-    end_recorded on = recorded_deps on at inside free
+    end_latest on k d l =
+        made_latest graph from.latest_of from.slots from.keep_going book state.latest_of is.is_graph is.recorded (knows on) (get_or (deps_at graph at) k d) (omega (arith, ordered at k d l, inside)) (made_deps at free k d l)
 
-    abbrev end : End
-    end = record { position = at; request = run.0.request; exit = exit }
+    -- the files that it was started over
+    pub built : List BuiltFile
+    built = run.0.below
+
+    abbrev pub end : End
+    end = record { position = at; request = run.0.request; below = run.0.below; exit = exit }
+
+    -- are those that the store has
+    pub built_now : all ≡ true → run.0.below ≡ map (latest_built state.latest_of graph) (deps_at graph at)
+    unfolding has_all
+    built_now on =
+        let due : IsDueOver s book.ends run.0.position run.0.below = run_found (λ r. IsDueOver s book.ends r.position r.below) book.runs ticket run.0 run.1 is.recorded.runs in
+        let entry = item_at graph at inside in
+        due.below_is ∙ ap (files_below s book.ends) run.2
+        ∙ files_now graph from.latest_of from.slots from.keep_going book state.latest_of is.is_graph is.recorded (knows on) at entry.0 entry.1 (made_deps at free)
 
     ends_are : (book_of s (events ++ ended ∷ [])).ends ≡ book.ends ++ end ∷ []
-    ends_are = ends_then s events ticket exit run.0 run.1 ∙ ap (λ (p : ℕ). book.ends ++ (record { position = p; request = run.0.request; exit = exit }) ∷ []) run.2
+    ends_are = ends_then s events ticket exit run.0 run.1 ∙ ap (λ (p : ℕ). book.ends ++ (record { position = p; request = run.0.request; below = run.0.below; exit = exit }) ∷ []) run.2
 
-    pub commits_ended : commits s (events ++ ended ∷ []) ≡ commits s events ++ commit_of graph at exit
+    pub commits_ended : commits s (events ++ ended ∷ []) ≡ commits s events ++ commit_of graph end
     commits_ended = ap (commits_of graph) ends_are ∙ commits_then graph book.ends end
 
     marks_ended : (machine' : Slots) → is_checked state.machine at ≡ true → ((k : ℕ) → is_checked machine' k ≡ is_checked state.machine k)
@@ -383,13 +425,15 @@ module _ (graph : List Entry) (from : Origin) (events : List Event) (acknowledge
     unfolding has_all
     marks_ended machine' here checked ready mark mark_is =
         ap (λ (l : List Mark). set l at mark) is.marked
-        ∙ marks_then s is.is_graph book.ends at run.0.request exit inside free unmade unended state.machine machine' here checked ready mark mark_is
+        ∙ marks_then s is.is_graph book.ends at run.0.request run.0.below exit inside free unmade unended state.machine machine' here checked ready mark mark_is
         ∙ ap (λ (ends : List End). known_marks s ends machine') (sym ends_are)
 
-    records_ended : HasRecords graph from (book_of s (events ++ ended ∷ [])).ends
-    records_ended =
-        let entry = item_at graph at inside in
-        subst (HasRecords graph from) (sym ends_are) (records_then graph from is.is_graph book.ends is.recorded at entry.0 entry.1 run.0.request exit unkept)
+    recorded_ended : HasRecords s from.latest_of (book_of s (events ++ ended ∷ []))
+    unfolding after
+    recorded_ended =
+        subst (HasRecords s from.latest_of) (sym (book_then s events ended))
+        (subst (λ (r : Option Run). HasRecords s from.latest_of (record { taken = book.taken; runs = others_of ticket book.runs; ends = book.ends ++ end_of r exit; halted = book.halted || (not s.keep_going && not (eqb exit.code 0)) })) (sym run.1)
+        (records_ended s from.latest_of book is.recorded is.is_graph ticket run.0 run.1 exit (ap (exit_at book.ends) run.2 ∙ unended) book.taken (book.halted || (not s.keep_going && not (eqb exit.code 0)))))
 
     -- its machine is that of what has happened
     pub machine_ended : (machine' : Slots) → IsMachineOf machine' (job_of s) (after_move (job_of s) (halted_if (is_some state.noted) core) (Ends ticket (eqb exit.code 0) exit.output)) →
@@ -414,7 +458,7 @@ module _ (graph : List Entry) (from : Origin) (events : List Event) (acknowledge
       in_step = step;
       halts = on;
       marked = marks_ended machine' here checked ready mark mark_is;
-      recorded = records_ended;
+      recorded = recorded_ended;
       committed = committed;
       comes_first = first;
     } where

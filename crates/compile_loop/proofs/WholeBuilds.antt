@@ -20,19 +20,18 @@ use Rattle.vr_base.specs.PresentGraph.{below}
 use Rattle.vr_base.proofs.Below.{length-below, get_or-below}
 use Rattle.vr_outside.specs.Records.{IsRecorded}
 use Rattle.clean_laws.proofs.CleanPlaces.{filter_map-same}
-use Rattle.vr_outside.specs.declared.records.Record.{Record}
+use Rattle.vr_outside.specs.Records.{Record}
 use Rattle.vr_outside.specs.Children.{started_with}
 use Rattle.vr_outside.specs.Disks.{Image, Moments, IsDurable, reads_of}
 use Rattle.vr_outside.specs.Commits.{CommitsFirst}
 use Rattle.vr_outside.proofs.CommitLaws.{commits_nothing}
 use Rattle.run_spec.specs.Moves.{Core, empty_core, is_taken, is_made_so_far, LawfulMoves, GreedyMoves, IsFinished}
-use Rattle.run_spec.specs.ChildJournal.{Work, Run, End, artefact_so_far, job_of, core_of, after_all, book_of, moves_after, AreRequested, EachAfter, Lawful, exit_at, artefact_after, built_file}
+use Rattle.run_spec.specs.ChildJournal.{Work, Run, End, artefact_so_far, job_of, core_of, after_all, book_of, moves_after, AreRequested, EachAfter, Lawful, exit_at, artefact_after, files_below, built_file}
 use Rattle.run_spec.specs.Marks.{mark_of, mark_at, marks_of}
 use Rattle.run_spec.specs.Commits.{record_at, commits}
 use Rattle.run_spec.proofs.Waiting.{waits_none}
 use Rattle.slot_machine.specs.declared.slots.Slots.{Slots}
 use Rattle.slot_machine.specs.Machines.{IsMachineOf, is_checked, is_stopped_in}
-use Rattle.run_spec.proofs.Artefacts.{deps_before}
 use Rattle.compile_loop.specs.Marks.{waiting_mark, known_mark, known_marks}
 use Rattle.compile_loop.specs.declared.faults.BuildFault.{BuildFault}
 use Rattle.compile_loop.specs.declared.faults.BuildFault.TheVariants.{NoMemory}
@@ -70,7 +69,7 @@ first_under_way graph from machine marks broken is step on marked usable = recor
   in_step = step;
   halts = on;
   marked = marked;
-  recorded = records_at_first graph from;
+  recorded = records_at_first (work_from graph from) from.latest_of;
   committed = record {
     few = omega arith;
     whole = zero_committed (is_all_committed None broken);
@@ -138,9 +137,9 @@ module _ (tells told : Type 0) (answer : Request → Exit) (records_of : Image �
 
   -- the latest records of the files that are made
   knows_files : is_all_committed state.noted state.broken ≡ true → (position : ℕ) (entry : Entry) (artefact : List ℕ) → slice_get graph position ≡ Some entry → artefact_after s goes.events position ≡ Some artefact →
-      state.latest_of entry.name ≡ Some (record_at graph position artefact)
+      state.latest_of entry.name ≡ Some (record_at graph position (files_below s (book_of s goes.events).ends position) artefact)
   knows_files on position entry artefact at is =
-      knows_made graph from (book_of s goes.events).ends state.latest_of (deps_before graph goes.under_way.is_graph) goes.under_way.recorded (knows_all s goes.events (is_all_committed state.noted state.broken) from.latest_of state.latest_of goes.acknowledged goes.under_way.committed on) position entry artefact at is
+      knows_made graph from.latest_of from.slots from.keep_going (book_of s goes.events) state.latest_of goes.under_way.is_graph goes.under_way.recorded (knows_all s goes.events (is_all_committed state.noted state.broken) from.latest_of state.latest_of goes.acknowledged goes.under_way.committed on) position entry artefact at is
 
   lawful_of : tells → Lawful s goes.events
   lawful_of t = record { moves = goes.under_way.moves; requests = goes.under_way.requests; tickets = (goes.journal t).tickets }
@@ -251,7 +250,7 @@ marks_recorded graph from events acknowledged state is none position mark at mad
     let on : is_all_committed state.noted state.broken ≡ true = all_while state.noted state.broken none is.usable in
     let ends : List End = (book_of s events).ends in
     let there = mark_of_list (known_mark s ends state.machine) (length graph) position mark (ap (λ (l : List Mark). slice_get l position) (sym is.marked) ∙ at) in
-    made_recorded graph from ends state.latest_of (deps_before graph is.is_graph) is.recorded (knows_all s events (is_all_committed state.noted state.broken) from.latest_of state.latest_of acknowledged is.committed on) position there.0
+    made_recorded graph from.latest_of from.slots from.keep_going (book_of s events) state.latest_of is.is_graph is.recorded (knows_all s events (is_all_committed state.noted state.broken) from.latest_of state.latest_of acknowledged is.committed on) position there.0
     (known_has s ends state.machine position (ap is_made there.1 ∙ made))
 
 module _ (tells told : Type 0) (answer : Request → Exit) (records_of : Image → List Record) (s : Work) (old new : BuildObjects) where
@@ -301,7 +300,7 @@ module _ (tells told : Type 0) (answer : Request → Exit) (records_of : Image �
 
 -- all files with their artefacts are what the store lends
 pub whole_is : (s : Work) (events : List Event) (latest_of : FileName → Option Record) (marks : List Mark) (whole : Option (List BuiltFile)) → marks ≡ marks_of s events →
-    ((position : ℕ) (entry : Entry) (artefact : List ℕ) → slice_get s.graph position ≡ Some entry → artefact_after s events position ≡ Some artefact → latest_of entry.name ≡ Some (record_at s.graph position artefact)) →
+    ((position : ℕ) (entry : Entry) (artefact : List ℕ) → slice_get s.graph position ≡ Some entry → artefact_after s events position ≡ Some artefact → latest_of entry.name ≡ Some (record_at s.graph position (files_below s (book_of s events).ends position) artefact)) →
     (list_all is_made marks ≡ true → whole ≡ Some (filter_map (lent_at latest_of s.graph) (below (length s.graph)))) → (list_all is_made marks ≡ false → whole ≡ None) → whole ≡ whole_of s events
 whole_is s events latest_of marks whole marked knows all none =
     elim (cases_Bool (list_all is_made marks)) [
@@ -323,7 +322,7 @@ whole_is s events latest_of marks whole marked knows all none =
           let entry = item_at s.graph k lt in
           let artefact = some_there (artefact_after s events k) there.1 in
           subst (λ (p : ℕ). lent_at latest_of s.graph p ≡ built_file (slice_get s.graph p) (artefact_after s events p)) (sym position)
-          (sym (lent_same s.graph latest_of (artefact_after s events) k entry.0 artefact.0 entry.1 artefact.1 (knows k entry.0 artefact.0 entry.1 artefact.1)))
+          (sym (lent_same s.graph latest_of (artefact_after s events) k entry.0 artefact.0 (files_below s (book_of s events).ends k) entry.1 artefact.1 (knows k entry.0 artefact.0 entry.1 artefact.1)))
 
 -- after a start, or where it failed
 pub goes_on : (tells told : Type 0) (answer answers : Request → Exit) (records_of : Image → List Record) (graph : List Entry) (from : Origin) (state : BuildState) (now : Told) (machine : Slots) (noted : Option BuildFault) (journal : List Event) → answers ≡ answer →

@@ -3,9 +3,8 @@ use Rattle.std.specs.Prelude.{◌≡◌, ℕ, ◌≤◌, Bool, List, [], ◌∷�
 use Rattle.std.specs.Bool.{OnTrue, OnFalse}
 use Rattle.vr_base.specs.declared.file.FileName.{FileName}
 use Rattle.vr_base.specs.declared.child.Event.{Event}
-use Rattle.vr_outside.specs.declared.records.Record.{Record}
 use Rattle.vr_outside.specs.Disks.{Image, Moments, reads_of}
-use Rattle.vr_outside.specs.Records.{with_record}
+use Rattle.vr_outside.specs.Records.{Record, with_record}
 use Rattle.vr_outside.specs.Commits.{CommitsFirst}
 use Rattle.run_spec.specs.ChildJournal.{Work}
 use Rattle.run_spec.specs.Commits.{commits, Waits}

@@ -11,10 +11,10 @@ use Rattle.vr_base.specs.declared.child.Event.{Event}
 use Rattle.run_spec.specs.declared.marks.Mark.{Mark}
 use Rattle.run_spec.specs.declared.marks.Mark.TheVariants as mark
 use Rattle.vr_base.specs.PresentGraph.{below}
-use Rattle.vr_outside.specs.declared.records.Record.{Record}
+use Rattle.vr_outside.specs.Records.{Record}
 use Rattle.vr_outside.specs.Disks.{Image, Moments}
 use Rattle.run_spec.specs.Moves.{empty_core, LawfulMoves, IsFinished}
-use Rattle.run_spec.specs.ChildJournal.{Work, Lawful, Answered, Greedy, core_of, book_of, empty_book, job_of, moves_of, AreRequested, IsWhole, artefact_after, built_file, is_gone}
+use Rattle.run_spec.specs.ChildJournal.{Work, Lawful, Answered, Greedy, core_of, book_of, empty_book, job_of, moves_of, AreRequested, IsWhole, artefact_after, files_below, built_file, is_gone}
 use Rattle.run_spec.specs.Marks.{marks_of}
 use Rattle.run_spec.specs.Commits.{commits, record_at}
 use Rattle.compile_loop.specs.Commits.{Acknowledges, HoldsFirst}
@@ -78,6 +78,7 @@ pub record BuildRan (tells told : Type 0) (answer : Request → Exit) (records_o
   pub committed : Acknowledges setting events (is_all_committed ending.fault ending.broken) old.latest_of new.latest_of acknowledged
   -- which fault is answered
   pub comes_first : ComesFirst ending.fault setting events acknowledged ending.broken
-  -- where all is committed, the latest record of each file that is made is of its present view, with its artefact
-  pub recorded : OnTrue (is_all_committed ending.fault ending.broken) ((position : ℕ) (entry : Entry) (artefact : List ℕ) → slice_get setting.graph position ≡ Some entry → artefact_after setting events position ≡ Some artefact → new.latest_of entry.name ≡ Some (record_at setting.graph position artefact))
+  -- where all is committed, the latest record of each file that is made has what is asked for it over what was made below
+  -- it, with its artefact
+  pub recorded : OnTrue (is_all_committed ending.fault ending.broken) ((position : ℕ) (entry : Entry) (artefact : List ℕ) → slice_get setting.graph position ≡ Some entry → artefact_after setting events position ≡ Some artefact → new.latest_of entry.name ≡ Some (record_at setting.graph position (files_below setting (book_of setting events).ends position) artefact))
   pub images : told → HoldsFirst acknowledged ending.broken (commits setting events) records_of old.moments new.moments

@@ -1,19 +1,19 @@
 -- A build that is under way: what has happened in it, its machine and its marks.
-use Rattle.std.specs.Prelude.{◌≡◌, ℕ, Bool, false, List, [], ◌++◌, map, All, Option, Some, None, is_some, slice_get}
+use Rattle.std.specs.Prelude.{◌≡◌, ℕ, Bool, true, false, ◌==◌, List, [], ◌++◌, All, Option, Some, None, is_some, slice_get}
 use Rattle.std.specs.List.{list_any}
 use Rattle.vr_base.specs.declared.file.FileName.{FileName}
+use Rattle.vr_base.specs.declared.graph.BuiltFile.{BuiltFile}
 use Rattle.vr_base.specs.declared.graph.Entry.{Entry}
 use Rattle.vr_base.specs.declared.child.Request.{Request}
 use Rattle.vr_base.specs.declared.child.Exit.{Exit}
 use Rattle.vr_base.specs.declared.child.Event.{Event}
 use Rattle.run_spec.specs.declared.marks.Mark.{Mark}
 use Rattle.vr_base.specs.Graphs.{IsGraph}
-use Rattle.vr_outside.specs.declared.records.Record.{Record}
+use Rattle.vr_outside.specs.Records.{Record, deps_at}
 use Rattle.vr_outside.specs.Children.{started_with}
 use Rattle.vr_outside.specs.Disks.{Image, Moments}
 use Rattle.run_spec.specs.Moves.{empty_core, LawfulMoves}
-use Rattle.run_spec.specs.ChildJournal.{Work, Run, End, core_of, book_of, empty_book, job_of, moves_of, AreRequested, EachAfter, HasFreshTicket, Answered, Greedy, child_of_end, or_else, output_at, is_gone}
-use Rattle.run_spec.specs.Recorded.{recorded_at}
+use Rattle.run_spec.specs.ChildJournal.{Work, Run, End, Book, core_of, book_of, empty_book, job_of, moves_of, AreRequested, EachAfter, HasFreshTicket, Answered, Greedy, has_all, artefact_so_far, files_below, is_gone}
 use Rattle.slot_machine.specs.declared.slots.Slots.{Slots}
 use Rattle.slot_machine.specs.Machines.{IsMachineOf, is_stopped_in}
 use Rattle.child_steps.specs.Steps.{halted_if}
@@ -53,16 +53,23 @@ pub record Told : Type 0 where
 abbrev pub work_from : List Entry → Origin → Work
 work_from graph from = work_of from.latest_of graph from.slots from.keep_going
 
--- what a file's record gives, or else what its child printed
-abbrev pub artefact_kept : List Entry → Origin → List End → ℕ → Option (List ℕ)
-artefact_kept graph from ends position = or_else (recorded_at from.latest_of graph position) (output_at (map child_of_end ends) position)
+-- All that the file at a position depends on has an artefact, a child of it was started over these files, and no record was
+-- current over them.
+pub record IsDueOver (work : Work) (ends : List End) (position : ℕ) (below : List BuiltFile) : Type 0 where
+  pub all_made : has_all (artefact_so_far work ends) (deps_at work.graph position) ≡ true
+  pub below_is : below ≡ files_below work ends position
+  pub stale : work.current position below ≡ None
 
--- The artefact that a file has by its record or by its child is that of the latest record of its name, once all that is to be
--- committed is.
-abbrev pub HasRecords : List Entry → Origin → List End → Type 0
-HasRecords graph from ends =
-    (position : ℕ) (entry : Entry) (artefact : List ℕ) → slice_get graph position ≡ Some entry → artefact_kept graph from ends position ≡ Some artefact →
-    latest_after (commits_of graph ends) from.latest_of entry.name ≡ Some (record_at graph position artefact)
+-- What a child gave that ended well is the latest record of its file, once all that is to be committed is.
+abbrev pub IsKnown : List Entry → (FileName → Option Record) → List End → End → Type 0
+IsKnown graph first ends end =
+    (entry : Entry) → slice_get graph end.position ≡ Some entry → (end.exit.code == 0) ≡ true → latest_after (commits_of graph ends) first entry.name ≡ Some (record_at graph end.position end.below end.exit.output)
+
+-- so it is of each child
+pub record HasRecords (work : Work) (first : FileName → Option Record) (book : Book) : Type 0 where
+  pub runs : All (λ run. IsDueOver work book.ends run.position run.below) book.runs
+  pub ends : All (λ end. IsDueOver work book.ends end.position end.below) book.ends
+  pub known : All (IsKnown work.graph first book.ends) book.ends
 
 -- What holds after these events, whatever objects tell: they are lawful moves with their requests, the machine is that of
 -- what has happened and has stopped once a fault is noted, the marks are what is known of it, the first so many commits are
@@ -77,7 +84,7 @@ pub record IsUnderWay (graph : List Entry) (from : Origin) (events : List Event)
   pub in_step : IsMachineOf state.machine (job_of (work_from graph from)) (halted_if (is_some state.noted) (core_of (book_of (work_from graph from) events)))
   pub halts : is_stopped_in state.machine ≡ is_some state.noted
   pub marked : state.marks ≡ known_marks (work_from graph from) (book_of (work_from graph from) events).ends state.machine
-  pub recorded : HasRecords graph from (book_of (work_from graph from) events).ends
+  pub recorded : HasRecords (work_from graph from) from.latest_of (book_of (work_from graph from) events)
   pub committed : Acknowledges (work_from graph from) events (is_all_committed state.noted state.broken) from.latest_of state.latest_of acknowledged
   pub comes_first : ComesFirst state.noted (work_from graph from) events acknowledged state.broken
 

@@ -85,12 +85,12 @@ fn build_seated<K: Records, D: Disk, P: Procs>(
     store: &mut K,
     disk: &mut D,
     procs: &mut P,
-    seats: &K::Seats,
+    seats: &mut K::Seats,
     limit: u32,
     keep_going: bool,
 ) -> Result<MarkList, BuildFault>
     requires limit { (1 ≤ limit) × (limit ≤ SLOT_LIMIT) }
-    requires seated { K.is_seated store.old graph.now seats.now }
+    requires seated { K.is_seated store.old graph.now seats.old }
     requires idle { P.running procs.old ≡ [] }
     requires usable { K.broken store.old ≡ false }
     requires in_step { D.tells → K.in_step store.old (D.moments disk.old).now }
@@ -111,7 +111,7 @@ fn build_seated<K: Records, D: Disk, P: Procs>(
         })
         (record { ended = is_ok result; fault = fault_of result; broken = K.broken store.new })
         (λ events. IfOk result (λ marks. marks ≡ marks_of setting events)) }
-    // Of each file that is fresh or compiled the store has a record of its present view.
+    // Of each file that is fresh or compiled the store has a record of what would be asked for it now.
     ensures recorded { IfOk result (λ marks. (position : ℕ) (mark : Mark) →
         slice_get marks position ≡ Some mark → is_made mark ≡ true →
         IsRecorded (K.latest_of store.new) graph.now position) }
@@ -203,7 +203,7 @@ pub fn build_marks<K: Records, D: Disk, P: Procs>(
         })
         (record { ended = is_ok result; fault = fault_of result; broken = K.broken store.new })
         (λ events. IfOk result (λ marks. marks ≡ marks_of setting events)) }
-    // Of each file that is fresh or compiled the store has a record of its present view.
+    // Of each file that is fresh or compiled the store has a record of what would be asked for it now.
     ensures recorded { IfOk result (λ marks. (position : ℕ) (mark : Mark) →
         slice_get marks position ≡ Some mark → is_made mark ≡ true →
         IsRecorded (K.latest_of store.new) graph.now position) }
@@ -223,7 +223,11 @@ pub fn build_marks<K: Records, D: Disk, P: Procs>(
         }) }
 {
     match store.seats(alloc, graph) {
-        Ok(seats) => build_seated(alloc, graph, store, disk, procs, &seats, limit, keep_going),
+        Ok(mut seats) => {
+            build_seated(
+                alloc, graph, store, disk, procs, &mut seats, limit, keep_going,
+            )
+        }
         Err(NoMemory) => Err(BuildFault::NoMemory),
     }
 }
@@ -301,7 +305,7 @@ pub fn build<K: Records, D: Disk, P: Procs>(
         })
         (record { ended = is_ok result; fault = fault_of result; broken = K.broken store.new })
         (λ events. IfOk result (λ end. SaysEnd setting events end.marks end.whole)) }
-    // Of each file that is fresh or compiled the store has a record of its present view.
+    // Of each file that is fresh or compiled the store has a record of what would be asked for it now.
     ensures recorded { IfOk result (λ end. (position : ℕ) (mark : Mark) →
         slice_get end.marks position ≡ Some mark → is_made mark ≡ true →
         IsRecorded (K.latest_of store.new) graph.now position) }

@@ -1,11 +1,12 @@
 //! The way of an artefact into the store.
 
-ghost use Rattle.std.specs.Prelude.{◌≡◌, ◌<◌, ◌≤◌, ◌∷◌, [], false, true, take, List, length, All};
+ghost use Rattle.std.specs.Prelude.{◌≡◌, ◌<◌, ◌≤◌, ◌∷◌, [], false, true, map, take, List, length, slice_get, All, Some};
 ghost use Rattle.std.specs.Bool.{OnFalse};
 ghost use Rattle.std.specs.Result.{is_ok};
 ghost use Rattle.vr_base.specs.declared.file.FileName.{FileName};
 ghost use Rattle.vr_base.specs.declared.graph.Entry.{Entry};
-ghost use Rattle.vr_outside.specs.Records.{IsRecorded, deps_at};
+ghost use Rattle.vr_base.specs.Graphs.{IsGraph};
+ghost use Rattle.vr_outside.specs.Records.{HasLatest, deps_at, latest_built};
 ghost use Rattle.vr_outside.specs.Commits.{one_if};
 ghost use Rattle.run_spec.specs.Commits.{record_at};
 ghost use Rattle.compile_loop.specs.Commits.{latest_after, HoldsFirst};
@@ -13,7 +14,7 @@ ghost use Rattle.compile_loop.specs.Faults.{CountsCommit, is_disk_failed};
 
 use crate::faults::BuildFault;
 use std::alloc::Global;
-use vr_base::{ARTEFACT_LIMIT, DiskFailed, Graph, NoMemory, Text};
+use vr_base::{ARTEFACT_LIMIT, DiskFailed, FILE_LIMIT, Graph, NoMemory, Text};
 use vr_outside::{Disk, Records};
 
 /// Commits a record that is ready.
@@ -21,9 +22,12 @@ fn commit_ready<K: Records, D: Disk>(
     store: &mut K,
     disk: &mut D,
     prepared: K::Prepared,
+    seats: &mut K::Seats,
 ) -> Result<(), BuildFault>
     requires usable { K.broken store.old ≡ false }
     requires ready { K.is_ready store.old prepared }
+    requires seated { (graph : List Entry) × K.is_seated store.old graph seats.old
+        × (K.position_of prepared < length graph) }
     requires in_step { D.tells → K.in_step store.old (D.moments disk.old).now }
     ensures latest { (name : FileName) → K.latest_of store.new name ≡
         latest_after (take (one_if (is_ok result)) (K.record_of store.old prepared ∷ []))
@@ -34,13 +38,16 @@ fn commit_ready<K: Records, D: Disk>(
         (D.moments disk.new) }
     ensures in_step { D.tells →
         OnFalse (K.broken store.new) (K.in_step store.new (D.moments disk.new).now) }
-    ensures seats { (graph : List Entry) (seats : K.Seats) →
-        K.is_seated store.old graph seats → K.is_seated store.new graph seats }
+    ensures seats { (graph : List Entry) (entry : Entry) → IsGraph graph →
+        K.is_seated store.old graph seats.old →
+        slice_get graph (K.position_of prepared) ≡ Some entry →
+        entry.name ≡ (K.record_of store.old prepared).asked.name →
+        K.is_seated store.new graph seats.new }
     ensures broken { K.broken store.new ≡ is_disk_failed result }
     ensures cause { CountsCommit result (D.failed_disk_calls disk.old)
         (D.failed_disk_calls disk.new) }
 {
-    match store.commit(disk, prepared) {
+    match store.commit(disk, prepared, seats) {
         Ok(()) => Ok(()),
         Err(DiskFailed) => Err(BuildFault::DiskFailed),
     }
@@ -53,31 +60,35 @@ pub(crate) fn commit_made<K: Records, D: Disk>(
     at: u32,
     artefact: &Text,
     store: &mut K,
-    seats: &K::Seats,
+    seats: &mut K::Seats,
     disk: &mut D,
 ) -> Result<(), BuildFault>
     requires position { at < length graph.now }
-    requires seated { K.is_seated store.old graph.now seats.now }
+    requires seated { K.is_seated store.old graph.now seats.old }
     requires artefact { length artefact.now ≤ ARTEFACT_LIMIT }
-    requires recorded { All (IsRecorded (K.latest_of store.old) graph.now) (deps_at graph.now at) }
+    requires built { All (HasLatest (K.latest_of store.old) graph.now) (deps_at graph.now at) }
     requires usable { K.broken store.old ≡ false }
     requires in_step { D.tells → K.in_step store.old (D.moments disk.old).now }
-    ensures latest { (name : FileName) → K.latest_of store.new name ≡
-        latest_after (take (one_if (is_ok result)) (record_at graph.now at artefact.now ∷ []))
+    ensures latest { let built = map (latest_built (K.latest_of store.old) graph.now)
+        (deps_at graph.now at) in
+        (name : FileName) → K.latest_of store.new name ≡
+        latest_after (take (one_if (is_ok result)) (record_at graph.now at built artefact.now ∷ []))
         (K.latest_of store.old) name }
-    ensures images { D.tells →
-        HoldsFirst (one_if (is_ok result)) (K.broken store.new)
-        (record_at graph.now at artefact.now ∷ []) K.records_of
+    ensures images { let built = map (latest_built (K.latest_of store.old) graph.now)
+        (deps_at graph.now at) in
+        D.tells → HoldsFirst (one_if (is_ok result)) (K.broken store.new)
+        (record_at graph.now at built artefact.now ∷ []) K.records_of
         (D.moments disk.old) (D.moments disk.new) }
     ensures in_step { D.tells →
         OnFalse (K.broken store.new) (K.in_step store.new (D.moments disk.new).now) }
-    ensures seated { K.is_seated store.new graph.now seats.now }
+    ensures seated { K.is_seated store.new graph.now seats.new }
     ensures broken { K.broken store.new ≡ is_disk_failed result }
     ensures cause { CountsCommit result (D.failed_disk_calls disk.old)
         (D.failed_disk_calls disk.new) }
 {
+    prove!(graph.len() <= FILE_LIMIT as u64);
     match store.prepare(alloc, seats, graph, at, artefact) {
-        Ok(prepared) => commit_ready(store, disk, prepared),
+        Ok(prepared) => commit_ready(store, disk, prepared, seats),
         Err(NoMemory) => Err(BuildFault::NoMemory),
     }
 }

@@ -7,7 +7,7 @@ ghost use Rattle.vr_base.specs.declared.graph.Entry.{Entry};
 ghost use Rattle.vr_base.specs.declared.child.Event.{Event};
 ghost use Rattle.vr_base.specs.declared.child.Event.TheVariants as event;
 ghost use Rattle.run_spec.specs.declared.marks.Mark.{Mark};
-ghost use Rattle.vr_outside.specs.declared.records.Record.{Record};
+ghost use Rattle.vr_outside.specs.Records.{Record};
 ghost use Rattle.vr_outside.specs.Children.{FitsExit, without, ended_ticket, end_event};
 ghost use Rattle.vr_outside.specs.Counts.{ChildCounts};
 ghost use Rattle.run_spec.specs.Moves.{Job, Core, is_running};
@@ -86,10 +86,10 @@ fn take_exit<K: Records, D: Disk>(
     marks: &mut Vec<Mark>,
     noted: &mut Option<BuildFault>,
     store: &mut K,
-    seats: &K::Seats,
+    seats: &mut K::Seats,
     disk: &mut D,
 )
-    requires seated { K.is_seated store.old graph.now seats.now }
+    requires seated { K.is_seated store.old graph.now seats.old }
     requires runs { Contains (tickets_of slots.old) ticket }
     requires step { next_of slots.old ≡ Run Wait }
     requires size { FitsExit exit }
@@ -109,7 +109,7 @@ fn take_exit<K: Records, D: Disk>(
     ensures nearer { to_come slots.new < to_come slots.old }
     ensures in_step { D.tells →
         OnFalse (K.broken store.new) (K.in_step store.new (D.moments disk.new).now) }
-    ensures seated { K.is_seated store.new graph.now seats.now }
+    ensures seated { K.is_seated store.new graph.now seats.new }
     ensures runs { (job : Job) (core : Core) → IsMachineOf slots.old job core →
         IsTrue (is_running core ticket) }
     ensures goes { (from : Origin) (events : List Event) (acknowledged : ℕ) →
@@ -173,11 +173,11 @@ pub(crate) fn end_one<K: Records, D: Disk, P: Procs>(
     marks: &mut Vec<Mark>,
     noted: &mut Option<BuildFault>,
     store: &mut K,
-    seats: &K::Seats,
+    seats: &mut K::Seats,
     disk: &mut D,
     procs: &mut P,
 )
-    requires seated { K.is_seated store.old graph.now seats.now }
+    requires seated { K.is_seated store.old graph.now seats.old }
     requires running { P.running procs.old ≡ tickets_of slots.old }
     requires some { 0 < length (tickets_of slots.old) }
     requires step { next_of slots.old ≡ Run Wait }
@@ -198,7 +198,7 @@ pub(crate) fn end_one<K: Records, D: Disk, P: Procs>(
     ensures nearer { to_come slots.new < to_come slots.old }
     ensures in_step { D.tells →
         OnFalse (K.broken store.new) (K.in_step store.new (D.moments disk.new).now) }
-    ensures seated { K.is_seated store.new graph.now seats.now }
+    ensures seated { K.is_seated store.new graph.now seats.new }
     ensures goes { (from : Origin) →
         let before : BuildState = record {
           machine = slots.old;

@@ -9,11 +9,11 @@ use Rattle.vr_base.specs.declared.file.FileName.{FileName}
 use Rattle.vr_base.specs.declared.graph.Entry.{Entry}
 use Rattle.vr_base.specs.PresentGraph.{below}
 use Rattle.vr_base.proofs.Below.{get_or-below, length-below}
-use Rattle.vr_outside.specs.declared.records.Record.{Record}
+use Rattle.vr_outside.specs.Records.{Record}
 use Rattle.run_spec.specs.declared.marks.Mark.{Mark}
 use Rattle.vr_base.specs.declared.child.Exit.{Exit}
 use Rattle.vr_base.specs.declared.child.Event.{Event}
-use Rattle.run_spec.specs.ChildJournal.{Work, book_of, exit_at, built_file, artefact_after}
+use Rattle.run_spec.specs.ChildJournal.{Work, book_of, files_below, exit_at, built_file, artefact_after}
 use Rattle.run_spec.specs.Commits.{record_at}
 use Rattle.run_spec.specs.Marks.{mark_of, mark_at, marks_of}
 use Rattle.clean_laws.proofs.CleanPlaces.{filter_map-same}
@@ -38,7 +38,7 @@ marked_has true None None made = absurd (false≢true made)
 marked_has false None None made = absurd (false≢true made)
 
 module _ (s : Work) (events : List Event) (latest_of : FileName → Option Record)
-    (knows : (position : ℕ) (entry : Entry) (artefact : List ℕ) → slice_get s.graph position ≡ Some entry → artefact_after s events position ≡ Some artefact → latest_of entry.name ≡ Some (record_at s.graph position artefact)) where
+    (knows : (position : ℕ) (entry : Entry) (artefact : List ℕ) → slice_get s.graph position ≡ Some entry → artefact_after s events position ≡ Some artefact → latest_of entry.name ≡ Some (record_at s.graph position (files_below s (book_of s events).ends position) artefact)) where
   abbrev there : ℕ → Type 0
   there position = lent_at latest_of s.graph position ≡ built_file (slice_get s.graph position) (artefact_after s events position)
 

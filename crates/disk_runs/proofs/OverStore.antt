@@ -19,10 +19,9 @@ use Rattle.vr_base.specs.Graphs.{IsGraph}
 use Rattle.vr_base.specs.PresentGraph.{below}
 use Rattle.vr_base.proofs.Below.{get_or-below, length-below}
 use Rattle.vr_outside.specs.Counts.{Rose}
-use Rattle.vr_outside.specs.declared.records.Record.{Record}
 use Rattle.vr_outside.specs.Disks.{DiskState, Image, EachImage, Moments, AreSound, IsDurable, Follows, IsEither, OpensWith, added_since, reads_of}
 use Rattle.vr_outside.specs.Commits.{HasFirst, most_committed}
-use Rattle.vr_outside.specs.Records.{latest, IsAllOrLatest, IsRecorded}
+use Rattle.vr_outside.specs.Records.{Record, latest, IsAllOrLatest, IsRecorded}
 use Rattle.vr_outside.specs.declared.records.StoreFault.{StoreFault}
 use Rattle.vr_outside.specs.Phases.{IsOpening, IsBase, HasPhases, opened, committed}
 use Rattle.vr_outside.proofs.MomentLaws.{follows_by, goes_follows, joined_follows}
@@ -118,7 +117,7 @@ pub record KnowsDisk (records_of : Image → List Record) (latest_of : FileName 
 durable_if_known : (records_of : Image → List Record) (graph : List Entry) (latest_of : FileName → Option Record) (disk : DiskState) → KnowsDisk records_of latest_of disk → (position : ℕ) → IsRecorded latest_of graph position → IsDurablyRecorded records_of disk graph position
 durable_if_known records_of graph latest_of disk knows position recorded image is =
     subst (λ (i : Image). IsRecorded (λ name. latest name (records_of i)) graph position) (sym (knows.durable image is))
-    (record { entry = recorded.entry; is_entry = recorded.is_entry; artefact = recorded.artefact; is = sym (knows.held recorded.entry.name) ∙ recorded.is })
+    (subst (λ (l : FileName → Option Record). IsRecorded l graph position) (fun_ext knows.held) recorded)
 
 -- the latest records of a store that was opened are those that a build goes by
 base_latest : (records_of : Image → List Record) (clean : Bool) (disk : DiskState) (records : List Record) (name : FileName) → IsBase records_of clean disk records → latest name records ≡ latest_over records_of clean disk name

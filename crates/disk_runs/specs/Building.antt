@@ -6,7 +6,7 @@ use Rattle.vr_base.specs.declared.child.Exit.{Exit}
 use Rattle.vr_base.specs.declared.child.Event.{Event}
 use Rattle.run_spec.specs.declared.marks.Mark.{Mark}
 use Rattle.vr_base.specs.Graphs.{IsGraph}
-use Rattle.vr_outside.specs.declared.records.Record.{Record}
+use Rattle.vr_outside.specs.Records.{Record}
 use Rattle.vr_outside.specs.declared.records.StoreFault.{StoreFault}
 use Rattle.vr_outside.specs.Disks.{Image, Moments, EachImage, Follows, added_since, reads_of}
 use Rattle.vr_outside.specs.Phases.{IsOpening, IsBase, HasPhases}
@@ -38,8 +38,8 @@ pub record OpensStore {K : Type 0} (records_of : Image → List Record) (clean :
 
 -- The build is that of the records that reads of the disk gave before it, or of none where the store is emptied. Its moments
 -- go through the phases of a store to which its commits are added, so many of which are acknowledged: all of them where
--- neither the disk nor memory failed. At its end each file that is made has a record of its present view in whatever a stop
--- can leave, and where the store is emptied that has no record but those of its commits.
+-- neither the disk nor memory failed. At its end each file that is made has a record of what would be asked for it now in
+-- whatever a stop can leave, and where the store is emptied that has no record but those of its commits.
 pub record BuildsOver (records_of : Image → List Record) (answer : Request → Exit) (order : Order) (result : Result (List Mark) BuildFault) (disk_failed : Bool) (old new : Moments) (events : List Event) : Type 0 where
   pub graph_form : IsGraph order.graph
   pub lawful : Lawful (work_over records_of order old.now) events

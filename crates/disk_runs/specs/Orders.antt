@@ -1,13 +1,12 @@
 -- What is to be built, and what a build leaves of it on a disk.
 use Rattle.std.specs.Prelude.{ℕ, List}
 use Rattle.vr_base.specs.declared.graph.Entry.{Entry}
-use Rattle.vr_outside.specs.declared.records.Record.{Record}
 use Rattle.vr_outside.specs.Disks.{DiskState, Image, EachImage}
-use Rattle.vr_outside.specs.Records.{latest, IsRecorded}
+use Rattle.vr_outside.specs.Records.{Record, latest, IsRecorded}
 use Rattle.history_spec.specs.Histories.{Order}
 use Rattle.disk_runs.specs.declared.building.BuildOptions.{BuildOptions}
 
--- in whatever a stop can leave, the latest record of the file at a position has its present view
+-- in whatever a stop can leave, the latest record of the file at a position has what would be asked for it now
 abbrev pub IsDurablyRecorded : (Image → List Record) → DiskState → List Entry → ℕ → Type 0
 IsDurablyRecorded records_of disk graph position = EachImage (λ image. IsRecorded (λ name. latest name (records_of image)) graph position) disk
 

@@ -69,7 +69,7 @@ pub fn build_kept<K: Records + Drop, D: Disk, P: Procs>(
     ensures running { P.running procs.new ≡ [] }
     ensures same { P.answer procs.new ≡ P.answer procs.old }
     ensures count { IfOk result (λ kept. length kept.marks ≡ length graph.now) }
-    // Of each file that is made the store has a record of its present view,
+    // Of each file that is made the store has a record of what would be asked for it now,
     ensures recorded { IfOk result (λ kept. (position : ℕ) (mark : Mark) →
         slice_get kept.marks position ≡ Some mark → is_made mark ≡ true →
         IsRecorded (K.latest_of kept.store) graph.now position) }

@@ -12,7 +12,7 @@ use Rattle.history_spec.specs.Histories.{Order}
 use Rattle.compile_loop.specs.declared.faults.BuildFault.{BuildFault}
 use Rattle.disk_runs.specs.Building.{BuildsOver}
 use Rattle.disk_runs.specs.Orders.{order_by}
-use Rattle.node_store.specs.Stored.{node_records_in}
+use Rattle.request_store.specs.Stored.{requests_in}
 use Rattle.generated_runs.specs.declared.options.GenerateOptions.{GenerateOptions}
 use Rattle.generated_runs.specs.Sources.{first_work}
 use Rattle.generated_runs.specs.Ran.{RanFirst}
@@ -30,7 +30,7 @@ module _ (answer : Request → Exit) (options : GenerateOptions) (graph : List E
   work = first_work options graph
 
   abbrev Over : Result (List Mark) BuildFault → Type 0
-  Over result = BuildsOver node_records_in answer (first_order options graph) result failed old new events
+  Over result = BuildsOver requests_in answer (first_order options graph) result failed old new events
 
   pub first_ended : IsSound new.now → (marks : List Mark) → Over (Ok marks) → RanFirst answer work (Ok marks) new.now events
   first_ended sound marks over = record {

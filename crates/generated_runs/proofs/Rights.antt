@@ -10,7 +10,7 @@ use Rattle.vr_base.specs.declared.child.Exit.{Exit}
 use Rattle.vr_base.specs.declared.child.Event.{Event}
 use Rattle.vr_base.specs.declared.child.Event.TheVariants.{Started}
 use Rattle.vr_base.specs.Graphs.{IsGraph}
-use Rattle.vr_outside.specs.declared.records.Record.{Record}
+use Rattle.vr_outside.specs.Records.{Record}
 use Rattle.vr_outside.specs.Records.{latest}
 use Rattle.run_spec.specs.ChildJournal.{Work, Lawful, Answered}
 use Rattle.run_spec.specs.CleanBuild.{RecordsClean}
@@ -100,7 +100,7 @@ module _ (answer : Request → Exit) (options : GenerateOptions) (graph : List E
   records = first_records options graph first
 
   are_true : All (IsTrueRecord answer) records
-  are_true = commits_true answer (first_work options graph) valid (clean_first answer options graph valid) first lawful answered
+  are_true = commits_true answer (first_work options graph) valid first lawful answered
 
   abbrev again : Work
   again = second_work options records read.graph

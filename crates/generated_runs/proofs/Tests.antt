@@ -6,7 +6,7 @@ use Rattle.std.proofs.lemmas.Bool.{cond-true, cond-false, false≢true}
 use Rattle.vr_base.specs.declared.child.Request.{Request}
 use Rattle.vr_base.specs.declared.child.Exit.{Exit}
 use Rattle.vr_base.specs.declared.child.Event.{Event}
-use Rattle.vr_outside.specs.declared.records.Record.{Record}
+use Rattle.vr_outside.specs.Records.{Record}
 use Rattle.run_spec.specs.declared.marks.Mark.{Mark}
 use Rattle.vr_outside.specs.Disks.{DiskState, Moments}
 use Rattle.run_spec.specs.ChildJournal.{Work, Answered, IsWhole}
@@ -21,7 +21,7 @@ use Rattle.test_journal.specs.TestJournal.{TestSetting, LawfulTests, IsWholeTest
 use Rattle.test_loop.specs.Results.{test_ends}
 use Rattle.tested_runs.specs.declared.testing.Tested.{Tested}
 use Rattle.tested_runs.specs.Tested.{SaysTests, TestsOver}
-use Rattle.node_store.specs.Stored.{node_records_in}
+use Rattle.request_store.specs.Stored.{requests_in}
 use Rattle.project_reading.specs.declared.linking.ReadProject.{ReadProject}
 use Rattle.generated_runs.specs.declared.options.GenerateOptions.{GenerateOptions}
 use Rattle.generated_runs.specs.Sources.{second_work, second_order, plan_of, setting_of}
@@ -51,7 +51,7 @@ module _ (answer : Request → Exit) (options : GenerateOptions) (read : ReadPro
   setting compiled = setting_of options read work compiled
 
   abbrev Over : Result Tested BuildFault → Type 0
-  Over result = TestsOver node_records_in answer (second_order options read.graph) (plan_of read) result failed old new events
+  Over result = TestsOver requests_in answer (second_order options read.graph) (plan_of read) result failed old new events
 
   module _ (result : Result Tested BuildFault) (over : Over result) where
     moved : (P : List Event → List Event → Type 0) → P over.compiled over.tests → P (compile_part events) (test_part events)

@@ -6,7 +6,7 @@ use Rattle.vr_base.specs.declared.child.Exit.{Exit}
 use Rattle.vr_base.specs.declared.child.Event.{Event}
 use Rattle.vr_base.specs.declared.child.Event.TheVariants.{Started}
 use Rattle.vr_base.specs.Graphs.{IsGraph}
-use Rattle.vr_outside.specs.declared.records.Record.{Record}
+use Rattle.vr_outside.specs.Records.{Record}
 use Rattle.vr_outside.specs.Disks.{DiskState, reads_of}
 use Rattle.run_spec.specs.declared.marks.Mark.{Mark}
 use Rattle.run_spec.specs.ChildJournal.{Work, Lawful, Answered, IsWhole, book_of, next_position}
@@ -20,7 +20,7 @@ use Rattle.compile_loop.specs.Ran.{is_made}
 use Rattle.test_journal.specs.TestJournal.{TestSetting, LawfulTests, IsWholeTests}
 use Rattle.tested_runs.specs.declared.testing.Tested.{Tested}
 use Rattle.tested_histories.specs.Rights.{AreRightTests}
-use Rattle.node_store.specs.Stored.{node_records_in}
+use Rattle.request_store.specs.Stored.{requests_in}
 use Rattle.project_reading.specs.Reading.{SourceReading, Found}
 use Rattle.project_reading.specs.declared.linking.ReadProject.{ReadProject}
 use Rattle.generated_runs.specs.declared.options.GenerateOptions.{GenerateOptions}
@@ -30,7 +30,7 @@ use Rattle.generated_runs.specs.Said.{tests_of, second_said, generated_said}
 
 -- the records that reads of a disk give
 abbrev pub records_on : DiskState → List Record
-records_on disk = node_records_in (reads_of disk)
+records_on disk = requests_in (reads_of disk)
 
 -- What a build did: it is of a graph, is lawful, each end is the answer to its start, and where there is no fault it ended by
 -- itself.

@@ -4,7 +4,7 @@ use Rattle.vr_base.specs.declared.file.FileName.{FileName}
 use Rattle.vr_base.specs.declared.file.NamedText.{NamedText}
 use Rattle.vr_base.specs.declared.graph.Entry.{Entry}
 use Rattle.vr_base.specs.declared.child.Event.{Event}
-use Rattle.vr_outside.specs.declared.records.Record.{Record}
+use Rattle.vr_outside.specs.Records.{Record}
 use Rattle.vr_outside.specs.Records.{latest}
 use Rattle.vr_memory.specs.Trees.{file_at, listed_of}
 use Rattle.run_spec.specs.ChildJournal.{Work}

@@ -11,7 +11,7 @@ ghost use Rattle.generated_runs.specs.Ran.{RanFirst};
 use crate::options::GenerateOptions;
 use compile_loop::BuildFault;
 use disk_runs::{BuildOptions, build_over};
-use node_store::NodeStore;
+use request_store::RequestStore;
 use run_spec::MarkList;
 use std::alloc::Global;
 use vr_base::{Graph, SLOT_LIMIT};
@@ -80,7 +80,7 @@ pub fn build_first<P: Procs>(
         keep_going: false,
         clean: true,
     };
-    match build_over::<NodeStore, MemDisk, P>(alloc, graph, orders, disk, procs) {
+    match build_over::<RequestStore, MemDisk, P>(alloc, graph, orders, disk, procs) {
         Ok(marks) => Ok(marks),
         Err(fault) => Err(own_fault(fault)),
     }

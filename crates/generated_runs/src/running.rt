@@ -2,7 +2,7 @@
 
 ghost use Rattle.std.specs.Prelude.{◌≡◌, ◌≤◌, ◌++◌, [], ℕ, List, All, length, count_by, IfOk};
 ghost use Rattle.std.specs.List.{list_all};
-ghost use Rattle.vr_outside.specs.declared.records.Record.{Record};
+ghost use Rattle.vr_outside.specs.Records.{Record};
 ghost use Rattle.vr_memory.specs.Disks.{moments_of};
 ghost use Rattle.run_spec.specs.ChildJournal.{since};
 ghost use Rattle.compile_loop.specs.Faults.{Explains, NoneFell, fault_of};

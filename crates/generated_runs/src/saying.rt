@@ -3,7 +3,7 @@
 ghost use Rattle.std.specs.Prelude.{◌≡◌, ◌≤◌, ◌<◌, ◌^◌, ◌++◌, ℕ, List, Err, length, count_by, IfOk, OnOk};
 ghost use Rattle.std.specs.List.{list_all};
 ghost use Rattle.vr_base.specs.declared.child.Event.{Event};
-ghost use Rattle.vr_outside.specs.declared.records.Record.{Record};
+ghost use Rattle.vr_outside.specs.Records.{Record};
 ghost use Rattle.run_spec.specs.Marks.{is_compiled};
 ghost use Rattle.run_report.specs.Texts.{shown_bytes, build_text, warning_text};
 ghost use Rattle.compile_loop.specs.Ran.{is_made};

@@ -1,7 +1,7 @@
 //! The second build of the generated project, over the records of the first, and its tests.
 
 ghost use Rattle.std.specs.Prelude.{◌≡◌, ◌≤◌, ◌++◌, [], ℕ, List, All, length, IfOk};
-ghost use Rattle.vr_outside.specs.declared.records.Record.{Record};
+ghost use Rattle.vr_outside.specs.Records.{Record};
 ghost use Rattle.vr_memory.specs.Disks.{moments_of};
 ghost use Rattle.run_spec.specs.ChildJournal.{since};
 ghost use Rattle.compile_loop.specs.Faults.{Explains, NoneFell, fault_of};
@@ -16,9 +16,9 @@ use crate::options::GenerateOptions;
 use crate::sources::wish_for;
 use compile_loop::BuildFault;
 use disk_runs::BuildOptions;
-use node_store::NodeStore;
 use planned_tests::planned_runs;
 use project_reading::{Extent, ReadProject};
+use request_store::RequestStore;
 use std::alloc::Global;
 use test_spec::TestRunList;
 use tested_runs::{Tested, test_over};
@@ -89,7 +89,7 @@ pub fn test_second<P: Procs>(
         keep_going: false,
         clean: false,
     };
-    match test_over::<NodeStore, MemDisk, P>(
+    match test_over::<RequestStore, MemDisk, P>(
         alloc,
         &read.graph,
         orders,

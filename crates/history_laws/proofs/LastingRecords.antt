@@ -7,7 +7,7 @@ use Rattle.std.proofs.lemmas.List.{length-append, length-take-le, take-append-le
 use Rattle.std.proofs.lemmas.List.Folds.{list_any-append}
 use Rattle.std.proofs.lemmas.Option.{none-some}
 use Rattle.vr_base.specs.declared.file.FileName.{FileName}
-use Rattle.vr_outside.specs.declared.records.Record.{Record}
+use Rattle.vr_outside.specs.Records.{Record}
 use Rattle.vr_outside.specs.Disks.{DiskState, Image, EachImage, StaysTrue, reads_of}
 use Rattle.vr_outside.specs.Records.{latest, is_of}
 use Rattle.vr_outside.specs.Commits.{HasFirst, most_committed, last_state, CommitsFirstIn}
@@ -19,7 +19,7 @@ use Rattle.run_spec.specs.Commits.{commits}
 use Rattle.history_spec.specs.Histories.{Order, World, ProgramRun, IsReadable, IsBuildRun, work_over, latest_over}
 use Rattle.run_spec.proofs.LatestRecords.{latest_before_none, latest_last, none_of_take}
 use Rattle.clean_laws.proofs.EndsOnce.{ended_once}
-use Rattle.history_laws.specs.Spares.{HasFileAt}
+use Rattle.history_laws.specs.Spares.{HasFile, HasFileAsked}
 use Rattle.history_laws.proofs.CommittedNames.{HasOne, one_committed}
 use Rattle.history_laws.proofs.SparedRuns.{same_latest, uncommitted}
 
@@ -109,14 +109,14 @@ settled_latest records_of name first image (inl same) = same_latest name (record
 settled_latest records_of name first image (inr none) = let nothing : ⊥ = cc in absurd nothing
 
 -- at most one record of the name of a file is committed
-pub one_of_name : (world : World) (name : FileName) (kept : Record) (order : Order) (run : ProgramRun) (first : DiskState) (build : IsBuildRun world order run first) → HasFileAt order name kept.view →
+pub one_of_name : (world : World) (name : FileName) (kept : Record) (order : Order) (run : ProgramRun) (first : DiskState) (build : IsBuildRun world order run first) → HasFile order name →
     (list_any (is_of name) (commits (work_over world.records_of order first) run.events) ≡ false) ⊎ HasOne name (commits (work_over world.records_of order first) run.events)
 one_of_name world name kept order run first build file =
     let setting : Work = work_over world.records_of order first in
     subst (λ (n : FileName). (list_any (is_of n) (commits setting run.events) ≡ false) ⊎ HasOne n (commits setting run.events)) file.is_name
     (one_committed order.graph build.graph file.position file.entry file.is_entry (book_of setting run.events).ends (ended_once world.answer setting file.position run.events build.lawful build.answered))
 
-module _ (world : World) (name : FileName) (kept : Record) (order : Order) (run : ProgramRun) (first : DiskState) (build : IsBuildRun world order run first) (file : HasFileAt order name kept.view) where
+module _ (world : World) (name : FileName) (kept : Record) (order : Order) (run : ProgramRun) (first : DiskState) (build : IsBuildRun world order run first) (file : HasFileAsked world order first name kept.asked) where
   abbrev records_of : Image → List Record
   records_of = world.records_of
 
@@ -137,7 +137,7 @@ module _ (world : World) (name : FileName) (kept : Record) (order : Order) (run 
   stays_commits : (acknowledged : ℕ) (broken : Bool) (base : List Record) → IsBase records_of order.clean first base → (disk : DiskState) (later : List DiskState) → CommitsFirstIn acknowledged broken base more records_of disk later →
       AllByRecursion IsReadable (disk ∷ later) → StaysTrue Latest disk later
   stays_commits acknowledged broken base from disk later is all =
-      elim (one_of_name world name kept order run first build file) [
+      elim (one_of_name world name kept order run first build file.file) [
         | inl none ↦
             stays_same records_of name kept (latest name base) disk later
             (all_weaker (λ image. HasFirst 0 (most_committed broken acknowledged) base more (records_of image)) (λ image. latest name (records_of image) ≡ latest name base) (disk ∷ later)
@@ -153,7 +153,7 @@ module _ (world : World) (name : FileName) (kept : Record) (order : Order) (run 
       let all : AllByRecursion IsReadable (first ∷ (is.opening ++ is.committing)) = subst (λ (states : List DiskState). AllByRecursion IsReadable (first ∷ states)) is.parts (readable, build.readable) in
       stays_commits acknowledged broken is.base is.from (last_state first is.opening) is.committing is.commits (from_last IsReadable first is.opening is.committing all)
 
-module _ (world : World) (name : FileName) (kept : Record) (order : Order) (run : ProgramRun) (first : DiskState) (readable : IsReadable first) (build : IsBuildRun world order run first) (file : HasFileAt order name kept.view)
+module _ (world : World) (name : FileName) (kept : Record) (order : Order) (run : ProgramRun) (first : DiskState) (readable : IsReadable first) (build : IsBuildRun world order run first) (file : HasFileAsked world order first name kept.asked)
     (counts : (order.clean ≡ false) ⊎ (latest name (world.records_of (reads_of first)) ≡ Some kept → ⊥)) where
   abbrev committed_by : List Record
   committed_by = commits (work_over world.records_of order first) run.events

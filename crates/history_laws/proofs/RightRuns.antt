@@ -8,7 +8,7 @@ use Rattle.vr_base.specs.declared.file.FileName.{FileName}
 use Rattle.vr_base.specs.declared.child.Event.{Event}
 use Rattle.vr_base.specs.declared.child.Event.TheVariants.{Started}
 use Rattle.vr_base.specs.Graphs.{IsGraph}
-use Rattle.vr_outside.specs.declared.records.Record.{Record}
+use Rattle.vr_outside.specs.Records.{Record}
 use Rattle.vr_outside.specs.Disks.{DiskState, Image, IsImage, reads_of, IsSoundSide, settled, settled_disk}
 use Rattle.vr_outside.specs.Records.{latest, IsAllOrLatest}
 use Rattle.vr_outside.specs.Commits.{last_state}
@@ -75,7 +75,7 @@ module _ (world : World) where
   build_right order run first readable faithful build =
       let setting : Work = work_over world.records_of order first in
       let clean : RecordsClean world.answer order.graph setting.current = run_clean order first build.graph readable faithful in
-      let all : All True (commits setting run.events) = commits_true world.answer setting build.graph clean run.events build.lawful build.answered in
+      let all : All True (commits setting run.events) = commits_true world.answer setting build.graph run.events build.lawful build.answered in
       record {
         faithful = all_weaker (HasBaseAndPrefix world.records_of order.clean (commits setting run.events) first) (IsFaithful world.answer world.records_of) (first ∷ run.later)
             (image_true order.clean (commits setting run.events) first faithful all)

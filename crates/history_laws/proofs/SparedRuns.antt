@@ -13,29 +13,28 @@ use Rattle.vr_base.specs.declared.child.Request.{Request}
 use Rattle.vr_base.specs.declared.child.Exit.{Exit}
 use Rattle.vr_base.specs.declared.child.Event.{Event}
 use Rattle.vr_base.specs.Graphs.{IsGraph}
-use Rattle.vr_outside.specs.Records.{deps_at}
-use Rattle.vr_outside.specs.declared.records.Record.{Record}
 use Rattle.vr_outside.specs.Disks.{DiskState, Image, IsImage, reads_of}
-use Rattle.vr_outside.specs.Records.{latest, is_of, IsAllOrLatest}
+use Rattle.vr_outside.specs.Records.{Asked, Record, asked_of, deps_at, latest, is_of, IsAllOrLatest}
 use Rattle.vr_outside.specs.Commits.{last_state}
 use Rattle.vr_outside.specs.Phases.{HasBaseAndPrefix}
 use Rattle.vr_outside.proofs.MomentLaws.{all_last, all_weaker}
 use Rattle.vr_outside.proofs.PhaseLaws.{phases_give}
 use Rattle.run_spec.specs.ChildJournal.{Work, Book, after_all, book_of, has_all, built_at, or_else, output_at, artefact_so_far}
 use Rattle.run_spec.specs.Commits.{record_at, commits}
-use Rattle.run_spec.specs.Recorded.{recorded_at}
 use Rattle.history_spec.specs.Histories.{Sources, Order, World, ProgramRun, HistoryStep, Edited, Ran, Stopped, IsReadable, IsBuildRun, RunStep, IsHistory, work_over, latest_over}
 use Rattle.run_spec.proofs.LatestRecords.{latest_before_none, none_of_prefix}
 use Rattle.run_spec.specs.Settled.{Settled, Blocked, settled_artefact, settled_by, request_over, next_settled, settle, artefact_settled, is_asked, request_unless}
 use Rattle.run_spec.proofs.Artefacts.{deps_before, artefact_free}
 use Rattle.run_spec.proofs.SettledBuild.{settled_past, settle_at}
-use Rattle.run_spec.proofs.RecordedArtefacts.{recorded_of_record}
+use Rattle.run_spec.proofs.RecordedArtefacts.{current_of_record}
+use Rattle.run_spec.proofs.RecordNames.{asked_is}
+use Rattle.run_spec.proofs.BuiltLists.{built_same}
 use Rattle.clean_laws.proofs.EndsOnce.{no_end}
 use Rattle.clean_laws.proofs.JournalKeeps.{was_taken, orderly_book, list_all-from_All}
 use Rattle.clean_laws.proofs.JournalStarted.{held, nothing_due}
 use Rattle.clean_laws.proofs.JournalSettled.{started_stale}
 use Rattle.clean_laws.proofs.TrueRecords.{latest-latest_alone}
-use Rattle.history_laws.specs.Spares.{IsAcknowledged, HasFileAt, SparesFile, LeavesRecord, AllSpare}
+use Rattle.history_laws.specs.Spares.{IsAcknowledged, HasFile, HasFileAsked, settled_over, SparesFile, LeavesRecord, AllSpare}
 use Rattle.history_laws.proofs.CommittedNames.{none_committed}
 use Rattle.history_laws.proofs.Moments.{at_moment, on_left}
 use Rattle.history_laws.proofs.RightRuns.{idle_moments, run_readable}
@@ -64,46 +63,40 @@ uncurrent true (Some artefact) exit h = absurd (false≢true h)
 uncurrent false kept exit h = absurd (false≢true h)
 
 -- no record is current of a file that the settled build asks its compiler for
-pub unrecorded : (answer : Request → Exit) (work : Work) → IsGraph work.graph → (at : ℕ) (request : Request) → request_unless answer work.graph work.current at ≡ Some request → (built : List BuiltFile) × (work.current at built ≡ None)
+pub unrecorded : (answer : Request → Exit) (work : Work) → IsGraph work.graph → (at : ℕ) (request : Request) → request_unless answer work.graph work.current at ≡ Some request
+    → work.current at (built_at work.graph (artefact_settled answer work.graph work.current) (deps_at work.graph at)) ≡ None
 unrecorded answer work graph at request h =
     let so_far : ℕ → Settled = settle answer work.graph work.current in
-    let over : Option Request = request_over work.graph at (built_at work.graph (artefact_settled answer work.graph work.current) (deps_at work.graph at)) in
+    let built : List BuiltFile = built_at work.graph (artefact_settled answer work.graph work.current) (deps_at work.graph at) in
+    let over : Option Request = request_over work.graph at built in
     elim (cases_Bool (is_asked (so_far at))) [
       | inl asked ↦
           elim (cases_lt at (length work.graph)) [
             | inl lt ↦
-                let built : List BuiltFile = built_at work.graph (λ dep. settled_artefact (so_far dep)) (deps_at work.graph at) in
                 let is : so_far at ≡ next_settled answer work.graph work.current so_far at = settle_at answer work.graph work.current (deps_before work.graph graph) at lt in
-                (built, uncurrent (has_all (λ dep. settled_artefact (so_far dep)) (deps_at work.graph at)) (work.current at built) (option_map answer (request_over work.graph at built)) (ap is_asked (sym is) ∙ asked))
+                uncurrent (has_all (λ dep. settled_artefact (so_far dep)) (deps_at work.graph at)) (work.current at built) (option_map answer (request_over work.graph at built)) (ap is_asked (sym is) ∙ asked)
             | inr past ↦ absurd (false≢true (ap is_asked (sym (settled_past answer work.graph work.current at past)) ∙ asked))
           ]
       | inr none ↦ absurd (none-some request (sym (cond-false (is_asked (so_far at)) over None none) ∙ h))
     ]
 
--- where a record of each file is current, each has an artefact from the start
-module _ (work : Work) (graph : IsGraph work.graph) (current : (at : ℕ) → at < length work.graph → (built : List BuiltFile) → work.current at built ≡ None → ⊥) where
-  some_else : (kept printed : Option (List ℕ)) → (kept ≡ None → ⊥) → or_else kept printed ≡ None → ⊥
-  some_else None printed there h = there refl
-  some_else (Some artefact) printed there h = none-some artefact (sym h)
-
-  some_of : (o : Option (List ℕ)) → (o ≡ None → ⊥) → is_some o ≡ true
-  some_of None there = absurd (there refl)
-  some_of (Some artefact) there = refl
-
-  all_to : (end : ℕ) (at : ℕ) → at < end → at < length work.graph → artefact_so_far work [] at ≡ None → ⊥
-  unfolding has_all
-  all_to zero at less lt none = absurd (omega (arith, less))
-  all_to (suc end) at less lt none =
+-- where a record of each file is current over artefacts of all, each file has its own from the start
+module _ (work : Work) (graph : IsGraph work.graph) (artefact_of : ℕ → List ℕ)
+    (current : (at : ℕ) → at < length work.graph → work.current at (built_at work.graph (λ p. Some (artefact_of p)) (deps_at work.graph at)) ≡ Some (artefact_of at)) where
+  all_to : (end : ℕ) (at : ℕ) → at < end → at < length work.graph → artefact_so_far work [] at ≡ Some (artefact_of at)
+  unfolding has_all output_at
+  all_to zero at less lt = absurd (omega (arith, less))
+  all_to (suc end) at less lt =
       let deps : List ℕ = deps_at work.graph at in
       let before : All (λ dep. dep < at) deps = deps_before work.graph graph at in
-      let all : has_all (artefact_so_far work []) deps ≡ true =
-      list_all-from_All (λ dep. is_some (artefact_so_far work [] dep)) deps
-      (λ k d l. some_of (artefact_so_far work [] (get_or deps k d)) (all_to end (get_or deps k d) (omega (arith, before k d l, less)) (omega (arith, before k d l, lt)))) in
-      some_else (work.current at (built_at work.graph (artefact_so_far work []) deps)) (output_at [] at) (current at lt (built_at work.graph (artefact_so_far work []) deps))
-      (sym (artefact_free work (deps_before work.graph graph) [] at lt all) ∙ none)
+      let same : All (λ dep. artefact_so_far work [] dep ≡ Some (artefact_of dep)) deps = λ k d l. all_to end (get_or deps k d) (omega (arith, before k d l, less)) (omega (arith, before k d l, lt)) in
+      let all : has_all (artefact_so_far work []) deps ≡ true = list_all-from_All (λ dep. is_some (artefact_so_far work [] dep)) deps (λ k d l. ap is_some (same k d l)) in
+      artefact_free work (deps_before work.graph graph) [] at lt all
+      ∙ ap (λ (built : List BuiltFile). or_else (work.current at built) None) (built_same work.graph (artefact_so_far work []) (λ p. Some (artefact_of p)) deps same)
+      ∙ ap (λ (o : Option (List ℕ)). or_else o None) (current at lt)
 
   pub all_there : (at : ℕ) → at < length work.graph → artefact_so_far work [] at ≡ None → ⊥
-  all_there at lt = all_to (suc at) at (omega arith) lt
+  all_there at lt none = none-some (artefact_of at) (sym none ∙ all_to (suc at) at (omega arith) lt)
 
 module _ (world : World) (name : FileName) (kept : Record) where
   -- what a run goes by has the acknowledged record, unless all is built anew
@@ -114,23 +107,23 @@ module _ (world : World) (name : FileName) (kept : Record) where
     abbrev setting : Work
     setting = work_over world.records_of order first
 
-    -- a file that is known at its present view isn't started
-    pub unstarted : latest_over world.records_of order.clean first name ≡ Some kept → (file : HasFileAt order name kept.view) → Contains (book_of setting run.events).taken file.position → ⊥
-    unstarted knows file contains =
-        let recorded = recorded_of_record (latest_over world.records_of order.clean first) order.graph file.position (record {
-          entry = file.entry;
-          is_entry = file.is_entry;
-          artefact = kept.artefact;
-          is = ap (latest_over world.records_of order.clean first) file.is_name ∙ knows ∙ ap (λ (v : List Entry). Some (record { view = v; artefact = kept.artefact })) (sym file.is_view);
-        }) in
-        let asked = started_stale world.answer setting build.graph run.events build.lawful build.answered file.position contains in
-        none-some kept.artefact (sym (unrecorded world.answer setting build.graph file.position asked.0 asked.1).1 ∙ recorded)
+    -- a file of which is asked what its record has isn't started
+    pub unstarted : latest_over world.records_of order.clean first name ≡ Some kept → (asked : HasFileAsked world order first name kept.asked) → Contains (book_of setting run.events).taken asked.file.position → ⊥
+    unstarted knows asked contains =
+        let file : HasFile order name = asked.file in
+        let built : List BuiltFile = built_at order.graph (settled_over world order first) (deps_at order.graph file.position) in
+        let latest_is : latest_over world.records_of order.clean first file.entry.name ≡ Some (record { asked = asked_of file.entry built; artefact = kept.artefact }) =
+        ap (latest_over world.records_of order.clean first) file.is_name ∙ knows ∙ ap (λ (a : Asked). Some (record { asked = a; artefact = kept.artefact })) (sym asked.is_asked) in
+        let current = current_of_record (latest_over world.records_of order.clean first) order.graph file.position file.entry built file.is_entry kept.artefact latest_is in
+        let stale = started_stale world.answer setting build.graph run.events build.lawful build.answered file.position contains in
+        none-some kept.artefact (sym (unrecorded world.answer setting build.graph file.position stale.0 stale.1) ∙ current)
 
     -- of such a file nothing is committed
-    pub uncommitted : latest_over world.records_of order.clean first name ≡ Some kept → HasFileAt order name kept.view → list_any (is_of name) (commits setting run.events) ≡ false
-    uncommitted knows file =
+    pub uncommitted : latest_over world.records_of order.clean first name ≡ Some kept → HasFileAsked world order first name kept.asked → list_any (is_of name) (commits setting run.events) ≡ false
+    uncommitted knows asked =
+        let file : HasFile order name = asked.file in
         let book : Book = book_of setting run.events in
-        let fresh : was_taken book file.position ≡ false = unheld book.taken file.position (unstarted knows file) in
+        let fresh : was_taken book file.position ≡ false = unheld book.taken file.position (unstarted knows asked) in
         subst (λ (n : FileName). list_any (is_of n) (commits setting run.events) ≡ false) file.is_name
         (none_committed order.graph build.graph file.position file.entry file.is_entry book.ends (no_end book file.position fresh book.ends (orderly_book world.answer setting run.events build.lawful build.answered).ends))
 
@@ -147,14 +140,14 @@ module _ (world : World) (name : FileName) (kept : Record) where
         (image_keeps (commits setting run.events) none here) (phases_give world.records_of order.clean (commits setting run.events) first readable build.acknowledged run.later build.phases)
 
   left_none : (order : Order) (run : ProgramRun) (first : DiskState) (build : IsBuildRun world order run first) (over : order.clean ≡ false) → IsReadable first → IsAcknowledged world name kept first →
-      HasFileAt order name kept.view ⊎ (list_any (is_of name) (commits (work_over world.records_of order first) run.events) ≡ false) → list_any (is_of name) (commits (work_over world.records_of order first) run.events) ≡ false
+      HasFileAsked world order first name kept.asked ⊎ (list_any (is_of name) (commits (work_over world.records_of order first) run.events) ≡ false) → list_any (is_of name) (commits (work_over world.records_of order first) run.events) ≡ false
   left_none order run first build over readable here (inl file) = uncommitted order run first build over (known order first readable over here) file
   left_none order run first build over readable here (inr none) = none
 
-  run_spares : (order : Option Order) (run : ProgramRun) (first : DiskState) → IsReadable first → IsAcknowledged world name kept first → RunStep world order run first → SparesFile world order name kept.view run first
+  run_spares : (order : Option Order) (run : ProgramRun) (first : DiskState) → IsReadable first → IsAcknowledged world name kept first → RunStep world order run first → SparesFile world order name kept.asked run first
   run_spares None run first readable here step = tt
   run_spares (Some order) run first readable here (inl idle) = λ over file contains.
-      nothing_taken (work_over world.records_of order first) file.position (subst (λ (events : List Event). Contains (book_of (work_over world.records_of order first) events).taken file.position) idle.events contains)
+      nothing_taken (work_over world.records_of order first) file.file.position (subst (λ (events : List Event). Contains (book_of (work_over world.records_of order first) events).taken file.file.position) idle.events contains)
   run_spares (Some order) run first readable here (inr build) = λ over file. unstarted order run first build over (known order first readable over here) file
 
   run_leaves : (order : Option Order) (run : ProgramRun) (first : DiskState) → IsReadable first → IsAcknowledged world name kept first → RunStep world order run first → LeavesRecord world order name kept run first →
@@ -185,22 +178,21 @@ module _ (world : World) (name : FileName) (kept : Record) where
             (at_moment (IsAcknowledged world name kept) stop.moment disk run.later history.1.moment (run_leaves order run disk readable here history.0 leaves))) history.2,
       )
 
--- where each file has an acknowledged record of its present view, a run starts nothing
-pub nothing_started : (world : World) (order : Order) (run : ProgramRun) (first : DiskState) → IsReadable first → RunStep world (Some order) run first → order.clean ≡ false →
-    ((position : ℕ) (entry : Entry) → slice_get order.graph position ≡ Some entry → (artefact : List ℕ) × IsAcknowledged world entry.name (record_at order.graph position artefact) first) → run.events ≡ []
-nothing_started world order run first readable (inl idle) over each = idle.events
-nothing_started world order run first readable (inr build) over each = nothing_due (work_over world.records_of order first) (all_there (work_over world.records_of order first) build.graph (λ at lt built. recorded at lt)) run.events build.lawful where
-  recorded : (position : ℕ) → position < length order.graph → recorded_at (latest_over world.records_of order.clean first) order.graph position ≡ None → ⊥
-  recorded position lt none =
-      elim (slice_get_cases order.graph position).1 [
-        | inl here ↦
-            let kept = each position here.0 here.2 in
-            let is = recorded_of_record (latest_over world.records_of order.clean first) order.graph position (record {
-              entry = here.0;
-              is_entry = here.2;
-              artefact = kept.0;
-              is = known world here.0.name (record_at order.graph position kept.0) order first readable over kept.1;
-            }) in
-            none-some kept.0 (sym none ∙ is)
-        | inr past ↦ absurd (omega (arith, past.0))
-      ]
+-- where each file has an acknowledged record of what is asked over the artefacts of all, a run starts nothing
+pub nothing_started : (world : World) (order : Order) (run : ProgramRun) (first : DiskState) (artefact_of : ℕ → List ℕ) → IsReadable first → RunStep world (Some order) run first → order.clean ≡ false →
+    ((position : ℕ) (entry : Entry) → slice_get order.graph position ≡ Some entry → IsAcknowledged world entry.name (record_at order.graph position (built_at order.graph (λ p. Some (artefact_of p)) (deps_at order.graph position)) (artefact_of position)) first) → run.events ≡ []
+nothing_started world order run first artefact_of readable (inl idle) over each = idle.events
+nothing_started world order run first artefact_of readable (inr build) over each =
+    nothing_due (work_over world.records_of order first) (all_there (work_over world.records_of order first) build.graph artefact_of current) run.events build.lawful where
+      files : ℕ → List BuiltFile
+      files position = built_at order.graph (λ p. Some (artefact_of p)) (deps_at order.graph position)
+
+      current : (position : ℕ) → position < length order.graph → (work_over world.records_of order first).current position (files position) ≡ Some (artefact_of position)
+      current position lt =
+          elim (slice_get_cases order.graph position).1 [
+            | inl here ↦
+                let knows = known world here.0.name (record_at order.graph position (files position) (artefact_of position)) order first readable over (each position here.0 here.2) in
+                current_of_record (latest_over world.records_of order.clean first) order.graph position here.0 (files position) here.2 (artefact_of position)
+                (knows ∙ ap (λ (a : Asked). Some (record { asked = a; artefact = artefact_of position })) (asked_is order.graph position here.0 here.2 (files position)))
+            | inr past ↦ absurd (omega (arith, past.0, lt))
+          ]

@@ -11,7 +11,7 @@ use Rattle.vr_base.specs.declared.graph.Entry.{Entry}
 use Rattle.vr_base.specs.declared.child.Request.{Request}
 use Rattle.vr_base.specs.declared.child.Event.{Event}
 use Rattle.vr_base.specs.declared.child.Event.TheVariants.{Started}
-use Rattle.vr_outside.specs.declared.records.Record.{Record}
+use Rattle.vr_outside.specs.Records.{Record}
 use Rattle.vr_outside.specs.Disks.{DiskState, Image, EachImage, StaysTrue, reads_of}
 use Rattle.vr_outside.specs.Records.{latest, is_of}
 use Rattle.vr_outside.specs.Commits.{HasFirst, most_committed, last_state}
@@ -21,8 +21,9 @@ use Rattle.run_spec.specs.Commits.{commits, ComesAfterCommits, Waits}
 use Rattle.history_spec.specs.Histories.{Sources, Order, World, ProgramRun, Stop, HistoryStep, Stopped, IsReadable, IsMoment, IsBuildRun, RunStep, IsHistory, work_over}
 use Rattle.run_spec.proofs.Prefixes.{each_at, commits_prefix}
 use Rattle.run_spec.proofs.LatestRecords.{latest_last, none_of_take}
-use Rattle.run_spec.proofs.RecordNames.{is_of_own}
-use Rattle.history_laws.specs.Spares.{IsAcknowledged, HasFileAt, AllSpare}
+use Rattle.vr_base.specs.Names.{is_same_name}
+use Rattle.run_spec.proofs.SameAsked.{same_names}
+use Rattle.history_laws.specs.Spares.{IsAcknowledged, HasFile, HasFileAsked, AllSpare}
 use Rattle.history_laws.proofs.LastingRecords.{one_of_name, commits_last, run_stays}
 use Rattle.history_laws.proofs.Moments.{at_moment, on_left}
 use Rattle.history_laws.proofs.SparedRuns.{all_spare}
@@ -49,7 +50,7 @@ last_state-append : (first : DiskState) (xs ys : List DiskState) → last_state 
 last_state-append first [] ys = refl
 last_state-append first (x ∷ xs) ys = last_state-append x xs ys
 
-module _ (world : World) (name : FileName) (kept : Record) (order : Order) (run : ProgramRun) (first : DiskState) (readable : IsReadable first) (file : HasFileAt order name kept.view)
+module _ (world : World) (name : FileName) (kept : Record) (order : Order) (run : ProgramRun) (first : DiskState) (readable : IsReadable first) (file : HasFileAsked world order first name kept.asked)
     (counts : (order.clean ≡ false) ⊎ (latest name (world.records_of (reads_of first)) ≡ Some kept → ⊥)) where
   abbrev Latest : Image → Type 0
   Latest image = latest name (world.records_of image) ≡ Some kept
@@ -63,7 +64,7 @@ module _ (world : World) (name : FileName) (kept : Record) (order : Order) (run 
   lasts step moment is here = stays_all Latest moment is.after (stays_from Latest first run.later is.before moment is.after is.parts (step_stays step)) here
 
 -- also where all is built anew, from the first commit on
-pub lasts_anew : (world : World) (name : FileName) (kept : Record) (order : Order) (run : ProgramRun) (first : DiskState) (build : IsBuildRun world order run first) (file : HasFileAt order name kept.view)
+pub lasts_anew : (world : World) (name : FileName) (kept : Record) (order : Order) (run : ProgramRun) (first : DiskState) (build : IsBuildRun world order run first) (file : HasFileAsked world order first name kept.asked)
     (acknowledged : ℕ) (broken : Bool) (committing : IsCommitting world.records_of order.clean acknowledged broken (commits (work_over world.records_of order first) run.events) first run.later) → IsReadable first →
     (moment : DiskState) (is : IsMoment moment (last_state first committing.opening) committing.committing) → IsAcknowledged world name kept moment → AllByRecursion (IsAcknowledged world name kept) (moment ∷ is.after)
 lasts_anew world name kept order run first build file acknowledged broken committing readable moment is here =
@@ -81,7 +82,7 @@ stopped_spares world sources disk run stop steps name kept history there =
 
 -- and so does one that was acknowledged before the stop
 pub since_spares : (world : World) (sources : Sources) (disk : DiskState) (run : ProgramRun) (stop : Stop) (steps : List HistoryStep) (order : Order) (name : FileName) (kept : Record) → IsReadable disk →
-    IsHistory world sources disk (Stopped run stop ∷ steps) → world.reading run.words sources ≡ Some order → HasFileAt order name kept.view →
+    IsHistory world sources disk (Stopped run stop ∷ steps) → world.reading run.words sources ≡ Some order → HasFileAsked world order disk name kept.asked →
     (order.clean ≡ false) ⊎ (latest name (world.records_of (reads_of disk)) ≡ Some kept → ⊥) →
     (moment : DiskState) (is : IsMoment moment disk run.later) → IsAcknowledged world name kept moment → IsMoment stop.moment moment is.after → AllSpare world name kept sources stop.disk steps
 unfolding IsHistory
@@ -105,14 +106,12 @@ none_after name (y ∷ b) o a (x ∷ before) only after e none_b none_a of =
     let rest : b ++ o ∷ a ≡ before ++ only ∷ after = cc in
     none_after name b o a before only after rest (or_parts (is_of name y) (list_any (is_of name) b) none_b).1 none_a of
 
-module _ (world : World) (order : Order) (run : ProgramRun) (first : DiskState) (build : IsBuildRun world order run first) (name : FileName) (only : Record) (file : HasFileAt order name only.view) where
+module _ (world : World) (order : Order) (run : ProgramRun) (first : DiskState) (build : IsBuildRun world order run first) (name : FileName) (only : Record) (file : HasFile order name) (named : only.asked.name ≡ name) where
   abbrev more : List Record
   more = commits (work_over world.records_of order first) run.events
 
   only_of : is_of name only ≡ true
-  only_of =
-      subst (λ (n : FileName). is_of n only ≡ true) file.is_name
-      (subst (λ (v : List Entry). is_of file.entry.name (record { view = v; artefact = only.artefact }) ≡ true) file.is_view (is_of_own order.graph file.position file.entry file.is_entry only.artefact))
+  only_of = ap (λ (n : FileName). is_same_name n name) named ∙ (same_names name name).1 refl
 
   module _ (before after : List Record) (parts : more ≡ before ++ only ∷ after) where
     after_is_none : list_any (is_of name) after ≡ false
@@ -149,14 +148,14 @@ module _ (world : World) (order : Order) (run : ProgramRun) (first : DiskState) 
     end_acknowledged lt = by_phases build.acknowledged run.later lt build.phases
 
 -- so is what was committed before the last start of the run
-pub start_acknowledged : (world : World) (order : Order) (run : ProgramRun) (first : DiskState) (build : IsBuildRun world order run first) (name : FileName) (only : Record) → HasFileAt order name only.view →
+pub start_acknowledged : (world : World) (order : Order) (run : ProgramRun) (first : DiskState) (build : IsBuildRun world order run first) (name : FileName) (only : Record) → HasFile order name → only.asked.name ≡ name →
     (before rest : List Event) (ticket : ℕ) (request : Request) → run.events ≡ before ++ Started ticket request ∷ rest →
     (earlier later : List Record) → commits (work_over world.records_of order first) before ≡ earlier ++ only ∷ later → IsAcknowledged world name only (last_state first run.later)
-start_acknowledged world order run first build name only file before rest ticket request e earlier later parts =
+start_acknowledged world order run first build name only file named before rest ticket request e earlier later parts =
     let setting : Work = work_over world.records_of order first in
     let waits : Waits setting build.acknowledged (before ++ Started ticket request ∷ rest) = subst (Waits setting build.acknowledged) e build.waits in
     let reached : length (commits setting before) ≤ build.acknowledged = each_at (ComesAfterCommits setting build.acknowledged) [] before (Started ticket request) rest waits in
     let more = commits_prefix setting before (Started ticket request ∷ rest) in
     let all : commits setting run.events ≡ earlier ++ only ∷ (later ++ more.0) =
     ap (commits setting) e ∙ more.1 ∙ ap (λ (l : List Record). l ++ more.0) parts ∙ append_assoc earlier (only ∷ later) more.0 in
-    end_acknowledged world order run first build name only file earlier (later ++ more.0) all (omega (arith, reached, ap length parts, length-append earlier (only ∷ later)))
+    end_acknowledged world order run first build name only file named earlier (later ++ more.0) all (omega (arith, reached, ap length parts, length-append earlier (only ∷ later)))

@@ -7,16 +7,16 @@ ghost use Rattle.vr_base.specs.declared.graph.Entry.{Entry};
 ghost use Rattle.vr_base.specs.declared.child.Request.{Request};
 ghost use Rattle.vr_base.specs.declared.child.Event.{Event};
 ghost use Rattle.vr_base.specs.declared.child.Event.TheVariants.{Started};
-ghost use Rattle.vr_outside.specs.declared.records.Record.{Record};
 ghost use Rattle.vr_outside.specs.Disks.{DiskState, Image, IsImage, reads_of, settled_disk};
-ghost use Rattle.vr_outside.specs.Records.{latest};
+ghost use Rattle.vr_outside.specs.Records.{Record, deps_at, latest};
 ghost use Rattle.vr_outside.specs.Commits.{last_state};
 ghost use Rattle.vr_outside.specs.Phases.{IsCommitting};
+ghost use Rattle.run_spec.specs.ChildJournal.{built_at};
 ghost use Rattle.run_spec.specs.Commits.{record_at, commits};
 ghost use Rattle.run_spec.specs.Faithful.{IsFaithfulDisk};
 ghost use Rattle.history_spec.specs.Histories.{World, Sources, Order, ProgramRun, Stop, HistoryStep, Stopped, IsHistory, RunStep, IsBuildRun, IsReadable, IsMoment, IsLeft, empty_image, work_over};
 ghost use Rattle.history_laws.specs.Rights.{AllRight};
-ghost use Rattle.history_laws.specs.Spares.{IsAcknowledged, HasFileAt, AllSpare};
+ghost use Rattle.history_laws.specs.Spares.{IsAcknowledged, HasFile, HasFileAsked, AllSpare};
 
 /// What holds of every history of runs, edits of the sources, and stops by a loss of power or a kill of the program, with
 /// any number of children at once.
@@ -32,7 +32,7 @@ pub fn laws_of_histories()
         world.records_of empty_image ≡ [] →
         IsHistory world sources (settled_disk empty_image) steps →
         AllRight world sources (settled_disk empty_image) steps }
-    // Whatever its records say, no run starts a file at the view of its acknowledged record.
+    // Whatever its records say, no run starts a file of which is asked what its acknowledged record has.
     ensures spares { (world : World) (sources : Sources) (disk : DiskState)
         (steps : List HistoryStep) (name : FileName) (kept : Record) → IsReadable disk →
         IsAcknowledged world name kept disk →
@@ -48,7 +48,8 @@ pub fn laws_of_histories()
         (run : ProgramRun) (stop : Stop) (steps : List HistoryStep) (order : Order)
         (name : FileName) (kept : Record) → IsReadable disk →
         IsHistory world sources disk (Stopped run stop ∷ steps) →
-        world.reading run.words sources ≡ Some order → HasFileAt order name kept.view →
+        world.reading run.words sources ≡ Some order →
+        HasFileAsked world order disk name kept.asked →
         (order.clean ≡ false)
         ⊎ (latest name (world.records_of (reads_of disk)) ≡ Some kept → ⊥) →
         (moment : DiskState) (is : IsMoment moment disk run.later) →
@@ -58,11 +59,12 @@ pub fn laws_of_histories()
 
 /// What holds within one run, whatever disk it finds.
 pub fn laws_of_runs()
-    // A record of a file at its present view stays acknowledged from the moment on at which it is; in a run that builds all
+    // A record of what is asked of its file stays acknowledged from the moment on at which it is; in a run that builds all
     // anew, one that reads didn't give before it.
     ensures lasts { (world : World) (order : Order) (run : ProgramRun) (first : DiskState)
         (name : FileName) (kept : Record) → IsReadable first →
-        RunStep world (Some order) run first → HasFileAt order name kept.view →
+        RunStep world (Some order) run first →
+        HasFileAsked world order first name kept.asked →
         (order.clean ≡ false)
         ⊎ (latest name (world.records_of (reads_of first)) ≡ Some kept → ⊥) →
         (moment : DiskState) (is : IsMoment moment first run.later) →
@@ -73,29 +75,32 @@ pub fn laws_of_runs()
         (name : FileName) (kept : Record) (acknowledged : ℕ) (broken : Bool)
         (committing : IsCommitting world.records_of order.clean acknowledged broken
         (commits (work_over world.records_of order first) run.events) first run.later) →
-        IsReadable first → IsBuildRun world order run first → HasFileAt order name kept.view →
+        IsReadable first → IsBuildRun world order run first →
+        HasFileAsked world order first name kept.asked →
         (moment : DiskState)
         (is : IsMoment moment (last_state first committing.opening) committing.committing) →
         IsAcknowledged world name kept moment →
         AllByRecursion (IsAcknowledged world name kept) (moment ∷ is.after) }
-    // Where each file has an acknowledged record of its present view, and not all is built anew, nothing is started.
-    ensures fresh { (world : World) (order : Order) (run : ProgramRun) (first : DiskState) →
-        IsReadable first → RunStep world (Some order) run first → order.clean ≡ false →
+    // Where each file has an acknowledged record of what is asked over the artefacts of all, and not all is built anew, nothing is
+    // started.
+    ensures fresh { (world : World) (order : Order) (run : ProgramRun) (first : DiskState)
+        (artefact_of : ℕ → List ℕ) → IsReadable first → RunStep world (Some order) run first →
+        order.clean ≡ false →
         ((position : ℕ) (entry : Entry) → slice_get order.graph position ≡ Some entry →
-        (artefact : List ℕ)
-        × IsAcknowledged world entry.name (record_at order.graph position artefact) first) →
-        run.events ≡ [] }
+        IsAcknowledged world entry.name (record_at order.graph position
+        (built_at order.graph (λ p. Some (artefact_of p)) (deps_at order.graph position))
+        (artefact_of position)) first) → run.events ≡ [] }
     // A commit is acknowledged at the end of the run where fewer come before it than are acknowledged.
     ensures acknowledged { (world : World) (order : Order) (run : ProgramRun) (first : DiskState)
         (build : IsBuildRun world order run first) (name : FileName) (only : Record)
-        (before after : List Record) → HasFileAt order name only.view →
+        (before after : List Record) → HasFile order name → only.asked.name ≡ name →
         commits (work_over world.records_of order first) run.events ≡ before ++ only ∷ after →
         length before < build.acknowledged →
         IsAcknowledged world name only (last_state first run.later) }
     // So is each commit of a child that ended before the last start.
     ensures before_starts { (world : World) (order : Order) (run : ProgramRun)
         (first : DiskState) → IsBuildRun world order run first →
-        (name : FileName) (only : Record) → HasFileAt order name only.view →
+        (name : FileName) (only : Record) → HasFile order name → only.asked.name ≡ name →
         (before rest : List Event) (ticket : ℕ) (request : Request) →
         run.events ≡ before ++ Started ticket request ∷ rest →
         (earlier later : List Record) →

@@ -9,7 +9,7 @@ use Rattle.vr_base.specs.declared.child.Event.{Event}
 use Rattle.outcomes.specs.declared.outcome.Outcome.{Outcome}
 use Rattle.outcomes.specs.declared.outcome.Outcome.TheVariants.{NoMemory}
 use Rattle.vr_base.specs.Graphs.{IsGraph}
-use Rattle.vr_outside.specs.declared.records.Record.{Record}
+use Rattle.vr_outside.specs.Records.{Record}
 use Rattle.vr_outside.specs.Disks.{DiskState, Image, IsImage, IsWithin, reads_of}
 use Rattle.vr_outside.specs.Records.{latest}
 use Rattle.vr_outside.specs.Commits.{last_state}

@@ -3,7 +3,7 @@
 use Rattle.std.proofs.Common.{◌≡◌, ℕ, List, [], ◌∷◌, refl}
 use Rattle.vr_base.specs.declared.graph.Entry.{Entry}
 use Rattle.vr_base.specs.View.{part, viewed}
-use Rattle.vr_outside.specs.declared.records.Record.{Record}
+use Rattle.record_codec.specs.declared.kept_view.Record.{Record}
 use Rattle.byte_codec.specs.Reading.{counted_at, many_at, text_at}
 use Rattle.byte_codec.specs.Names.{name_at}
 use Rattle.record_codec.specs.Found.{all_pairs, fit_deps, is_graph, is_whole, stands}

@@ -2,14 +2,8 @@
 pub mod Examples
 pub mod Growing
 pub mod Taking
-pub mod Spelling
 pub mod Closed
 pub mod Once
-pub mod Whole
-pub mod Present
-pub mod Drafting
 pub mod Fitting
 pub mod Spanning
-pub mod Prepared
 pub mod NodeFits
-pub mod Sized

@@ -1,13 +1,9 @@
 -- Payloads of nodes as bytes: what bytes spell, and how a payload is spelled.
-use Rattle.std.specs.Prelude.{ℕ, ◌<◌, ◌^◌, List, [], ◌∷◌, ◌++◌, ◌==◌, length, All, Option, Some, None, if◌then◌else◌}
-use Rattle.std.specs.Int.{w64, to_le_bytes}
-use Rattle.std.specs.List.{flat_map}
+use Rattle.std.specs.Prelude.{ℕ, List, [], ◌∷◌, ◌==◌, length, Option, Some, None, if◌then◌else◌}
+use Rattle.std.specs.Int.{w64}
 use Rattle.vr_base.specs.declared.file.FileName.{FileName}
-use Rattle.vr_base.specs.Bytes.{number_bytes, text_bytes}
-use Rattle.vr_base.specs.Jobs.{name_bytes}
 use Rattle.byte_codec.specs.Reading.{◌>>=◌, number_at, text_at, counted_at}
-use Rattle.byte_codec.specs.Names.{HasNameSpelling, name_at}
-use Rattle.record_codec.specs.Spelling.{words_bytes}
+use Rattle.byte_codec.specs.Names.{name_at}
 
 -- the text of a new node: one that is there by its number, or a new one
 pub data TextSource : Type 0 where
@@ -89,37 +85,3 @@ unfoldable pub node_payload_in : List ℕ → Option NodePayload
 node_payload_in bytes = do
   tag ← byte_at bytes
   node_payload_by tag.0 tag.1
-
-unfoldable pub source_bytes : TextSource → List ℕ
-source_bytes (Known number) = 0 ∷ to_le_bytes w64 number
-source_bytes (New text) = 1 ∷ text_bytes text
-
--- numbers of eight bytes, after their number
-unfoldable pub numbers_bytes : List ℕ → List ℕ
-numbers_bytes numbers = number_bytes (length numbers) ++ flat_map (to_le_bytes w64) numbers
-
-unfoldable pub draft_bytes : Draft → List ℕ
-draft_bytes draft = name_bytes draft.name ++ (words_bytes draft.command ++ (source_bytes draft.source ++ numbers_bytes draft.deps))
-
-unfoldable pub node_payload_bytes : NodePayload → List ℕ
-node_payload_bytes (OfNode number artefact) = 0 ∷ (to_le_bytes w64 number ++ text_bytes artefact)
-node_payload_bytes (OfDraft draft artefact) = 1 ∷ (draft_bytes draft ++ text_bytes artefact)
-node_payload_bytes (DraftAlone draft) = 2 ∷ draft_bytes draft
-
--- what has a spelling
-abbrev pub HasSourceSpelling : TextSource → Type 0
-HasSourceSpelling (Known number) = number < 2 ^ 64
-HasSourceSpelling (New text) = length text < 2 ^ 32
-
-pub record HasDraftSpelling (draft : Draft) : Type 0 where
-  pub name : HasNameSpelling draft.name
-  pub count : length draft.command < 2 ^ 32
-  pub words : All (λ word. length word < 2 ^ 32) draft.command
-  pub source : HasSourceSpelling draft.source
-  pub few : length draft.deps < 2 ^ 32
-  pub deps : All (λ dep. dep < 2 ^ 64) draft.deps
-
-abbrev pub HasPayloadSpelling : NodePayload → Type 0
-HasPayloadSpelling (OfNode number artefact) = (number < 2 ^ 64) × (length artefact < 2 ^ 32)
-HasPayloadSpelling (OfDraft draft artefact) = HasDraftSpelling draft × (length artefact < 2 ^ 32)
-HasPayloadSpelling (DraftAlone draft) = HasDraftSpelling draft

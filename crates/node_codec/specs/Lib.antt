@@ -3,6 +3,4 @@ pub mod Nodes
 pub mod Forms
 pub mod Spans
 pub mod Shelves
-pub mod Known
 pub mod Fitting
-pub mod Writing

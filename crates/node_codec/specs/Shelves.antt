@@ -4,9 +4,8 @@ use Rattle.std.specs.List.{fold, list_all, list_any}
 use Rattle.std.specs.Option.{option_map_or}
 use Rattle.std.specs.Str.{bytes_eq}
 use Rattle.vr_base.specs.Names.{is_same_name}
-use Rattle.vr_base.specs.declared.graph.Entry.{Entry}
 use Rattle.vr_base.specs.declared.limits.TheConstants.{ARTEFACT_LIMIT}
-use Rattle.vr_outside.specs.declared.records.Record.{Record}
+use Rattle.record_codec.specs.declared.kept_view.Record.{Record}
 use Rattle.record_codec.specs.Found.{is_view}
 use Rattle.node_codec.specs.Nodes.{Node, unfolded}
 use Rattle.node_codec.specs.Forms.{Draft, NodePayload, TextSource, node_payload_in}
@@ -75,7 +74,3 @@ after_payload shelf bytes = option_map_or (with_payload shelf) (node_payload_in 
 
 unfoldable pub shelf_of : List (List ℕ) → Shelf
 shelf_of payloads = fold after_payload empty_shelf payloads
-
--- a shelf with one more record
-abbrev pub with_one : Shelf → List Entry → List ℕ → Shelf
-with_one shelf view artefact = record { texts = shelf.texts; nodes = shelf.nodes; records = shelf.records ++ record { view = view; artefact = artefact } ∷ [] }

@@ -49,14 +49,3 @@ IsSpanAt at view bytes (Some span) read = (read ≡ Some (view span, drop (end_o
 abbrev pub IsFoundAt : {X Y : Type 0} → ℕ → (X → Y) → List ℕ → Option (X × ℕ) → Option (Y × List ℕ) → Type 0
 IsFoundAt at view bytes None read = read ≡ None
 IsFoundAt at view bytes (Some found) read = (read ≡ Some (view found.0, drop found.1 bytes)) × (at ≤ found.1) × (found.1 ≤ length bytes)
-
--- the artefact of a payload, and the text of its node
-abbrev pub artefact_span : PayloadSpans → Span
-artefact_span (spans.OfNode number artefact) = artefact
-artefact_span (spans.OfDraft draft artefact) = artefact
-artefact_span (spans.DraftAlone draft) = record { start = 0; count = 0 }
-
-abbrev pub source_span_of : PayloadSpans → SourceSpan
-source_span_of (spans.OfNode number artefact) = KnownText number
-source_span_of (spans.OfDraft draft artefact) = draft.source
-source_span_of (spans.DraftAlone draft) = draft.source

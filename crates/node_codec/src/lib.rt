@@ -4,12 +4,10 @@
 mod copying;
 mod laws;
 mod reading;
-mod writing;
 
 pub use copying::{bytes_of, name_of, numbers_of, words_of};
-pub use laws::{laws_of_carried_nodes, laws_of_new_nodes, laws_of_nodes, laws_of_payloads};
+pub use laws::{laws_of_new_nodes, laws_of_nodes};
 pub use reading::{DraftSpans, PayloadSpans, SourceSpan, Span, read_payload};
-pub use writing::{alone_payload, draft_payload, node_payload};
 
 #[cfg(test)]
 mod tests;

@@ -42,33 +42,6 @@ pub enum PayloadSpans {
     DraftAlone(DraftSpans),
 }
 
-impl PayloadSpans {
-    ghost use Rattle.std.specs.Prelude.{◌≡◌};
-    ghost use Rattle.node_codec.specs.Spans.{artefact_span, source_span_of};
-
-    /// The artefact of a record; of a node alone none of the bytes.
-    pub fn artefact(self) -> Span
-        ensures { result ≡ artefact_span self }
-    {
-        match self {
-            PayloadSpans::OfNode(_number, artefact) => artefact,
-            PayloadSpans::OfDraft(_draft, artefact) => artefact,
-            PayloadSpans::DraftAlone(_draft) => Span { start: 0, count: 0 },
-        }
-    }
-
-    /// The text of a new node; of a node that is there its number.
-    pub fn source(self) -> SourceSpan
-        ensures { result ≡ source_span_of self }
-    {
-        match self {
-            PayloadSpans::OfNode(number, _artefact) => SourceSpan::KnownText(number),
-            PayloadSpans::OfDraft(draft, _artefact) => draft.source,
-            PayloadSpans::DraftAlone(draft) => draft.source,
-        }
-    }
-}
-
 /// A text from an offset on.
 fn text_span(bytes: &[u8], at: usize) -> Option<Span>
     requires { at ≤ length bytes.now }

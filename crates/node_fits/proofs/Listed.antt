@@ -1,5 +1,5 @@
 -- Dependencies that are listed, from the last one down.
-use Rattle.std.proofs.Common.{◌≡◌, ◌≢◌, ℕ, ◌+◌, ◌<◌, ◌≤◌, List, [], length, get_or, Option, None, Some, is_some, true, sym, ap, subst, arith, inl, inr}
+use Rattle.std.proofs.Common.{◌≡◌, ◌≢◌, ℕ, ◌+◌, ◌<◌, ◌≤◌, List, length, get_or, Option, None, Some, is_some, true, sym, ap, subst, arith, inl, inr}
 use Rattle.std.specs.Prelude.{All, AllPairs, Contains, slice_get}
 use Rattle.std.proofs.lemmas.Bool.{cases_lt}
 use Rattle.std.proofs.lemmas.Option.{get_or_from_slice_get, slice_get_within}
@@ -26,12 +26,6 @@ pub inner_low : (nodes : List Node) (number : ℕ) (size : ℕ) → AreSomeNodes
 inner_low nodes number size some low le k d l = let below = (some.are.each number blank_node low).before k d l in omega (arith, below, low, le)
 
 module _ (nodes : List Node) (deps : List ℕ) where
-  pub none_done : (left : ℕ) → length deps ≤ left → AreDone nodes deps [] left
-  none_done left le = record {
-    listed = λ k low l. absurd (omega arith);
-    covers = λ k d l. absurd (omega arith);
-  }
-
   -- one that is covered is listed
   pub passed_over : (covered : List ℕ) (left at : ℕ) → at + 1 ≡ left → left ≤ length deps → AreSomeNodes nodes → All (λ dep. dep < length nodes) deps → AllPairs (λ a b. a ≢ b) deps → Contains covered (get_or deps at 0) → AreDone nodes deps covered left → AreDone nodes deps covered at
   passed_over covered left at e le some there once has done =

@@ -19,14 +19,6 @@ module _ (texts : List (List ℕ)) (marks : List ℕ) (text : List ℕ) (marked 
   other_text : (k : ℕ) → k < length texts → get_or marks k 0 ≢ mark_of text → get_or texts k [] ≢ text
   other_text k l other same = other (mark_at k l ∙ ap mark_of same)
 
-  pub first : (candidate : Option ℕ) → IsLastWith marks (mark_of text) (length marks) candidate → IsUpTo texts marks text candidate
-  first candidate last = record {
-    bound = length marks;
-    within = omega arith;
-    last = last;
-    others = λ k low l. absurd (omega (arith, size));
-  }
-
   -- none of them is it
   none_below : (bound : ℕ) → IsLastWith marks (mark_of text) bound None → (k : ℕ) → k < bound → k < length texts → get_or texts k [] ≢ text
   none_below bound last k low l = other_text k l (last k low)
@@ -61,7 +53,3 @@ module _ (texts : List (List ℕ)) (marks : List ℕ) (text : List ℕ) (marked 
           | inr a ↦ let here : number ≡ k = omega arith in subst (λ (n : ℕ). get_or texts n [] ≢ text) here other
         ];
   }
-
--- and it is lower
-pub falls : (marks : List ℕ) (mark number next : ℕ) → IsLastWith marks mark number (Some next) → next < number
-falls marks mark number next last = last.0

@@ -11,12 +11,12 @@ use Rattle.std.proofs.lemmas.Option.{get_or_from_slice_get, slice_get-get_or, sl
 use Rattle.vr_base.specs.declared.file.FileName.{FileName}
 use Rattle.vr_base.specs.declared.memory.NoMemory.{NoMemory}
 use Rattle.vr_base.specs.declared.limits.TheConstants.{ARTEFACT_LIMIT}
-use Rattle.vr_outside.specs.declared.records.Record.{Record}
+use Rattle.record_codec.specs.declared.kept_view.Record.{Record}
 use Rattle.source_view.proofs.Parts.{map_same}
-use Rattle.node_codec.specs.Forms.{Draft, NodePayload, TextSource, node_payload_in}
+use Rattle.node_codec.specs.Forms.{Draft, NodePayload, node_payload_in}
 use Rattle.node_codec.specs.Forms.NodePayload.{DraftAlone, OfDraft, OfNode}
 use Rattle.node_codec.specs.Nodes.{AreNodes, Node}
-use Rattle.node_codec.specs.Shelves.{Shelf, after_payload, draft_node, empty_shelf, is_artefact, is_draft, shelf_of, source_number, with_draft, with_node_record, with_payload, with_source}
+use Rattle.node_codec.specs.Shelves.{Shelf, after_payload, draft_node, empty_shelf, is_artefact, is_draft, shelf_of, with_draft, with_node_record, with_payload, with_source}
 use Rattle.node_codec.proofs.Growing.{unfolded_grown}
 use Rattle.node_codec.proofs.Taking.{more_of, source_more}
 use Rattle.node_table.specs.Rows.{NodesByNumber, no_name}
@@ -24,17 +24,9 @@ use Rattle.node_fits.specs.Fits.{blank_node}
 use Rattle.node_shelf.specs.declared.records.RecordPlace.{RecordPlace}
 use Rattle.node_shelf.specs.declared.records.RecordPlaces.{RecordPlaces}
 use Rattle.node_shelf.specs.declared.shelf.ShelfPlaces.{ShelfPlaces}
-use Rattle.node_shelf.specs.Drafts.{HasMoreNames, draft_by}
-use Rattle.node_shelf.specs.Places.{AreRecords, AreTexts, IsKeptIn, IsShelf, artefact_in, payload_at, record_in, shelf_in, texts_in}
+use Rattle.node_shelf.specs.Drafts.{HasMoreNames}
+use Rattle.node_shelf.specs.Places.{AreRecords, IsKeptIn, IsShelf, artefact_in, payload_at, record_in, shelf_in, texts_in}
 use Rattle.node_shelf.specs.Taking.{TookDraft, TookNode, TookUp}
-
-node_with_text : Node → ℕ → Node
-node_with_text node text = record { name = node.name; command = node.command; text = text; deps = node.deps }
-
--- records don't matter to a draft
-drafted_by : (shelf : Shelf) (draft : Draft) (records : List Record) → is_draft shelf draft ≡ true → is_draft (record { texts = shelf.texts; nodes = shelf.nodes; records = records }) draft ≡ true
-unfolding is_draft
-drafted_by shelf draft records e = e
 
 shelf_by : List (List ℕ) → List Node → List Record → Shelf
 shelf_by texts nodes records = record { texts = texts; nodes = nodes; records = records }
@@ -175,19 +167,3 @@ shelf_more payloads i l =
     let next : suc i ≡ i + 1 = omega arith in
     let grown : take (i + 1) payloads ≡ take i payloads ++ get_or payloads i [] ∷ [] = ap (λ (n : ℕ). take n payloads) (sym next) ∙ take-suc payloads i [] l in
     ap (fold after_payload empty_shelf) grown ∙ fold_push after_payload empty_shelf (take i payloads) (get_or payloads i [])
-
--- the node of a draft whose text is spelled so
-pub node_text : (texts : List (List ℕ)) (node : Node) (source : TextSource) → node.text ≡ source_number texts source → draft_node texts (draft_by node source) ≡ node
-unfolding node_with_text
-node_text texts node source e = ap (node_with_text node) (sym e)
-
--- a draft that was put
-pub put_is : (payloads : List (List ℕ)) (old new : ShelfPlaces) (draft : Draft) → IsShelf payloads old → AreNodes (texts_in payloads old.texts) old.table.nodes → is_draft (shelf_in payloads old) draft ≡ true → AreTexts payloads new.texts → texts_in payloads new.texts ≡ with_source (texts_in payloads old.texts) draft.source → new.table.nodes ≡ old.table.nodes ++ draft_node (texts_in payloads old.texts) draft ∷ [] → HasMoreNames old.table.names new.table.names → new.records ≡ old.records → shelf_in payloads new ≡ with_draft (shelf_in payloads old) draft
-put_is payloads old new draft is are drafted texts texts_is nodes names records =
-    let lengths : List ℕ = map length (with_source (texts_in payloads old.texts) draft.source) in
-    let took : TookDraft payloads (texts_in payloads old.texts) old.table.nodes new.texts new.table.nodes lengths draft true = record {
-      answer = λ rs. sym (drafted_by (shelf_in payloads old) draft rs drafted);
-      texts_are = record { are = texts; is = texts_is; lengths_are = refl };
-      nodes_are = nodes;
-    } in
-    (took_node payloads old new lengths draft true is are took names records).is

@@ -6,7 +6,7 @@ use Rattle.std.proofs.lemmas.List.{map-append}
 use Rattle.std.proofs.lemmas.List.Elements.{All-push}
 use Rattle.std.proofs.lemmas.Option.{get_or_from_slice_get}
 use Rattle.vr_base.specs.declared.file.FileName.{FileName}
-use Rattle.vr_outside.specs.declared.records.Record.{Record}
+use Rattle.record_codec.specs.declared.kept_view.Record.{Record}
 use Rattle.source_view.proofs.Parts.{no_entry}
 use Rattle.mark_index.specs.Marks.{mark_of}
 use Rattle.node_codec.specs.Fitting.{FitsNew}

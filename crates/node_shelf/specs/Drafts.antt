@@ -2,8 +2,8 @@
 use Rattle.std.specs.Prelude.{◌≡◌, ℕ, ◌<◌, ◌++◌, true, false, List, length, All, Option, None, Some}
 use Rattle.std.specs.List.{list_any}
 use Rattle.vr_base.specs.declared.file.FileName.{FileName}
-use Rattle.vr_outside.specs.declared.records.Record.{Record}
-use Rattle.node_codec.specs.Forms.{Draft, TextSource}
+use Rattle.record_codec.specs.declared.kept_view.Record.{Record}
+use Rattle.node_codec.specs.Forms.{Draft}
 use Rattle.node_codec.specs.Nodes.{Node}
 use Rattle.node_codec.specs.Shelves.{draft_node, is_draft, is_same_node, is_source}
 use Rattle.node_table.specs.declared.rows.Row.{Row}
@@ -34,7 +34,3 @@ pub record IsRowOfDraft (texts : List (List ℕ)) (table : NodesByNumber) (draft
 abbrev pub IsNewRow : List (List ℕ) → NodesByNumber → Draft → Option Row → Type 0
 IsNewRow texts table draft None = (records : List Record) → is_draft (record { texts = texts; nodes = table.nodes; records = records }) draft ≡ false
 IsNewRow texts table draft (Some row) = IsRowOfDraft texts table draft row
-
--- the draft of a node whose text is spelled so
-abbrev pub draft_by : Node → TextSource → Draft
-draft_by node source = record { name = node.name; command = node.command; source = source; deps = node.deps }

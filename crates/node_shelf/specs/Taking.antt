@@ -1,6 +1,6 @@
 -- What is there after a payload was taken up.
 use Rattle.std.specs.Prelude.{◌≡◌, ℕ, ◌++◌, ◌∷◌, [], Bool, List, length, map, if◌then◌else◌}
-use Rattle.vr_outside.specs.declared.records.Record.{Record}
+use Rattle.record_codec.specs.declared.kept_view.Record.{Record}
 use Rattle.node_codec.specs.Forms.{Draft}
 use Rattle.node_codec.specs.Nodes.{Node}
 use Rattle.node_codec.specs.Shelves.{after_payload, draft_node, is_draft, with_draft, with_source}

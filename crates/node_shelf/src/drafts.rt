@@ -6,7 +6,8 @@ ghost use Rattle.node_codec.specs.Spans.{draft_in, source_in};
 ghost use Rattle.node_shelf.specs.Places.{AreTexts, texts_in};
 ghost use Rattle.node_shelf.specs.Drafts.{HasMoreNames, IsDraftRow, IsNewRow, node_with};
 
-use crate::{Pieces, TextPlaces, find_text};
+use crate::texts::find_text;
+use crate::{Pieces, TextPlaces};
 use node_codec::{DraftSpans, SourceSpan, bytes_of, name_of, numbers_of, words_of};
 use node_table::{NodeTable, Row};
 use std::alloc::Global;

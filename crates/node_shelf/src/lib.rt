@@ -4,15 +4,16 @@
 
 mod drafts;
 mod pieces;
-mod putting;
 mod records;
 mod shelf;
 mod taking;
 mod texts;
 
 pub use pieces::Pieces;
-pub use putting::{put_node, put_record};
 pub use records::{RecordPlace, RecordPlaces};
 pub use shelf::ShelfPlaces;
 pub use taking::shelf_of;
-pub use texts::{TextPlace, TextPlaces, find_text, text_at};
+pub use texts::{TextPlace, TextPlaces, text_at};
+
+#[cfg(test)]
+mod tests;

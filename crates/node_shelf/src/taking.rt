@@ -6,12 +6,12 @@ ghost use Rattle.node_codec.specs.Nodes.{AreNodes, numbered_text};
 ghost use Rattle.node_codec.specs.Forms.NodePayload.{OfDraft, OfNode};
 ghost use Rattle.node_codec.specs.Shelves.{is_artefact, is_source, shelf_of, source_number, with_node_record, with_payload, with_source};
 ghost use Rattle.node_codec.specs.Spans.{draft_in, source_in, spanned};
-ghost use Rattle.node_shelf.specs.Places.{AreTexts, IsShelf, payload_at, shelf_in, texts_in};
+ghost use Rattle.node_shelf.specs.Places.{AreTexts, HasRecordRoom, IsShelf, payload_at, shelf_in, texts_in};
 ghost use Rattle.node_shelf.specs.Drafts.{HasMoreNames};
 ghost use Rattle.node_shelf.specs.Taking.{TextsAre, TookDraft, TookNode, TookUp};
 
 use crate::drafts::new_row;
-use crate::{Pieces, ShelfPlaces, TextPlace, TextPlaces, put_record, text_at};
+use crate::{Pieces, RecordPlace, ShelfPlaces, TextPlace, TextPlaces, text_at};
 use mark_index::mark_of;
 use node_codec::{DraftSpans, PayloadSpans, SourceSpan, Span, bytes_of, read_payload};
 use node_fits::NodeTest;
@@ -123,6 +123,32 @@ fn take_draft(
     table.reserve()?;
     table.put(row);
     Ok(true)
+}
+
+/// Puts a record of a node, whose artefact is in a payload, at the end.
+fn put_record(shelf: &mut ShelfPlaces, pieces: &Pieces, node: usize, at: usize, artefact: Span)
+    requires room { HasRecordRoom shelf.old.records }
+    requires node { node < length shelf.old.table.nodes }
+    requires at { at < length pieces.now.payloads }
+    requires small { length (spanned (payload_at pieces.now.payloads at) artefact)
+        ≤ ARTEFACT_LIMIT }
+    requires shelf { IsShelf pieces.now.payloads shelf.old }
+    ensures are { IsShelf pieces.now.payloads shelf.new }
+    ensures is { shelf_in pieces.now.payloads shelf.new
+        ≡ with_node_record (shelf_in pieces.now.payloads shelf.old) node
+        (spanned (payload_at pieces.now.payloads at) artefact) }
+    ensures table { shelf.new.table ≡ shelf.old.table }
+    ensures texts { shelf.new.texts ≡ shelf.old.texts }
+{
+    let name = shelf.table.row(node).name;
+    shelf.records.put(
+        RecordPlace {
+            node,
+            payload: at,
+            artefact,
+        },
+        name,
+    );
 }
 
 /// Adds a record of a node, whose artefact is in a payload. The other records are unchanged.

@@ -8,3 +8,6 @@ mod table;
 pub use commands::Command;
 pub use rows::Row;
 pub use table::NodeTable;
+
+#[cfg(test)]
+mod tests;

@@ -6,10 +6,9 @@ use Rattle.std.proofs.lemmas.Bool.{leb-true, le-leb, false_from_ne_true}
 use Rattle.std.proofs.lemmas.Bool.Decides.{Decides-like, Decides-and}
 use Rattle.vr_base.specs.declared.graph.Entry.{Entry}
 use Rattle.record_codec.specs.Reading.{record_read_at}
-use Rattle.record_codec.specs.Spelling.{record_bytes, IsRecord}
+use Rattle.record_codec.specs.Spelling.{IsRecord}
 use Rattle.record_codec.specs.Found.{is_view, record_in}
 use Rattle.record_codec.proofs.Deciding.{is_view-Decides}
-use Rattle.record_codec.proofs.Records.{record_again}
 use Rattle.vr_base.specs.declared.limits.TheConstants.{ARTEFACT_LIMIT}
 
 abbrev passes : List Entry → List ℕ → Bool
@@ -34,6 +33,3 @@ not_found bytes view artefact read other = by_tests bytes view artefact false re
 pub none_found : (bytes : List ℕ) → record_read_at bytes ≡ None → record_in bytes ≡ None
 unfolding record_in
 none_found bytes none = rw none refl
-
-pub record_in-record_bytes : (view : List Entry) (artefact : List ℕ) → IsRecord view artefact → record_in (record_bytes view artefact) ≡ Some (view, artefact)
-record_in-record_bytes view artefact is = is_found (record_bytes view artefact) view artefact (record_again view artefact is) is

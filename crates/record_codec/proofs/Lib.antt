@@ -1,5 +1,4 @@
 -- The lemmas.
-pub mod Lengths
 pub mod Spelled
 pub mod Records
 pub mod Marks

@@ -78,12 +78,6 @@ record_again view artefact is =
     ap record_read_at (sym (append_assoc (number_bytes (length view)) (flat_map entry_bytes view) (text_bytes artefact)))
     ∙ rw (counted_again entry_at entry_bytes HasSpelling entry_again view (text_bytes artefact) (omega (arith, is.graph.few)) spelled, last) refl
 
--- two records never have the same bytes
-pub same_record : (view other : List Entry) (artefact other_artefact : List ℕ) → IsRecord view artefact → IsRecord other other_artefact → record_bytes view artefact ≡ record_bytes other other_artefact → (view ≡ other) × (artefact ≡ other_artefact)
-same_record view other artefact other_artefact is is_other e =
-    let p = same_Some (view, artefact) (other, other_artefact) (sym (record_again view artefact is) ∙ ap record_read_at e ∙ record_again other other_artefact is_other) in
-    (ap (λ (r : List Entry × List ℕ). r.0) p, ap (λ (r : List Entry × List ℕ). r.1) p)
-
 -- bytes of a record are read as that record
 pub is_read : (bytes : List ℕ) (view : List Entry) (artefact : List ℕ) → IsRecord view artefact → bytes ≡ record_bytes view artefact → record_read_at bytes ≡ Some (view, artefact)
 is_read bytes view artefact is e = ap record_read_at e ∙ record_again view artefact is

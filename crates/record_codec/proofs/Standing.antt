@@ -1,24 +1,14 @@
 -- Files that stand where they are in a graph.
-use Rattle.std.proofs.Common.{◌≡◌, ◌<◌, ◌≤◌, ◌+◌, ◌∙◌, ℕ, zero, suc, List, length, get_or, take, ap, sym, subst, arith, inl, inr}
-use Rattle.std.specs.Prelude.{All, Contains, sum_by}
+use Rattle.std.proofs.Common.{◌≡◌, ◌<◌, ◌≤◌, ◌+◌, ◌∙◌, ℕ, zero, suc, List, length, get_or, ap, sym, subst, arith, inl, inr}
+use Rattle.std.specs.Prelude.{All, Contains}
 use Rattle.std.specs.List.Sorted.{IsStrictlyIncreasing}
 use Rattle.std.proofs.lemmas.Bool.{cases_lt}
-use Rattle.std.proofs.lemmas.List.{get_or_default, take_more}
-use Rattle.std.proofs.lemmas.List.Sums.{sum_by_push}
+use Rattle.std.proofs.lemmas.List.{get_or_default}
 use Rattle.vr_base.specs.declared.graph.Entry.{Entry}
 use Rattle.vr_base.specs.Graphs.{IsEntryAt}
 use Rattle.vr_base.specs.View.{IsView}
 use Rattle.source_view.proofs.Rising.{before_later, place_le, few}
-use Rattle.record_codec.specs.Validity.{FitsFile, HasClosedDeps, IsBefore, StandsAt, StandBelow}
-
-abbrev pub text_size : Entry → ℕ
-text_size entry = length entry.text
-
--- the texts of one file more
-pub sum_more : (entries : List Entry) (i : ℕ) (entry : Entry) → i < length entries → entry ≡ get_or entries i entry → sum_by text_size (take (i + 1) entries) ≡ sum_by text_size (take i entries) + length entry.text
-sum_more entries i entry lt is =
-    ap (sum_by text_size) (take_more entries i entry lt) ∙ sum_by_push text_size (take i entries) (get_or entries i entry)
-    ∙ ap (λ (e : Entry). sum_by text_size (take i entries) + length e.text) (sym is)
+use Rattle.record_codec.specs.Validity.{FitsFile, HasClosedDeps, StandsAt, StandBelow}
 
 -- a file that passes each test stands where it is
 pub stands : (entries : List Entry) (place : ℕ) (entry : Entry) → place < length entries → entry ≡ get_or entries place entry → FitsFile entry → IsStrictlyIncreasing entry.deps → All (λ dep. dep < place) entry.deps → HasClosedDeps entries place → StandsAt entries place
@@ -35,9 +25,6 @@ stands entries place entry lt is fits rising before closed other =
 
 pub is_closed : (entries : List Entry) (place : ℕ) → StandsAt entries place → HasClosedDeps entries place
 is_closed entries place at entry other k d l = (at entry).closed k d l other
-
-pub is_before : (entries : List Entry) (place : ℕ) → StandsAt entries place → IsBefore entries place
-is_before entries place at entry = (at entry).before
 
 module _ (deps : List ℕ) (rising : IsStrictlyIncreasing deps) (last : ℕ) (below : All (λ dep. dep < last) deps) where
   -- rising from after

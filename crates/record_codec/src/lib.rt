@@ -1,18 +1,16 @@
-//! The records of a store as bytes.
+//! The bytes of a record of a view, and what its files are checked for.
 #![tactic(auto)]
 
 mod closed;
-mod laws;
+mod kept_view;
 mod names;
 mod reading;
 mod sizes;
 mod views;
-mod writing;
 
-pub use laws::laws_of_records;
+pub use kept_view::Record;
 pub use reading::{read_record, read_words};
 pub use sizes::fits_command;
-pub use writing::{put_words, record_bytes};
 
 #[cfg(test)]
 mod tests;

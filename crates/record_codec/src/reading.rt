@@ -10,11 +10,11 @@ ghost use Rattle.record_codec.specs.Reading.{entry_at, record_read_at};
 ghost use Rattle.record_codec.specs.Spelling.{record_bytes, IsRecord};
 ghost use Rattle.record_codec.specs.Found.{record_in};
 
+use crate::Record;
 use crate::views::is_view;
 use byte_codec::ByteReader;
 use std::alloc::Global;
 use vr_base::{ARTEFACT_LIMIT, Entry, Graph, Items, NoMemory, Positions, Text, TextList};
-use vr_outside::Record;
 
 /// The files and the artefact that some bytes spell. The files may be no view.
 #[derive(Drop)]

@@ -6,7 +6,7 @@ use Rattle.std.proofs.lemmas.List.Folds.{list_any_at, list_any_none}
 use Rattle.vr_base.specs.declared.file.FileName.{FileName}
 use Rattle.mark_index.specs.Indexes.{IsLastWith}
 use Rattle.numbering.specs.NameLaws.{names_decide}
-use Rattle.request_codec.specs.Requests.{RequestRecord, asks_for, is_overtaken}
+use Rattle.vr_outside.specs.Records.{Record as RequestRecord, is_of as asks_for, is_replaced as is_overtaken}
 use Rattle.request_shelf.specs.declared.shelf.PlacedShelf.{PlacedShelf}
 use Rattle.request_shelf.specs.declared.shelf.RecordRow.{RecordRow}
 use Rattle.request_shelf.specs.Placed.{IsShelfPlaced, no_name, placed_shelf}

@@ -5,7 +5,7 @@ use Rattle.std.specs.List.{list_any}
 use Rattle.std.proofs.lemmas.List.{append-nil, map_push}
 use Rattle.vr_base.specs.declared.graph.BuiltFile.{BuiltFile}
 use Rattle.numbering.specs.Numbers.{IsAdded, NumbersBelow}
-use Rattle.request_codec.specs.Requests.{RequestRecord, built_by}
+use Rattle.vr_outside.specs.Records.{Record as RequestRecord, built_by}
 use Rattle.request_codec.specs.Forms.{RequestDraft, RequestPayload, TextRef}
 use Rattle.request_codec.specs.Forms.RequestPayload.{OfRequest}
 use Rattle.request_codec.specs.Shelves.{AreNumberedOnce, RequestShelf, is_same_built, product_at, with_built}

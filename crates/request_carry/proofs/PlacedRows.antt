@@ -5,7 +5,7 @@ use Rattle.std.proofs.lemmas.List.{get_or-map, get_or_default, length-map}
 use Rattle.std.proofs.lemmas.Option.{get_or_from_slice_get}
 use Rattle.vr_base.specs.declared.file.FileName.{FileName}
 use Rattle.vr_base.specs.declared.graph.BuiltFile.{BuiltFile}
-use Rattle.request_codec.specs.Requests.{RequestRecord, built_by}
+use Rattle.vr_outside.specs.Records.{Record as RequestRecord, built_by}
 use Rattle.request_codec.specs.Ranges.{counted_words}
 use Rattle.request_codec.specs.Shelves.{no_product, product_at}
 use Rattle.request_shelf.specs.declared.products.ProductRow.{ProductRow}

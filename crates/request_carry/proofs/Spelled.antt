@@ -6,7 +6,7 @@ use Rattle.std.proofs.lemmas.List.Elements.{All-push}
 use Rattle.vr_base.specs.declared.graph.BuiltFile.{BuiltFile}
 use Rattle.numbering.specs.Numbers.{NumbersBelow}
 use Rattle.request_codec.specs.Forms.{HasProductSpelling, HasRefSpelling, HasRequestSpelling, IsSpellable, request_payload_bytes}
-use Rattle.request_codec.specs.Requests.{RequestRecord}
+use Rattle.vr_outside.specs.Records.{Record as RequestRecord}
 use Rattle.request_codec.specs.Carrying.{number_of_built}
 use Rattle.request_codec.specs.Shelves.{AreNumberedOnce, RequestShelf, is_same_built, no_product, product_at}
 use Rattle.request_codec.specs.Writing.{ref_or}

@@ -11,7 +11,7 @@ use Rattle.std.proofs.lemmas.Option.{get_or_from_slice_get, slice_get_within}
 use Rattle.std.proofs.lemmas.Slice.Eq.{bytes_eq-Decides}
 use Rattle.vr_base.specs.declared.graph.BuiltFile.{BuiltFile}
 use Rattle.numbering.specs.Numbers.{IsPlaceOf}
-use Rattle.request_codec.specs.Requests.{RequestRecord}
+use Rattle.vr_outside.specs.Records.{Record as RequestRecord}
 use Rattle.request_codec.specs.Forms.{IsSpellable, ProductDraft, RequestDraft, RequestPayload, request_payload_bytes}
 use Rattle.request_codec.specs.Forms.RequestPayload.{OfProduct, OfRequest}
 use Rattle.request_codec.specs.Shelves.{IsNewProduct, IsRequest, RequestShelf, after_request_payload, bare_shelf, drafted_product, drafted_record, is_same_built, is_text_ref, no_product, product_at, request_shelf_of, told_text, with_built, with_request_payload}

@@ -5,7 +5,7 @@ use Rattle.std.specs.List.{fold}
 use Rattle.std.proofs.lemmas.Bool.{cases_lt, cond-true, cond-false}
 use Rattle.std.proofs.lemmas.List.{drop_all, get_or-map, length-map}
 use Rattle.vr_base.specs.declared.graph.BuiltFile.{BuiltFile}
-use Rattle.request_codec.specs.Requests.{RequestRecord, is_overtaken, latest_requests}
+use Rattle.vr_outside.specs.Records.{Record as RequestRecord, is_replaced as is_overtaken, latest_alone as latest_requests}
 use Rattle.request_codec.specs.Shelves.{AreNumberedOnce, RequestShelf, no_product, product_at}
 use Rattle.request_codec.specs.Carrying.{CarriedSoFar, carried_from, carry_own, carry_product, carry_request, none_carried}
 use Rattle.request_carry.specs.declared.plan.CarryPlan.{CarryPlan}

@@ -3,7 +3,7 @@ use Rattle.std.specs.Prelude.{◌≢◌, ◌<◌, ◌≤◌, length, All, AllPai
 use Rattle.vr_base.specs.Names.{FitsCommand, FitsName}
 use Rattle.vr_base.specs.declared.graph.BuiltFile.{BuiltFile}
 use Rattle.vr_base.specs.declared.limits.TheConstants.{ARTEFACT_LIMIT, FILE_LIMIT, TEXT_LIMIT}
-use Rattle.request_codec.specs.Requests.{RequestRecord}
+use Rattle.vr_outside.specs.Records.{Record as RequestRecord}
 use Rattle.request_codec.specs.Shelves.{RequestShelf}
 
 -- A product: its name fits, and its artefact is small.

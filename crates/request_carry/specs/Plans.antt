@@ -4,7 +4,7 @@ use Rattle.std.specs.List.{flat_map}
 use Rattle.vr_base.specs.declared.graph.BuiltFile.{BuiltFile}
 use Rattle.numbering.specs.Numbers.{IsAdded, NumbersBelow}
 use Rattle.gate_journal.specs.Payloads.{block}
-use Rattle.request_codec.specs.Requests.{RequestRecord, latest_requests}
+use Rattle.vr_outside.specs.Records.{Record as RequestRecord, latest_alone as latest_requests}
 use Rattle.request_codec.specs.Forms.{ProductDraft, RequestDraft, RequestPayload, request_payload_bytes}
 use Rattle.request_codec.specs.Forms.RequestPayload.{OfProduct, OfRequest}
 use Rattle.request_codec.specs.Shelves.{AreNumberedOnce, RequestShelf, product_at, request_shelf_of}

@@ -1,7 +1,7 @@
 //! Laws of what compaction keeps, as a function with an empty body.
 
 ghost use Rattle.std.specs.Prelude.{◌≡◌, List};
-ghost use Rattle.request_codec.specs.Requests.{RequestRecord, latest_requests};
+ghost use Rattle.vr_outside.specs.Records.{Record as RequestRecord, latest_alone as latest_requests};
 ghost use Rattle.request_codec.specs.Carrying.{compacted_requests};
 
 /// What holds of the payloads that compaction keeps.

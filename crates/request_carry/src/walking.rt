@@ -2,7 +2,7 @@
 
 ghost use Rattle.std.specs.Prelude.{◌≡◌, ◌↔◌, ◌<◌, ◌+◌, length, drop, not, All, Contains, IfOk, IsTrue, OnOk};
 ghost use Rattle.std.specs.List.{fold};
-ghost use Rattle.request_codec.specs.Requests.{is_overtaken, latest_requests};
+ghost use Rattle.vr_outside.specs.Records.{is_replaced as is_overtaken, latest_alone as latest_requests};
 ghost use Rattle.request_codec.specs.Carrying.{carried_from, carry_own, carry_product, carry_request, none_carried};
 ghost use Rattle.request_codec.specs.Shelves.{product_at, request_shelf_of};
 ghost use Rattle.request_shelf.specs.Placed.{IsShelfPlaced, placed_shelf};

@@ -2,7 +2,7 @@
 
 ghost use Rattle.std.specs.Prelude.{◌≡◌, ◌<◌, ◌^◌, ℕ, List, length, map, All, Contains, IfOk, Some, slice_get};
 ghost use Rattle.request_codec.specs.Forms.{IsSpellable, request_payload_bytes};
-ghost use Rattle.request_codec.specs.Requests.{latest_requests};
+ghost use Rattle.vr_outside.specs.Records.{latest_alone as latest_requests};
 ghost use Rattle.request_codec.specs.Carrying.{compacted_requests};
 ghost use Rattle.request_codec.specs.Shelves.{request_shelf_of, requests_among};
 ghost use Rattle.request_shelf.specs.Placed.{IsShelfPlaced, placed_shelf};

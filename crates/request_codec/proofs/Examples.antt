@@ -6,7 +6,7 @@ use Rattle.vr_base.specs.Bytes.{text_bytes}
 use Rattle.vr_base.specs.Jobs.{name_bytes}
 use Rattle.byte_codec.specs.Reading.{counted_at, many_at, text_at}
 use Rattle.byte_codec.specs.Names.{name_at}
-use Rattle.request_codec.specs.Requests.{RequestRecord, latest_requests}
+use Rattle.vr_outside.specs.Records.{Record as RequestRecord, latest_alone as latest_requests}
 use Rattle.request_codec.specs.Carrying.{carried_from, carry_own, carry_product, carry_request, compacted_requests}
 use Rattle.request_codec.specs.Forms.{command_bytes, product_draft_bytes, product_in, product_numbers_bytes, ref_by_number_at, ref_in_full_at, request_draft_bytes, request_in, request_payload_by, request_payload_bytes, request_payload_in, text_ref_at, text_ref_by, text_ref_bytes}
 use Rattle.request_codec.specs.Forms.TextRef.{ByNumber, InFull}

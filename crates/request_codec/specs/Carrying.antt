@@ -5,7 +5,7 @@ use Rattle.std.specs.Str.{bytes_eq}
 use Rattle.vr_base.specs.declared.graph.BuiltFile.{BuiltFile}
 use Rattle.request_codec.specs.Forms.{RequestDraft, RequestPayload, TextRef, request_payload_bytes}
 use Rattle.request_codec.specs.Forms.RequestPayload.{OfProduct, OfRequest}
-use Rattle.request_codec.specs.Requests.{RequestRecord, built_by, latest_requests}
+use Rattle.vr_outside.specs.Records.{Record as RequestRecord, built_by, latest_alone as latest_requests}
 use Rattle.request_codec.specs.Shelves.{is_same_built, with_built, with_text}
 use Rattle.request_codec.specs.Writing.{ref_or}
 

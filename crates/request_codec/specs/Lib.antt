@@ -1,5 +1,4 @@
 -- The definitions.
-pub mod Requests
 pub mod Forms
 pub mod Shelves
 pub mod Ranges

@@ -7,7 +7,7 @@ use Rattle.vr_base.specs.Names.{FitsCommand, FitsName, is_same_name}
 use Rattle.vr_base.specs.declared.file.FileName.{FileName}
 use Rattle.vr_base.specs.declared.graph.BuiltFile.{BuiltFile}
 use Rattle.vr_base.specs.declared.limits.TheConstants.{ARTEFACT_LIMIT, COMMAND_LIMIT, FILE_LIMIT, LIBRARY_LIMIT, PATH_LIMIT, TEXT_LIMIT, WORD_LIMIT}
-use Rattle.request_codec.specs.Requests.{Asked, RequestRecord}
+use Rattle.vr_outside.specs.Records.{Asked, Record as RequestRecord}
 use Rattle.request_codec.specs.Forms.{ProductDraft, RequestDraft, RequestPayload, TextRef, request_payload_in}
 use Rattle.request_codec.specs.Forms.TextRef.{ByNumber, InFull}
 use Rattle.request_codec.specs.Forms.RequestPayload.{OfProduct, OfRequest}

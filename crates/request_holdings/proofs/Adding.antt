@@ -13,7 +13,7 @@ use Rattle.vr_base.specs.Graphs.{IsGraph}
 use Rattle.numbering.specs.NameLaws.{names_decide}
 use Rattle.request_codec.specs.Forms.{RequestDraft}
 use Rattle.request_codec.specs.Forms.RequestPayload.{OfRequest}
-use Rattle.request_codec.specs.Requests.{RequestRecord, asks_for, built_by, latest_request}
+use Rattle.vr_outside.specs.Records.{Record as RequestRecord, is_of as asks_for, built_by, latest as latest_request}
 use Rattle.request_codec.specs.Ranges.{request_in_ranges}
 use Rattle.request_codec.specs.Shelves.{RequestShelf, drafted_record, is_same_built, no_product, product_at, request_shelf_of, with_built, with_request}
 use Rattle.request_shelf.specs.declared.shelf.PlacedShelf.{PlacedShelf}

@@ -18,7 +18,7 @@ use Rattle.vr_outside.specs.Records.{deps_at}
 use Rattle.numbering.specs.Numbers.{IsPlaceOf}
 use Rattle.request_codec.specs.Forms.{HasRefSpelling, HasRequestSpelling, RequestDraft, RequestPayload, request_payload_bytes, request_payload_in}
 use Rattle.request_codec.specs.Forms.RequestPayload.{OfProduct, OfRequest}
-use Rattle.request_codec.specs.Requests.{RequestRecord, asked_of, built_by, latest_request}
+use Rattle.vr_outside.specs.Records.{Record as RequestRecord, asked_of, built_by, latest as latest_request}
 use Rattle.request_codec.specs.Ranges.{request_in_ranges}
 use Rattle.request_codec.specs.Shelves.{IsRequest, RequestShelf, drafted_record, is_text_ref, no_product, product_at, request_shelf_of, told_text, with_text}
 use Rattle.request_codec.specs.Writing.{ref_or}
@@ -27,8 +27,8 @@ use Rattle.request_shelf.specs.Checked.{AreTextNumbers, IsNameNumber}
 use Rattle.request_shelf.proofs.Finding.{new_is}
 use Rattle.request_holdings.specs.declared.additions.RequestAddition.{RequestAddition}
 use Rattle.request_holdings.specs.declared.asking.TextRefs.{TextRefs}
-use Rattle.request_holdings.specs.Additions.{AddsRequest, AreDeps, AreRefs, HasAskedSizes, asked_draft}
-use Rattle.request_holdings.specs.Seated.{HasLatest, latest_built}
+use Rattle.request_holdings.specs.Additions.{AreDeps, AreRefs, HasAskedSizes, IsRequestOver, asked_draft, record_over}
+use Rattle.vr_outside.specs.Records.{HasLatest, latest_built}
 use Rattle.request_holdings.proofs.Latest.{latest_named}
 
 pub is_ref : (texts : List (List ℕ)) (text : List ℕ) (known : Option ℕ) → IsPlaceOf texts text known → is_text_ref texts (ref_or known text) ≡ true
@@ -144,29 +144,30 @@ module _ (shelf : RequestShelf) (graph : List Entry) (is_graph : IsGraph graph) 
         let m : k < length entry.deps = omega (arith, l, as_many, length-map deps (product_at shelf.products)) in
         is_graph.distinct (get_or entry.deps k 0) at entry (before k 0 m) low (sym (name_at k d l) ∙ e ∙ ap (λ (f : Entry). f.name) (sym here))
 
-    module _ (artefact : List ℕ) (refs : TextRefs) (small : length artefact ≤ ARTEFACT_LIMIT) (texts : AreRefs shelf.texts entry.text artefact refs) where
-      pub request : IsRequest shelf (asked_draft entry refs.source deps refs.known artefact)
-      request =
-          let s = sizes deps artefact as_many small in
-          record {
-            name = s.name;
-            command = s.command;
-            source = is_ref shelf.texts entry.text refs.source texts.source;
-            text_small = rw (is_told shelf.texts entry.text refs.source texts.source) s.text;
-            artefact = is_ref (with_text shelf.texts (ref_or refs.source entry.text)) artefact refs.known texts.known;
-            small = rw (is_told (with_text shelf.texts (ref_or refs.source entry.text)) artefact refs.known texts.known) small;
-            few = s.few;
-            there = are.there;
-            apart = apart;
-            others = others;
-          }
+    -- the file with an artefact is a record over these products
+    pub over : (artefact : List ℕ) → length artefact ≤ ARTEFACT_LIMIT → IsRequestOver shelf entry deps artefact
+    over artefact small = record { sizes = sizes deps artefact as_many small; there = are.there; apart = apart; others = others }
 
-      record_by : List ℕ → List ℕ → List BuiltFile → RequestRecord
-      record_by text given built = record { asked = record { command = entry.command; name = entry.name; text = text; below = built }; artefact = given }
+module _ (shelf : RequestShelf) (entry : Entry) (deps artefact : List ℕ) (over : IsRequestOver shelf entry deps artefact) (refs : TextRefs) (texts : AreRefs shelf.texts entry.text artefact refs) where
+  pub request : IsRequest shelf (asked_draft entry refs.source deps refs.known artefact)
+  request = record {
+    name = over.sizes.name;
+    command = over.sizes.command;
+    source = is_ref shelf.texts entry.text refs.source texts.source;
+    text_small = rw (is_told shelf.texts entry.text refs.source texts.source) over.sizes.text;
+    artefact = is_ref (with_text shelf.texts (ref_or refs.source entry.text)) artefact refs.known texts.known;
+    small = rw (is_told (with_text shelf.texts (ref_or refs.source entry.text)) artefact refs.known texts.known) over.sizes.small;
+    few = over.sizes.few;
+    there = over.there;
+    apart = over.apart;
+    others = over.others;
+  }
 
-      pub recorded : drafted_record shelf (asked_draft entry refs.source deps refs.known artefact) ≡ record { asked = asked_of entry (map (latest_built (λ name. latest_request name shelf.records) graph) entry.deps); artefact = artefact }
-      unfolding record_by
-      recorded =
-          ap (λ (t : List ℕ). record_by t (told_text (with_text shelf.texts (ref_or refs.source entry.text)) (ref_or refs.known artefact)) (map (product_at shelf.products) deps)) (is_told shelf.texts entry.text refs.source texts.source)
-          ∙ ap (λ (t : List ℕ). record_by entry.text t (map (product_at shelf.products) deps)) (is_told (with_text shelf.texts (ref_or refs.source entry.text)) artefact refs.known texts.known)
-          ∙ ap (record_by entry.text artefact) below
+  record_by : List ℕ → List ℕ → RequestRecord
+  record_by text given = record { asked = record { command = entry.command; name = entry.name; text = text; below = map (product_at shelf.products) deps }; artefact = given }
+
+  pub recorded : drafted_record shelf (asked_draft entry refs.source deps refs.known artefact) ≡ record_over shelf entry deps artefact
+  unfolding record_by
+  recorded =
+      ap (λ (t : List ℕ). record_by t (told_text (with_text shelf.texts (ref_or refs.source entry.text)) (ref_or refs.known artefact))) (is_told shelf.texts entry.text refs.source texts.source)
+      ∙ ap (λ (t : List ℕ). record_by entry.text t) (is_told (with_text shelf.texts (ref_or refs.source entry.text)) artefact refs.known texts.known)

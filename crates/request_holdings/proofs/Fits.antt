@@ -7,11 +7,12 @@ use Rattle.std.proofs.lemmas.Option.{get_or_from_slice_get, none-some, same_Some
 use Rattle.vr_base.specs.declared.file.FileName.{FileName}
 use Rattle.vr_base.specs.declared.graph.BuiltFile.{BuiltFile}
 use Rattle.vr_base.specs.declared.graph.Entry.{Entry}
-use Rattle.request_codec.specs.Requests.{Asked, RequestRecord, asked_of, built_by, latest_request}
+use Rattle.vr_outside.specs.Records.{Asked, Record as RequestRecord, asked_of, built_by, latest as latest_request}
 use Rattle.request_codec.specs.Shelves.{RequestShelf, no_product, product_at}
 use Rattle.request_shelf.proofs.Finding.{once_at}
 use Rattle.request_holdings.specs.declared.seats.Seat.{Seat}
-use Rattle.request_holdings.specs.Seated.{AreSeats, FitsLatest, HasLatest, HasSeat, IsSeat, latest_built, seated_product}
+use Rattle.vr_outside.specs.Records.{IsRecorded as FitsLatest, HasLatest, latest_built}
+use Rattle.request_holdings.specs.Seated.{AreSeats, HasSeat, IsSeat, seated_product}
 use Rattle.request_shelf.specs.Placed.{no_name}
 use Rattle.request_holdings.proofs.Latest.{latest_named}
 

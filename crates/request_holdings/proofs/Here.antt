@@ -7,7 +7,7 @@ use Rattle.vr_base.specs.declared.file.FileName.{FileName}
 use Rattle.vr_base.specs.declared.graph.BuiltFile.{BuiltFile}
 use Rattle.vr_base.specs.declared.graph.Entry.{Entry}
 use Rattle.vr_base.specs.Graphs.{IsGraph}
-use Rattle.request_codec.specs.Requests.{RequestRecord, built_by, latest_request}
+use Rattle.vr_outside.specs.Records.{Record as RequestRecord, built_by, latest as latest_request}
 use Rattle.request_codec.specs.Shelves.{RequestShelf, product_at, no_product}
 use Rattle.request_shelf.specs.declared.products.ProductRow.{ProductRow}
 use Rattle.request_shelf.specs.declared.shelf.RecordRow.{RecordRow}

@@ -9,7 +9,7 @@ use Rattle.vr_base.specs.declared.graph.BuiltFile.{BuiltFile}
 use Rattle.vr_base.specs.Names.{is_same_name}
 use Rattle.mark_index.specs.Indexes.{IsLastWith}
 use Rattle.numbering.specs.NameLaws.{names_decide}
-use Rattle.request_codec.specs.Requests.{RequestRecord, asks_for, latest_request}
+use Rattle.vr_outside.specs.Records.{Record as RequestRecord, is_of as asks_for, latest as latest_request}
 use Rattle.request_shelf.specs.declared.products.ProductRow.{ProductRow}
 use Rattle.request_shelf.specs.declared.shelf.RecordRow.{RecordRow}
 use Rattle.request_shelf.specs.Placed.{IsRecordRow, no_name, row_record}

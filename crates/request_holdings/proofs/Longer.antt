@@ -2,7 +2,7 @@
 use Rattle.std.proofs.Common.{◌≡◌, ℕ, ◌<◌, List, [], length, map, get_or, refl, sym, ap, subst, ◌∙◌, arith}
 use Rattle.std.proofs.lemmas.List.{length-map}
 use Rattle.text_index.specs.Splits.{AreSplit}
-use Rattle.request_codec.specs.Requests.{RequestRecord}
+use Rattle.vr_outside.specs.Records.{Record as RequestRecord}
 use Rattle.request_codec.specs.Ranges.{ranged}
 use Rattle.request_shelf.specs.declared.shelf.PlacedShelf.{PlacedShelf}
 use Rattle.request_shelf.specs.declared.texts.PlacedText.{PlacedText}

@@ -1,5 +1,5 @@
 -- What one more payload adds.
-use Rattle.std.specs.Prelude.{◌≡◌, ℕ, ◌<◌, ◌≤◌, ◌^◌, IfSome, List, [], length, map, All, slice_get, Option, Some}
+use Rattle.std.specs.Prelude.{◌≡◌, ◌≢◌, ℕ, ◌<◌, ◌≤◌, ◌^◌, IfSome, List, [], length, map, All, AllPairs, slice_get, Option, Some}
 use Rattle.vr_base.specs.Names.{FitsCommand, FitsName}
 use Rattle.vr_base.specs.declared.limits.TheConstants.{ARTEFACT_LIMIT, FILE_LIMIT, TEXT_LIMIT}
 use Rattle.vr_outside.specs.Records.{deps_at}
@@ -7,7 +7,7 @@ use Rattle.numbering.specs.Numbers.{IsPlaceOf}
 use Rattle.vr_base.specs.declared.file.FileName.{FileName}
 use Rattle.vr_base.specs.declared.graph.Entry.{Entry}
 use Rattle.request_codec.specs.Forms.{RequestDraft, request_payload_in}
-use Rattle.request_codec.specs.Requests.{asked_of, latest_request}
+use Rattle.vr_outside.specs.Records.{Record as RequestRecord, asked_of, latest as latest_request}
 use Rattle.request_codec.specs.Writing.{ref_or}
 use Rattle.request_codec.specs.Forms.RequestPayload.{OfRequest}
 use Rattle.request_codec.specs.Ranges.{request_in_ranges}
@@ -15,7 +15,7 @@ use Rattle.request_codec.specs.Shelves.{IsRequest, RequestShelf, drafted_record,
 use Rattle.request_shelf.specs.Checked.{AreTextNumbers, IsNameNumber, ref_number}
 use Rattle.request_holdings.specs.declared.additions.RequestAddition.{RequestAddition}
 use Rattle.request_holdings.specs.declared.asking.TextRefs.{TextRefs}
-use Rattle.request_holdings.specs.Seated.{HasLatest, latest_built}
+use Rattle.vr_outside.specs.Records.{HasLatest, latest_built}
 
 abbrev pub no_entry : Entry
 no_entry = record { name = record { library = []; path = [] }; command = []; text = []; deps = [] }
@@ -51,6 +51,18 @@ pub record HasAskedSizes (entry : Entry) (deps artefact : List ℕ) : Type 0 whe
   pub text : length entry.text ≤ TEXT_LIMIT
   pub few : length deps < FILE_LIMIT
   pub small : length artefact ≤ ARTEFACT_LIMIT
+
+-- A file with an artefact is a record over products: its parts have their sizes, the products are there, and no two of them, nor
+-- the file, have one name.
+pub record IsRequestOver (shelf : RequestShelf) (entry : Entry) (deps artefact : List ℕ) : Type 0 where
+  pub sizes : HasAskedSizes entry deps artefact
+  pub there : All (λ dep. dep < length shelf.products) deps
+  pub apart : AllPairs (λ a b. a.name ≢ b.name) (map (product_at shelf.products) deps)
+  pub others : All (λ other. other.name ≢ entry.name) (map (product_at shelf.products) deps)
+
+-- a file over products of these numbers, with an artefact
+abbrev pub record_over : RequestShelf → Entry → List ℕ → List ℕ → RequestRecord
+record_over shelf entry deps artefact = record { asked = asked_of entry (map (product_at shelf.products) deps); artefact = artefact }
 
 -- the payload adds a record of what would be asked for a file now, with an artefact
 abbrev pub AddsAsked : RequestShelf → List Entry → ℕ → List ℕ → List ℕ → RequestAddition → Type 0

@@ -3,7 +3,7 @@ use Rattle.std.specs.Prelude.{◌≡◌, ℕ, ◌-◌, ◌<◌, min, List, [], l
 use Rattle.std.specs.Vec.{vec_len, vec_capacity}
 use Rattle.vr_base.specs.declared.file.FileName.{FileName}
 use Rattle.vr_base.specs.declared.graph.Entry.{Entry}
-use Rattle.request_codec.specs.Requests.{RequestRecord, latest_request}
+use Rattle.vr_outside.specs.Records.{Record as RequestRecord, latest as latest_request}
 use Rattle.request_codec.specs.Ranges.{counted_words}
 use Rattle.request_codec.specs.Shelves.{request_shelf_of}
 use Rattle.request_shelf.specs.declared.shelf.PlacedShelf.{PlacedShelf}

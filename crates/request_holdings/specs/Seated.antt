@@ -4,7 +4,7 @@ use Rattle.std.specs.Option.{option_map, option_map_or}
 use Rattle.vr_base.specs.declared.file.FileName.{FileName}
 use Rattle.vr_base.specs.declared.graph.BuiltFile.{BuiltFile}
 use Rattle.vr_base.specs.declared.graph.Entry.{Entry}
-use Rattle.request_codec.specs.Requests.{RequestRecord, asked_of, built_by, latest_request}
+use Rattle.vr_outside.specs.Records.{Record as RequestRecord, built_by, latest as latest_request}
 use Rattle.request_codec.specs.Shelves.{RequestShelf, no_product, product_at}
 use Rattle.request_holdings.specs.declared.seats.Seat.{Seat}
 
@@ -29,22 +29,14 @@ pub record AreSeats (shelf : RequestShelf) (graph : List Entry) (seats : List (O
 abbrev pub seated_product : List (Option Seat) → ℕ → Option ℕ
 seated_product seats at = option_map (λ seat. seat.product) (slice_index_or seats at None)
 
--- a file of a graph as its latest record built it
-abbrev pub latest_built : (FileName → Option RequestRecord) → List Entry → ℕ → BuiltFile
-latest_built latest_of graph at = option_map_or (λ entry. option_map_or built_by (latest_of entry.name) no_product) (slice_get graph at) no_product
-
--- a file of a graph has a record
-pub record HasLatest (latest_of : FileName → Option RequestRecord) (graph : List Entry) (at : ℕ) : Type 0 where
-  pub entry : Entry
-  pub is_entry : slice_get graph at ≡ Some entry
+-- The product of a number is what the latest record of a name built.
+pub record HasLatestProduct (shelf : RequestShelf) (name : FileName) (product : ℕ) : Type 0 where
   pub kept : RequestRecord
-  pub is : latest_of entry.name ≡ Some kept
+  pub latest : latest_request name shelf.records ≡ Some kept
+  pub there : product < length shelf.products
+  pub built : product_at shelf.products product ≡ built_by kept
 
--- All files that a file depends on have a record, and its own latest record has what would be asked for it now: over these as
--- their latest records built them.
-pub record FitsLatest (latest_of : FileName → Option RequestRecord) (graph : List Entry) (at : ℕ) : Type 0 where
-  pub entry : Entry
-  pub is_entry : slice_get graph at ≡ Some entry
-  pub built : All (HasLatest latest_of graph) entry.deps
-  pub artefact : List ℕ
-  pub is : latest_of entry.name ≡ Some (record { asked = asked_of entry (map (latest_built latest_of graph) entry.deps); artefact = artefact })
+-- such a number, or that the name has no record
+abbrev pub IsLatestProduct : RequestShelf → FileName → Option ℕ → Type 0
+IsLatestProduct shelf name None = latest_request name shelf.records ≡ None
+IsLatestProduct shelf name (Some product) = HasLatestProduct shelf name product

@@ -3,27 +3,29 @@
 ghost use Rattle.std.specs.Prelude.{◌≡◌, All, ◌↔◌, ◌<◌, ◌≤◌, ◌^◌, ◌++◌, ◌∷◌, [], List, Some, length, slice_get, slice_index_or, IsTrue, IfOk, OnOk, option_map};
 ghost use Rattle.vr_base.specs.declared.graph.Entry.{Entry};
 ghost use Rattle.vr_base.specs.declared.limits.TheConstants.{ARTEFACT_LIMIT};
-ghost use Rattle.request_codec.specs.Requests.{RequestRecord, latest_requests};
+ghost use Rattle.vr_outside.specs.Records.{Record as RequestRecord, latest_alone as latest_requests};
 ghost use Rattle.request_codec.specs.Carrying.{compacted_requests};
 ghost use Rattle.request_carry.specs.Plans.{KeepsLatestRequests};
 ghost use Rattle.request_shelf.specs.Checked.{IsNameNumber};
-ghost use Rattle.request_codec.specs.Shelves.{request_shelf_of};
-ghost use Rattle.request_holdings.specs.Seated.{AreSeats, FitsLatest, HasLatest, IsSeat};
+ghost use Rattle.request_codec.specs.Ranges.{request_in_ranges};
+ghost use Rattle.request_codec.specs.Shelves.{drafted_record, request_shelf_of};
+ghost use Rattle.vr_outside.specs.Records.{IsRecorded as FitsLatest, HasLatest};
+ghost use Rattle.request_holdings.specs.Seated.{AreSeats, IsLatestProduct, IsSeat};
 ghost use Rattle.vr_base.specs.Graphs.{IsGraph};
 ghost use Rattle.vr_outside.specs.Records.{deps_at};
-ghost use Rattle.request_holdings.specs.Additions.{AddsAsked, AddsRequest, AreDeps, added_name, no_entry};
+ghost use Rattle.request_holdings.specs.Additions.{AddsAsked, AddsRequest, AreDeps, IsRequestOver, added_name, no_entry, record_over};
 ghost use Rattle.request_holdings.specs.Held.{IsLatestRow, latest_held};
 
 use crate::additions::put_held;
 use crate::asking::{asked_payload, seated_products, spelled_ranges, text_refs};
 use crate::fitting::is_asked;
 use crate::{NextRequest, RequestAddition, Seat, Seats};
-use gate_journal::{Payloads, Ready};
+use gate_journal::{Journal, Payloads, Ready};
 use request_carry::{CarryPlan, carried_payloads, plan_latest};
 use request_shelf::{HeldPayloads, PlacedShelf, number_name, taken_up, text_at};
 use std::alloc::Global;
 use std::marker::Model;
-use vr_base::{FileName, Graph, Items, NoMemory, Text};
+use vr_base::{Entry, FileName, Graph, Items, NoMemory, Text};
 
 /// Payloads, in order, with what they stand for. Contracts see the payloads, the names that are numbered, and for how many more
 /// payloads there is room.
@@ -183,6 +185,42 @@ impl RequestHoldings {
         number_name(&mut self.shelf, name)
     }
 
+    /// The payload of a file over products, with what the compiler gave for it, by the number of its name.
+    fn next_over(
+        &self,
+        alloc: Global,
+        entry: &Entry,
+        at: u32,
+        name: usize,
+        deps: &[usize],
+        artefact: &[u8],
+    ) -> Result<NextRequest, NoMemory>
+        requires name { IsNameNumber self.now.names entry.now.name name }
+        requires over { IsRequestOver (request_shelf_of self.now.payloads) entry.now deps.now artefact.now }
+        ensures adds { IfOk result
+            (λ next. AddsRequest self.now.payloads self.now.names next.bytes next.addition) }
+        ensures is { let shelf = request_shelf_of self.now.payloads in
+            IfOk result
+            (λ next.
+            drafted_record shelf (request_in_ranges next.bytes next.addition.draft)
+            ≡ record_over shelf entry.now deps.now artefact.now) }
+        ensures at { IfOk result (λ next. next.addition.at ≡ at) }
+        ensures small { IfOk result (λ next. length next.bytes < 2 ^ 32) }
+    {
+        let refs = text_refs(&self.held, &self.shelf.texts, entry.text.bytes(), artefact);
+        let bytes = asked_payload(alloc, entry, refs, deps, artefact)?;
+        let draft = spelled_ranges(bytes.bytes());
+        Ok(NextRequest {
+            bytes,
+            addition: RequestAddition {
+                at,
+                draft,
+                name,
+                numbers: refs.numbers,
+            },
+        })
+    }
+
     /// The payload of what would be asked for a file now, with what the compiler gave for it, by the number of its name and
     /// the products of the files that it depends on.
     fn next_request(
@@ -208,23 +246,8 @@ impl RequestHoldings {
         ensures small { IfOk result (λ next. length next.bytes < 2 ^ 32) }
     {
         let entry = graph.get(at as u64);
-        let refs = text_refs(
-            &self.held,
-            &self.shelf.texts,
-            entry.text.bytes(),
-            artefact.bytes(),
-        );
-        let bytes = asked_payload(alloc, entry, refs, deps.as_slice(), artefact.bytes())?;
-        let draft = spelled_ranges(bytes.bytes());
-        Ok(NextRequest {
-            bytes,
-            addition: RequestAddition {
-                at,
-                draft,
-                name,
-                numbers: refs.numbers,
-            },
-        })
+        let next = self.next_over(alloc, entry, at, name, deps.as_slice(), artefact.bytes())?;
+        Ok(next)
     }
 
     /// The payload of what would be asked for a file now, with what the compiler gave for it, and with room for it. What the
@@ -276,5 +299,40 @@ impl RequestHoldings {
         put_held(&mut self.held, &mut self.shelf, addition, piece);
         let product = self.shelf.rows[row].product;
         seats.set(addition.at as usize, Seat { row, product });
+    }
+
+    /// The number of the product that the latest record of a name built, if it has one.
+    pub fn latest_product(&self, name: &FileName) -> Option<usize>
+        ensures { IsLatestProduct (request_shelf_of self.now.payloads) name.now result }
+    {
+        let Some(seat) = self.seat_of(name) else {
+            return None;
+        };
+        Some(seat.product)
+    }
+
+    /// Adds a record at the end: a file over products, with what the compiler gave for it.
+    pub fn add(
+        &mut self,
+        alloc: Global,
+        journal: &Journal,
+        entry: &Entry,
+        deps: &[usize],
+        artefact: &[u8],
+    ) -> Result<(), NoMemory>
+        requires { IsRequestOver (request_shelf_of self.old.payloads) entry.now deps.now
+            artefact.now }
+        ensures { let before = request_shelf_of self.old.payloads in
+            OnOk result
+            ((request_shelf_of self.new.payloads).records
+            ≡ before.records ++ record_over before entry.now deps.now artefact.now ∷ []) }
+    {
+        let copied = entry.name.copy(alloc)?;
+        let name = self.number_of_name(copied)?;
+        self.reserve()?;
+        let next = self.next_over(alloc, entry, 0, name, deps, artefact)?;
+        let piece = journal.prepare(alloc, next.bytes.bytes())?;
+        put_held(&mut self.held, &mut self.shelf, next.addition, piece);
+        Ok(())
     }
 }

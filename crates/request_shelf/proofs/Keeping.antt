@@ -6,7 +6,7 @@ use Rattle.vr_base.specs.declared.file.FileName.{FileName}
 use Rattle.vr_base.specs.declared.graph.BuiltFile.{BuiltFile}
 use Rattle.request_codec.specs.Forms.{TextRef}
 use Rattle.request_codec.specs.Forms.TextRef.{ByNumber, InFull}
-use Rattle.request_codec.specs.Requests.{RequestRecord}
+use Rattle.vr_outside.specs.Records.{Record as RequestRecord}
 use Rattle.request_codec.specs.Ranges.{counted_numbers, counted_words}
 use Rattle.request_codec.specs.Shelves.{no_product, product_at, with_text}
 use Rattle.request_shelf.specs.declared.products.ProductRow.{ProductRow}

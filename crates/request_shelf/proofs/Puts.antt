@@ -10,7 +10,7 @@ use Rattle.vr_base.specs.declared.graph.BuiltFile.{BuiltFile}
 use Rattle.text_index.specs.declared.splits.Split.{Split}
 use Rattle.text_index.specs.Splits.{AreSplit}
 use Rattle.request_codec.specs.Forms.{ProductDraft, RequestDraft, TextRef}
-use Rattle.request_codec.specs.Requests.{RequestRecord}
+use Rattle.vr_outside.specs.Records.{Record as RequestRecord}
 use Rattle.request_codec.specs.Ranges.{counted_numbers, counted_words}
 use Rattle.request_codec.specs.Shelves.{IsNewProduct, IsRequest, RequestShelf, drafted_artefact, drafted_product, drafted_record, is_same_built, is_text_ref, no_product, product_at, told_text, with_built, with_product, with_request, with_text}
 use Rattle.request_shelf.specs.declared.products.ProductRow.{ProductRow}

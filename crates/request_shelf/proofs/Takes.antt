@@ -10,7 +10,7 @@ use Rattle.vr_base.specs.declared.graph.BuiltFile.{BuiltFile}
 use Rattle.numbering.specs.Numbers.{IsNumbered}
 use Rattle.request_codec.specs.Forms.{ProductDraft, RequestDraft, RequestPayload, request_payload_in}
 use Rattle.request_codec.specs.Forms.RequestPayload.{OfProduct, OfRequest}
-use Rattle.request_codec.specs.Requests.{RequestRecord}
+use Rattle.vr_outside.specs.Records.{Record as RequestRecord}
 use Rattle.request_codec.specs.Shelves.{IsNewProduct, IsRequest, RequestShelf, after_request_payload, bare_shelf, is_new_product, is_request, request_shelf_of, with_product, with_request, with_request_payload}
 use Rattle.request_codec.proofs.Deciding.{new_product-Decides, request-Decides}
 use Rattle.request_shelf.specs.declared.products.ProductRow.{ProductRow}

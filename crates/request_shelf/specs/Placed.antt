@@ -4,7 +4,7 @@ use Rattle.std.specs.Vec.{vec_len, vec_capacity}
 use Rattle.vr_base.specs.declared.file.FileName.{FileName}
 use Rattle.vr_base.specs.declared.graph.BuiltFile.{BuiltFile}
 use Rattle.text_index.specs.Splits.{AreSplit}
-use Rattle.request_codec.specs.Requests.{RequestRecord}
+use Rattle.vr_outside.specs.Records.{Record as RequestRecord}
 use Rattle.request_codec.specs.Ranges.{counted_numbers, counted_words, ranged}
 use Rattle.request_codec.specs.Shelves.{RequestShelf, product_at}
 use Rattle.request_shelf.specs.declared.products.ProductRow.{ProductRow}

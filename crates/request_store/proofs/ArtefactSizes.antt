@@ -9,7 +9,7 @@ use Rattle.vr_base.specs.declared.file.FileName.{FileName}
 use Rattle.vr_base.specs.declared.limits.TheConstants.{ARTEFACT_LIMIT}
 use Rattle.request_codec.specs.Forms.{RequestPayload, request_payload_in}
 use Rattle.request_codec.specs.Forms.RequestPayload.{OfProduct, OfRequest}
-use Rattle.request_codec.specs.Requests.{RequestRecord, asks_for, latest_request}
+use Rattle.vr_outside.specs.Records.{Record as RequestRecord, is_of as asks_for, latest as latest_request}
 use Rattle.request_codec.specs.Shelves.{RequestShelf, after_request_payload, bare_shelf, drafted_record, is_new_product, is_request, request_shelf_of, requests_among, with_product, with_request, with_request_payload}
 use Rattle.request_codec.proofs.Deciding.{request-Decides}
 use Rattle.request_holdings.specs.Held.{latest_held}

@@ -1,5 +1,5 @@
 -- What a compaction leaves, from what it leaves of the journal.
-use Rattle.std.proofs.Common.{◌≡◌, ℕ, ◌+◌, ◌-◌, ◌<◌, ◌≤◌, ◌^◌, min, List, length, map, Option, Some, None, refl, sym, ap, subst, ◌∙◌, arith}
+use Rattle.std.proofs.Common.{◌≡◌, ℕ, ◌+◌, ◌-◌, ◌<◌, ◌≤◌, ◌^◌, min, true, false, List, [], length, map, Option, Some, None, refl, sym, ap, subst, ◌∙◌, arith}
 use Rattle.std.specs.Prelude.{Result, Err}
 use Rattle.std.specs.List.{flat_map}
 use Rattle.std.specs.Option.{option_map_or}
@@ -9,14 +9,17 @@ use Rattle.vr_outside.specs.Disks.{AtAnyMoment, DiskState, Image, IsEither, Mome
 use Rattle.vr_outside.specs.declared.disk.Side.{Side}
 use Rattle.vr_outside.specs.declared.records.StoreFault.{StoreFault}
 use Rattle.vr_outside.specs.declared.records.StoreFault.TheVariants as fault
+use Rattle.gate_journal.specs.Forms.{has_form}
 use Rattle.gate_journal.specs.Payloads.{block, counting, generation_of, payloads}
-use Rattle.gate_journal.specs.Journals.{IsHealthy, JournalState, OpensAt}
+use Rattle.gate_journal.proofs.Forms.{no_form_counts, no_form_payloads}
+use Rattle.gate_journal.specs.Journals.{IsHealthy, IsInStep, JournalState, OpensAt}
 use Rattle.request_codec.specs.Carrying.{CarriedSoFar, carried_from, compacted_requests, none_carried}
 use Rattle.request_codec.specs.Forms.{request_payload_bytes}
-use Rattle.request_codec.specs.Requests.{RequestRecord, latest_request, latest_requests}
+use Rattle.vr_outside.specs.Records.{Record as RequestRecord, latest as latest_request, latest_alone as latest_requests}
 use Rattle.request_codec.specs.Shelves.{request_shelf_of, requests_among}
 use Rattle.request_holdings.specs.Held.{latest_held}
-use Rattle.request_store.specs.Stored.{AreAllOrLatest, AsksAt, AsksCarrying, HasCarriedOver, HasManyDead, ImageAsksCarrying, IsRequestStoreInStep, IsResting, RequestStoreState, capped_length, closed_length, dead_limit, live_length, opened_generation, requests_in}
+use Rattle.request_store.specs.Stored.{AreAllOrLatest, AsksAt, AsksCarrying, HasCarriedOver, HasManyDead, ImageAsksCarrying, IsRequestStoreInStep, IsResting, RequestStoreState, capped_length, closed_length, dead_limit, live_length, opened_generation, own_requests, requests_in}
+use Rattle.request_store.specs.StoreLaws.{in_step_live, live_requests}
 use Rattle.request_store.proofs.LatestRequests.{compacted-latest_requests, latest_request-latest_requests}
 use Rattle.request_store.proofs.RequestMoments.{compact_leaves}
 use Rattle.request_carry.specs.declared.plan.CarryPlan.{CarryPlan}
@@ -57,54 +60,50 @@ unasked_rests store disk in_step unasked = record {
 }
 
 -- a disk after compaction
-pub compacted_rests : (store : RequestStoreState) (before : Image) (disk : DiskState) → IsRequestStoreInStep store disk → HasCarriedOver before (reads_of disk) → IsResting (reads_of disk)
+pub compacted_rests : (store : RequestStoreState) (before : List RequestRecord) (disk : DiskState) → IsRequestStoreInStep store disk → HasCarriedOver before (reads_of disk) → IsResting (reads_of disk)
 compacted_rests store before disk in_step done = record {
   healthy = in_step_healthy store disk in_step;
-  unasked = none_asked (opened_generation (reads_of disk)) (payloads 3 (reads_of disk)) done.live;
+  unasked = none_asked (opened_generation (reads_of disk)) (payloads 3 (reads_of disk)) (done.live ∙ ap compacted_requests (live_requests (reads_of disk) (in_step_live store.journal disk in_step.journal_in_step in_step.form)));
 }
 
 module _ (old new : Moments) (store : RequestStoreState) (made side : List (List ℕ)) (in_step : IsRequestStoreInStep store old.now) (records : requests_among made ≡ latest_requests (requests_among store.held.payloads)) (is : made ≡ compacted_requests (requests_among store.held.payloads)) (written : side ≡ made) where
   abbrev reads : Image
   reads = reads_of old.now
 
-  records_now : requests_among side ≡ latest_requests (requests_in reads)
+  records_now : requests_among side ≡ latest_requests (own_requests reads)
   records_now = ap requests_among written ∙ records ∙ ap (λ (ps : List (List ℕ)). latest_requests (requests_among ps)) in_step.payloads_are
 
-  is_now : side ≡ compacted_requests (requests_in reads)
+  is_now : side ≡ compacted_requests (own_requests reads)
   is_now = written ∙ is ∙ ap (λ (ps : List (List ℕ)). compacted_requests (requests_among ps)) in_step.payloads_are
 
-  pub compaction_leaves : AtAnyMoment old new (λ image. IsEither (payloads store.journal.form image) (payloads store.journal.form reads) side) → AtAnyMoment old new (λ image. AreAllOrLatest (requests_in reads) (requests_in image))
+  pub compaction_leaves : AtAnyMoment old new (λ image. IsEither (payloads store.journal.form image) (payloads store.journal.form reads) side) → AtAnyMoment old new (λ image. AreAllOrLatest (own_requests reads) (own_requests image))
   compaction_leaves moments = compact_leaves old new reads side records_now (subst (λ (f : ℕ). AtAnyMoment old new (λ image. IsEither (payloads f image) (payloads f reads) side)) in_step.form moments)
 
-  pub compaction_keeps : NeverLoses old new (λ image. payloads store.journal.form image ≡ side) → NeverLoses old new (λ image. payloads 3 image ≡ compacted_requests (requests_in reads))
+  pub compaction_keeps : NeverLoses old new (λ image. payloads store.journal.form image ≡ side) → NeverLoses old new (λ image. payloads 3 image ≡ compacted_requests (own_requests reads))
   compaction_keeps never =
       subst (λ (ps : List (List ℕ)). NeverLoses old new (λ image. payloads 3 image ≡ ps)) is_now
       (subst (λ (f : ℕ). NeverLoses old new (λ image. payloads f image ≡ side)) in_step.form never)
 
-  compaction_side : payloads store.journal.form (reads_of new.now) ≡ side → payloads 3 (reads_of new.now) ≡ compacted_requests (requests_in reads)
-  compaction_side replaced = subst (λ (f : ℕ). payloads f (reads_of new.now) ≡ side) in_step.form replaced ∙ is_now
+  module _ (journal : JournalState) (step : IsInStep journal new.now) (formed : journal.form ≡ 3) (replaced : payloads store.journal.form (reads_of new.now) ≡ side) where
+    side_now : payloads 3 (reads_of new.now) ≡ side
+    side_now = subst (λ (f : ℕ). payloads f (reads_of new.now) ≡ side) in_step.form replaced
 
-  compaction_records : payloads store.journal.form (reads_of new.now) ≡ side → requests_in (reads_of new.now) ≡ latest_requests (requests_in reads)
-  compaction_records replaced = ap requests_among (subst (λ (f : ℕ). payloads f (reads_of new.now) ≡ side) in_step.form replaced) ∙ records_now
+    all_now : requests_in (reads_of new.now) ≡ own_requests (reads_of new.now)
+    all_now = live_requests (reads_of new.now) (in_step_live journal new.now step formed)
 
-  -- what compaction has done
-  pub has_carried : payloads store.journal.form (reads_of new.now) ≡ side → HasCarriedOver reads (reads_of new.now)
-  has_carried replaced = record {
-    side = compaction_side replaced;
-    records = compaction_records replaced;
-    live = all_live (requests_in reads) (payloads 3 (reads_of new.now)) (compaction_side replaced) (compaction_records replaced);
-  }
+    own_now : own_requests (reads_of new.now) ≡ latest_requests (own_requests reads)
+    own_now = ap requests_among side_now ∙ records_now
 
-  pub compaction_held : payloads store.journal.form (reads_of new.now) ≡ side → made ≡ payloads 3 (reads_of new.now)
-  compaction_held replaced = sym written ∙ sym (subst (λ (f : ℕ). payloads f (reads_of new.now) ≡ side) in_step.form replaced)
+    -- what compaction has done
+    pub has_carried : HasCarriedOver (own_requests reads) (reads_of new.now)
+    has_carried = record {
+      side = side_now ∙ is_now;
+      records = all_now ∙ own_now;
+      live = all_live (own_requests reads) (payloads 3 (reads_of new.now)) (side_now ∙ is_now) own_now ∙ ap compacted_requests (sym all_now);
+    }
 
--- what opening did first changed no payload
-pub compacted_from : (before middle after : Image) → payloads 3 middle ≡ payloads 3 before → HasCarriedOver middle after → HasCarriedOver before after
-compacted_from before middle after same done = record {
-  side = done.side ∙ ap (λ (ps : List (List ℕ)). compacted_requests (requests_among ps)) same;
-  records = done.records ∙ ap (λ (ps : List (List ℕ)). latest_requests (requests_among ps)) same;
-  live = done.live;
-}
+    pub compaction_held : made ≡ payloads 3 (reads_of new.now)
+    compaction_held = sym written ∙ sym side_now
 
 -- an opened store asks where the image does
 pub store_asks : (image : Image) (generation : ℕ) (held : List (List ℕ)) → generation ≡ opened_generation image → held ≡ payloads 3 image → ImageAsksCarrying image → AsksCarrying generation held
@@ -157,3 +156,17 @@ counts_on {T = T} {U = U} first second failed before middle after is_first is_se
     by : (f : StoreFault) → StoreCounts {T = T} (Err f) middle after → StoreCounts {T = U} (Err f) before after
     by fault.NoMemory c = c ∙ same
     by fault.DiskFailed c = subst (λ (n : ℕ). Counted n after) same c
+
+-- the generation of a journal that was found, where that of form 3 is
+pub found_generation : (image : Image) (journal : JournalState) (form : ℕ) → form ≡ 3 → OpensAt image (counting form image) journal → journal.generation ≡ opened_generation image
+found_generation image journal form is opens =
+    generation_is image journal (counting 3 image) (subst (λ (f : ℕ). OpensAt image (counting f image) journal) is opens)
+
+-- What is asked of payloads is asked of an image of another form where neither is: it has no payloads of form 3, and compaction would keep all of the others.
+pub taken_asks : (image : Image) (generation : ℕ) (held : List (List ℕ)) → has_form 3 image ≡ false → held ≡ compacted_requests (requests_among held) → AsksCarrying generation held → ImageAsksCarrying image
+taken_asks image generation held none live asks = absurd (none_asked generation held live asks)
+
+pub none_unasked : (image : Image) → has_form 3 image ≡ false → ¬ ImageAsksCarrying image
+none_unasked image none asks =
+    let empty : payloads 3 image ≡ [] = no_form_payloads 3 image none in
+    omega (arith, asks.dead.many, ap closed_length empty)

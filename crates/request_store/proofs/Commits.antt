@@ -1,16 +1,19 @@
 -- What a commit leaves, from what it leaves of the journal.
-use Rattle.std.proofs.Common.{◌≡◌, ℕ, ◌<◌, List, [], ◌∷◌, ◌++◌, length, get_or, sym, ap, subst, ◌∙◌}
+use Rattle.std.proofs.Common.{◌≡◌, ℕ, ◌<◌, true, List, [], ◌∷◌, ◌++◌, length, get_or, sym, ap, subst, ◌∙◌}
 use Rattle.std.proofs.lemmas.Option.{slice_get-get_or}
 use Rattle.vr_base.specs.declared.file.FileName.{FileName}
 use Rattle.vr_base.specs.declared.graph.Entry.{Entry}
 use Rattle.vr_outside.specs.Disks.{AtAnyMoment, Image, IsEither, Moments, NeverLoses, reads_of}
+use Rattle.gate_journal.specs.Forms.{has_form}
 use Rattle.gate_journal.specs.Payloads.{payloads}
 use Rattle.gate_journal.specs.Journals.{IsInStep, JournalState}
-use Rattle.request_codec.specs.Requests.{RequestRecord}
+use Rattle.vr_outside.specs.Records.{Record as RequestRecord}
 use Rattle.request_codec.specs.Shelves.{RequestShelf, requests_among}
 use Rattle.request_holdings.specs.Additions.{AddsAsked, no_entry}
 use Rattle.request_holdings.specs.Held.{HeldState, latest_held}
-use Rattle.request_store.specs.Stored.{IsPreparedAt, IsRequestReady, IsRequestStoreInStep, PreparedState, RequestStoreState, prepared_record, requests_in, store_of, with_newer}
+use Rattle.request_store.specs.Stored.{IsPreparedAt, IsRequestReady, IsRequestStoreInStep, PreparedState, RequestStoreState, own_requests, prepared_record, requests_in, store_of, with_newer}
+use Rattle.request_store.specs.StoreLaws.{in_step_live, live_requests}
+use Rattle.request_store.proofs.Kept.{losing_of, moments_of}
 use Rattle.request_store.proofs.RequestsAdded.{latest_added, one_more}
 use Rattle.request_store.proofs.RequestMoments.{commit_keeps, commit_leaves}
 
@@ -38,7 +41,7 @@ module _ (old new : Moments) (store before : RequestStoreState) (inner prepared 
   form : store.journal.form ≡ 3
   form = ap (λ (s : RequestStoreState). s.journal.form) same ∙ in_step.form
 
-  more : requests_among (payloads 3 reads ++ prepared.payload ∷ []) ≡ requests_in reads ++ kept ∷ []
+  more : requests_among (payloads 3 reads ++ prepared.payload ∷ []) ≡ own_requests reads ++ kept ∷ []
   more = subst (λ (ps : List (List ℕ)). requests_among (ps ++ prepared.payload ∷ []) ≡ requests_among ps ++ prepared_record before.held.payloads prepared ∷ []) in_step.payloads_are (one_more before.held prepared ready)
 
   left : AtAnyMoment old new (λ image. IsEither (payloads store.journal.form image) (payloads store.journal.form reads) (payloads store.journal.form reads ++ inner.payload ∷ [])) → AtAnyMoment old new (λ image. IsEither (payloads 3 image) (payloads 3 reads) (payloads 3 reads ++ prepared.payload ∷ []))
@@ -47,12 +50,12 @@ module _ (old new : Moments) (store before : RequestStoreState) (inner prepared 
       (subst (λ (f : ℕ). AtAnyMoment old new (λ image. IsEither (payloads f image) (payloads f reads) (payloads f reads ++ inner.payload ∷ []))) form moments)
 
   -- the records from before, with the new one or without
-  pub committed_leaves : AtAnyMoment old new (λ image. IsEither (payloads store.journal.form image) (payloads store.journal.form reads) (payloads store.journal.form reads ++ inner.payload ∷ [])) → AtAnyMoment old new (λ image. IsEither (requests_in image) (requests_in reads) (requests_in reads ++ kept ∷ []))
-  committed_leaves moments = commit_leaves old new reads prepared.payload kept more (left moments)
+  own_leaves : AtAnyMoment old new (λ image. IsEither (payloads store.journal.form image) (payloads store.journal.form reads) (payloads store.journal.form reads ++ inner.payload ∷ [])) → AtAnyMoment old new (λ image. IsEither (own_requests image) (own_requests reads) (own_requests reads ++ kept ∷ []))
+  own_leaves moments = commit_leaves old new reads prepared.payload kept more (left moments)
 
   -- once each image has the new one, each has it
-  pub committed_keeps : AtAnyMoment old new (λ image. IsEither (payloads store.journal.form image) (payloads store.journal.form reads) (payloads store.journal.form reads ++ inner.payload ∷ [])) → NeverLoses old new (λ image. payloads store.journal.form image ≡ payloads store.journal.form reads ++ inner.payload ∷ []) → NeverLoses old new (λ image. requests_in image ≡ requests_in reads ++ kept ∷ [])
-  committed_keeps moments never =
+  own_keeps : AtAnyMoment old new (λ image. IsEither (payloads store.journal.form image) (payloads store.journal.form reads) (payloads store.journal.form reads ++ inner.payload ∷ [])) → NeverLoses old new (λ image. payloads store.journal.form image ≡ payloads store.journal.form reads ++ inner.payload ∷ []) → NeverLoses old new (λ image. own_requests image ≡ own_requests reads ++ kept ∷ [])
+  own_keeps moments never =
       commit_keeps old new reads prepared.payload kept more (left moments)
       (subst (λ (p : PreparedState). NeverLoses old new (λ image. payloads 3 image ≡ payloads 3 reads ++ p.payload ∷ [])) is
       (subst (λ (f : ℕ). NeverLoses old new (λ image. payloads f image ≡ payloads f reads ++ inner.payload ∷ [])) form never))
@@ -63,8 +66,8 @@ module _ (old new : Moments) (store before : RequestStoreState) (inner prepared 
       (subst (λ (f : ℕ). payloads f (reads_of new.now) ≡ payloads f reads ++ inner.payload ∷ []) form added)
 
   -- one record more
-  pub committed_adds : payloads store.journal.form (reads_of new.now) ≡ payloads store.journal.form reads ++ inner.payload ∷ [] → requests_in (reads_of new.now) ≡ requests_in reads ++ kept ∷ []
-  committed_adds added = ap requests_among (added_one added) ∙ more
+  own_adds : payloads store.journal.form (reads_of new.now) ≡ payloads store.journal.form reads ++ inner.payload ∷ [] → own_requests (reads_of new.now) ≡ own_requests reads ++ kept ∷ []
+  own_adds added = ap requests_among (added_one added) ∙ more
 
   -- and the store is in step
   pub committed_in_step : (journal : JournalState) (held : HeldState) → IsInStep journal new.now → journal.form ≡ store.journal.form → held.payloads ≡ store.held.payloads ++ inner.payload ∷ [] → payloads store.journal.form (reads_of new.now) ≡ payloads store.journal.form reads ++ inner.payload ∷ [] → IsRequestStoreInStep (store_of journal held) new.now
@@ -73,3 +76,24 @@ module _ (old new : Moments) (store before : RequestStoreState) (inner prepared 
     form = formed ∙ form;
     payloads_are = put ∙ ap (λ (s : RequestStoreState). s.held.payloads ++ inner.payload ∷ []) same ∙ ap (λ (p : PreparedState). before.held.payloads ++ p.payload ∷ []) is ∙ ap (λ (ps : List (List ℕ)). ps ++ prepared.payload ∷ []) in_step.payloads_are ∙ sym (added_one added);
   }
+
+  -- the same of all records, since form 3 is live
+  kept_before : requests_in reads ≡ own_requests reads
+  kept_before = live_requests reads (in_step_live before.journal old.now in_step.journal_in_step in_step.form)
+
+  live_in : AtAnyMoment old new (λ image. has_form store.journal.form image ≡ true) → AtAnyMoment old new (λ image. has_form 3 image ≡ true)
+  live_in live = subst (λ (f : ℕ). AtAnyMoment old new (λ image. has_form f image ≡ true)) form live
+
+  pub committed_leaves : AtAnyMoment old new (λ image. has_form store.journal.form image ≡ true) → AtAnyMoment old new (λ image. IsEither (payloads store.journal.form image) (payloads store.journal.form reads) (payloads store.journal.form reads ++ inner.payload ∷ [])) → AtAnyMoment old new (λ image. IsEither (requests_in image) (requests_in reads) (requests_in reads ++ kept ∷ []))
+  committed_leaves live moments =
+      subst (λ (rs : List RequestRecord). AtAnyMoment old new (λ image. IsEither (requests_in image) rs (rs ++ kept ∷ []))) (sym kept_before)
+      (moments_of old new (live_in live) (λ rs. IsEither rs (own_requests reads) (own_requests reads ++ kept ∷ [])) (own_leaves moments))
+
+  pub committed_keeps : AtAnyMoment old new (λ image. has_form store.journal.form image ≡ true) → AtAnyMoment old new (λ image. IsEither (payloads store.journal.form image) (payloads store.journal.form reads) (payloads store.journal.form reads ++ inner.payload ∷ [])) → NeverLoses old new (λ image. payloads store.journal.form image ≡ payloads store.journal.form reads ++ inner.payload ∷ []) → NeverLoses old new (λ image. requests_in image ≡ requests_in reads ++ kept ∷ [])
+  committed_keeps live moments never =
+      subst (λ (rs : List RequestRecord). NeverLoses old new (λ image. requests_in image ≡ rs ++ kept ∷ [])) (sym kept_before)
+      (losing_of old new (live_in live) (λ rs. rs ≡ own_requests reads ++ kept ∷ []) (own_keeps moments never))
+
+  pub committed_adds : (journal : JournalState) → IsInStep journal new.now → journal.form ≡ store.journal.form → payloads store.journal.form (reads_of new.now) ≡ payloads store.journal.form reads ++ inner.payload ∷ [] → requests_in (reads_of new.now) ≡ requests_in reads ++ kept ∷ []
+  committed_adds journal step formed added =
+      live_requests (reads_of new.now) (in_step_live journal new.now step (formed ∙ form)) ∙ own_adds added ∙ ap (λ (rs : List RequestRecord). rs ++ kept ∷ []) (sym kept_before)

@@ -6,7 +6,7 @@ use Rattle.std.proofs.lemmas.Bool.{cases_Bool, cond-true, cond-false, or_cases}
 use Rattle.vr_base.specs.declared.file.FileName.{FileName}
 use Rattle.request_codec.specs.Carrying.{carried_from, compacted_requests, none_carried}
 use Rattle.request_codec.specs.Forms.{request_payload_bytes}
-use Rattle.request_codec.specs.Requests.{RequestRecord, asks_for, is_overtaken, latest_request, latest_requests}
+use Rattle.vr_outside.specs.Records.{Record as RequestRecord, is_of as asks_for, is_replaced as is_overtaken, latest as latest_request, latest_alone as latest_requests}
 use Rattle.numbering.specs.NameLaws.{names_decide}
 
 or_none : (r : Option RequestRecord) → option_or r None ≡ r

@@ -1,7 +1,10 @@
 -- The lemmas.
 pub mod LatestRequests
+pub mod Losing
+pub mod Kept
 pub mod RequestMoments
 pub mod RequestsAdded
 pub mod Carried
 pub mod Commits
 pub mod ArtefactSizes
+pub mod TakingOver

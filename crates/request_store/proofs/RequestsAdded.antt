@@ -1,8 +1,9 @@
 -- The records of payloads, with one more.
 use Rattle.std.proofs.Common.{◌≡◌, ℕ, ◌+◌, List, [], ◌∷◌, ◌++◌, length, None, refl, ap, ◌∙◌, arith, length-append}
 use Rattle.vr_base.specs.declared.file.FileName.{FileName}
+use Rattle.gate_journal.specs.Forms.{has_form}
 use Rattle.gate_journal.specs.Payloads.{is_live, counting, payloads}
-use Rattle.request_codec.specs.Requests.{RequestRecord, latest_request}
+use Rattle.vr_outside.specs.Records.{Record as RequestRecord, latest as latest_request}
 use Rattle.request_codec.specs.Shelves.{RequestShelf, request_shelf_of, requests_among}
 use Rattle.request_holdings.specs.Held.{HeldState, latest_held}
 use Rattle.request_holdings.proofs.Adding.{adds_shelf, latest_push}
@@ -23,7 +24,7 @@ none_among = refl
 
 -- nor has an empty disk
 pub none_in_empty : requests_in (record { a = []; b = [] }) ≡ []
-unfolding is_live counting payloads
+unfolding has_form is_live counting payloads
 none_in_empty = none_among
 
 pub latest_none : (payloads : List (List ℕ)) (name : FileName) → payloads ≡ [] → latest_held payloads name ≡ None

@@ -8,15 +8,19 @@ use Rattle.vr_base.specs.declared.memory.DiskFailed.{DiskFailed}
 use Rattle.vr_outside.specs.declared.records.StoreFault.{StoreFault}
 use Rattle.vr_outside.specs.declared.records.StoreFault.TheVariants as fault
 use Rattle.vr_outside.specs.Disks.{DiskState, Image, IsImage, image_side, reads_of}
+use Rattle.gate_journal.specs.Forms.{older_counts}
 use Rattle.gate_journal.specs.Payloads.{block, counting, generation_of, payloads}
 use Rattle.gate_journal.specs.Journals.{IsHealthy, IsInStep, JournalState}
 use Rattle.request_codec.specs.Carrying.{compacted_requests}
 use Rattle.request_codec.specs.Ranges.{request_in_ranges}
-use Rattle.request_codec.specs.Requests.{RequestRecord, asks_for, latest_requests}
+use Rattle.vr_outside.specs.Records.{HasRecordsOf, IsAllOrLatest, Record as RequestRecord, is_of as asks_for, latest_alone as latest_requests}
 use Rattle.request_codec.specs.Shelves.{drafted_record, request_shelf_of, requests_among}
 use Rattle.request_holdings.specs.declared.additions.RequestAddition.{RequestAddition}
 use Rattle.request_holdings.specs.Additions.{AddsRequest, added_name, no_entry}
 use Rattle.request_holdings.specs.Held.{HeldState}
+use Rattle.node_codec.specs.Shelves.{shelf_of as node_shelf_of}
+use Rattle.request_migration.specs.Migrating.{migrated_requests}
+use Rattle.store_migration.specs.Taking.{taken_payloads}
 
 -- a store: what its journal knows of the disk, and the payloads with the names and the room that it has
 pub record RequestStoreState : Type 0 where
@@ -31,14 +35,22 @@ pub record PreparedState : Type 0 where
 abbrev pub prepared_of : List ℕ → RequestAddition → PreparedState
 prepared_of payload addition = record { payload = payload; addition = addition }
 
--- the records of an image: those of the payloads of form 3
+-- the records of the payloads of form 3 alone
+abbrev pub own_requests : Image → List RequestRecord
+own_requests image = requests_among (payloads 3 image)
+
+-- The records of an image: those of form 3, or where form 2 alone is live the requests that stand for the records of views that it has.
 abbrev pub requests_in : Image → List RequestRecord
-requests_in image = requests_among (payloads 3 image)
+requests_in image = if older_counts 3 2 image then migrated_requests (node_shelf_of (payloads 2 image)).records else own_requests image
+
+-- the payloads of an image: those of form 3, or where form 2 alone is live those that take the place of its payloads
+abbrev pub kept_payloads : Image → List (List ℕ)
+kept_payloads image = if older_counts 3 2 image then taken_payloads (payloads 2 image) else payloads 3 image
 
 abbrev pub store_of : JournalState → HeldState → RequestStoreState
 store_of journal held = record { journal = journal; held = held }
 
--- The journal is in step with the disk, and the payloads are the disk's.
+-- The journal, of form 3, is in step with the disk, and the payloads are the disk's.
 pub record IsRequestStoreInStep (store : RequestStoreState) (disk : DiskState) : Type 0 where
   pub journal_in_step : IsInStep store.journal disk
   pub form : store.journal.form ≡ 3
@@ -46,13 +58,11 @@ pub record IsRequestStoreInStep (store : RequestStoreState) (disk : DiskState) :
 
 -- all the records, or the latest alone
 abbrev pub AreAllOrLatest : List RequestRecord → List RequestRecord → Type 0
-AreAllOrLatest before now = (now ≡ before) ⊎ (now ≡ latest_requests before)
+AreAllOrLatest before now = IsAllOrLatest before now
 
--- An image has the records of an image of a disk, or the latest of these alone.
-pub record HasRequestsOf (disk : DiskState) (image : Image) : Type 0 where
-  pub before : Image
-  pub was : IsImage disk before
-  pub kept : AreAllOrLatest (requests_in before) (requests_in image)
+-- an image has the records of an image of a disk, or the latest of these alone
+abbrev pub HasRequestsOf : DiskState → Image → Type 0
+HasRequestsOf disk image = HasRecordsOf requests_in disk image
 
 -- the record that a prepared one adds to payloads
 abbrev pub prepared_record : List (List ℕ) → PreparedState → RequestRecord
@@ -120,11 +130,11 @@ pub record IsResting (image : Image) : Type 0 where
   pub healthy : IsHealthy 3 image
   pub unasked : ¬ ImageAsksCarrying image
 
--- An image after compaction of another: its payloads are those that keep the latest records, which are its records; and
+-- An image after compaction of some records: its payloads are those that keep the latest of them, which are its records; and
 -- none of its bytes is dead, since compaction would keep all of its payloads.
-pub record HasCarriedOver (before after : Image) : Type 0 where
-  pub side : payloads 3 after ≡ compacted_requests (requests_in before)
-  pub records : requests_in after ≡ latest_requests (requests_in before)
+pub record HasCarriedOver (before : List RequestRecord) (after : Image) : Type 0 where
+  pub side : payloads 3 after ≡ compacted_requests before
+  pub records : requests_in after ≡ latest_requests before
   pub live : payloads 3 after ≡ compacted_requests (requests_in after)
 
 -- whether a call answered a fault of the disk

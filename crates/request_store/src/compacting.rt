@@ -1,17 +1,18 @@
 //! Compaction: the latest records, and the products and texts that these reach, on the other side of the disk.
 
-ghost use Rattle.std.specs.Prelude.{◌≡◌, ◌↔◌, ◌+◌, ◌^◌, ◌<◌, false, IfOk, IsTrue, OnOk};
+ghost use Rattle.std.specs.Prelude.{◌≡◌, ◌↔◌, ◌+◌, ◌^◌, ◌<◌, false, true, IfOk, IsTrue, OnOk};
 ghost use Rattle.vr_base.specs.declared.file.FileName.{FileName};
 ghost use Rattle.vr_outside.specs.Counts.{StoreCounts};
 ghost use Rattle.vr_outside.specs.Disks.{AtAnyMoment, NeverLoses, reads_of};
+ghost use Rattle.gate_journal.specs.Forms.{has_form};
 ghost use Rattle.gate_journal.specs.Journals.{CountsAs, other_side};
 ghost use Rattle.gate_journal.specs.Payloads.{payloads};
 ghost use Rattle.request_carry.specs.Plans.{KeepsLatestRequests};
 ghost use Rattle.request_codec.specs.Carrying.{compacted_requests};
-ghost use Rattle.request_codec.specs.Requests.{latest_requests};
+ghost use Rattle.vr_outside.specs.Records.{latest_alone as latest_requests};
 ghost use Rattle.request_codec.specs.Shelves.{requests_among};
 ghost use Rattle.request_holdings.specs.Held.{latest_held};
-ghost use Rattle.request_store.specs.Stored.{AreAllOrLatest, AsksAt, AsksCarrying, HasCarriedOver, HasManyDead, IsRequestStoreInStep, IsResting, LeavesAll, OnNoMemory, capped_length, has_disk_failed, requests_in, store_of};
+ghost use Rattle.request_store.specs.Stored.{AreAllOrLatest, AsksAt, AsksCarrying, HasCarriedOver, HasManyDead, IsRequestStoreInStep, IsResting, LeavesAll, OnNoMemory, capped_length, has_disk_failed, own_requests, store_of};
 
 use crate::reading::FORM;
 use gate_journal::{Journal, ReadySide};
@@ -50,7 +51,8 @@ pub fn compact_all<D: Disk>(
         (IsRequestStoreInStep (store_of journal.new held.new) (D.moments disk.new).now) }
     ensures compacts { D.tells → journal.old.generation + 1 < 2 ^ 64 →
         OnOk result
-        (HasCarriedOver (reads_of (D.moments disk.old).now) (reads_of (D.moments disk.new).now)) }
+        (HasCarriedOver (own_requests (reads_of (D.moments disk.old).now))
+        (reads_of (D.moments disk.new).now)) }
     ensures counts { journal.old.generation + 1 < 2 ^ 64 →
         OnOk result
         (CountsAs (other_side journal.old.live) (journal.old.generation + 1) journal.new) }
@@ -58,11 +60,13 @@ pub fn compact_all<D: Disk>(
         LeavesAll result (store_of journal.old held.old) (store_of journal.new held.new) disk.old
         disk.new }
     ensures any_moment { D.tells →
-        let before = requests_in (reads_of (D.moments disk.old).now) in
+        let before = own_requests (reads_of (D.moments disk.old).now) in
         AtAnyMoment (D.moments disk.old) (D.moments disk.new)
-        (λ image. AreAllOrLatest before (requests_in image)) }
+        (λ image. AreAllOrLatest before (own_requests image)) }
+    ensures live { D.tells →
+        AtAnyMoment (D.moments disk.old) (D.moments disk.new) (λ image. has_form 3 image ≡ true) }
     ensures loses { D.tells →
-        let before = requests_in (reads_of (D.moments disk.old).now) in
+        let before = own_requests (reads_of (D.moments disk.old).now) in
         NeverLoses (D.moments disk.old) (D.moments disk.new)
         (λ image. payloads 3 image ≡ compacted_requests before) }
     ensures memory { OnNoMemory result
@@ -102,15 +106,18 @@ fn replace_by<D: Disk>(
         (IsRequestStoreInStep (store_of journal.new held.new) (D.moments disk.new).now) }
     ensures compacts { D.tells →
         OnOk result
-        (HasCarriedOver (reads_of (D.moments disk.old).now) (reads_of (D.moments disk.new).now)) }
+        (HasCarriedOver (own_requests (reads_of (D.moments disk.old).now))
+        (reads_of (D.moments disk.new).now)) }
     ensures counts { OnOk result
         (CountsAs (other_side journal.old.live) (journal.old.generation + 1) journal.new) }
     ensures any_moment { D.tells →
-        let before = requests_in (reads_of (D.moments disk.old).now) in
+        let before = own_requests (reads_of (D.moments disk.old).now) in
         AtAnyMoment (D.moments disk.old) (D.moments disk.new)
-        (λ image. AreAllOrLatest before (requests_in image)) }
+        (λ image. AreAllOrLatest before (own_requests image)) }
+    ensures live { D.tells →
+        AtAnyMoment (D.moments disk.old) (D.moments disk.new) (λ image. has_form 3 image ≡ true) }
     ensures loses { D.tells →
-        let before = requests_in (reads_of (D.moments disk.old).now) in
+        let before = own_requests (reads_of (D.moments disk.old).now) in
         NeverLoses (D.moments disk.old) (D.moments disk.new)
         (λ image. payloads 3 image ≡ compacted_requests before) }
     ensures memory { OnNoMemory result
@@ -193,19 +200,22 @@ pub fn compact_where_asked<D: Disk>(
     ensures compacts { D.tells →
         AsksCarrying journal.old.generation held.old.payloads →
         OnOk result
-        (HasCarriedOver (reads_of (D.moments disk.old).now) (reads_of (D.moments disk.new).now)) }
+        (HasCarriedOver (own_requests (reads_of (D.moments disk.old).now))
+        (reads_of (D.moments disk.new).now)) }
     ensures keeps { D.tells →
         ¬ AsksCarrying journal.old.generation held.old.payloads →
         disk.new ≡ disk.old }
     ensures settled { D.tells → OnOk result (IsResting (reads_of (D.moments disk.new).now)) }
     ensures records { D.tells →
         OnOk result
-        (AreAllOrLatest (requests_in (reads_of (D.moments disk.old).now))
-        (requests_in (reads_of (D.moments disk.new).now))) }
+        (AreAllOrLatest (own_requests (reads_of (D.moments disk.old).now))
+        (own_requests (reads_of (D.moments disk.new).now))) }
     ensures any_moment { D.tells →
-        let before = requests_in (reads_of (D.moments disk.old).now) in
+        let before = own_requests (reads_of (D.moments disk.old).now) in
         AtAnyMoment (D.moments disk.old) (D.moments disk.new)
-        (λ image. AreAllOrLatest before (requests_in image)) }
+        (λ image. AreAllOrLatest before (own_requests image)) }
+    ensures live { D.tells →
+        AtAnyMoment (D.moments disk.old) (D.moments disk.new) (λ image. has_form 3 image ≡ true) }
     ensures form { journal.new.form ≡ 3 }
     ensures usable { OnOk result (journal.new.broken ≡ false) }
     ensures cause { StoreCounts result (D.failed_disk_calls disk.old)

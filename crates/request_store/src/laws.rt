@@ -3,7 +3,7 @@
 ghost use Rattle.std.specs.Prelude.{◌≡◌, []};
 ghost use Rattle.vr_base.specs.declared.file.FileName.{FileName};
 ghost use Rattle.vr_outside.specs.Disks.{DiskState, IsDurable, reads_of};
-ghost use Rattle.request_codec.specs.Requests.{latest_request};
+ghost use Rattle.vr_outside.specs.Records.{latest as latest_request};
 ghost use Rattle.request_holdings.specs.Held.{latest_held};
 ghost use Rattle.request_store.specs.Stored.{IsRequestStoreInStep, RequestStoreState, requests_in};
 

@@ -5,6 +5,7 @@
 mod compacting;
 mod laws;
 mod reading;
+mod records;
 mod store;
 
 pub use laws::{laws_of_disks_without_requests, laws_of_request_stores};

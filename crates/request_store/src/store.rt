@@ -14,11 +14,12 @@ ghost use Rattle.request_codec.specs.Carrying.{compacted_requests};
 ghost use Rattle.request_codec.specs.Shelves.{request_shelf_of};
 ghost use Rattle.request_holdings.specs.Additions.{AddsAsked};
 ghost use Rattle.request_holdings.specs.Held.{latest_held};
-ghost use Rattle.request_holdings.specs.Seated.{AreSeats, FitsLatest, HasLatest};
-ghost use Rattle.request_store.specs.Stored.{AreAllOrLatest, HasCarriedOver, HasRequestsOf, ImageAsksCarrying, IsPreparedAt, IsRequestReady, IsRequestStoreInStep, IsResting, LeavesAll, OnNoMemory, after_committing, has_disk_failed, prepared_record, requests_in};
+ghost use Rattle.vr_outside.specs.Records.{IsRecorded as FitsLatest, HasLatest};
+ghost use Rattle.request_holdings.specs.Seated.{AreSeats};
+ghost use Rattle.request_store.specs.Stored.{AreAllOrLatest, HasCarriedOver, HasRequestsOf, ImageAsksCarrying, IsPreparedAt, IsRequestReady, IsRequestStoreInStep, IsResting, LeavesAll, OnNoMemory, after_committing, has_disk_failed, kept_payloads, prepared_record, requests_in};
 
 use crate::compacting::{compact_all, compact_where_asked};
-use crate::reading::{FORM, Parts, read};
+use crate::reading::{EARLIER_FORM, FORM, Parts, read};
 use gate_journal::{Journal, Payloads, Ready};
 use request_holdings::{NextRequest, RequestAddition, RequestHoldings, Seats};
 use std::alloc::Global;
@@ -88,14 +89,14 @@ impl RequestStore {
         ensures compacts { D.tells →
             ImageAsksCarrying (reads_of (D.moments disk.old).now) →
             OnOk result
-            (HasCarriedOver (reads_of (D.moments disk.old).now)
+            (HasCarriedOver (requests_in (reads_of (D.moments disk.old).now))
             (reads_of (D.moments disk.new).now)) }
         // and where it doesn't, all payloads are.
         ensures keeps { D.tells →
             ¬ ImageAsksCarrying (reads_of (D.moments disk.old).now) →
             OnOk result
-            (payloads 3 (reads_of (D.moments disk.new).now)
-            ≡ payloads 3 (reads_of (D.moments disk.old).now)) }
+            (kept_payloads (reads_of (D.moments disk.new).now)
+            ≡ kept_payloads (reads_of (D.moments disk.old).now)) }
         ensures in_step { D.tells →
             IfOk result (λ store. IsRequestStoreInStep store (D.moments disk.new).now) }
         ensures usable { IfOk result (λ store. store.journal.broken ≡ false) }
@@ -130,7 +131,7 @@ impl RequestStore {
         ensures cause { StoreCounts result (D.failed_disk_calls disk.old)
             (D.failed_disk_calls disk.new) }
     {
-        let journal = Journal::emptied(alloc, disk, FORM)?;
+        let journal = Journal::emptied(alloc, disk, FORM, EARLIER_FORM)?;
         let held = RequestHoldings::of(alloc, Payloads::new(alloc))?;
         Ok(RequestStore { journal, held })
     }
@@ -266,7 +267,7 @@ impl RequestStore {
             OnOk result (IsRequestStoreInStep self.new (D.moments disk.new).now) }
         ensures compacts { D.tells → self.old.journal.generation + 1 < 2 ^ 64 →
             OnOk result
-            (HasCarriedOver (reads_of (D.moments disk.old).now)
+            (HasCarriedOver (requests_in (reads_of (D.moments disk.old).now))
             (reads_of (D.moments disk.new).now)) }
         ensures counts { self.old.journal.generation + 1 < 2 ^ 64 →
             OnOk result

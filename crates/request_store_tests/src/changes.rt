@@ -5,16 +5,17 @@ ghost use Rattle.vr_base.specs.declared.limits.TheConstants.{ARTEFACT_LIMIT};
 ghost use Rattle.vr_outside.specs.Records.{deps_at};
 ghost use Rattle.request_codec.specs.Shelves.{request_shelf_of};
 ghost use Rattle.request_holdings.specs.Held.{latest_held};
-ghost use Rattle.request_holdings.specs.Seated.{AreSeats, HasLatest};
+ghost use Rattle.vr_outside.specs.Records.{HasLatest};
+ghost use Rattle.request_holdings.specs.Seated.{AreSeats};
 ghost use Rattle.request_store.specs.Stored.{IsRequestStoreInStep};
 
-use record_codec::read_record;
+use record_codec::{Record, read_record};
 use request_holdings::Seats;
 use request_store::RequestStore;
 use std::alloc::Global;
 use vr_base::{ARTEFACT_LIMIT, FileName, Graph, Items, NoMemory, Numbers, Text};
 use vr_memory::MemDisk;
-use vr_outside::{Disk, Record, Side, StoreFault, write_durably};
+use vr_outside::{Disk, Side, StoreFault, write_durably};
 
 /// A disk of which these calls fail.
 pub(super) fn empty_disk(alloc: Global, failing: &[u64]) -> Result<MemDisk, NoMemory> {

@@ -5,7 +5,7 @@ use Rattle.std.specs.Option.{option_map_or}
 use Rattle.vr_base.specs.declared.graph.Entry.{Entry}
 use Rattle.vr_outside.specs.Records.{deps_at}
 use Rattle.request_holdings.specs.Held.{latest_held}
-use Rattle.request_holdings.specs.Seated.{FitsLatest, HasLatest}
+use Rattle.vr_outside.specs.Records.{IsRecorded as FitsLatest, HasLatest}
 
 pub deps_built : (payloads : List (List ℕ)) (graph : List Entry) (at : ℕ) → FitsLatest (latest_held payloads) graph at → All (HasLatest (latest_held payloads) graph) (deps_at graph at)
 deps_built payloads graph at fits = subst (λ (ps : List ℕ). All (HasLatest (latest_held payloads) graph) ps) (sym (ap (λ (o : Option Entry). option_map_or (λ (e : Entry). e.deps) o []) fits.is_entry)) fits.built

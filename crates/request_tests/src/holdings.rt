@@ -1,12 +1,11 @@
 //! Tests of which records are the latest, and which have what would be asked now.
 
 use crate::payloads::{A, B, OTHER, PRODUCT, SAME, opened};
-use record_codec::read_record;
+use record_codec::{Record, read_record};
 use request_holdings::RequestHoldings;
 use std::alloc::Global;
 use std::test::Fail;
 use vr_base::{Graph, NoMemory, Text};
-use vr_outside::Record;
 
 /// The graph of `a.vhd` and of `b.vhd` over it, both of `lib`, with the words `cc` and the text `x`, as a record of a view;
 /// and where the texts and the words of the second file are.

@@ -4,13 +4,14 @@ use Rattle.std.specs.Prelude.{is_some, is_none}
 use Rattle.std.specs.List.{list_any, list_all}
 use Rattle.std.proofs.lemmas.List.{drop_at, map_push, map-append, append-nil, append_assoc}
 use Rattle.std.proofs.lemmas.Bool.{eq-eqb, ne_eqb, cond-true, cond-false, cases_Bool}
+use Rattle.vr_base.specs.declared.graph.BuiltFile.{BuiltFile}
 use Rattle.vr_base.specs.declared.child.Request.{Request}
 use Rattle.vr_base.specs.declared.child.Exit.{Exit}
 use Rattle.vr_base.specs.declared.child.Event.{Event}
 use Rattle.vr_base.specs.declared.child.Event.TheVariants.{Started, Ended, Gone}
 use Rattle.vr_outside.specs.Records.{deps_at}
 use Rattle.run_spec.specs.Moves.{Job, RunningChild, EndedChild, Core, empty_core, Move, is_made_so_far, is_startable, position_of, without_child, ended_child, after_move, after_moves, LawfulMoves, GreedyMoves}
-use Rattle.run_spec.specs.ChildJournal.{Work, Run, End, Book, empty_book, exit_at, output_at, artefact_so_far, job_of, child_of_run, child_of_end, core_of, next_position, run_of, others_of, end_of, after, after_all, book_of, move_of, moves_after, moves_of, AreRequested, EachAfter, HasFreshTicket, HoldsAnswer, Answered, Lawful, Greedy, since, starts_of}
+use Rattle.run_spec.specs.ChildJournal.{Work, Run, End, Book, empty_book, exit_at, output_at, artefact_so_far, job_of, child_of_run, child_of_end, core_of, next_position, files_below, run_of, others_of, end_of, after, after_all, book_of, move_of, moves_after, moves_of, AreRequested, EachAfter, HasFreshTicket, HoldsAnswer, Answered, Lawful, Greedy, since, starts_of}
 
 pub after_all-append : (s : Work) (b : Book) (xs ys : List Event) → after_all s b (xs ++ ys) ≡ after_all s (after_all s b xs) ys
 unfolding after_all
@@ -114,7 +115,7 @@ after_two s b x y = refl
 
 -- one child has run where none ran
 pub after_run : (s : Work) (b : Book) (t i : ℕ) (r : Request) (e : Exit) → b.runs ≡ [] → next_position s b ≡ Some i →
-    after s (after s b (Started t r)) (Ended t e) ≡ record { taken = b.taken ++ i ∷ []; runs = []; ends = b.ends ++ (record { position = i; request = r; exit = e }) ∷ []; halted = b.halted || (not s.keep_going && not (eqb e.code 0)) }
+    after s (after s b (Started t r)) (Ended t e) ≡ record { taken = b.taken ++ i ∷ []; runs = []; ends = b.ends ++ (record { position = i; request = r; below = files_below s b.ends i; exit = e }) ∷ []; halted = b.halted || (not s.keep_going && not (eqb e.code 0)) }
 unfolding after
 after_run s b t i r e idle next = rw (next, idle, eq-eqb t t refl) refl
 
@@ -128,19 +129,19 @@ no_exit : {X : Type 0} (e : X) → ◌≡◌ {A = Option X} (Some e) None → �
 no_exit e h = cc
 
 -- one more end
-pub exit_at-pushed : (ends : List End) (i : ℕ) (r : Request) (e : Exit) → exit_at ends i ≡ None → exit_at (ends ++ (record { position = i; request = r; exit = e }) ∷ []) i ≡ Some e
+pub exit_at-pushed : (ends : List End) (i : ℕ) (r : Request) (w : List BuiltFile) (e : Exit) → exit_at ends i ≡ None → exit_at (ends ++ (record { position = i; request = r; below = w; exit = e }) ∷ []) i ≡ Some e
 unfolding exit_at
-exit_at-pushed [] i r e h = cond-true (eqb i i) (Some e) None (eq-eqb i i refl)
-exit_at-pushed (end ∷ ends) i r e h =
+exit_at-pushed [] i r w e h = cond-true (eqb i i) (Some e) None (eq-eqb i i refl)
+exit_at-pushed (end ∷ ends) i r w e h =
     elim (cases_Bool (eqb end.position i)) [
       | inl t ↦ absurd (no_exit end.exit (sym (cond-true (eqb end.position i) (Some end.exit) (exit_at ends i) t) ∙ h))
-      | inr f ↦ cond-false (eqb end.position i) (Some end.exit) (exit_at (ends ++ (record { position = i; request = r; exit = e }) ∷ []) i) f ∙ exit_at-pushed ends i r e (sym (cond-false (eqb end.position i) (Some end.exit) (exit_at ends i) f) ∙ h)
+      | inr f ↦ cond-false (eqb end.position i) (Some end.exit) (exit_at (ends ++ (record { position = i; request = r; below = w; exit = e }) ∷ []) i) f ∙ exit_at-pushed ends i r w e (sym (cond-false (eqb end.position i) (Some end.exit) (exit_at ends i) f) ∙ h)
     ]
 
-pub exit_at-push_other : (ends : List End) (i k : ℕ) (r : Request) (e : Exit) → (i ≡ k → ⊥) → exit_at (ends ++ (record { position = i; request = r; exit = e }) ∷ []) k ≡ exit_at ends k
+pub exit_at-push_other : (ends : List End) (i k : ℕ) (r : Request) (w : List BuiltFile) (e : Exit) → (i ≡ k → ⊥) → exit_at (ends ++ (record { position = i; request = r; below = w; exit = e }) ∷ []) k ≡ exit_at ends k
 unfolding exit_at
-exit_at-push_other [] i k r e h = cond-false (eqb i k) (Some e) None (ne_eqb i k h)
-exit_at-push_other (end ∷ ends) i k r e h = ap (cond (eqb end.position k) (Some end.exit)) (exit_at-push_other ends i k r e h)
+exit_at-push_other [] i k r w e h = cond-false (eqb i k) (Some e) None (ne_eqb i k h)
+exit_at-push_other (end ∷ ends) i k r w e h = ap (cond (eqb end.position k) (Some end.exit)) (exit_at-push_other ends i k r w e h)
 
 -- what was printed, with one more end
 pub output_at-pushed : (ended : List EndedChild) (end : EndedChild) (k : ℕ) → output_at ended k ≡ None → output_at (ended ++ end ∷ []) k ≡ cond (eqb end.position k && end.ok) (Some end.output) None

@@ -7,7 +7,7 @@ pub mod SettledBuild
 pub mod Journal
 pub mod Steps
 pub mod Parts
-pub mod SameViews
+pub mod SameAsked
 pub mod RecordedArtefacts
 pub mod Prefixes
 pub mod Waiting

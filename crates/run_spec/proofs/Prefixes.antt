@@ -6,7 +6,7 @@ use Rattle.vr_base.specs.declared.child.Request.{Request}
 use Rattle.vr_base.specs.declared.child.Exit.{Exit}
 use Rattle.vr_base.specs.declared.child.Event.{Event}
 use Rattle.vr_base.specs.declared.child.Event.TheVariants.{Started, Ended, Gone}
-use Rattle.vr_outside.specs.declared.records.Record.{Record}
+use Rattle.vr_outside.specs.Records.{Record}
 use Rattle.run_spec.specs.Moves.{Core, empty_core, after_move, LawfulMoves}
 use Rattle.run_spec.specs.ChildJournal.{Work, End, Book, empty_book, job_of, run_of, end_of, after, after_all, book_of, move_of, moves_after, IsRequested, AreRequested, EachAfter, HasFreshTicket, HoldsAnswer, Answered, Lawful}
 use Rattle.run_spec.specs.Commits.{commit_of, commits_of, commits}
@@ -73,5 +73,5 @@ commits_prefix s xs ys =
       commits_of s.graph later.0,
       ap (λ (book : Book). commits_of s.graph book.ends) (after_all-append s empty_book xs ys)
           ∙ ap (commits_of s.graph) later.1
-          ∙ flat_map-append (λ (end : End). commit_of s.graph end.position end.exit) (book_of s xs).ends later.0,
+          ∙ flat_map-append (commit_of s.graph) (book_of s xs).ends later.0,
     )

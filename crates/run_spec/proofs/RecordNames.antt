@@ -1,54 +1,28 @@
--- Whose record a record of a view is.
-use Rattle.std.proofs.Common.{◌≡◌, ℕ, ◌-◌, ◌<◌, true, false, List, [], ◌∷◌, ◌++◌, length, map, Option, Some, None, refl, sym, ap, ◌∙◌, arith, inl, inr}
+-- Whose record a record of a file is.
+use Rattle.std.proofs.Common.{◌≡◌, ℕ, ◌<◌, true, false, List, [], length, Option, Some, None, refl, sym, ap, subst, ◌∙◌, arith, inl, inr}
 use Rattle.std.specs.Prelude.{slice_get}
-use Rattle.std.specs.List.{filter_map, cons_option}
 use Rattle.std.specs.Option.{option_map_or}
 use Rattle.std.proofs.lemmas.Bool.{cases_Bool, cases_order}
-use Rattle.std.proofs.lemmas.List.{map_push, length_push}
-use Rattle.std.proofs.lemmas.List.Elements.{filter_map-append}
 use Rattle.std.proofs.lemmas.Option.{slice_get_within, get_or_from_slice_get}
 use Rattle.vr_base.specs.declared.file.FileName.{FileName}
+use Rattle.vr_base.specs.declared.graph.BuiltFile.{BuiltFile}
 use Rattle.vr_base.specs.declared.graph.Entry.{Entry}
-use Rattle.vr_base.specs.Graphs.{IsGraph}
+use Rattle.vr_base.specs.Graphs.{IsGraph, IsEntryAt}
 use Rattle.vr_base.specs.Names.{is_same_name}
-use Rattle.vr_base.specs.View.{view, viewed, part, renumbered}
-use Rattle.vr_outside.specs.Records.{last_entry, is_of}
-use Rattle.run_spec.specs.Commits.{record_at}
-use Rattle.run_spec.proofs.Places.{slice_get-pushed}
-use Rattle.run_spec.proofs.SameViews.{same_names}
-
-last_pushed : (prefix : List Entry) (last : Entry) → last_entry (prefix ++ last ∷ []) ≡ Some last
-last_pushed prefix last =
-    let count : length (prefix ++ last ∷ []) - 1 ≡ length prefix = omega (arith, length_push prefix last) in
-    ap (slice_get (prefix ++ last ∷ [])) count ∙ slice_get-pushed prefix last
+use Rattle.vr_outside.specs.Records.{Asked, asked_of, is_of}
+use Rattle.run_spec.specs.Commits.{asked_over, record_at}
+use Rattle.run_spec.proofs.SameAsked.{same_names}
 
 module _ (graph : List Entry) (position : ℕ) (entry : Entry) (at : slice_get graph position ≡ Some entry) where
-  viewed_is : viewed graph position ≡ entry.deps ++ position ∷ []
-  unfolding viewed
-  viewed_is = rw at refl
-
-  picked : filter_map (slice_get graph) (viewed graph position) ≡ filter_map (slice_get graph) entry.deps ++ entry ∷ []
-  picked =
-      ap (filter_map (slice_get graph)) viewed_is ∙ filter_map-append (slice_get graph) entry.deps (position ∷ [])
-      ∙ ap (λ (o : Option Entry). filter_map (slice_get graph) entry.deps ++ cons_option o []) at
-
-  view_is : view graph position ≡ map (renumbered (viewed graph position)) (filter_map (slice_get graph) entry.deps) ++ renumbered (viewed graph position) entry ∷ []
-  unfolding part
-  view_is = ap (map (renumbered (viewed graph position))) picked ∙ map_push (renumbered (viewed graph position)) (filter_map (slice_get graph) entry.deps) entry
+  pub asked_is : (below : List BuiltFile) → asked_over graph position below ≡ asked_of entry below
+  asked_is below = ap (λ (o : Option Entry). option_map_or (λ (e : Entry). asked_of e below) o (record { command = []; name = record { library = []; path = [] }; text = []; below = below })) at
 
   -- the record of a file is of the file's name
-  pub is_of_record : (artefact : List ℕ) (name : FileName) → is_of name (record_at graph position artefact) ≡ is_same_name entry.name name
-  is_of_record artefact name =
-      ap (λ (o : Option Entry). option_map_or (λ e. is_same_name e.name name) o false)
-      (ap last_entry view_is ∙ last_pushed (map (renumbered (viewed graph position)) (filter_map (slice_get graph) entry.deps)) (renumbered (viewed graph position) entry))
+  pub is_of_record : (below : List BuiltFile) (artefact : List ℕ) (name : FileName) → is_of name (record_at graph position below artefact) ≡ is_same_name entry.name name
+  is_of_record below artefact name = ap (λ (a : Asked). is_same_name a.name name) (asked_is below)
 
-  pub is_of_own : (artefact : List ℕ) → is_of entry.name (record_at graph position artefact) ≡ true
-  is_of_own artefact = is_of_record artefact entry.name ∙ (same_names entry.name entry.name).1 refl
-
--- a position past the end has the empty view
-nothing_viewed : (graph : List Entry) (position : ℕ) → slice_get graph position ≡ None → view graph position ≡ []
-unfolding viewed part
-nothing_viewed graph position none = rw none refl
+  pub is_of_own : (below : List BuiltFile) (artefact : List ℕ) → is_of entry.name (record_at graph position below artefact) ≡ true
+  is_of_own below artefact = is_of_record below artefact entry.name ∙ (same_names entry.name entry.name).1 refl
 
 -- two files have two names
 names_differ : (graph : List Entry) (i j : ℕ) (e f : Entry) → IsGraph graph → slice_get graph i ≡ Some e → slice_get graph j ≡ Some f → i < j → e.name ≡ f.name → ⊥
@@ -68,9 +42,20 @@ other_name graph i j e f is at_i at_j differ =
       | inr f ↦ f
     ]
 
+-- no file of a graph has the empty name
+named : (graph : List Entry) (k : ℕ) (entry : Entry) → IsGraph graph → slice_get graph k ≡ Some entry → is_same_name (record { library = []; path = [] }) entry.name ≡ false
+named graph k entry is at =
+    let form : IsEntryAt graph k entry = subst (IsEntryAt graph k) (get_or_from_slice_get graph k entry entry at) (is.each k entry (slice_get_within graph k entry at)) in
+    elim (cases_Bool (is_same_name (record { library = []; path = [] }) entry.name)) [
+      | inl t ↦
+          let same : ◌≡◌ {A = FileName} (record { library = []; path = [] }) entry.name = (same_names (record { library = []; path = [] }) entry.name).0 t in
+          absurd (omega (arith, form.name.library.at_least, ap (λ (n : FileName). length n.library) same))
+      | inr f ↦ f
+    ]
+
 -- the record of another position is of another name, or of none
-pub is_of_other : (graph : List Entry) (position k : ℕ) (artefact : List ℕ) (entry : Entry) → IsGraph graph → slice_get graph k ≡ Some entry → (position ≡ k → ⊥) → is_of entry.name (record_at graph position artefact) ≡ false
-is_of_other graph position k artefact entry is at_k differ = from (slice_get graph position) refl where
-  from : (here : Option Entry) → slice_get graph position ≡ here → is_of entry.name (record_at graph position artefact) ≡ false
-  from None at = ap (λ (v : List Entry). option_map_or (λ e. is_same_name e.name entry.name) (last_entry v) false) (nothing_viewed graph position at)
-  from (Some other) at = is_of_record graph position other at artefact entry.name ∙ other_name graph position k other entry is at at_k differ
+pub is_of_other : (graph : List Entry) (position k : ℕ) (below : List BuiltFile) (artefact : List ℕ) (entry : Entry) → IsGraph graph → slice_get graph k ≡ Some entry → (position ≡ k → ⊥) → is_of entry.name (record_at graph position below artefact) ≡ false
+is_of_other graph position k below artefact entry is at_k differ = from (slice_get graph position) refl where
+  from : (here : Option Entry) → slice_get graph position ≡ here → is_of entry.name (record_at graph position below artefact) ≡ false
+  from None at = ap (λ (o : Option Entry). is_same_name (option_map_or (λ (e : Entry). asked_of e below) o (record { command = []; name = record { library = []; path = [] }; text = []; below = below })).name entry.name) at ∙ named graph k entry is at_k
+  from (Some other) at = is_of_record graph position other at below artefact entry.name ∙ other_name graph position k other entry is at at_k differ

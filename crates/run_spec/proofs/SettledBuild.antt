@@ -296,14 +296,14 @@ module _ (answer : Request → Exit) (work : Work) (ends : List End) (ordered : 
 
 -- ## Records that are true
 
-true_one : (all : Bool) (o : Option (List ℕ)) (exit : Option Exit) → ((x : List ℕ) → o ≡ Some x → settled_artefact (settled_by None exit) ≡ Some x) → settled_artefact (cond all (settled_by o exit) Blocked) ≡ settled_artefact (cond all (settled_by None exit) Blocked)
-true_one false o exit is = refl
+true_one : (all : Bool) (current : Option (List ℕ)) (exit : Option Exit) → (all ≡ true → (x : List ℕ) → current ≡ Some x → settled_artefact (settled_by None exit) ≡ Some x) → settled_artefact (cond all (settled_by current exit) Blocked) ≡ settled_artefact (cond all (settled_by None exit) Blocked)
+true_one false current exit is = refl
 true_one true None exit is = refl
-true_one true (Some x) exit is = sym (is x refl)
+true_one true (Some x) exit is = sym (is refl x refl)
 
 -- where what is current is true over what is built without any record, the settled build makes the same
 pub true_same : (answer : Request → Exit) (graph : List Entry) (current : ℕ → List BuiltFile → Option (List ℕ)) → ((position : ℕ) → All (λ dep. dep < position) (deps_at graph position))
-    → ((k : ℕ) → k < length graph → IsTrueOver answer graph current k (built_at graph (artefact_settled answer graph none_current) (deps_at graph k))) → (k : ℕ) → artefact_settled answer graph current k ≡ artefact_settled answer graph none_current k
+    → ((k : ℕ) → k < length graph → has_all (artefact_settled answer graph none_current) (deps_at graph k) ≡ true → IsTrueOver answer graph current k (built_at graph (artefact_settled answer graph none_current) (deps_at graph k))) → (k : ℕ) → artefact_settled answer graph current k ≡ artefact_settled answer graph none_current k
 true_same answer graph current ordered is =
     let f : ℕ → Option (List ℕ) = artefact_settled answer graph current in
     let g : ℕ → Option (List ℕ) = artefact_settled answer graph none_current in

@@ -13,7 +13,7 @@ use Rattle.vr_base.specs.declared.child.Event.{Event}
 use Rattle.vr_base.specs.declared.child.Event.TheVariants.{Started, Ended, Gone}
 use Rattle.vr_outside.specs.Children.{started_with, IsFresh}
 use Rattle.run_spec.specs.Moves.{Core, start_now, LawfulMoves}
-use Rattle.run_spec.specs.ChildJournal.{Work, Run, Book, empty_book, job_of, child_of_run, core_of, next_position, request_at, run_of, others_of, after, moves_after, AreRequested, EachAfter, HasFreshTicket, HoldsAnswer, Answered, Lawful}
+use Rattle.run_spec.specs.ChildJournal.{Work, Run, Book, empty_book, job_of, child_of_run, core_of, next_position, files_below, request_at, run_of, others_of, after, moves_after, AreRequested, EachAfter, HasFreshTicket, HoldsAnswer, Answered, Lawful}
 use Rattle.run_spec.proofs.Journal.{core_after}
 
 -- a start takes a free slot, comes while the build isn't halted, and asks for the least file that may be started
@@ -122,7 +122,7 @@ still_all before event runs all =
 pub started_all : (s : Work) (before : List Event) (b : Book) (t : ℕ) (r : Request) → AreStarted before b.runs → IsFresh before t → AreStarted (before ++ Started t r ∷ []) (after s b (Started t r)).runs
 unfolding after
 started_all s before b t r all fresh =
-    All-push (λ run. started_with run.ticket (before ++ Started t r ∷ []) ≡ Some run.request) b.runs (record { ticket = t; position = unwrap_or (next_position s b) 0; request = r })
+    All-push (λ run. started_with run.ticket (before ++ Started t r ∷ []) ≡ Some run.request) b.runs (record { ticket = t; position = unwrap_or (next_position s b) 0; request = r; below = files_below s b.ends (unwrap_or (next_position s b) 0) })
     (still_all before (Started t r) b.runs all) (started_is before t r fresh)
 
 pub ended_all : (s : Work) (before : List Event) (b : Book) (t : ℕ) (e : Exit) → AreStarted before b.runs → AreStarted (before ++ Ended t e ∷ []) (after s b (Ended t e)).runs

@@ -22,16 +22,18 @@ pub record Work : Type 0 where
   pub slots : ℕ
   pub keep_going : Bool
 
--- a running child: its ticket, the position of its file, and what it was started with
+-- a running child: its ticket, the position of its file, what it was started with, and the files below that were built
 pub record Run : Type 0 where
   pub ticket : ℕ
   pub position : ℕ
   pub request : Request
+  pub below : List BuiltFile
 
--- a child that has ended: the position of its file, what it was started with, and its exit
+-- a child that has ended: the position of its file, what it was started with, the files below that were built then, and its exit
 pub record End : Type 0 where
   pub position : ℕ
   pub request : Request
+  pub below : List BuiltFile
   pub exit : Exit
 
 -- what has happened in a build so far
@@ -112,6 +114,10 @@ unfoldable pub request_at : Work → List End → ℕ → Option Request
 request_at setting ends position =
     option_map (λ entry. compile_request entry (built_at setting.graph (artefact_so_far setting ends) entry.deps)) (slice_get setting.graph position)
 
+-- the files that the file at a position depends on, as far as they have an artefact after these ends
+abbrev pub files_below : Work → List End → ℕ → List BuiltFile
+files_below setting ends position = built_at setting.graph (artefact_so_far setting ends) (deps_at setting.graph position)
+
 -- the position of the file that the next start is of
 abbrev pub next_position : Work → Book → Option ℕ
 next_position setting book = next_start (job_of setting) (core_of book)
@@ -129,13 +135,13 @@ others_of ticket (run ∷ runs) = if run.ticket == ticket then runs else run ∷
 -- the end of a run
 abbrev pub end_of : Option Run → Exit → List End
 end_of None exit = []
-end_of (Some run) exit = record { position = run.position; request = run.request; exit = exit } ∷ []
+end_of (Some run) exit = record { position = run.position; request = run.request; below = run.below; exit = exit } ∷ []
 
 -- what has happened after one more event
 unfoldable pub after : Work → Book → Event → Book
 after setting book (Started ticket request) =
     let position = unwrap_or (next_position setting book) 0 in
-    record { taken = book.taken ++ position ∷ []; runs = book.runs ++ (record { ticket = ticket; position = position; request = request }) ∷ []; ends = book.ends; halted = book.halted }
+    record { taken = book.taken ++ position ∷ []; runs = book.runs ++ (record { ticket = ticket; position = position; request = request; below = files_below setting book.ends position }) ∷ []; ends = book.ends; halted = book.halted }
 after setting book (Ended ticket exit) =
     record { taken = book.taken; runs = others_of ticket book.runs; ends = book.ends ++ end_of (run_of ticket book.runs) exit; halted = book.halted || (not setting.keep_going && not (exit.code == 0)) }
 after setting book (Gone ticket) =

@@ -1,5 +1,5 @@
 -- The clean build of a graph: each file compiled in order, over the artefacts of the files that it depends on.
-use Rattle.std.specs.Prelude.{◌≡◌, ℕ, Bool, ◌==◌, if◌then◌else◌, List, [], ◌∷◌, ◌++◌, slice_get, Option, Some, None, is_some}
+use Rattle.std.specs.Prelude.{◌≡◌, ℕ, Bool, true, ◌==◌, if◌then◌else◌, List, [], ◌∷◌, ◌++◌, slice_get, Option, Some, None, is_some}
 use Rattle.std.specs.Option.{option_and_then}
 use Rattle.std.specs.List.{list_all, filter_map}
 use Rattle.vr_base.specs.declared.graph.Entry.{Entry}
@@ -52,5 +52,5 @@ clean_request answer graph position =
 -- what a current record gives of each file, over what a clean build makes below it, is what a clean build makes of it
 abbrev pub RecordsClean : (Request → Exit) → List Entry → (ℕ → List BuiltFile → Option (List ℕ)) → Type 0
 RecordsClean answer graph current =
-    (position : ℕ) (artefact : List ℕ) (entry : Entry) → slice_get graph position ≡ Some entry → current position (built_below (clean_build answer graph) entry) ≡ Some artefact →
+    (position : ℕ) (artefact : List ℕ) (entry : Entry) → slice_get graph position ≡ Some entry → is_free (clean_build answer graph) entry ≡ true → current position (built_below (clean_build answer graph) entry) ≡ Some artefact →
     slice_get (clean_build answer graph) position ≡ Some (Made (record { name = entry.name; artefact = artefact }))

@@ -1,30 +1,34 @@
 -- The records that a build commits, in order of the ends of its children, and when its starts come.
-use Rattle.std.specs.Prelude.{ℕ, ◌≤◌, Bool, ◌==◌, if◌then◌else◌, List, [], ◌∷◌, length, Option}
+use Rattle.std.specs.Prelude.{ℕ, ◌≤◌, Bool, ◌==◌, if◌then◌else◌, List, [], ◌∷◌, length, slice_get, Option}
 use Rattle.std.specs.List.{flat_map}
+use Rattle.std.specs.Option.{option_map_or}
 use Rattle.vr_base.specs.declared.file.FileName.{FileName}
+use Rattle.vr_base.specs.declared.graph.BuiltFile.{BuiltFile}
 use Rattle.vr_base.specs.declared.graph.Entry.{Entry}
 use Rattle.vr_base.specs.declared.child.Event.{Event}
 use Rattle.vr_base.specs.declared.child.Event.TheVariants.{Started, Ended, Gone}
-use Rattle.vr_base.specs.declared.child.Exit.{Exit}
-use Rattle.vr_base.specs.View.{view}
-use Rattle.vr_outside.specs.declared.records.Record.{Record}
+use Rattle.vr_outside.specs.Records.{Asked, Record, asked_of}
 use Rattle.run_spec.specs.ChildJournal.{Work, End, EachAfter, book_of}
-use Rattle.run_spec.specs.Recorded.{current_by_view}
+use Rattle.run_spec.specs.Recorded.{current_by_request}
 
 -- what a build over a store works on, by the latest record of each name
 abbrev pub work_of : (FileName → Option Record) → List Entry → ℕ → Bool → Work
-work_of latest_of graph slots keep_going = record { graph = graph; current = current_by_view latest_of graph; slots = slots; keep_going = keep_going }
+work_of latest_of graph slots keep_going = record { graph = graph; current = current_by_request latest_of graph; slots = slots; keep_going = keep_going }
 
--- the record of a file that was made
-abbrev pub record_at : List Entry → ℕ → List ℕ → Record
-record_at graph position artefact = record { view = view graph position; artefact = artefact }
+-- what is asked for the file at a position over these files
+abbrev pub asked_over : List Entry → ℕ → List BuiltFile → Asked
+asked_over graph position built = option_map_or (λ entry. asked_of entry built) (slice_get graph position) (record { command = []; name = record { library = []; path = [] }; text = []; below = built })
 
--- what is committed of a child of the file at a position that ended: its output where its code is 0, and nothing else
-abbrev pub commit_of : List Entry → ℕ → Exit → List Record
-commit_of graph position exit = if exit.code == 0 then record_at graph position exit.output ∷ [] else []
+-- the record of a file that was made over these
+abbrev pub record_at : List Entry → ℕ → List BuiltFile → List ℕ → Record
+record_at graph position below artefact = record { asked = asked_over graph position below; artefact = artefact }
+
+-- what is committed of a child that ended: its output where its code is 0, and nothing else
+abbrev pub commit_of : List Entry → End → List Record
+commit_of graph end = if end.exit.code == 0 then record_at graph end.position end.below end.exit.output ∷ [] else []
 
 abbrev pub commits_of : List Entry → List End → List Record
-commits_of graph ends = flat_map (λ end. commit_of graph end.position end.exit) ends
+commits_of graph ends = flat_map (commit_of graph) ends
 
 -- the records that a build with these events commits, in order
 abbrev pub commits : Work → List Event → List Record

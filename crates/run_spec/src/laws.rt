@@ -1,32 +1,28 @@
 //! The laws of what is recorded, and of the artefacts of a build.
 
-ghost use Rattle.std.specs.Prelude.{◌≡◌, ◌↔◌, ℕ, ◌<◌, ◌++◌, List, [], ◌∷◌, Option, Some, None};
+ghost use Rattle.std.specs.Prelude.{◌≡◌, ◌↔◌, ℕ, ◌<◌, ◌++◌, List, [], ◌∷◌, Option, Some, slice_get};
 ghost use Rattle.std.specs.Bool.{Decides};
 ghost use Rattle.vr_base.specs.declared.file.FileName.{FileName};
 ghost use Rattle.vr_base.specs.declared.graph.Entry.{Entry};
-ghost use Rattle.vr_outside.specs.declared.records.Record.{Record};
-ghost use Rattle.vr_outside.specs.Records.{IsRecorded};
+ghost use Rattle.vr_base.specs.declared.graph.BuiltFile.{BuiltFile};
+ghost use Rattle.vr_outside.specs.Records.{Asked, Record, asked_of};
 ghost use Rattle.vr_base.specs.Graphs.{IsGraph};
 ghost use Rattle.run_spec.specs.Moves.{IsStepwise};
 ghost use Rattle.run_spec.specs.ChildJournal.{Work, End, artefact_so_far, job_of};
-ghost use Rattle.run_spec.specs.Recorded.{is_same_view, recorded_at};
+ghost use Rattle.run_spec.specs.Recorded.{current_by_request, is_same_asked};
 
-/// What is recorded of a file: the artefact of its latest record where that record has its present view, and nothing
-/// where it has not.
+/// What is recorded of a file over files that were built: the artefact of its latest record where that record has what would be
+/// asked, and nothing where it has not.
 pub fn laws_of_recorded()
-    // The test of two views tells whether they are the same.
-    ensures same { (a b : List Entry) → Decides (is_same_view a b) (a ≡ b) }
-    // What is recorded is the artefact of a current record,
+    // The test of what is asked tells whether it is the same.
+    ensures same { (a b : Asked) → Decides (is_same_asked a b) (a ≡ b) }
+    // What is current is the artefact of a latest record with what would be asked, and no other.
     ensures current { (latest_of : FileName → Option Record) (graph : List Entry) (at : ℕ)
-        (artefact : List ℕ) → recorded_at latest_of graph at ≡ Some artefact →
-        (recorded : IsRecorded latest_of graph at) × (recorded.artefact ≡ artefact) }
-    // and the artefact of a current record is recorded,
-    ensures all { (latest_of : FileName → Option Record) (graph : List Entry) (at : ℕ)
-        (recorded : IsRecorded latest_of graph at) → recorded_at latest_of graph at ≡ Some
-        recorded.artefact }
-    // so that nothing is recorded exactly of a file without one.
-    ensures none { (latest_of : FileName → Option Record) (graph : List Entry) (at : ℕ) →
-        (recorded_at latest_of graph at ≡ None) ↔ (IsRecorded latest_of graph at → ⊥) }
+        (entry : Entry) (built : List BuiltFile) (artefact : List ℕ) →
+        slice_get graph at ≡ Some entry →
+        (current_by_request latest_of graph at built ≡ Some artefact)
+        ↔ (latest_of entry.name
+        ≡ Some (record { asked = asked_of entry built; artefact = artefact })) }
 {}
 
 /// The artefacts of a build as its children end, over any notion of what is current.

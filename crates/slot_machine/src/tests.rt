@@ -3,12 +3,11 @@
 use crate::{BuildStep, Slots};
 use build_plan::Need;
 use child_steps::Step;
-use record_codec::read_record;
+use record_codec::{Record, read_record};
 use std::alloc::Global;
 use std::process::Abort;
 use std::test::Fail;
 use vr_base::{Graph, NoMemory};
-use vr_outside::Record;
 
 /// A record whose view is the graph: files 1 and 3 depend on file 0, file 4 on 0 and 1, and the last on all.
 const BYTES: [u8; 224] = [

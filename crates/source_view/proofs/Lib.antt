@@ -1,5 +1,4 @@
 -- The lemmas of this crate.
-pub mod KeptFiles
 pub mod ListedGraph
 pub mod Numbering
 pub mod Parts

@@ -1,8 +1,7 @@
 -- The files of a listed project are a graph.
-use Rattle.std.proofs.Common.{◌≡◌, ◌≢◌, ℕ, zero, suc, ◌+◌, ◌<◌, ◌≤◌, List, [], ◌∷◌, ◌++◌, length, get_or, drop, Option, Some, refl, sym, ap, subst, ◌∙◌, arith, add-zero}
+use Rattle.std.proofs.Common.{◌≡◌, ◌≢◌, ℕ, zero, suc, ◌+◌, ◌<◌, ◌≤◌, List, [], ◌∷◌, ◌++◌, length, get_or, drop, refl, sym, ap, subst, ◌∙◌, arith, add-zero}
 use Rattle.std.specs.Prelude.{All, Contains, sum_by}
 use Rattle.std.proofs.lemmas.List.{drop_more, append_assoc, length-append}
-use Rattle.std.proofs.lemmas.Option.{slice_get_within, slice_get-get_or, same_Some}
 use Rattle.std.proofs.lemmas.List.Elements.{All-get_or}
 use Rattle.std.proofs.lemmas.List.Sums.{sum_by-cons}
 use Rattle.vr_base.specs.declared.graph.Entry.{Entry}
@@ -11,7 +10,7 @@ use Rattle.vr_base.specs.declared.project.Project.{Project}
 use Rattle.vr_base.specs.Graphs.{IsEntryAt, IsGraph}
 use Rattle.vr_base.specs.Projects.{IsProject}
 use Rattle.vr_base.proofs.GraphPrefixes.{IsGraph-prefix}
-use Rattle.vr_base.specs.PresentGraph.{below, listed_entry, listed_from, listed, IsListed}
+use Rattle.vr_base.specs.PresentGraph.{below, listed_entry, listed_from, listed}
 use Rattle.vr_base.proofs.Below.{length-below, get_or-below}
 use Rattle.order_spec.specs.LinkedGraph.{FitTexts}
 use Rattle.vr_base.specs.declared.limits.TheConstants.{FILE_LIMIT, TEXT_LIMIT}
@@ -20,11 +19,6 @@ pub listed_no_text : (place : ℕ) (files : List ProjectFile) → listed_from pl
 unfolding listed_from
 listed_no_text place [] = refl
 listed_no_text place (file ∷ files) = refl
-
-listed_no_file : (place : ℕ) (n : ℕ) (texts : List (List ℕ)) → listed_from place (drop n []) texts ≡ []
-unfolding listed_from
-listed_no_file place zero texts = refl
-listed_no_file place (suc n) texts = refl
 
 pub listed_from-append : (place : ℕ) (files : List ProjectFile) (xs ys : List (List ℕ)) → listed_from place files (xs ++ ys) ≡ listed_from place files xs ++ listed_from (place + length xs) (drop (length xs) files) ys
 unfolding listed_from
@@ -135,14 +129,3 @@ module _ (project : Project) (texts : List (List ℕ)) (is : IsProject project) 
             ∙ sym (listed-more files done text file low) in
             (subst IsGraph (ap (λ (fs : List ProjectFile). listed fs (done ++ text ∷ [])) (sym same) ∙ sym pushed) (push_is_graph done more text whole), pushed),
       )
-
--- each file of a listed project depends on all earlier ones
-pub listed_is_listed : (files : List ProjectFile) (texts : List (List ℕ)) → length texts ≤ length files → IsListed (listed files texts)
-listed_is_listed files [] le place entry at = absurd (omega (arith, slice_get_within _ place entry at, ap length (listed_no_text 0 files)))
-listed_is_listed [] (text ∷ texts) le place entry at = absurd (omega arith)
-listed_is_listed (file ∷ files) (text ∷ texts) le place entry at =
-    let lt : place < length (listed (file ∷ files) (text ∷ texts)) = slice_get_within _ place entry at in
-    let low : place < length (text ∷ texts) = omega (arith, length-listed_from 0 (file ∷ files) (text ∷ texts) le) in
-    let zero_plus : 0 + place ≡ place = omega arith in
-    let is : entry ≡ listed_entry (0 + place) (get_or (file ∷ files) place file) (get_or (text ∷ texts) place text) = same_Some entry _ (sym at ∙ slice_get-get_or (listed (file ∷ files) (text ∷ texts)) place entry lt) ∙ get_or-listed_from 0 (file ∷ files) (text ∷ texts) place entry file text le low in
-    ap (λ (e : Entry). e.deps) is ∙ ap below zero_plus

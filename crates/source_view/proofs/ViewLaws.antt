@@ -1,18 +1,16 @@
 -- The view of a file is a graph, and a view within it is the view in the graph.
-use Rattle.std.proofs.Common.{◌≡◌, ℕ, ◌+◌, ◌<◌, List, [], ◌∷◌, ◌++◌, length, map, get_or, take, drop, Some, refl, sym, ap, subst, ◌∙◌, arith, inl, inr}
-use Rattle.std.specs.Prelude.{All, Contains, slice_get, slice_index}
+use Rattle.std.proofs.Common.{◌≡◌, ℕ, ◌+◌, ◌<◌, List, [], ◌∷◌, ◌++◌, length, map, get_or, Some, refl, sym, ap, subst, ◌∙◌, arith, inl, inr}
+use Rattle.std.specs.Prelude.{All, Contains, slice_get}
 use Rattle.std.specs.List.Sorted.{IsStrictlyIncreasing}
 use Rattle.std.proofs.lemmas.Bool.{cases_lt}
-use Rattle.std.proofs.lemmas.List.{length-append, length-map, get_or-map, get_or_default, get_or_append_left, get_or_at, map_push, take_more, take-append-drop}
+use Rattle.std.proofs.lemmas.List.{length-append, length-map, get_or-map, get_or_default, get_or_append_left, get_or_at, map_push}
 use Rattle.std.proofs.lemmas.List.Elements.{Contains-append_left, All-contains_itself}
-use Rattle.std.proofs.lemmas.Option.{slice_get-get_or, get_or_from_slice_get}
+use Rattle.std.proofs.lemmas.Option.{slice_get-get_or}
 use Rattle.vr_base.specs.declared.graph.Entry.{Entry}
 use Rattle.vr_base.specs.Graphs.{IsGraph}
 use Rattle.vr_base.specs.View.{IsView}
-use Rattle.vr_base.proofs.GraphPrefixes.{IsGraph-prefix}
 use Rattle.vr_base.specs.View.{place_in, renumbered, part, viewed, view}
-use Rattle.source_view.specs.Numbers.{IsNumbered, with_numbers}
-use Rattle.source_view.proofs.Numbering.{place_at, place_of, place_within, get_or-place, place_lower}
+use Rattle.source_view.proofs.Numbering.{place_at, place_of, place_within, place_lower}
 use Rattle.source_view.specs.Parts.{IsPart}
 use Rattle.source_view.proofs.Parts.{no_entry, map_same, map_map, part_is, length-part, get_or-part, at_place, part_is_graph}
 
@@ -64,10 +62,6 @@ module _ (graph : List Entry) (at : ℕ) (valid : IsGraph graph) (lt : at < leng
 
   pub view_is_graph : IsGraph (view graph at)
   view_is_graph = part_is_graph graph (viewed graph at) viewed_is_part valid
-
-  -- the file itself is the last of its view
-  pub at_is_viewed : Contains (viewed graph at) at
-  at_is_viewed = subst (λ (ps : List ℕ). Contains ps at) (sym (viewed_is graph at no_entry lt)) (length deps, omega (arith, count), last (length deps) at refl)
 
 -- a part of a part is the part of the whole
 module _ (graph : List Entry) (outer inner : List ℕ) (is_outer : IsPart graph outer) (is_inner : IsPart graph inner) (held : All (Contains outer) inner) where
@@ -156,14 +150,6 @@ module _ (graph : List Entry) (at last : ℕ) (valid : IsGraph graph) (lt : at <
       let e : length inner_deps ≡ last = omega (arith, is_last, length-part graph (viewed graph at) (viewed_is_part graph at valid lt), length-viewed graph at no_entry lt) in
       ap (λ (ps : List ℕ). get_or ps last 0) (viewed_is graph at no_entry lt) ∙ get_or_at inner_deps at [] 0 last e
 
-  pub view_of_last : view (view graph at) last ≡ view graph at
-  view_of_last = view_of_view graph at last valid lt (omega (arith, is_last)) ∙ ap (view graph) at_last
-
-  pub name_of_last : (other : Entry) → (get_or (view graph at) last other).name ≡ (get_or graph at other).name
-  name_of_last other =
-      let l : last < length (viewed graph at) = omega (arith, is_last, length-part graph (viewed graph at) (viewed_is_part graph at valid lt)) in
-      ap (λ (e : Entry). e.name) (get_or-part graph (viewed graph at) (viewed_is_part graph at valid lt) last other l ∙ ap (λ (n : ℕ). renumbered (viewed graph at) (get_or graph n other)) at_last)
-
 module _ (graph : List Entry) (at : ℕ) (valid : IsGraph graph) (lt : at < length graph) where
   abbrev own_deps : List ℕ
   own_deps = (get_or graph at no_entry).deps
@@ -186,43 +172,7 @@ module _ (graph : List Entry) (at : ℕ) (valid : IsGraph graph) (lt : at < leng
   pub view_is_whole : IsView (view graph at)
   view_is_whole = record { some = omega (arith, length-part graph (viewed graph at) is_part, length-viewed graph at no_entry lt); whole = number_at }
 
-  -- a loop over the positions adds the files one after the other
-  pub next_file : (i position : ℕ) (table : List ℕ) (entry copy : Entry) → i < length (viewed graph at) → position ≡ get_or (viewed graph at) i position → slice_get graph position ≡ Some entry
-      → IsNumbered table (viewed graph at) (length (viewed graph at)) → copy ≡ with_numbers table entry
-      → IsGraph (take i (view graph at) ++ copy ∷ []) × (take i (view graph at) ++ copy ∷ [] ≡ take (i + 1) (view graph at))
-  next_file i position table entry copy l at_i found numbered is_copy =
-      let same_entry : get_or graph position no_entry ≡ entry = get_or_from_slice_get graph position entry no_entry found in
-      let at_0 : position ≡ get_or (viewed graph at) i 0 = at_i ∙ get_or_default (viewed graph at) i position 0 l in
-      let same_deps : map (slice_index table) entry.deps ≡ map (place_in (viewed graph at)) entry.deps = map_same (slice_index table) (place_in (viewed graph at)) entry.deps 0
-      (λ k m.
-      let held : Contains (viewed graph at) (get_or entry.deps k 0) = subst (λ (e : Entry). All (Contains (viewed graph at)) e.deps) (ap (λ (n : ℕ). get_or graph n no_entry) (sym at_0) ∙ same_entry) (is_part.closed i 0 l no_entry) k 0 m in
-      ap (slice_index table) (sym (get_or-place (viewed graph at) is_part.rising (get_or entry.deps k 0) 0 held)) ∙ numbered (place_in (viewed graph at) (get_or entry.deps k 0)) (place_within (viewed graph at) is_part.rising (get_or entry.deps k 0) held)) in
-      let renumber : copy ≡ renumbered (viewed graph at) entry = is_copy ∙ ap (λ (ds : List ℕ). record { name = entry.name; command = entry.command; text = entry.text; deps = ds }) same_deps in
-      let here : get_or (view graph at) i no_entry ≡ copy = get_or-part graph (viewed graph at) is_part i no_entry l ∙ ap (λ (n : ℕ). renumbered (viewed graph at) (get_or graph n no_entry)) (sym at_0) ∙ ap (renumbered (viewed graph at)) same_entry ∙ sym renumber in
-      let within_view : i < length (view graph at) = omega (arith, length-part graph (viewed graph at) is_part) in
-      let more : take i (view graph at) ++ copy ∷ [] ≡ take (i + 1) (view graph at) = ap (λ (e : Entry). take i (view graph at) ++ e ∷ []) (sym here) ∙ sym (take_more (view graph at) i no_entry within_view) in
-      (subst IsGraph (sym more) (IsGraph-prefix (take (i + 1) (view graph at)) (drop (i + 1) (view graph at)) (subst IsGraph (sym (take-append-drop (i + 1) (view graph at))) (view_is_graph graph at valid lt))), more)
-
 -- the positions of a view, as the code makes them
 pub viewed_of : (graph : List Entry) (at : ℕ) (entry : Entry) → slice_get graph at ≡ Some entry → viewed graph at ≡ entry.deps ++ at ∷ []
 unfolding viewed
 viewed_of graph at entry found = rw found refl
-
--- what a loop over the positions of a view knows of each
-pub record Visits (graph : List Entry) (at i position : ℕ) : Type 0 where
-  pub here : i < length (viewed graph at)
-  pub is : position ≡ get_or (viewed graph at) i position
-
-pub visited : (graph : List Entry) (at i : ℕ) (positions : List ℕ) → positions ≡ viewed graph at → i < length positions → Visits graph at i (get_or positions i 0)
-visited graph at i positions same lt =
-    subst (λ (ps : List ℕ). i < length ps → Visits graph at i (get_or ps i 0)) (sym same) (λ l. record { here = l; is = get_or_default (viewed graph at) i 0 (get_or (viewed graph at) i 0) l }) lt
-
-pub visits_within : (graph : List Entry) (at i position : ℕ) → IsGraph graph → at < length graph → Visits graph at i position → position < length graph
-visits_within graph at i position valid lt v = subst (λ (p : ℕ). p < length graph) (sym v.is) ((viewed_is_part graph at valid lt).within i position v.here)
-
-pub visited_deps : (graph : List Entry) (at i position : ℕ) (entry : Entry) (n : ℕ) → IsGraph graph → at < length graph → Visits graph at i position → slice_get graph position ≡ Some entry → n ≡ length graph → All (λ dep. dep < n) entry.deps
-visited_deps graph at i position entry n valid lt v found count k d l =
-    let low : position < length graph = visits_within graph at i position valid lt v in
-    let same : get_or graph position no_entry ≡ entry = get_or_from_slice_get graph position entry no_entry found in
-    let below : All (λ dep. dep < position) entry.deps = subst (λ (e : Entry). All (λ dep. dep < position) e.deps) same (valid.each position no_entry low).before in
-    omega (arith, below k d l, low, count)

@@ -2,13 +2,11 @@
 #![tactic(auto)]
 
 mod closed_parts;
-mod kept_views;
 mod listed;
 mod same;
 mod views;
 
 pub use closed_parts::laws_of_parts;
-pub use kept_views::is_view_of;
 pub use listed::listed_graph;
-pub use same::{same_view, same_words};
-pub use views::{laws_of_views, view_of};
+pub use same::same_words;
+pub use views::laws_of_views;

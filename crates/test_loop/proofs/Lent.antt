@@ -15,7 +15,7 @@ use Rattle.vr_base.specs.Graphs.{IsGraph, IsEntryAt}
 use Rattle.vr_base.specs.Jobs.{built_bytes}
 use Rattle.vr_base.specs.PresentGraph.{below}
 use Rattle.vr_base.proofs.Below.{below-more}
-use Rattle.vr_outside.specs.declared.records.Record.{Record}
+use Rattle.vr_outside.specs.Records.{Record}
 use Rattle.vr_outside.specs.Records.{IsRecorded}
 use Rattle.test_spec.specs.declared.runs.TestRun.{TestRun}
 use Rattle.test_spec.specs.BenchJobs.{bench_request}

@@ -7,7 +7,7 @@ use Rattle.vr_base.specs.declared.graph.Entry.{Entry}
 use Rattle.vr_base.specs.declared.graph.BuiltFile.{BuiltFile}
 use Rattle.vr_base.specs.Jobs.{built_bytes}
 use Rattle.vr_base.specs.PresentGraph.{below}
-use Rattle.vr_outside.specs.declared.records.Record.{Record}
+use Rattle.vr_outside.specs.Records.{Record}
 
 -- a file with the artefact of its latest record
 abbrev pub lent_file : (FileName → Option Record) → Entry → Option BuiltFile

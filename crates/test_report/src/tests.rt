@@ -1,14 +1,13 @@
 //! The list and the export of tests by hand: a bench of one case, benches of several, and names of all bytes.
 
 use crate::{export_json, list_tests};
-use record_codec::read_record;
+use record_codec::{Record, read_record};
 use std::alloc::Global;
 use std::test::Fail;
 use vhdl_benches::{Bench, CaseList, TestCase, Tests};
 use vr_base::{
     FileName, Graph, NoMemory, PairList, Project, ProjectFile, ProjectFileList, Text, TextList,
 };
-use vr_outside::Record;
 
 fn name(alloc: Global, library: &[u8], path: &[u8]) -> Result<FileName, NoMemory> {
     Ok(FileName {

@@ -10,7 +10,7 @@ use Rattle.vr_base.specs.declared.child.Exit.{Exit}
 use Rattle.vr_base.specs.declared.child.Event.{Event}
 use Rattle.vr_base.specs.declared.child.Event.TheVariants.{Started}
 use Rattle.vr_base.specs.Graphs.{IsGraph}
-use Rattle.vr_outside.specs.declared.records.Record.{Record}
+use Rattle.vr_outside.specs.Records.{Record}
 use Rattle.vr_outside.specs.Disks.{DiskState, Image, IsSoundSide, settled, settled_disk}
 use Rattle.vr_outside.specs.Commits.{last_state}
 use Rattle.vr_outside.proofs.ImageLaws.{settled_sound, settled_disk_only}

@@ -5,7 +5,7 @@ use Rattle.vr_base.specs.declared.child.Request.{Request}
 use Rattle.vr_base.specs.declared.child.Exit.{Exit}
 use Rattle.vr_base.specs.declared.child.Event.{Event}
 use Rattle.vr_base.specs.Graphs.{IsGraph}
-use Rattle.vr_outside.specs.declared.records.Record.{Record}
+use Rattle.vr_outside.specs.Records.{Record}
 use Rattle.vr_outside.specs.Disks.{DiskState, Image}
 use Rattle.vr_outside.specs.Commits.{last_state}
 use Rattle.run_spec.specs.ChildJournal.{Work, Answered}

@@ -6,7 +6,7 @@ ghost use Rattle.vr_base.specs.declared.child.Request.{Request};
 ghost use Rattle.vr_base.specs.declared.child.Exit.{Exit};
 ghost use Rattle.vr_base.specs.declared.child.Event.{Event};
 ghost use Rattle.vr_base.specs.Graphs.{IsGraph};
-ghost use Rattle.vr_outside.specs.declared.records.Record.{Record};
+ghost use Rattle.vr_outside.specs.Records.{Record};
 ghost use Rattle.vr_outside.specs.Disks.{Image, Moments};
 ghost use Rattle.run_spec.specs.ChildJournal.{Work, Lawful, Answered};
 ghost use Rattle.run_spec.specs.CleanBuild.{RecordsClean};

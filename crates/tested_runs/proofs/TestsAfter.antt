@@ -11,7 +11,7 @@ use Rattle.vr_base.specs.PresentGraph.{below}
 use Rattle.vr_base.specs.declared.child.Request.{Request}
 use Rattle.vr_base.specs.declared.child.Exit.{Exit}
 use Rattle.vr_base.specs.declared.child.Event.{Event}
-use Rattle.vr_outside.specs.declared.records.Record.{Record}
+use Rattle.vr_outside.specs.Records.{Record}
 use Rattle.vr_outside.specs.Disks.{Image, Moments}
 use Rattle.vr_outside.specs.Records.{IsRecorded}
 use Rattle.run_spec.specs.declared.marks.Mark.{Mark}

@@ -1,8 +1,8 @@
--- Where the need of each file is met, each has a record of its present view.
+-- Where the need of each file is met, each has a record of what would be asked for it now.
 use Rattle.std.proofs.Common.{◌≡◌, ℕ, ◌<◌, List, length, Option, All, sym, ap, subst}
 use Rattle.vr_base.specs.declared.file.FileName.{FileName}
 use Rattle.vr_base.specs.declared.graph.Entry.{Entry}
-use Rattle.vr_outside.specs.declared.records.Record.{Record}
+use Rattle.vr_outside.specs.Records.{Record}
 use Rattle.vr_outside.specs.Records.{IsRecorded}
 use Rattle.build_plan.specs.declared.plans.Need.{Need}
 use Rattle.build_plan.specs.declared.plans.Need.TheVariants.{Fresh, Later}

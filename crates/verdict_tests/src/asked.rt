@@ -97,7 +97,7 @@ fn all_fresh(needs: &[Need]) -> bool
     true
 }
 
-/// Whether each file of a graph has a record of its present view.
+/// Whether each file of a graph has a record of what would be asked for it now.
 pub(super) fn are_recorded<K: Records>(
     alloc: Global,
     graph: &Graph,

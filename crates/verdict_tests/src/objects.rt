@@ -1,10 +1,14 @@
 //! Runs over a store and children in memory, and what they tell.
 
+ghost use Rattle.request_codec.specs.Shelves.{request_shelf_of};
+ghost use Rattle.request_holdings.specs.Seated.{AreSeats};
+
 use crate::asked::{all_fit, are_recorded};
 use crate::lines::{answers_of, inputs_of, runs_of, simulator};
 use crate::way::{NEVER, Way, pick_of};
-use record_codec::read_record;
-use record_store::{NoSeats, RecordStore};
+use record_codec::{Record, read_record};
+use request_holdings::Seats;
+use request_store::RequestStore;
 use std::alloc::Global;
 use std::process::Abort;
 use std::test::Fail;
@@ -12,7 +16,7 @@ use test_loop::{TestRunFault, run_tests};
 use test_spec::{RunEnd, TestEnd, TestRunList, Verdict};
 use vr_base::{Event, Graph, NoMemory, Numbers, Positions, Text, TextList};
 use vr_memory::{MemDisk, ScriptProcs, can_answer};
-use vr_outside::{Record, Records, Side, StoreFault, write_durably};
+use vr_outside::{Records, Side, StoreFault, write_durably};
 
 /// What runs did and answered.
 #[derive(Drop)]
@@ -27,57 +31,95 @@ pub(super) struct Told {
 }
 
 /// A side of generation 1 without a record, but for the last gate.
-static SIDE: &[u8] = b"\x01VUNITREC\x01\x01\0\0\0\0\0\0\0";
+static SIDE: &[u8] = b"\x01VUNITREC\x03\x01\0\0\0\0\0\0\0";
 
 /// File `p.vhd` of `lib`, compiled by `cc`, with the text `x` and the artefact `yz`, after an open gate and the length.
-static FIRST: &[u8] = b"\x01\x2d\0\0\0\
-\x01\0\0\0\x03\0\0\0lib\x05\0\0\0p.vhd\x01\0\0\0\x02\0\0\0cc\x01\0\0\0x\0\0\0\0\x02\0\0\0yz";
-
-static GATE: &[u8] = b"\x01\x54\0\0\0";
+static FIRST: &[u8] = b"\x01\x2c\0\0\0\
+\x01\x03\0\0\0lib\x05\0\0\0p.vhd\x01\0\0\0\x02\0\0\0cc\x01\x01\0\0\0x\0\0\0\0\x01\x02\0\0\0yz";
 
 /// File `tb.vhd`, which uses it, with the text `w` and the artefact `v`.
-static SECOND: &[u8] = b"\
+static SECOND: &[u8] = b"\x01\x34\0\0\0\
+\x01\x03\0\0\0lib\x06\0\0\0tb.vhd\x01\0\0\0\x02\0\0\0cc\x01\x01\0\0\0w\
+\x01\0\0\0\0\0\0\0\0\0\0\0\x01\x01\0\0\0v";
+
+/// File `p.vhd` with the same text once more, and the artefact that it had.
+static AGAIN: &[u8] = b"\x01\x31\0\0\0\
+\x01\x03\0\0\0lib\x05\0\0\0p.vhd\x01\0\0\0\x02\0\0\0cc\
+\0\0\0\0\0\0\0\0\0\0\0\0\0\0\x01\0\0\0\0\0\0\0";
+
+/// The same with the artefact `zz`.
+static OTHER: &[u8] = b"\x01\x2f\0\0\0\
+\x01\x03\0\0\0lib\x05\0\0\0p.vhd\x01\0\0\0\x02\0\0\0cc\
+\0\0\0\0\0\0\0\0\0\0\0\0\0\x01\x02\0\0\0zz";
+
+/// A record whose view is the graph of both files.
+static VIEW: &[u8] = b"\
 \x02\0\0\0\x03\0\0\0lib\x05\0\0\0p.vhd\x01\0\0\0\x02\0\0\0cc\x01\0\0\0x\0\0\0\0\
 \x03\0\0\0lib\x06\0\0\0tb.vhd\x01\0\0\0\x02\0\0\0cc\x01\0\0\0w\x01\0\0\0\0\0\0\0\x01\0\0\0v";
 
 /// The two files.
 pub(super) fn graph_of(alloc: Global) -> Result<Graph, Fail> {
-    let Some(Record { view, artefact: _ }) = read_record(alloc, SECOND)? else {
+    let Some(Record { view, artefact: _ }) = read_record(alloc, VIEW)? else {
         return Err(Fail::from("the bytes are a record"));
     };
     Ok(view)
 }
 
-/// The bytes of a store that has a record of both files, or of the first alone.
-fn bytes_of(alloc: Global, both: bool) -> Result<Vec<u8>, NoMemory> {
+/// What a store has records of: the first file alone, both files, and then the first once more, with the artefact that it had or
+/// with another one.
+#[derive(Clone, Copy)]
+pub(super) enum Stored {
+    First,
+    Both,
+    Again,
+    Other,
+}
+
+/// What comes after the record of the first file.
+fn later_bytes(stored: Stored) -> [&'static [u8]; 2] {
+    match stored {
+        Stored::First => [b"", b""],
+        Stored::Both => [SECOND, b""],
+        Stored::Again => [SECOND, AGAIN],
+        Stored::Other => [SECOND, OTHER],
+    }
+}
+
+/// The bytes of a store.
+fn bytes_of(alloc: Global, stored: Stored) -> Result<Vec<u8>, NoMemory> {
     let mut bytes = Vec::from_slice(alloc, SIDE)?;
     bytes.extend_from_slice(FIRST)?;
-    if both {
-        bytes.extend_from_slice(GATE)?;
-        bytes.extend_from_slice(SECOND)?;
+    for later in later_bytes(stored) {
+        bytes.extend_from_slice(later)?;
     }
     bytes.push(0)?;
     Ok(bytes)
 }
 
-/// A disk that has a record of both files, or of the first alone.
-pub(super) fn disk_of(alloc: Global, both: bool) -> Result<MemDisk, StoreFault> {
-    let bytes = bytes_of(alloc, both)?;
+/// A disk that has such a store.
+pub(super) fn disk_of(alloc: Global, stored: Stored) -> Result<MemDisk, StoreFault> {
+    let bytes = bytes_of(alloc, stored)?;
     let mut disk = MemDisk::new(alloc, Numbers::new(alloc));
     write_durably(&mut disk, Side::A, 0, bytes.as_slice())?;
     Ok(disk)
 }
 
-/// A store that has a record of both files, or of the first alone.
-fn store_of(alloc: Global, both: bool) -> Result<RecordStore, StoreFault> {
-    let mut disk = disk_of(alloc, both)?;
-    RecordStore::from_disk(alloc, &mut disk)
+/// Such a store.
+fn store_of(alloc: Global, stored: Stored) -> Result<RequestStore, StoreFault> {
+    let mut disk = disk_of(alloc, stored)?;
+    RequestStore::open(alloc, &mut disk)
 }
 
-/// Whether each file of a graph has a record of its present view in a store of both files, or of the first alone.
-pub(super) fn is_recorded(alloc: Global, graph: &Graph, both: bool) -> Result<bool, Fail> {
-    let store = store_of(alloc, both)?;
-    Ok(are_recorded(alloc, graph, &store, &NoSeats)?)
+/// Whether each file of a graph has a record of what would be asked for it now.
+fn is_recorded_in(alloc: Global, graph: &Graph, store: &RequestStore) -> Result<bool, NoMemory> {
+    let seats = store.seats(alloc, graph)?;
+    are_recorded(alloc, graph, store, &seats)
+}
+
+/// The same of such a store.
+pub(super) fn is_recorded(alloc: Global, graph: &Graph, stored: Stored) -> Result<bool, Fail> {
+    let store = store_of(alloc, stored)?;
+    Ok(is_recorded_in(alloc, graph, &store)?)
 }
 
 /// The calls that are to fail.
@@ -264,14 +306,17 @@ fn told_by(
     rt: &impl Abort,
     alloc: Global,
     graph: &Graph,
-    store: &RecordStore,
+    store: &RequestStore,
+    seats: &Seats,
     lines: &str,
     procs: &mut ScriptProcs,
     way: &Way,
-) -> Result<Told, NoMemory> {
+) -> Result<Told, NoMemory>
+    requires { AreSeats (request_shelf_of store.now.held.payloads) graph.now seats.now }
+{
     let runs = runs_of(alloc, lines)?;
     let words = simulator(alloc)?;
-    let end = run_over(rt, alloc, graph, store, &NoSeats, &runs, &words, procs, way);
+    let end = run_over(rt, alloc, graph, store, seats, &runs, &words, procs, way);
     tell(alloc, procs, &inputs_of(alloc, lines)?, &end)
 }
 
@@ -279,12 +324,13 @@ fn told_over(
     rt: &impl Abort,
     alloc: Global,
     graph: &Graph,
-    store: &RecordStore,
+    store: &RequestStore,
     lines: &str,
     way: &Way,
 ) -> Result<Told, NoMemory> {
+    let seats = store.seats(alloc, graph)?;
     let mut procs = script(rt, alloc, lines, way)?;
-    told_by(rt, alloc, graph, store, lines, &mut procs, way)
+    told_by(rt, alloc, graph, store, &seats, lines, &mut procs, way)
 }
 
 /// Runs the runs of lines over a graph, of whose files the store has the records.
@@ -295,7 +341,7 @@ pub(super) fn told_on(
     lines: &str,
     way: &Way,
 ) -> Result<Told, Fail> {
-    let store = store_of(alloc, true)?;
+    let store = store_of(alloc, Stored::Both)?;
     Ok(told_over(rt, alloc, graph, &store, lines, way)?)
 }
 

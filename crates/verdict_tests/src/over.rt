@@ -2,11 +2,11 @@
 
 use crate::asked::all_fit;
 use crate::lines::{inputs_of, runs_of, simulator};
-use crate::objects::{disk_of, graph_of, script, tell_ends, tell_events};
+use crate::objects::{Stored, disk_of, graph_of, script, tell_ends, tell_events};
 use crate::way::{Way, way_of};
 use compile_loop::BuildFault;
 use disk_runs::BuildOptions;
-use record_store::RecordStore;
+use request_store::RequestStore;
 use std::alloc::Global;
 use std::process::Abort;
 use std::test::Fail;
@@ -42,7 +42,7 @@ fn test_disk(
         keep_going: false,
         clean: false,
     };
-    test_over::<RecordStore, MemDisk, ScriptProcs>(
+    test_over::<RequestStore, MemDisk, ScriptProcs>(
         alloc,
         graph,
         options,
@@ -84,24 +84,29 @@ fn told_by(
     Ok(told)
 }
 
-fn told_over(rt: &impl Abort, alloc: Global, both: bool, way: &Way) -> Result<Vec<u8>, Fail> {
+fn told_over(rt: &impl Abort, alloc: Global, stored: Stored, way: &Way) -> Result<Vec<u8>, Fail> {
     let graph = graph_of(alloc)?;
-    let mut disk = disk_of(alloc, both)?;
+    let mut disk = disk_of(alloc, stored)?;
     let mut procs = script(rt, alloc, TWO, way)?;
     Ok(told_by(rt, alloc, &graph, &mut disk, &mut procs, way)?)
 }
 
 #[test]
 fn tests_follow_a_build(rt: HostRuntime) -> Result<(), Fail> {
-    let told = told_over(&rt, rt.alloc(), true, &way_of(1, false))?;
-    assert!(rt; told.as_slice() == b"+0-0+1!1 pass lib.t.a\nfail lib.t.b\n".as_slice());
+    for stored in [Stored::Both, Stored::Again] {
+        let told = told_over(&rt, rt.alloc(), stored, &way_of(1, false))?;
+        assert!(rt; told.as_slice() == b"+0-0+1!1 pass lib.t.a\nfail lib.t.b\n".as_slice());
+    }
     Ok(())
 }
 
+/// The second file is asked for, which these children don't answer.
 #[test]
 fn no_test_follows_a_refused_file(rt: HostRuntime) -> Result<(), Fail> {
-    let told = told_over(&rt, rt.alloc(), false, &way_of(1, false))?;
-    assert!(rt; told.ends_with(b" none"));
-    assert!(rt; told.len() == 9);
+    for stored in [Stored::First, Stored::Other] {
+        let told = told_over(&rt, rt.alloc(), stored, &way_of(1, false))?;
+        assert!(rt; told.ends_with(b" none"));
+        assert!(rt; told.len() == 9);
+    }
     Ok(())
 }

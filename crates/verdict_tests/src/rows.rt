@@ -1,6 +1,6 @@
 //! Runs of small benches, event by event, with what is told of each.
 
-use crate::objects::{Told, graph_of, is_recorded, told_on, told_runs};
+use crate::objects::{Stored, Told, graph_of, is_recorded, told_on, told_runs};
 use crate::plain::{agree, plain_runs};
 use crate::way::{Way, way_of};
 use std::alloc::Global;
@@ -134,8 +134,10 @@ fn a_project_without_files_runs_nothing(rt: HostRuntime) -> Result<(), Fail> {
 #[test]
 fn tests_may_run_only_over_files_that_are_recorded(rt: HostRuntime) -> Result<(), Fail> {
     let graph = graph_of(rt.alloc())?;
-    assert!(rt; is_recorded(rt.alloc(), &graph, true)?);
-    assert!(rt; !is_recorded(rt.alloc(), &graph, false)?);
+    assert!(rt; is_recorded(rt.alloc(), &graph, Stored::Both)?);
+    assert!(rt; is_recorded(rt.alloc(), &graph, Stored::Again)?);
+    assert!(rt; !is_recorded(rt.alloc(), &graph, Stored::First)?);
+    assert!(rt; !is_recorded(rt.alloc(), &graph, Stored::Other)?);
     Ok(())
 }
 

@@ -5,7 +5,7 @@ use Rattle.std.specs.List.{AllByRecursion}
 use Rattle.std.proofs.Math.Seq.{take-append-add}
 use Rattle.std.proofs.lemmas.List.{append-nil, length-append, take-append-le, take_all}
 use Rattle.std.proofs.lemmas.Bool.{cases_lt}
-use Rattle.vr_outside.specs.declared.records.Record.{Record}
+use Rattle.vr_outside.specs.Records.{Record}
 use Rattle.vr_outside.specs.Disks.{DiskState, Image, IsImage, IsSound, reads_of, Moments, all_of, AreSound, EachImage, added_since, moments_since, Follows, AtAnyMoment, IsEither, StaysTrue, NeverLoses}
 pub use Rattle.vr_outside.specs.Commits.{one_if}
 use Rattle.vr_outside.specs.Commits.{HasFirst, most_committed, CommitsFirst, CommitsFirstIn}

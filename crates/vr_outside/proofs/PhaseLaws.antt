@@ -2,7 +2,7 @@
 use Rattle.std.proofs.Common.{◌≡◌, ◌⊎◌, ℕ, Bool, true, false, List, [], ◌∷◌, ◌++◌, take, drop, refl, sym, ap, subst, inl, inr}
 use Rattle.std.specs.List.{AllByRecursion}
 use Rattle.std.proofs.lemmas.List.{append-nil, take-append-drop}
-use Rattle.vr_outside.specs.declared.records.Record.{Record}
+use Rattle.vr_outside.specs.Records.{Record}
 use Rattle.vr_outside.specs.Disks.{DiskState, Image, IsImage, IsDurable, reads_of, Moments, all_of, EachImage, Shrinks, Goes, added_since, Follows, AtAnyMoment, IsEither, OpensWith}
 use Rattle.vr_outside.specs.Records.{IsAllOrLatest}
 use Rattle.vr_outside.specs.Commits.{HasFirst, most_committed, CommitsFirst, CommitsFirstIn}

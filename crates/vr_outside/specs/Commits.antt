@@ -1,7 +1,7 @@
 -- Images by number: how many of the records that are committed one after the other an image has.
 use Rattle.std.specs.Prelude.{◌≡◌, ℕ, ◌+◌, ◌≤◌, Bool, true, false, List, [], ◌∷◌, ◌++◌, length, take}
 use Rattle.std.specs.List.{AllByRecursion}
-use Rattle.vr_outside.specs.declared.records.Record.{Record}
+use Rattle.vr_outside.specs.Records.{Record}
 use Rattle.vr_outside.specs.Disks.{DiskState, Image, Moments, EachImage, AtAnyMoment, StaysTrue, NeverLoses}
 
 -- the records from before with the first of more, at least `low` of them and at most `high`

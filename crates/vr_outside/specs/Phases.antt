@@ -2,7 +2,7 @@
 -- Each phase says what the images of its moments have. `first` is the moment before the run, `later` those after it.
 use Rattle.std.specs.Prelude.{◌≡◌, ◌⊎◌, ℕ, Bool, false, true, List, [], ◌∷◌, ◌++◌}
 use Rattle.std.specs.List.{AllByRecursion}
-use Rattle.vr_outside.specs.declared.records.Record.{Record}
+use Rattle.vr_outside.specs.Records.{Record}
 use Rattle.vr_outside.specs.Disks.{DiskState, Image, IsImage, reads_of, EachImage, Shrinks}
 use Rattle.vr_outside.specs.Records.{IsAllOrLatest}
 use Rattle.vr_outside.specs.Commits.{last_state, CommitsFirstIn}

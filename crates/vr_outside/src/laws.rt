@@ -3,7 +3,7 @@
 ghost use Rattle.std.specs.Prelude.{◌≡◌, ◌+◌, ◌≤◌, ◌++◌, [], ◌∷◌, ℕ, Bool, true, false, not, List, length};
 ghost use Rattle.std.specs.Bool.{OnTrue};
 ghost use Rattle.std.specs.List.{AllByRecursion};
-ghost use Rattle.vr_outside.specs.declared.records.Record.{Record};
+ghost use Rattle.vr_outside.specs.Records.{Record};
 ghost use Rattle.vr_outside.specs.Disks.{DiskState, Image, Moments, IsImage, IsDurable, IsEither, AreSound, EachImage, AtAnyMoment, NeverLoses, Follows, OpensWith, added_since, reads_of};
 ghost use Rattle.vr_outside.specs.Records.{IsAllOrLatest};
 ghost use Rattle.vr_outside.specs.Commits.{CommitsFirst, one_if};

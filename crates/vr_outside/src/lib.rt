@@ -17,6 +17,6 @@ pub use disk::{Disk, Side};
 pub use durable::{cut_durably, write_durably};
 pub use laws::{laws_of_commits, laws_of_phases};
 pub use procs::{Ended, Procs, StartFault, WaitFault};
-pub use records::{Record, Records, StoreFault};
+pub use records::{Records, StoreFault};
 pub use streams::{Sink, SinkFault, Source, SourceFault, TakeEnd};
 pub use tree::{NamesEnd, ReadEnd, Tree, TreeFault};

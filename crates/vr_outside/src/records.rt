@@ -1,12 +1,11 @@
 //! Records of compiled files on a disk, as those who build with them see the store.
-ghost use Rattle.std.specs.Prelude.{◌≡◌, ◌↔◌, ◌<◌, ◌≤◌, ◌++◌, [], ◌∷◌, List, Bool, false, None, Some, Option, option_map, length, All, IsTrue, IfOk, IfSome, OnOk, is_err, slice_get};
-ghost use Rattle.vr_base.specs.View.{view};
+ghost use Rattle.std.specs.Prelude.{◌≡◌, ◌↔◌, ◌<◌, ◌≤◌, ◌++◌, [], ◌∷◌, ℕ, List, Bool, false, None, Some, Option, option_map, length, All, IsTrue, IfOk, IfSome, OnOk, is_err, slice_get};
 ghost use Rattle.vr_base.specs.declared.file.FileName.{FileName};
 ghost use Rattle.vr_base.specs.declared.graph.Entry.{Entry};
+ghost use Rattle.vr_base.specs.Graphs.{IsGraph};
 ghost use Rattle.vr_outside.specs.Counts.{DiskCounts, StoreCounts};
 ghost use Rattle.vr_outside.specs.Disks.{DiskState, Image, reads_of, IsDurable, IsEither, AtAnyMoment, NeverLoses, OpensWith};
-ghost use Rattle.vr_outside.specs.Records.{latest, deps_at, IsRecorded, HasRecordsOf, IsAllOrLatest, after_commit};
-ghost use Rattle.vr_outside.specs.declared.records.Record.{Record};
+ghost use Rattle.vr_outside.specs.Records.{Record, latest, deps_at, asked_now, HasLatest, IsRecorded, HasRecordsOf, IsAllOrLatest, after_commit};
 ghost use Rattle.vr_outside.specs.declared.records.StoreFault.TheVariants as fault;
 
 use crate::Disk;
@@ -52,15 +51,8 @@ impl From<DiskFailed> for StoreFault {
     }
 }
 
-/// What was compiled, the file last, and what the compiler gave for it.
-#[derive(Drop)]
-pub struct Record {
-    pub view: Graph,
-    pub artefact: Text,
-}
-
-/// Records of compiled files on a disk: of each the view that was compiled, and what the compiler gave. The last
-/// record of a name counts. After `DiskFailed` a store is broken until it is opened again.
+/// Records of compiled files on a disk: of each what the compiler was asked, and what it gave. The last record of a name
+/// counts. After `DiskFailed` a store is broken until it is opened again.
 pub trait Records: Sized {
     /// A record that is ready to be committed.
     type Prepared;
@@ -84,6 +76,9 @@ pub trait Records: Sized {
 
     /// The store has room for the record, and prepared nothing and changed nothing since.
     ghost is_ready: { Self → Self.Prepared → Type 0 };
+
+    /// The position of the file that a record was prepared for.
+    ghost position_of: { Self.Prepared → ℕ };
 
     /// These are the seats of the files of a graph in the store.
     ghost is_seated: { Self → List Entry → Self.Seats → Type 0 };
@@ -135,12 +130,11 @@ pub trait Records: Sized {
         ensures broken { broken self.new ≡ broken self.old }
         ensures in_step { (disk : DiskState) → in_step self.old disk → in_step self.new disk };
 
-    /// Whether the latest record of a file has its present view, where that of each file that it depends on has. It takes no
-    /// memory, and time in proportion to the file's text and list.
+    /// Whether all files that a file depends on have a record, and its own latest record has what would be asked for it now,
+    /// over these as their latest records built them. It takes no memory, and time in proportion to the file's text and list.
     fn fits(&self, seats: &Self::Seats, graph: &Graph, at: u32) -> bool
         requires place { at < length graph.now }
         requires seated { is_seated self.now graph.now seats.now }
-        requires recorded { All (IsRecorded (latest_of self.now) graph.now) (deps_at graph.now at) }
         ensures { IsTrue result ↔ IsRecorded (latest_of self.now) graph.now at };
 
     /// What the compiler gave by the latest record of the file at a position, lent from the store, as `artefact` does.
@@ -159,7 +153,7 @@ pub trait Records: Sized {
             ≡ option_map (λ kept. kept.artefact) (latest_of self.now name.now) }
         ensures size { IfSome result (λ bytes. length bytes.now ≤ ARTEFACT_LIMIT) };
 
-    /// Makes a record of the present view of a file ready, with room for it. After `NoMemory` the store is unchanged.
+    /// Makes a record ready of what would be asked for a file now, with room for it. After `NoMemory` the store is unchanged.
     fn prepare(
         &mut self,
         alloc: Global,
@@ -171,10 +165,11 @@ pub trait Records: Sized {
         requires place { at < length graph.now }
         requires seated { is_seated self.old graph.now seats.now }
         requires artefact { length artefact.now ≤ ARTEFACT_LIMIT }
-        requires recorded { All (IsRecorded (latest_of self.old) graph.now) (deps_at graph.now at) }
-        ensures record { IfOk result (λ prepared.
-            record_of self.new prepared
-            ≡ record { view = view graph.now at; artefact = artefact.now }) }
+        requires built { All (HasLatest (latest_of self.old) graph.now) (deps_at graph.now at) }
+        ensures record { IfOk result (λ prepared. (entry : Entry) →
+            slice_get graph.now at ≡ Some entry → record_of self.new prepared
+            ≡ record { asked = asked_now (latest_of self.old) graph.now entry; artefact = artefact.now }) }
+        ensures at { IfOk result (λ prepared. position_of prepared ≡ at) }
         ensures ready { IfOk result (λ prepared. is_ready self.new prepared) }
         ensures latest { (name : FileName) → latest_of self.new name ≡ latest_of self.old name }
         ensures seats { (graph : List Entry) (seats : Self.Seats) →
@@ -182,16 +177,26 @@ pub trait Records: Sized {
         ensures broken { broken self.new ≡ broken self.old }
         ensures in_step { (disk : DiskState) → in_step self.old disk → in_step self.new disk };
 
-    /// Adds a prepared record. It takes no memory.
-    fn commit<D: Disk>(&mut self, disk: &mut D, prepared: Self::Prepared) -> Result<(), DiskFailed>
+    /// Adds a prepared record, and seats it in the place of the one before. It takes no memory.
+    fn commit<D: Disk>(
+        &mut self,
+        disk: &mut D,
+        prepared: Self::Prepared,
+        seats: &mut Self::Seats,
+    ) -> Result<(), DiskFailed>
         requires usable { broken self.old ≡ false }
         requires ready { is_ready self.old prepared }
+        requires seated { (graph : List Entry) × is_seated self.old graph seats.old
+            × (position_of prepared < length graph) }
         requires in_step { D.tells → in_step self.old (D.moments disk.old).now }
         ensures latest { (name : FileName) →
             latest_of self.new name
             ≡ after_commit result (record_of self.old prepared) (latest_of self.old) name }
-        ensures seats { (graph : List Entry) (seats : Self.Seats) →
-            is_seated self.old graph seats → is_seated self.new graph seats }
+        ensures seats { (graph : List Entry) (entry : Entry) → IsGraph graph →
+            is_seated self.old graph seats.old →
+            slice_get graph (position_of prepared) ≡ Some entry →
+            entry.name ≡ (record_of self.old prepared).asked.name →
+            is_seated self.new graph seats.new }
         ensures in_step { D.tells → OnOk result (in_step self.new (D.moments disk.new).now) }
         ensures added { D.tells →
             let before = records_of (reads_of (D.moments disk.old).now) in

@@ -34,7 +34,7 @@ use Rattle.run_report.specs.Outcomes.{build_outcome}
 use Rattle.scan_spec.specs.Scans.{Finding}
 use Rattle.vunit_top.specs.Store.{records_in_image}
 use Rattle.disk_runs.specs.Orders.{IsDurablyRecorded}
-use Rattle.node_store.proofs.NodeRecords.{none_in_empty}
+use Rattle.request_store.proofs.RequestsAdded.{none_in_empty}
 use Rattle.vunit_top.specs.Reading.{Reading, Builds}
 use Rattle.vunit_top.specs.Said.{IsSaid, HasEnded, HasBuilt, no_order, order_of, order_in}
 use Rattle.disk_runs.specs.Building.{BuildsOver}

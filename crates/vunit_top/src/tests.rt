@@ -21,11 +21,11 @@ ghost use Rattle.vunit_top.specs.Said.{IsAccounted, IsSaid, Said, SaysRun, fault
 
 use crate::words::RunOptions;
 use compile_loop::BuildFault;
-use node_store::NodeStore;
 use outcomes::{Outcome, Which};
 use planned_tests::planned_runs;
 use project_reading::{ReadProject, Wish};
 use report_files::{ReportFault, Reports};
+use request_store::RequestStore;
 use run_report::warning_text;
 use std::alloc::Global;
 use test_spec::TestRunList;
@@ -230,7 +230,7 @@ fn test_planned<D: Disk, P: Procs, O: Sink, R: Reports>(
         (R.failed_reports reports.new) input) }
 {
     let Planned { warnings, runs } = planned;
-    match test_over::<NodeStore, D, P>(
+    match test_over::<RequestStore, D, P>(
         alloc,
         &read.graph,
         options.build,

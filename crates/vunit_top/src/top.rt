@@ -39,10 +39,10 @@ use crate::words::{Job, begins_with, job_of, wish_of};
 use command_line::{Setting, WordsFault, read_words};
 use compile_loop::BuildFault;
 use disk_runs::{BuildOptions, build_over};
-use node_store::NodeStore;
 use outcomes::{Limit, Outcome, Refusal, Which};
 use project_reading::{ReadProject, ReadStop, chosen, read_project};
 use report_files::Reports;
+use request_store::RequestStore;
 use run_report::warning_text;
 use std::alloc::Global;
 use test_report::export_json;
@@ -92,7 +92,7 @@ fn build_graph<D: Disk, P: Procs, O: Sink>(
         (fault_counts tree (D.failed_disk_calls disk.new) (P.failed_starts procs.new)
         (P.lost_children procs.new) (O.failed_puts out.new) report input) }
 {
-    match build_over::<NodeStore, D, P>(alloc, graph, options, disk, procs) {
+    match build_over::<RequestStore, D, P>(alloc, graph, options, disk, procs) {
         Ok(marks) => say_build(alloc, warnings, graph, &marks, out),
         Err(BuildFault::NoMemory) => Outcome::NoMemory,
         Err(BuildFault::StartFailed) => Outcome::OutsideFault(Which::Start),

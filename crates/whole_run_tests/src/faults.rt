@@ -1,7 +1,9 @@
 //! Each call of each object fails in turn, in each mode of the program. What fails is the first run over an empty disk; a
 //! second run over the same objects then does the rest.
 
-use crate::parts::{letters, number_in, part, project, push_meant, run_once, told_on, words_of};
+use crate::parts::{
+    disk_calls, letters, number_in, part, project, push_meant, run_once, told_on, words_of,
+};
 use crate::records::{files_of, stale_on};
 use loop_procs::LoopProcs;
 use memory_reports::MemReports;
@@ -13,27 +15,30 @@ use vr_base::{NoMemory, Numbers, Positions, Text, TextList};
 use vr_memory::{MemDisk, MemSink, MemSource, MemTree};
 use vr_outside::{Source, Tree};
 
-/// A row a line: the words; what runs do (`c` compiles, `n` compiles all anew, `t` runs the two tests), and `1` where a build
-/// of stage 1 came before; the letter of their answer; how many calls are made of the tree, the disk, the output, the reports
+/// A row a line: the words; what runs do (`c` compiles, `n` compiles all anew, `t` runs the two tests), and the stage of the build
+/// that came before, if one did; the letter of their answer; how many calls are made of the tree, the disk, the output, the reports
 /// and the input, by letters; which texts are put; the starts and waits, in order; and the report that is there in the end, if
-/// one is. Of the tree the project file, the
-/// listing and six files are asked for. Opening an empty disk takes 14 calls and a live side 7, and a commit 4; emptying an empty
-/// disk takes 16, and one with a live side 18. With three slots p, t and the bench start first, and each end of one of them lets a user of p start.
+/// one is. Of the tree the project file, the listing and six files are asked for. Of the disk a letter of `OPENINGS` says how it is opened,
+/// and a number how many records are committed. With three slots p, t and the bench start first, and each end of one of them lets a
+/// user of p start.
 static ROWS: &str = "\
---compile|c|d|t8 k38 o1|C|swswswswswsw
---compile|c1|d|t8 k27 o1|E|swswswswsw
---compile -p 3|c|d|t8 k38 o1|C|ssswswswswww
---compile -p 3|c1|d|t8 k27 o1|E|sswsswswww
---compile -k|c|d|t8 k38 o1|C|swswswswswsw
---compile --clean|n|d|t8 k40 o1|C|swswswswswsw
---compile --clean|n1|d|t8 k42 o1|C|swswswswswsw
--p 1|ct|d|t8 k38 o1|CT|swswswswswswswsw
--p 1|ct1|d|t8 k27 o1|ET|swswswswswswsw
--p 3 -k|ct|d|t8 k38 o1|CT|ssswswswswwwssww
--x out.xml|ct|d|t8 k38 o1 p1|CT|swswswswswswswsw|out.xml
--p 3 -x out.xml|ct1|d|t8 k27 o1 p1|ET|sswsswswwwssww|out.xml
---clean -p 3|nt|d|t8 k40 o1|CT|ssswswswswwwssww
---clean --fail-fast -q|nt1|d|t8 k42 o1|CT|swswswswswswswsw
+--compile|c|d|t8 kE6 o1|C|swswswswswsw
+--compile|c1|d|t8 kL5 o1|E|swswswswsw
+--compile|c3|d|t8 kL1 o1|P|sw
+--compile -p 3|c|d|t8 kE6 o1|C|ssswswswswww
+--compile -p 3|c1|d|t8 kL5 o1|E|sswsswswww
+--compile -k|c|d|t8 kE6 o1|C|swswswswswsw
+--compile --clean|n|d|t8 kN6 o1|C|swswswswswsw
+--compile --clean|n1|d|t8 kC6 o1|C|swswswswswsw
+-p 1|ct|d|t8 kE6 o1|CT|swswswswswswswsw
+-p 1|ct1|d|t8 kL5 o1|ET|swswswswswswsw
+-p 3|ct3|d|t8 kL1 o1|PT|swssww
+-p 3 -k|ct|d|t8 kE6 o1|CT|ssswswswswwwssww
+-x out.xml|ct|d|t8 kE6 o1 p1|CT|swswswswswswswsw|out.xml
+-p 3 -x out.xml|ct1|d|t8 kL5 o1 p1|ET|sswsswswwwssww|out.xml
+--clean -p 3|nt|d|t8 kN6 o1|CT|ssswswswswwwssww
+--clean --fail-fast -q|nt1|d|t8 kC6 o1|CT|swswswswswswswsw
+--clean --fail-fast -q|nt3|d|t8 kC6 o1|CT|swswswswswswswsw
 -l||d|t8 o1|L|
 -f||d|t8 o1|F|
 --export-json out.json||d|t8 p1|||out.json
@@ -45,6 +50,7 @@ child-bench||x|i1 o1|B|";
 static TEXTS: &str = "\
 C|Compiling into lib: p.vhd passed~Compiling into lib: q.vhd passed~Compiling into lib: r.vhd passed~Compiling into lib: s.vhd passed~Compiling into lib: t.vhd passed~Compiling into lib: b.vhd passed~Compile passed~
 E|Compiling into lib: p.vhd passed~Compiling into lib: q.vhd passed~Compiling into lib: r.vhd passed~Compiling into lib: s.vhd passed~Compiling into lib: b.vhd passed~Compile passed~
+P|Compiling into lib: p.vhd passed~Compile passed~
 T|pass lib.b.one~pass lib.b.two~==== Summary~pass 2 of 2~fail 0 of 2~skip 0 of 2~All passed!~
 L|lib.b.one~lib.b.two~Listed 2 tests~
 F|lib, p.vhd~lib, q.vhd~lib, r.vhd~lib, s.vhd~lib, t.vhd~lib, b.vhd~Listed 6 files~
@@ -78,8 +84,12 @@ fn calls_of(row: &str, object: u8) -> u64 {
         return part(row, 5).len() as u64;
     }
     for count in part(row, 3).split(' ') {
-        if count.as_bytes().contains(&object) {
-            return number_in(count);
+        if count.as_bytes().first() == Some(&object) {
+            return if object == b'k' {
+                disk_calls(count)
+            } else {
+                number_in(count)
+            };
         }
     }
     0
@@ -246,6 +256,8 @@ fn fails_over<I: Source, T: Tree, R: Reports>(
 fn first_stale(row: &str) -> &'static [u8] {
     if does(row, b'1') {
         b"pqrsb"
+    } else if does(row, b'3') {
+        b"p"
     } else {
         files_of(b'2')
     }
@@ -304,23 +316,32 @@ fn with_children<T: Tree, R: Reports>(
     with_output(alloc, words, row, failing, tree, disk, &mut procs, reports)
 }
 
-/// How many calls of the disk a build of stage 1 makes.
-const BEFORE: u64 = 34;
+/// How many calls of the disk the build makes that comes before the run of a row.
+fn calls_before(row: &str) -> u64 {
+    if does(row, b'1') {
+        disk_calls("E5")
+    } else if does(row, b'3') {
+        disk_calls("E6")
+    } else {
+        0
+    }
+}
 
-/// The calls of the disk that fail, after those of a build of stage 1, if one comes before.
-fn disk_calls(alloc: Global, row: &str, failing: Failing) -> Result<Numbers, NoMemory> {
-    let before = if does(row, b'1') { BEFORE } else { 0 };
+/// The calls of the disk that fail, after those of the build that comes before, if one does.
+fn failing_calls(alloc: Global, row: &str, failing: Failing) -> Result<Numbers, NoMemory> {
     let after = Failing {
         object: failing.object,
-        call: failing.call.saturating_add(before),
+        call: failing.call.saturating_add(calls_before(row)),
     };
     of_object(alloc, after, b'k')
 }
 
-/// Builds stage 1 where a row asks for it.
+/// Builds the stage that a row asks for.
 fn before(rt: &impl Abort, alloc: Global, row: &str, disk: &mut MemDisk) -> Result<(), NoMemory> {
-    if does(row, b'1') {
-        told_on(rt, alloc, disk, b'1', "--compile")?;
+    for stage in [b'1', b'3'] {
+        if does(row, stage) {
+            told_on(rt, alloc, disk, stage, "--compile")?;
+        }
     }
     Ok(())
 }
@@ -334,7 +355,7 @@ fn with_disk<T: Tree, R: Reports>(
     tree: &mut T,
     reports: &mut R,
 ) -> Result<bool, NoMemory> {
-    let mut disk = MemDisk::new(alloc, disk_calls(alloc, row, failing)?);
+    let mut disk = MemDisk::new(alloc, failing_calls(alloc, row, failing)?);
     before(rt, alloc, row, &mut disk)?;
     with_children(alloc, words, row, failing, tree, &mut disk, reports)
 }

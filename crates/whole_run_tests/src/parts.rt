@@ -17,17 +17,18 @@ use vr_outside::{Disk, Procs, Sink, Source, Tree};
 use vunit_top::run_vunit;
 
 /// A row a line: the stages that have the file, its path, and its text. `~` is a line feed, and `@` the stage. In stage 1
-/// the project is a package p that three others use, and one alone; in stage 2 the text of p is another one, and there is
-/// a bench with two cases.
+/// the project is a package p that three others use, and one alone. In stage 2 p has another note, which its compiler puts into
+/// the artefact, and there is a bench with two cases. In stage 3 p has a comment more, with the artefact of stage 2.
 static FILES: &str = "\
 1|vunit.toml|[[library]]~name = \"lib\"~files = [\"[p-t].vhd\"]~
-2|vunit.toml|[[library]]~name = \"lib\"~files = [\"[p-t].vhd\", \"b.vhd\"]~
-12|p.vhd|-- @~package p is end;~
-12|q.vhd|use work.p.all;~package q is end;~
-12|r.vhd|use work.p.all;~package r is end;~
-12|s.vhd|use work.p.all;~package s is end;~
-12|t.vhd|package t is end;~
-12|b.vhd|entity b is generic (runner_cfg : string); end;~architecture a of b is begin~x <= run(\"one\");~y <= run(\"two\");~end;~";
+23|vunit.toml|[[library]]~name = \"lib\"~files = [\"[p-t].vhd\", \"b.vhd\"]~
+12|p.vhd|-- child: note @~package p is end;~
+3|p.vhd|-- child: note 2~-- stage @~package p is end;~
+123|q.vhd|use work.p.all;~package q is end;~
+123|r.vhd|use work.p.all;~package r is end;~
+123|s.vhd|use work.p.all;~package s is end;~
+123|t.vhd|package t is end;~
+23|b.vhd|entity b is generic (runner_cfg : string); end;~architecture a of b is begin~x <= run(\"one\");~y <= run(\"two\");~end;~";
 
 /// A byte of a table as it is meant in a stage.
 fn meant(byte: u8, stage: u8) -> u8 {
@@ -43,6 +44,31 @@ pub(super) fn push_meant(bytes: &mut Vec<u8>, text: &str, stage: u8) -> Result<(
         bytes.push(meant(*byte, stage))?;
     }
     Ok(())
+}
+
+/// Whether bytes are those of a table, as they are meant in a stage.
+pub(super) fn are_meant(bytes: &[u8], text: &str, stage: u8) -> bool {
+    let text = text.as_bytes();
+    if bytes.len() != text.len() {
+        return false;
+    }
+    for at in 0..bytes.len() {
+        if bytes[at] != meant(text[at], stage) {
+            return false;
+        }
+    }
+    true
+}
+
+/// The text of a file in a stage, as it is in the table.
+pub(super) fn text_in(letter: u8, stage: u8) -> &'static str {
+    for row in FILES.lines() {
+        let is_file = part(row, 1).as_bytes() == [letter, b'.', b'v', b'h', b'd'].as_slice();
+        if is_file && part(row, 0).as_bytes().contains(&stage) {
+            return part(row, 2);
+        }
+    }
+    ""
 }
 
 /// A part of a row.
@@ -186,6 +212,25 @@ pub(super) fn number_in(text: &str) -> u64 {
         }
     }
     number
+}
+
+/// How many calls of the disk a store is opened with, a letter each: of an empty disk, of one with a live side, and of both to be
+/// emptied.
+static OPENINGS: &str = "E14 L7 N16 C18";
+
+/// How many calls of the disk each record takes.
+const COMMIT: u64 = 4;
+
+/// How many calls of the disk a run makes, by the letter of its opening and the number of its records.
+pub(super) fn disk_calls(run: &str) -> u64 {
+    let records = number_in(run).saturating_mul(COMMIT);
+    for opening in OPENINGS.split(' ') {
+        let letter = opening.as_bytes().first().copied().unwrap_or(0);
+        if run.as_bytes().contains(&letter) {
+            return number_in(opening).saturating_add(records);
+        }
+    }
+    0
 }
 
 /// The letters of a run's events, and that of its answer.

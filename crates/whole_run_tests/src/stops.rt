@@ -1,6 +1,6 @@
 //! Runs over what a stop at any moment of a run leaves.
 
-use crate::parts::{number_in, part, told_on};
+use crate::parts::{disk_calls, part, told_on};
 use crate::records::stale_on;
 use std::alloc::Global;
 use std::process::Abort;
@@ -10,30 +10,25 @@ use vr_memory::MemDisk;
 
 const LONG: u64 = (1 << 63) - 1;
 
-/// The calls of the disk of a first build, of a first run in stage 2, and of one with `--clean` after the build; and more than
-/// any run makes over what such a run leaves.
-const FIRST: u64 = 34;
-
-const WHOLE: u64 = 38;
-
-const CLEAN: u64 = 42;
-
+/// More calls of the disk than any run makes over what a stop of a run leaves.
 const MANY: u64 = 50;
 
-/// A row a line: the runs before; the run that is stopped; and how many calls of the disk those make, and this one. A run is its
-/// stage and its words. Opening an empty disk takes 14 calls and a live side 7, a commit 4, and emptying a disk with a live side
-/// 18. In stage 1 five files are compiled; after that in stage 2 the four whose views have changed, and the bench. The last row goes back to
-/// views that were recorded before.
+/// A row a line: the runs before; the run that is stopped; how many calls of the disk those make, and this one, each as the letter of
+/// an opening and the number of records; and the stages of runs that go on from what it leaves. A run is its stage and its words. In stage 1 five files are compiled;
+/// after that in stage 2 the package, its three users and the bench; and after that in stage 3 the package alone, as in stage 2 again.
 static ROWS: &str = "\
-|1--compile|0|34
-|2|0|38
-|2-p 3 -x out.xml|0|38
-1--compile|2|34|27
-1--compile|2-p 3 -k|34|27
-1--compile|2--clean|34|42
-2|2--clean --compile -p 3|38|42
-2|1--compile|38|23
-1--compile;2|1--compile|61|23";
+|1--compile||E5|123
+|2||E6|123
+|2-p 3 -x out.xml||E6|2
+1--compile|2|E5|L5|123
+1--compile|2-p 3 -k|E5|L5|2
+1--compile|2--clean|E5|C6|12
+2|2--clean --compile -p 3|E6|C6|23
+2|1--compile|E6|L4|12
+1--compile;2|1--compile|E5 L5|L4|123
+2|3|E6|L1|123
+3|2--compile|E6|L1|23
+1--compile;2;3|1--compile|E5 L5 L1|L4|13";
 
 /// What a run is to tell that compiles these files one after the other, and then runs the tests of its stage.
 fn wanted(alloc: Global, stale: &[u8], stage: u8) -> Result<Vec<u8>, NoMemory> {
@@ -41,7 +36,7 @@ fn wanted(alloc: Global, stale: &[u8], stage: u8) -> Result<Vec<u8>, NoMemory> {
     for letter in stale {
         wanted.extend_from_slice(&[*letter, b'.'])?;
     }
-    if stage == b'2' {
+    if stage != b'1' {
         wanted.extend_from_slice(b"!.!.")?;
     }
     wanted.push(b'd')?;
@@ -134,11 +129,7 @@ fn ends_at(alloc: Global, disk: &MemDisk, end: u64, stage: u8) -> Result<bool, N
 
 /// The stage of a run.
 fn stage_of(run: &str) -> u8 {
-    if run.as_bytes().first() == Some(&b'1') {
-        b'1'
-    } else {
-        b'2'
-    }
+    run.as_bytes().first().copied().unwrap_or(b'1')
 }
 
 /// The words of a run, after its stage.
@@ -174,20 +165,31 @@ fn are_done(
     Ok(true)
 }
 
-/// Whether a run that is stopped at any moment leaves what another one goes on from, where it made the calls of the disk
+/// Whether a run that is stopped at any moment leaves what runs of these stages go on from, where it made the calls of the disk
 /// from one up to another.
 fn stops(
     rt: &impl Abort,
     alloc: Global,
     disk: &MemDisk,
-    stage: u8,
     first: u64,
     end: u64,
+    stages: &[u8],
 ) -> Result<bool, NoMemory> {
-    Ok(
-        ends_at(alloc, disk, end, stage)?
-            && leaves_each(rt, alloc, disk, first, end.saturating_add(1), stage)?,
-    )
+    for stage in stages {
+        if !leaves_each(rt, alloc, disk, first, end.saturating_add(1), *stage)? {
+            return Ok(false);
+        }
+    }
+    Ok(true)
+}
+
+/// How many calls of the disk some runs make.
+fn calls_of(runs: &str) -> u64 {
+    let mut calls = 0u64;
+    for run in runs.split(' ') {
+        calls = calls.saturating_add(disk_calls(run));
+    }
+    calls
 }
 
 /// The same of the runs of a row.
@@ -195,9 +197,12 @@ fn passes(rt: &impl Abort, alloc: Global, disk: &mut MemDisk, row: &str) -> Resu
     if !are_done(rt, alloc, disk, part(row, 0))? || !is_done(rt, alloc, disk, part(row, 1))? {
         return Ok(false);
     }
-    let first = number_in(part(row, 2));
-    let end = first.saturating_add(number_in(part(row, 3)));
-    stops(rt, alloc, disk, stage_of(part(row, 1)), first, end)
+    let first = calls_of(part(row, 2));
+    let end = first.saturating_add(calls_of(part(row, 3)));
+    Ok(
+        ends_at(alloc, disk, end, stage_of(part(row, 1)))?
+            && stops(rt, alloc, disk, first, end, part(row, 4).as_bytes())?,
+    )
 }
 
 fn passes_row(rt: &impl Abort, alloc: Global, row: &str) -> Result<bool, NoMemory> {
@@ -243,7 +248,14 @@ fn stops_twice(rt: &impl Abort, alloc: Global, disk: &mut MemDisk) -> Result<boo
     Ok(
         is_done(rt, alloc, disk, "1--compile")?
             && is_done(rt, alloc, disk, "2--clean")?
-            && leaves_twice(rt, alloc, disk, FIRST, FIRST + CLEAN + 1, b'2')?,
+            && leaves_twice(
+                rt,
+                alloc,
+                disk,
+                calls_of("E5"),
+                calls_of("E5 C6").saturating_add(1),
+                b'2',
+            )?,
     )
 }
 
@@ -279,7 +291,7 @@ fn stops_after_fault(rt: &impl Abort, alloc: Global, call: u64) -> Result<bool, 
 
 #[test]
 fn a_stop_of_the_run_after_a_failed_disk_call_leaves_the_same(rt: HostRuntime) -> Result<(), Fail> {
-    for call in 0..WHOLE {
+    for call in 0..calls_of("E6") {
         assert!(rt; stops_after_fault(&rt, rt.alloc(), call)?, "{call}");
     }
     Ok(())

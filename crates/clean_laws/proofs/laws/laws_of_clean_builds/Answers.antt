@@ -1,6 +1,6 @@
 -- Answers to the goals of `laws_of_clean_builds`.
 use Rattle.clean_laws.proofs.CleanViews.{clean_part}
-use Rattle.clean_laws.proofs.TrueRecords.{records_clean, made_record, latest-latest_alone}
+use Rattle.clean_laws.proofs.TrueRecords.{records_clean, latest-latest_alone}
 use Rattle.clean_laws.proofs.laws.laws_of_clean_builds.Goals as goal
 
 pub returns-clause-part : goal.returns-clause-part
@@ -8,9 +8,6 @@ returns-clause-part c = clean_part
 
 pub returns-clause-clean : goal.returns-clause-clean
 returns-clause-clean c = records_clean
-
-pub returns-clause-true_record : goal.returns-clause-true_record
-returns-clause-true_record c = made_record
 
 pub returns-clause-latest : goal.returns-clause-latest
 returns-clause-latest c = latest-latest_alone

@@ -6,7 +6,7 @@ use Rattle.std.specs.Result.{is_ok}
 use Rattle.vr_base.specs.declared.file.FileName.{FileName}
 use Rattle.vr_base.specs.declared.child.Event.{Event}
 use Rattle.run_spec.specs.declared.marks.Mark.{Mark}
-use Rattle.vr_outside.specs.declared.records.Record.{Record}
+use Rattle.vr_outside.specs.Records.{Record}
 use Rattle.run_spec.specs.Marks.{marks_of}
 use Rattle.run_spec.specs.Commits.{work_of}
 use Rattle.compile_loop.specs.declared.faults.BuildFault.TheVariants.{NoMemory}

@@ -6,7 +6,7 @@ use Rattle.vr_outside.specs.Children.{end_event}
 use Rattle.vr_outside.specs.declared.procs.Ended.{Ended}
 use Rattle.vr_outside.specs.declared.procs.WaitFault.{WaitFault}
 use Rattle.vr_outside.specs.Counts.{ChildCounts}
-use Rattle.vr_outside.specs.declared.records.Record.{Record}
+use Rattle.vr_outside.specs.Records.{Record}
 use Rattle.compile_loop.specs.Commits.{HoldsFirst}
 use Rattle.compile_loop.specs.Faults.{CountsBy}
 use Rattle.compile_loop.specs.UnderWay.{BuildState, work_from}

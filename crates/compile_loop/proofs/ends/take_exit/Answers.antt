@@ -6,7 +6,7 @@ use Rattle.compile_loop.specs.declared.faults.BuildFault.{BuildFault}
 use Rattle.vr_base.specs.declared.child.Event.TheVariants.{Ended}
 use Rattle.compile_loop.specs.Faults.{is_all_committed, ComesFirst}
 use Rattle.compile_loop.specs.UnderWay.{work_from}
-use Rattle.compile_loop.proofs.UnderWayThen.{not_noted, marks_count, end_recorded}
+use Rattle.compile_loop.proofs.UnderWayThen.{not_noted, marks_count, end_latest}
 use Rattle.compile_loop.proofs.EndsThen.{failed_commit, takes_refused, takes_uncommitted, takes_commit, first_committed, first_failed}
 use Rattle.compile_loop.proofs.ends.take_exit.Goals as goal
 
@@ -28,10 +28,10 @@ returns-then-not-is_committing-clause-goes g c = λ from events acknowledged is 
     (c.ended-at.ensures.position _ _ is.in_step) (c.ended-at.ensures.lawful _ _ c.args.exit.output is.in_step) (c.ended-at.ensures.greedy _ _ c.args.exit.output is.in_step c.requires.step) (c.ended-at.ensures.in_step _ _ c.args.exit.output is.in_step) (c.ended-at.ensures.here _ _ is.in_step) c.ended-at.ensures.checked c.ended-at.ensures.stopped is.in_step.free
     (eq-eqb c.args.exit.code 0 c.if-code-ne0.false) (sym (ap (is_all_committed c.args.noted.now) c.is_broken.ensures) ∙ sym c.is_committing.ensures ∙ c.if-not-is_committing.true)
 
-pub commit_made-requires-clause-recorded : goal.commit_made-requires-clause-recorded
-commit_made-requires-clause-recorded g c =
+pub commit_made-requires-clause-built : goal.commit_made-requires-clause-built
+commit_made-requires-clause-built g c =
     let under = c.requires.going.under_way in
-    end_recorded _ _ _ _ _ under c.args.ticket c.ended-at.result c.args.exit (c.ended-at.ensures.position _ _ under.in_step) (omega (arith, c.ended-at.ensures.within, c.requires.files)) (sym (ap (is_all_committed c.args.noted.now) c.is_broken.ensures) ∙ sym c.is_committing.ensures ∙ c.if-not-is_committing.false)
+    end_latest _ _ _ _ _ under c.args.ticket c.ended-at.result c.args.exit (c.ended-at.ensures.position _ _ under.in_step) (omega (arith, c.ended-at.ensures.within, c.requires.files)) (sym (ap (is_all_committed c.args.noted.now) c.is_broken.ensures) ∙ sym c.is_committing.ensures ∙ c.if-not-is_committing.false)
 
 pub returns-in-Ok-clause-goes : goal.returns-in-Ok-clause-goes
 returns-in-Ok-clause-goes g c = λ from events acknowledged is holds.

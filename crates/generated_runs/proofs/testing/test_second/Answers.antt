@@ -6,7 +6,7 @@ use Rattle.vr_memory.specs.Disks.{moments_of}
 use Rattle.run_spec.specs.ChildJournal.{since}
 use Rattle.test_spec.specs.declared.runs.TestRun.{TestRun}
 use Rattle.tested_runs.specs.Tested.{TestsOver}
-use Rattle.node_store.specs.Stored.{node_records_in}
+use Rattle.request_store.specs.Stored.{requests_in}
 use Rattle.generated_runs.specs.Sources.{second_order}
 use Rattle.generated_runs.proofs.Tests.{tested_ended, tested_faulted, over_records}
 use Rattle.generated_runs.proofs.testing.test_second.Goals as goal
@@ -19,7 +19,7 @@ returns-in-Ok-clause-ran g c = λ records are tells.
     let events = since (g.P.Procs.journal c.args.procs.now) (g.P.Procs.journal c.test_over.new.procs) in
     over_records (g.P.Procs.answer c.args.procs.now) c.args.options c.args.read.now records old.now (Ok c.in-Ok.tested) events are
     (tested_ended (g.P.Procs.answer c.args.procs.now) c.args.options c.args.read.now failed old new events c.in-Ok.tested
-    (subst (λ (runs : List TestRun). TestsOver node_records_in (g.P.Procs.answer c.args.procs.now) (second_order c.args.options c.args.read.now.graph) (record { runs = runs; simulator = c.args.read.now.project.simulator; fail_fast = false }) (Ok c.in-Ok.tested) failed old new events) c.requires.runs (c.in-Ok.ensures.told tt tells)))
+    (subst (λ (runs : List TestRun). TestsOver requests_in (g.P.Procs.answer c.args.procs.now) (second_order c.args.options c.args.read.now.graph) (record { runs = runs; simulator = c.args.read.now.project.simulator; fail_fast = false }) (Ok c.in-Ok.tested) failed old new events) c.requires.runs (c.in-Ok.ensures.told tt tells)))
 
 pub returns-in-Err-clause-ran : goal.returns-in-Err-clause-ran
 returns-in-Err-clause-ran g c = λ records are tells.
@@ -29,7 +29,7 @@ returns-in-Err-clause-ran g c = λ records are tells.
     let events = since (g.P.Procs.journal c.args.procs.now) (g.P.Procs.journal c.test_over.new.procs) in
     over_records (g.P.Procs.answer c.args.procs.now) c.args.options c.args.read.now records old.now (Err c.own_fault.result) events are
     (tested_faulted (g.P.Procs.answer c.args.procs.now) c.args.options c.args.read.now failed old new events c.in-Err.fault c.own_fault.result
-    (subst (λ (runs : List TestRun). TestsOver node_records_in (g.P.Procs.answer c.args.procs.now) (second_order c.args.options c.args.read.now.graph) (record { runs = runs; simulator = c.args.read.now.project.simulator; fail_fast = false }) (Err c.in-Err.fault) failed old new events) c.requires.runs (c.in-Err.ensures.told tt tells)))
+    (subst (λ (runs : List TestRun). TestsOver requests_in (g.P.Procs.answer c.args.procs.now) (second_order c.args.options c.args.read.now.graph) (record { runs = runs; simulator = c.args.read.now.project.simulator; fail_fast = false }) (Err c.in-Err.fault) failed old new events) c.requires.runs (c.in-Err.ensures.told tt tells)))
 
 pub returns-in-Err-clause-explains : goal.returns-in-Err-clause-explains
 returns-in-Err-clause-explains g c = λ disks.

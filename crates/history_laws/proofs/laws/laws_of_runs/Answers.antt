@@ -13,7 +13,7 @@ pub returns-clause-fresh : goal.returns-clause-fresh
 returns-clause-fresh c = nothing_started
 
 pub returns-clause-acknowledged : goal.returns-clause-acknowledged
-returns-clause-acknowledged c = λ world order run first build name only before after file parts. end_acknowledged world order run first build name only file before after parts
+returns-clause-acknowledged c = λ world order run first build name only before after file named parts. end_acknowledged world order run first build name only file named before after parts
 
 pub returns-clause-before_starts : goal.returns-clause-before_starts
 returns-clause-before_starts c = start_acknowledged

@@ -1,6 +1,5 @@
 use Rattle.node_codec.proofs.NodeFits.{draft_fits, new_fits, node_listed}
-use Rattle.node_codec.proofs.Prepared.{prepared_again, prepared_new}
 use Rattle.node_codec.proofs.laws.laws_of_new_nodes.Goals as goal
 
 pub returns : goal.returns
-returns c = record { fits = new_fits; draft = draft_fits; listed = node_listed; again = prepared_again; new = prepared_new }
+returns c = record { fits = new_fits; draft = draft_fits; listed = node_listed }

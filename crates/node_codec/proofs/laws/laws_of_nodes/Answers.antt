@@ -1,5 +1,4 @@
 use Rattle.node_codec.proofs.Once.{one_number}
-use Rattle.node_codec.proofs.Present.{fresh, present}
 use Rattle.node_codec.proofs.Taking.{nodes_of}
 use Rattle.node_codec.proofs.laws.laws_of_nodes.Goals as goal
 
@@ -7,6 +6,4 @@ pub returns : goal.returns
 returns c = record {
   nodes = nodes_of;
   once = λ texts nodes m n are l k same. one_number texts nodes m n are l k same;
-  present = present;
-  fresh = fresh;
 }

@@ -1,5 +1,5 @@
 use Rattle.std.proofs.Common.{◌≡◌, subst}
-use Rattle.request_codec.specs.Requests.{latest_requests}
+use Rattle.vr_outside.specs.Records.{latest_alone as latest_requests}
 use Rattle.request_codec.specs.Carrying.{carried_from, none_carried}
 use Rattle.request_codec.specs.Shelves.{RequestShelf}
 use Rattle.request_carry.specs.Plans.{IsCounted, IsPlanIn, carried_by}

@@ -1,5 +1,5 @@
 use Rattle.std.proofs.Common.{◌≡◌, ◌<◌, ◌+◌, length, drop, true, false, sym, ◌∙◌, arith}
-use Rattle.request_codec.specs.Requests.{is_overtaken}
+use Rattle.vr_outside.specs.Records.{is_replaced as is_overtaken}
 use Rattle.request_shelf.specs.Placed.{placed_shelf}
 use Rattle.request_carry.specs.Plans.{carried_by, record_at}
 use Rattle.request_carry.proofs.PlacedRows.{records_count}

@@ -1,7 +1,7 @@
 use Rattle.std.proofs.Common.{◌≡◌, ℕ, List, map, ap, subst, ◌∙◌}
 use Rattle.std.specs.Prelude.{All}
 use Rattle.request_codec.specs.Forms.{IsSpellable, request_payload_bytes}
-use Rattle.request_codec.specs.Requests.{latest_requests}
+use Rattle.vr_outside.specs.Records.{latest_alone as latest_requests}
 use Rattle.request_codec.specs.Carrying.{CarriedSoFar, carried_from, compacted_requests, none_carried}
 use Rattle.request_codec.specs.Shelves.{RequestShelf, request_shelf_of}
 use Rattle.request_carry.specs.Kept.{IsKeptRequest}

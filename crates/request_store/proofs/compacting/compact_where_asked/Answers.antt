@@ -1,7 +1,7 @@
-use Rattle.std.proofs.Common.{◌≡◌, ◌<◌, ◌^◌, true, false, arith}
+use Rattle.std.proofs.Common.{◌≡◌, ◌<◌, ◌^◌, true, false, arith, inr, sym, ◌∙◌}
 use Rattle.vr_outside.specs.Disks.{reads_of}
-use Rattle.request_store.specs.Stored.{store_of}
-use Rattle.request_store.proofs.RequestMoments.{still_leaves}
+use Rattle.request_store.specs.Stored.{own_requests, store_of}
+use Rattle.request_store.proofs.RequestMoments.{own_all, still_leaves, still_live}
 use Rattle.request_store.proofs.Carried.{counted_latest, asked_by, asks_by, compacted_rests, length_is, short_unasked, unasked_rests}
 use Rattle.request_store.proofs.compacting.compact_where_asked.Goals as goal
 
@@ -57,4 +57,17 @@ returns-then-not-is_asked-clause-settled g c = λ told.
 
 pub returns-clause-settled : goal.returns-clause-settled
 returns-clause-settled g c = λ told.
-    compacted_rests (store_of c.replace_by.new.journal c.replace_by.new.held) (reads_of (g.D.Disk.moments c.args.disk.now).now) (g.D.Disk.moments c.replace_by.new.disk).now (c.in_ok-replace_by.ensures.in_step told) (c.in_ok-replace_by.ensures.compacts told)
+    compacted_rests (store_of c.replace_by.new.journal c.replace_by.new.held) (own_requests (reads_of (g.D.Disk.moments c.args.disk.now).now)) (g.D.Disk.moments c.replace_by.new.disk).now (c.in_ok-replace_by.ensures.in_step told) (c.in_ok-replace_by.ensures.compacts told)
+
+pub returns-then-length-le-DEAD_LIMIT-clause-live : goal.returns-then-length-le-DEAD_LIMIT-clause-live
+returns-then-length-le-DEAD_LIMIT-clause-live g c = λ told. still_live (g.D.Disk.moments c.args.disk.now) (store_of c.args.journal.now c.args.held.now) (c.requires.in_step told)
+
+pub returns-in_err-plan-clause-live : goal.returns-in_err-plan-clause-live
+returns-in_err-plan-clause-live g c = λ told. still_live (g.D.Disk.moments c.args.disk.now) (store_of c.args.journal.now c.args.held.now) (c.requires.in_step told)
+
+pub returns-then-not-is_asked-clause-live : goal.returns-then-not-is_asked-clause-live
+returns-then-not-is_asked-clause-live g c = λ told. still_live (g.D.Disk.moments c.args.disk.now) (store_of c.args.journal.now c.args.held.now) (c.requires.in_step told)
+
+pub returns-clause-records : goal.returns-clause-records
+returns-clause-records g c = λ told.
+    inr (sym (own_all (store_of c.replace_by.new.journal c.replace_by.new.held) (g.D.Disk.moments c.replace_by.new.disk).now (c.in_ok-replace_by.ensures.in_step told)) ∙ (c.in_ok-replace_by.ensures.compacts told).records)

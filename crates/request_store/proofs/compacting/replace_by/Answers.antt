@@ -1,9 +1,11 @@
-use Rattle.std.proofs.Common.{ap, subst, sym, ◌∙◌}
+use Rattle.std.proofs.Common.{ℕ, true, ap, subst, sym, ◌∙◌}
+use Rattle.vr_outside.specs.Disks.{AtAnyMoment}
+use Rattle.gate_journal.specs.Forms.{has_form}
 use Rattle.std.specs.Prelude.{◌≡◌}
 use Rattle.gate_journal.specs.Journals.{SideContent}
 use Rattle.request_holdings.specs.Held.{HeldState, latest_held}
 use Rattle.request_store.specs.Stored.{IsRequestStoreInStep, store_of}
-use Rattle.request_store.proofs.RequestMoments.{still_leaves}
+use Rattle.request_store.proofs.RequestMoments.{still_leaves, still_live}
 use Rattle.request_store.proofs.Carried.{compaction_held, compaction_keeps, compaction_leaves, has_carried, latest_still}
 use Rattle.request_store.proofs.compacting.replace_by.Goals as goal
 
@@ -41,7 +43,7 @@ pub returns-in-Ok-clause-compacts : goal.returns-in-Ok-clause-compacts
 returns-in-Ok-clause-compacts g c = λ told.
     let made = c.in_ok-kept.ensures in
     let written = ap (λ (s : SideContent). s.payloads) made.side in
-    has_carried (g.D.Disk.moments c.args.disk.now) (g.D.Disk.moments c.replace.new.disk) (store_of c.args.journal.now c.args.held.now) c.in_ok-kept.field-0.held.payloads c.in_ok-kept.field-0.side.payloads (c.requires.in_step told) made.records made.held written (c.in-Ok.ensures.replaced told)
+    has_carried (g.D.Disk.moments c.args.disk.now) (g.D.Disk.moments c.replace.new.disk) (store_of c.args.journal.now c.args.held.now) c.in_ok-kept.field-0.held.payloads c.in_ok-kept.field-0.side.payloads (c.requires.in_step told) made.records made.held written c.replace.new.self (c.in-Ok.ensures.in_step told) (c.in-Ok.ensures.form ∙ c.requires.form) (c.in-Ok.ensures.replaced told)
 
 pub returns-in-Ok-clause-latest : goal.returns-in-Ok-clause-latest
 returns-in-Ok-clause-latest g c = λ name.
@@ -53,6 +55,15 @@ returns-in-Ok-clause-in_step g c = λ told.
     let made = c.in_ok-kept.ensures in
     let new = g.D.Disk.moments c.replace.new.disk in
     let written = ap (λ (s : SideContent). s.payloads) made.side in
-    let held = compaction_held (g.D.Disk.moments c.args.disk.now) new (store_of c.args.journal.now c.args.held.now) c.in_ok-kept.field-0.held.payloads c.in_ok-kept.field-0.side.payloads (c.requires.in_step told) made.records made.held written (c.in-Ok.ensures.replaced told) in
+    let held = compaction_held (g.D.Disk.moments c.args.disk.now) new (store_of c.args.journal.now c.args.held.now) c.in_ok-kept.field-0.held.payloads c.in_ok-kept.field-0.side.payloads (c.requires.in_step told) made.records made.held written c.replace.new.self (c.in-Ok.ensures.in_step told) (c.in-Ok.ensures.form ∙ c.requires.form) (c.in-Ok.ensures.replaced told) in
     subst (λ (h : HeldState). IsRequestStoreInStep (store_of c.replace.new.self h) new.now) (sym c.hold.ensures)
     (record { journal_in_step = c.in-Ok.ensures.in_step told; form = c.in-Ok.ensures.form ∙ c.requires.form; payloads_are = held })
+
+pub returns-in_err-kept-clause-live : goal.returns-in_err-kept-clause-live
+returns-in_err-kept-clause-live g c = λ told. still_live (g.D.Disk.moments c.args.disk.now) (store_of c.args.journal.now c.args.held.now) (c.requires.in_step told)
+
+pub returns-in-Ok-clause-live : goal.returns-in-Ok-clause-live
+returns-in-Ok-clause-live g c = λ told. subst (λ (f : ℕ). AtAnyMoment (g.D.Disk.moments c.args.disk.now) (g.D.Disk.moments c.replace.new.disk) (λ image. has_form f image ≡ true)) c.requires.form (c.replace.ensures.live told)
+
+pub returns-in-Err-clause-live : goal.returns-in-Err-clause-live
+returns-in-Err-clause-live g c = λ told. subst (λ (f : ℕ). AtAnyMoment (g.D.Disk.moments c.args.disk.now) (g.D.Disk.moments c.replace.new.disk) (λ image. has_form f image ≡ true)) c.requires.form (c.replace.ensures.live told)

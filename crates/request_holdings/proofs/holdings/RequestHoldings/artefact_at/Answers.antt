@@ -2,7 +2,7 @@ use Rattle.std.proofs.Common.{◌≡◌, ℕ, List, get_or, None, Some, Option, 
 use Rattle.std.specs.Option.{option_map}
 use Rattle.std.proofs.lemmas.Option.{slice_get-get_or}
 use Rattle.vr_base.specs.declared.graph.Entry.{Entry}
-use Rattle.request_codec.specs.Requests.{RequestRecord, latest_request}
+use Rattle.vr_outside.specs.Records.{Record as RequestRecord, latest as latest_request}
 use Rattle.request_codec.specs.Shelves.{RequestShelf, request_shelf_of}
 use Rattle.request_holdings.specs.Seated.{AreSeats, IsSeat}
 use Rattle.request_holdings.proofs.Fits.{no_entry, no_kept}

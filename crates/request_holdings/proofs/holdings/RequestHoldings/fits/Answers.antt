@@ -3,12 +3,13 @@ use Rattle.std.specs.Prelude.{All, slice_get}
 use Rattle.std.proofs.lemmas.List.{length-map}
 use Rattle.std.proofs.lemmas.Option.{none-some, same_Some}
 use Rattle.vr_base.specs.declared.graph.Entry.{Entry}
-use Rattle.request_codec.specs.Requests.{latest_request}
+use Rattle.vr_outside.specs.Records.{latest as latest_request}
 use Rattle.request_codec.specs.Shelves.{AreNumberedOnce, RequestShelf, request_shelf_of}
 use Rattle.request_codec.proofs.Once.{once_in_all}
 use Rattle.request_shelf.specs.Placed.{placed_shelf, placed_texts, row_deps, row_product, row_products, row_record}
 use Rattle.request_holdings.specs.Held.{HeldState}
-use Rattle.request_holdings.specs.Seated.{AreSeats, FitsLatest, HasLatest, IsSeat}
+use Rattle.vr_outside.specs.Records.{IsRecorded as FitsLatest, HasLatest}
+use Rattle.request_holdings.specs.Seated.{AreSeats, IsSeat}
 use Rattle.request_holdings.proofs.Fits.{built_from, fits_command, fits_deps, fits_text, fits_to}
 use Rattle.request_holdings.proofs.Here.{command_some, deps_low, record_at, row_is, seat_here}
 use Rattle.request_holdings.proofs.holdings.RequestHoldings.fits.Goals as goal

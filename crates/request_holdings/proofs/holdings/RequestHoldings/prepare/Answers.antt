@@ -4,12 +4,13 @@ use Rattle.std.proofs.lemmas.Option.{get_or_from_slice_get}
 use Rattle.vr_base.specs.declared.file.FileName.{FileName}
 use Rattle.vr_base.specs.declared.graph.Entry.{Entry}
 use Rattle.vr_outside.specs.Records.{deps_at}
-use Rattle.request_codec.specs.Requests.{latest_request}
+use Rattle.vr_outside.specs.Records.{latest as latest_request}
 use Rattle.request_codec.specs.Shelves.{AreNumberedOnce, RequestShelf, request_shelf_of}
 use Rattle.request_codec.proofs.Once.{once_in_all}
 use Rattle.request_shelf.specs.Checked.{IsNameNumber}
 use Rattle.request_holdings.specs.Additions.{AreDeps, no_entry}
-use Rattle.request_holdings.specs.Seated.{AreSeats, HasLatest, seated_product}
+use Rattle.vr_outside.specs.Records.{HasLatest}
+use Rattle.request_holdings.specs.Seated.{AreSeats, seated_product}
 use Rattle.request_holdings.proofs.Asked.{deps_are}
 use Rattle.request_holdings.proofs.Fits.{below_to, seated_low, seated_there}
 use Rattle.request_holdings.proofs.holdings.RequestHoldings.prepare.Goals as goal

@@ -1,5 +1,7 @@
 use Rattle.std.proofs.Common.{ap, sym, ◌∙◌}
+use Rattle.vr_outside.specs.Disks.{reads_of}
 use Rattle.request_codec.specs.Shelves.{requests_among}
+use Rattle.request_store.specs.StoreLaws.{live_requests}
 use Rattle.request_store.proofs.RequestsAdded.{latest_none, none_among}
 use Rattle.request_store.proofs.RequestMoments.{empty_loses, empty_opens}
 use Rattle.request_store.proofs.store.RequestStore.emptied.Goals as goal
@@ -23,7 +25,7 @@ pub returns-clause-loses : goal.returns-clause-loses
 returns-clause-loses g c = λ told. empty_loses c.emptied.result (g.D.Disk.moments c.args.disk.now) (g.D.Disk.moments c.emptied.new.disk) (c.emptied.ensures.opens told)
 
 pub returns-clause-none : goal.returns-clause-none
-returns-clause-none g c = λ told. ap requests_among (c.in_ok-journal.ensures.emptied told) ∙ none_among
+returns-clause-none g c = λ told. live_requests (reads_of (g.D.Disk.moments c.emptied.new.disk).now) (c.in_ok-journal.ensures.live told) ∙ ap requests_among (c.in_ok-journal.ensures.emptied told) ∙ none_among
 
 pub returns-clause-latest : goal.returns-clause-latest
 returns-clause-latest g c = λ name. latest_none c.in_ok-held.held.payloads name (c.in_ok-held.ensures ∙ c.new.ensures)

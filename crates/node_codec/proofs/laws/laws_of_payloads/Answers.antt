@@ -1,5 +1,0 @@
-use Rattle.node_codec.proofs.Spelling.{payload_again, payload_takes}
-use Rattle.node_codec.proofs.laws.laws_of_payloads.Goals as goal
-
-pub returns : goal.returns
-returns c = record { takes = payload_takes; again = payload_again }

@@ -1,4 +1,0 @@
--- The lemmas.
-pub mod NodeRecords
-pub mod NodeMoments
-pub mod Compacting

@@ -1,3 +1,0 @@
--- The lemmas.
-pub mod RecordLists
-pub mod StoreMoments

@@ -1,4 +1,0 @@
--- The definitions.
-pub mod Pairs
-pub mod Stored
-pub mod StoreLaws
