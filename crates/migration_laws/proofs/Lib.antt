@@ -1,0 +1,4 @@
+-- Lemmas of this crate.
+pub mod CleanEnds
+pub mod TrueRequests
+pub mod OldStores
