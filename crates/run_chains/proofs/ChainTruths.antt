@@ -1,39 +1,40 @@
 -- What follows of one run, and then of the next.
-use Rattle.std.proofs.Common.{◌≡◌, ℕ, ◌<◌, Bool, true, false, eqb, List, [], ◌∷◌, ◌++◌, length, map, Option, Some, None, refl, sym, ap, subst, ◌∙◌, inl, inr}
-use Rattle.std.specs.Prelude.{◌↔◌, All, is_some, unwrap_or, Contains}
-use Rattle.std.proofs.lemmas.Bool.{cases_Bool, both_ways, eqb-true, false≢true}
+use Rattle.std.proofs.Common.{◌≡◌, ℕ, ◌<◌, Bool, true, false, eqb, List, [], ◌∷◌, ◌++◌, length, map, get_or, Option, Some, None, refl, sym, ap, subst, ◌∙◌, arith, inl, inr}
+use Rattle.std.specs.Prelude.{◌↔◌, All, is_some, slice_get, unwrap_or, Contains}
+use Rattle.std.specs.List.{list_any}
+use Rattle.std.specs.Option.{option_map_or}
+use Rattle.vr_base.specs.declared.graph.Entry.{Entry}
+use Rattle.vr_base.specs.Graphs.{IsGraph}
+use Rattle.vr_base.specs.PresentGraph.{below}
+use Rattle.vr_base.proofs.Below.{get_or-below, length-below}
+use Rattle.std.proofs.lemmas.Bool.{or_from, false≢true}
 use Rattle.std.proofs.lemmas.List.{append-nil}
 use Rattle.std.proofs.lemmas.List.Elements.{All-head, All-tail}
-use Rattle.std.proofs.lemmas.Option.{none-some}
 use Rattle.vr_base.specs.declared.file.FileName.{FileName}
 use Rattle.vr_base.specs.declared.graph.BuiltFile.{BuiltFile}
-use Rattle.vr_outside.specs.Records.{deps_at}
 use Rattle.vr_base.specs.declared.child.Request.{Request}
 use Rattle.vr_base.specs.declared.child.Exit.{Exit}
 use Rattle.vr_base.specs.declared.child.Event.{Event}
 use Rattle.outcomes.specs.declared.outcome.Outcome.{Outcome}
-use Rattle.vr_outside.specs.declared.records.Record.{Record}
+use Rattle.vr_outside.specs.Records.{Record, IsRecorded, asked_now, built_by, deps_at, latest_built, no_built}
 use Rattle.vr_outside.specs.Disks.{DiskState, reads_of, settled_disk}
 use Rattle.vr_outside.specs.Commits.{last_state}
-use Rattle.run_spec.specs.Folds.{upto}
-use Rattle.run_spec.specs.Moves.{EndedChild}
-use Rattle.run_spec.specs.ChildJournal.{Work, Book, End, Lawful, Answered, EachAfter, book_of, child_of_end, exit_at, output_at, or_else, built_at, next_artefact, artefact_by, artefact_so_far, artefact_after}
+use Rattle.run_spec.specs.ChildJournal.{Work, End, book_of, exit_at, built_file, built_at, artefact_so_far, artefact_after}
 use Rattle.run_spec.specs.Faithful.{IsFaithfulDisk}
 use Rattle.history_spec.specs.Histories.{Sources, Order, ProgramRun, HistoryStep, Ran, Stopped, empty_image, IsReadable, IsMoment, IsLeft, RunStep, IsHistory, work_over, latest_over}
 use Rattle.run_spec.specs.JournalParts.{compile_part, test_part}
-use Rattle.run_spec.specs.Recorded.{recorded_at}
+use Rattle.run_spec.specs.Recorded.{current_by_request}
+use Rattle.run_spec.specs.Settled.{request_unless}
+use Rattle.run_spec.specs.Marks.{mark_of, mark_at, is_refused}
 use Rattle.run_spec.proofs.Parts.{all_compiled}
-use Rattle.run_spec.proofs.FoldLaws.{upto_at}
-use Rattle.run_spec.proofs.Artefacts.{next_parts}
-use Rattle.run_spec.proofs.Journal.{no_output}
-use Rattle.run_spec.proofs.RecordedArtefacts.{recorded_of_record}
-use Rattle.clean_laws.proofs.JournalKeeps.{was_taken, orderly_book}
-use Rattle.clean_laws.proofs.JournalStarted.{held, nothing_due}
-use Rattle.clean_laws.proofs.JournalSettled.{started_stale}
+use Rattle.run_spec.proofs.Artefacts.{deps_before}
+use Rattle.run_spec.proofs.RecordedArtefacts.{current_of_record}
+use Rattle.clean_laws.proofs.CleanPlaces.{filter_map-cons}
+use Rattle.clean_laws.proofs.JournalStarted.{nothing_due}
 use Rattle.history_laws.specs.Rights.{AllRight}
 use Rattle.history_laws.specs.Spares.{IsAcknowledged, SparesFile, AllSpare}
 use Rattle.history_laws.proofs.RightRuns.{all_right, all_right_from_empty}
-use Rattle.history_laws.proofs.SparedRuns.{nothing_taken, unrecorded, all_there}
+use Rattle.history_laws.proofs.SparedRuns.{all_there}
 use Rattle.history_laws.proofs.StoppedRuns.{stopped_spares}
 use Rattle.scan_spec.specs.Scans.{Finding}
 use Rattle.tested_histories.specs.Histories.{TestedStep, HasTested, TestsStep, IsTestedHistory}
@@ -47,75 +48,77 @@ use Rattle.vunit_top.specs.Said.{HasBuilt, no_order, order_of, order_in, plan_in
 use Rattle.vunit_top.proofs.RunTruths.{built_ended, none_in_empty_image}
 use Rattle.run_chains.specs.Chains.{Deeds, run_by, tested_by, RanTwice, RanAfterStop}
 
--- no child of a file has ended that was never started
-no_exit_of : (book : Book) (k : ℕ) → was_taken book k ≡ false → (ends : List End) → All (λ end. was_taken book end.position ≡ true) ends → exit_at ends k ≡ None
-unfolding exit_at
-no_exit_of book k fresh [] all = refl
-no_exit_of book k fresh (end ∷ ends) all =
-    elim (cases_Bool (eqb end.position k)) [
-      | inl t ↦ absurd (both_ways (was_taken book k) fresh (subst (λ (j : ℕ). was_taken book j ≡ true) (eqb-true end.position k t) (All-head (λ e. was_taken book e.position ≡ true) end ends all)))
-      | inr f ↦ rw f (no_exit_of book k fresh ends (All-tail (λ e. was_taken book e.position ≡ true) end ends all))
-    ]
+-- a file with an artefact isn't refused
+made_mark : (keep_going : Bool) (exit : Option Exit) (artefact : Option (List ℕ)) → is_some artefact ≡ true → is_refused (mark_of keep_going exit artefact) ≡ false
+made_mark keep_going None (Some artefact) is = refl
+made_mark keep_going (Some exit) (Some artefact) is = refl
+made_mark keep_going exit None is = absurd (false≢true is)
 
-some_is : (o : Option (List ℕ)) → is_some o ≡ true → (x : List ℕ) × (o ≡ Some x)
-some_is None h = absurd (false≢true h)
-some_is (Some x) h = (x, refl)
+-- so that where all files have one, none is
+none_refused : (work : Work) (ends : List End) (positions : List ℕ) → All (λ position. is_some (artefact_so_far work ends position) ≡ true) positions → list_any is_refused (map (mark_at work ends) positions) ≡ false
+none_refused work ends [] all = refl
+none_refused work ends (position ∷ positions) all =
+    or_from (is_refused (mark_at work ends position)) (list_any is_refused (map (mark_at work ends) positions))
+    (made_mark work.keep_going (exit_at ends position) (artefact_so_far work ends position) (All-head (λ p. is_some (artefact_so_far work ends p) ≡ true) position positions all))
+    (none_refused work ends positions (All-tail (λ p. is_some (artefact_so_far work ends p) ≡ true) position positions all))
 
--- nor has it an artefact, where no record of it is current
-unmade : (work : Work) (book : Book) → All (λ end. was_taken book end.position ≡ true) book.ends → (at : ℕ) → at < length work.graph → was_taken book at ≡ false → ((built : List BuiltFile) → work.current at built ≡ None) →
-    is_some (artefact_so_far work book.ends at) ≡ true → ⊥
-unfolding artefact_by
-unmade work book ends at lt fresh none made =
-    let ended : List EndedChild = map child_of_end book.ends in
-    let before : ℕ → Option (List ℕ) = upto (next_artefact work ended) None at in
-    let built : List BuiltFile = built_at work.graph before (deps_at work.graph at) in
-    let artefact = some_is (artefact_so_far work book.ends at) made in
-    let given = next_parts work ended before at artefact.0 (sym (upto_at (next_artefact work ended) None (length work.graph) at lt) ∙ artefact.1) in
-    none-some artefact.0
-    (sym (ap (λ (o : Option (List ℕ)). or_else o (output_at ended at)) (none built) ∙ no_output book.ends at (no_exit_of book at fresh book.ends ends)) ∙ given.1)
+-- the artefact of the latest record of the file at a position
+abbrev kept_artefact : (FileName → Option Record) → List Entry → ℕ → List ℕ
+kept_artefact latest_of graph position = (latest_built latest_of graph position).artefact
+
+module _ (latest_of : FileName → Option Record) (graph : List Entry) where
+  -- a file that has a record is built as that says, where the record is of its name
+  built_one : (position : ℕ) → IsRecorded latest_of graph position → built_file (slice_get graph position) (Some (kept_artefact latest_of graph position)) ≡ Some (latest_built latest_of graph position)
+  built_one position recorded =
+      let kept : Record = record { asked = asked_now latest_of graph recorded.entry; artefact = recorded.artefact } in
+      let built : latest_built latest_of graph position ≡ built_by kept =
+      ap (λ (o : Option Entry). option_map_or (λ (e : Entry). option_map_or built_by (latest_of e.name) no_built) o no_built) recorded.is_entry ∙ ap (λ (o : Option Record). option_map_or built_by o no_built) recorded.is in
+      ap (λ (o : Option Entry). built_file o (Some (kept_artefact latest_of graph position))) recorded.is_entry
+      ∙ ap (λ (file : BuiltFile). Some (record { name = recorded.entry.name; artefact = file.artefact })) built
+      ∙ ap (λ (file : BuiltFile). Some file) (sym built)
+
+  built_all : (deps : List ℕ) → All (IsRecorded latest_of graph) deps → built_at graph (λ p. Some (kept_artefact latest_of graph p)) deps ≡ map (latest_built latest_of graph) deps
+  unfolding built_at
+  built_all [] all = refl
+  built_all (dep ∷ deps) all =
+      filter_map-cons (λ p. built_file (slice_get graph p) (Some (kept_artefact latest_of graph p))) dep deps (Some (latest_built latest_of graph dep)) (built_one dep (All-head (IsRecorded latest_of graph) dep deps all))
+      ∙ ap (λ (files : List BuiltFile). latest_built latest_of graph dep ∷ files) (built_all deps (All-tail (IsRecorded latest_of graph) dep deps all))
+
+  -- where each file has a record of what would be asked for it now, each is current over the artefacts of all
+  all_current : IsGraph graph → ((position : ℕ) → position < length graph → IsRecorded latest_of graph position) → (at : ℕ) → at < length graph
+      → current_by_request latest_of graph at (built_at graph (λ p. Some (kept_artefact latest_of graph p)) (deps_at graph at)) ≡ Some (kept_artefact latest_of graph at)
+  all_current is each at lt =
+      let here : IsRecorded latest_of graph at = each at lt in
+      let deps_are : deps_at graph at ≡ here.entry.deps = ap (λ (o : Option Entry). option_map_or (λ (e : Entry). e.deps) o []) here.is_entry in
+      let files : built_at graph (λ p. Some (kept_artefact latest_of graph p)) (deps_at graph at) ≡ map (latest_built latest_of graph) here.entry.deps =
+      built_all (deps_at graph at) (λ k d l. each (get_or (deps_at graph at) k d) (omega (arith, deps_before graph is at k d l, lt))) ∙ ap (map (latest_built latest_of graph)) deps_are in
+      let own : latest_built latest_of graph at ≡ record { name = here.entry.name; artefact = here.artefact } =
+      ap (λ (o : Option Entry). option_map_or (λ (e : Entry). option_map_or built_by (latest_of e.name) no_built) o no_built) here.is_entry ∙ ap (λ (o : Option Record). option_map_or built_by o no_built) here.is in
+      ap (current_by_request latest_of graph at) files
+      ∙ current_of_record latest_of graph at here.entry (map (latest_built latest_of graph) here.entry.deps) here.is_entry here.artefact here.is
+      ∙ ap (λ (file : BuiltFile). Some file.artefact) (sym own)
 
 module _ (scan : List ℕ → Finding) (answer : Request → Exit) (run : ProgramRun) (first : DiskState) where
-  -- where something is recorded of each file, a run starts nothing
+  -- where each file has a record of what would be asked for it now, a run starts nothing
   nothing_started : (order : Option Order) → RunStep (world_of scan answer) order run first
-      → ((position : ℕ) → position < length (unwrap_or order no_order).graph → recorded_at (latest_over records_in_image (unwrap_or order no_order).clean first) (unwrap_or order no_order).graph position ≡ None → ⊥) → run.events ≡ []
+      → ((position : ℕ) → position < length (unwrap_or order no_order).graph → IsRecorded (latest_over records_in_image (unwrap_or order no_order).clean first) (unwrap_or order no_order).graph position) → run.events ≡ []
   nothing_started None step each = step.events
   nothing_started (Some order) (inl idle) each = idle.events
-  nothing_started (Some order) (inr build) each = nothing_due (work_over records_in_image order first) (all_there (work_over records_in_image order first) build.graph (λ at lt built. each at lt)) run.events build.lawful
+  nothing_started (Some order) (inr build) each =
+      let latest_of : FileName → Option Record = latest_over records_in_image order.clean first in
+      nothing_due (work_over records_in_image order first)
+      (all_there (work_over records_in_image order first) build.graph (kept_artefact latest_of order.graph) (all_current latest_of order.graph build.graph each)) run.events build.lawful
 
-  idle_takes : (order : Order) → run.events ≡ [] → (position : ℕ) → Contains (book_of (work_over records_in_image order first) run.events).taken position → ⊥
-  idle_takes order none position contains =
-      nothing_taken (work_over records_in_image order first) position (subst (λ (events : List Event). Contains (book_of (work_over records_in_image order first) events).taken position) none contains)
-
-  -- the events of a run are its compilers' answers
-  answered_in : (order : Option Order) → RunStep (world_of scan answer) order run first → Answered answer run.events
-  unfolding EachAfter
-  answered_in None step = subst (Answered answer) (sym step.events) tt
-  answered_in (Some order) (inl idle) = subst (Answered answer) (sym idle.events) tt
-  answered_in (Some order) (inr build) = build.answered
-
-  -- a started file has no current record
-  not_recorded : (order : Option Order) → RunStep (world_of scan answer) order run first → (position : ℕ) → Contains (book_of (work_over records_in_image (unwrap_or order no_order) first) run.events).taken position →
-      recorded_at (latest_over records_in_image (unwrap_or order no_order).clean first) (unwrap_or order no_order).graph position ≡ None
-  not_recorded None step position contains = absurd (idle_takes no_order step.events position contains)
-  not_recorded (Some order) (inl idle) position contains = absurd (idle_takes order idle.events position contains)
-  not_recorded (Some order) (inr build) position contains =
-      let asked = started_stale answer (work_over records_in_image order first) build.graph run.events build.lawful build.answered position contains in
-      (unrecorded answer (work_over records_in_image order first) build.graph position asked.0 asked.1).1
-
-  -- a run that is done has started exactly the files that nothing was recorded of
-  exact_starts : (r : Reading) (last : DiskState) → RunsAs scan answer r run first last → HasBuilt run.outcome → (position : ℕ) → position < length (order_in r).graph →
-      Contains (book_of (work_over records_in_image (order_in r) first) run.events).taken position ↔ (recorded_at (latest_over records_in_image (order_in r).clean first) (order_in r).graph position ≡ None)
-  exact_starts r last did done position inside =
+  -- a run that is done has started exactly the files that the settled build asks for
+  exact_starts : (r : Reading) (last : DiskState) → RunsAs scan answer r run first last → HasBuilt run.outcome → (position : ℕ) →
+      Contains (book_of (work_over records_in_image (order_in r) first) run.events).taken position
+      ↔ ((request : Request) × (request_unless answer (work_over records_in_image (order_in r) first).graph (work_over records_in_image (order_in r) first).current position ≡ Some request))
+  exact_starts r last did done =
       let setting : Work = work_over records_in_image (order_in r) first in
-      let lawful : Lawful setting run.events = (did.whole (built_ended run.outcome done)).lawful in
-      let answered : Answered answer run.events = answered_in (order_of r) did.step in
-      let made : is_some (artefact_after setting run.events position) ≡ true = did.made done position inside in (
-        λ contains. not_recorded (order_of r) did.step position contains,
-        λ none. elim (cases_Bool (was_taken (book_of setting run.events) position)) [
-          | inl taken ↦ held (book_of setting run.events).taken position taken
-          | inr fresh ↦ absurd (unmade setting (book_of setting run.events) (orderly_book answer setting run.events lawful answered).ends position inside fresh (λ built. none) made)
-        ],
-      )
+      let count : ℕ = length (order_in r).graph in
+      let made : All (λ position. is_some (artefact_after setting run.events position) ≡ true) (below count) = λ k d l.
+      subst (λ (p : ℕ). is_some (artefact_after setting run.events p) ≡ true) (sym (get_or-below count k d (subst (λ (n : ℕ). k < n) (length-below count) l))) (did.made done k (subst (λ (n : ℕ). k < n) (length-below count) l)) in
+      (did.exact (built_ended run.outcome done) (inr (none_refused setting (book_of setting run.events).ends (below count) made))).started
 
 -- what a call says of the tests of a run over a disk, by what was read
 pub record TestsOf (answer : Request → Exit) (r : Reading) (events : List Event) (disk : DiskState) : Type 0 where
@@ -146,12 +149,12 @@ module _ (scan : List ℕ → Finding) (answer : Request → Exit) (words : List
   abbrev Second : DiskState → DiskState → Type 0
   Second middle last = RunsAs scan answer r (run_by words two after) middle last
 
-  -- after a run that is done each file has a current record
+  -- after a run that is done each file has a record of what would be asked for it now
   each_recorded : (first middle : DiskState) → IsReadable middle → First first middle → (order_in r).clean ≡ false → HasBuilt one → (position : ℕ) → position < length (order_in r).graph
-      → recorded_at (latest_over records_in_image (order_in r).clean middle) (order_in r).graph position ≡ None → ⊥
-  each_recorded first middle readable did kept_store done position inside none =
-      let kept = did.recorded (built_ended one done) position inside (did.made done position inside) (reads_of middle) readable in
-      none-some kept.artefact (sym (subst (λ (clean : Bool). recorded_at (latest_over records_in_image clean middle) (order_in r).graph position ≡ None) kept_store none) ∙ recorded_of_record (latest_over records_in_image false middle) (order_in r).graph position kept)
+      → IsRecorded (latest_over records_in_image (order_in r).clean middle) (order_in r).graph position
+  each_recorded first middle readable did kept_store done position inside =
+      subst (λ (clean : Bool). IsRecorded (latest_over records_in_image clean middle) (order_in r).graph position) (sym kept_store)
+      (did.recorded (built_ended one done) position inside (did.made done position inside) (reads_of middle) readable)
 
   pub ran_twice : (first middle last : DiskState) (old new : List Event) → IsReadable middle → First first middle → Second middle last → new ≡ (old ++ before.events) ++ after.events → TestsOf answer r before.events first → TestsOf answer r after.events middle → RanTwice scan answer words sources (record { first = one; second = two }) (record { disk = first; journal = old }) (record { disk = last; journal = new })
   unfolding IsHistory IsTestedHistory
@@ -197,7 +200,7 @@ module _ (scan : List ℕ → Finding) (answer : Request → Exit) (words : List
       ((next.step, tests_step answer (compile_part after.events) (test_part after.events) left r then_test.untested then_test.tested), tt),
     )
 
-    spares : (name : FileName) (kept : Record) → IsAcknowledged (world_of scan answer) name kept moment → SparesFile (world_of scan answer) (order_of r) name kept.view (run_by words two after) left
+    spares : (name : FileName) (kept : Record) → IsAcknowledged (world_of scan answer) name kept moment → SparesFile (world_of scan answer) (order_of r) name kept.asked (run_by words two after) left
     unfolding AllSpare
     spares name kept here =
         (stopped_spares (world_of scan answer) sources first (run_by words one before) (record { events = compile_part before.events; moment = moment; disk = left }) (Ran (run_by words two after) ∷ []) name kept
@@ -213,7 +216,7 @@ module _ (scan : List ℕ → Finding) (answer : Request → Exit) (words : List
       ends = next.ends;
       journal = journal;
       spares = spares;
-      exact = λ done position inside. exact_starts scan answer (run_by words two after) left r last next done position inside;
+      exact = λ done position. exact_starts scan answer (run_by words two after) left r last next done position;
     }
 
 -- from an empty disk each run of the program is right

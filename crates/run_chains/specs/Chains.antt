@@ -1,17 +1,17 @@
 -- What two runs did, one after the other.
-use Rattle.std.specs.Prelude.{◌≡◌, ◌↔◌, ℕ, ◌<◌, Bool, List, [], ◌∷◌, ◌++◌, length, false, None, Contains}
+use Rattle.std.specs.Prelude.{◌≡◌, ◌↔◌, ℕ, Bool, List, [], ◌∷◌, ◌++◌, false, Some, None, Contains}
 use Rattle.vr_base.specs.declared.file.FileName.{FileName}
 use Rattle.vr_base.specs.declared.child.Request.{Request}
 use Rattle.vr_base.specs.declared.child.Exit.{Exit}
 use Rattle.vr_base.specs.declared.child.Event.{Event}
 use Rattle.outcomes.specs.declared.outcome.Outcome.{Outcome}
-use Rattle.vr_outside.specs.declared.records.Record.{Record}
+use Rattle.vr_outside.specs.Records.{Record}
 use Rattle.vr_outside.specs.Disks.{DiskState}
 use Rattle.vr_outside.specs.Commits.{last_state}
 use Rattle.run_spec.specs.ChildJournal.{book_of}
 use Rattle.run_spec.specs.Faithful.{IsFaithfulDisk}
-use Rattle.history_spec.specs.Histories.{Sources, ProgramRun, Ran, Stopped, IsHistory, work_over, latest_over}
-use Rattle.run_spec.specs.Recorded.{recorded_at}
+use Rattle.history_spec.specs.Histories.{Sources, ProgramRun, Ran, Stopped, IsHistory, work_over}
+use Rattle.run_spec.specs.Settled.{request_unless}
 use Rattle.run_spec.specs.JournalParts.{compile_part, test_part}
 use Rattle.history_laws.specs.Spares.{IsAcknowledged, SparesFile}
 use Rattle.scan_spec.specs.Scans.{Finding}
@@ -63,8 +63,9 @@ pub record RanTwice (scan : List ℕ → Finding) (answer : Request → Exit) (w
   pub idle : (order_in (reading scan words sources)).clean ≡ false → HasBuilt outcomes.first → plan_in (reading scan words sources) ≡ None → after.events ≡ []
 
 -- A run is stopped at a moment of its disk, and another run finds what that stop has left. Whatever prefix of its events the
--- stop leaves, the two are a history, also with their tests. The second run starts no file at the view of a record that was
--- acknowledged at that moment. Where it is done, or its tests failed, it starts exactly the files that the disk that is left has no current record of; where it is to build all anew, no record counts.
+-- stop leaves, the two are a history, also with their tests. The second run starts no file of which is asked what a record has that
+-- was acknowledged at that moment. Where it is done, or its tests failed, it starts exactly the files that the settled build asks for over
+-- the records of the disk that is left; where it is to build all anew, no record counts.
 pub record RanAfterStop (scan : List ℕ → Finding) (answer : Request → Exit) (words : List (List ℕ)) (sources : Sources) (outcomes : Outcomes) (stopped : StoppedDisk) (old new : ChainState) : Type 0 where
   pub before : List Event
   pub after : Deeds
@@ -78,6 +79,7 @@ pub record RanAfterStop (scan : List ℕ → Finding) (answer : Request → Exit
   pub ends : last_state old.disk after.later ≡ new.disk
   pub journal : new.journal ≡ (old.journal ++ before) ++ after.events
   pub spares : (name : FileName) (kept : Record) → IsAcknowledged (world_of scan answer) name kept stopped.moment →
-      SparesFile (world_of scan answer) (order_of (reading scan words sources)) name kept.view (run_by words outcomes.second after) old.disk
-  pub exact : HasBuilt outcomes.second → (position : ℕ) → position < length (order_in (reading scan words sources)).graph →
-      Contains (book_of (work_over records_in_image (order_in (reading scan words sources)) old.disk) (compile_part after.events)).taken position ↔ (recorded_at (latest_over records_in_image (order_in (reading scan words sources)).clean old.disk) (order_in (reading scan words sources)).graph position ≡ None)
+      SparesFile (world_of scan answer) (order_of (reading scan words sources)) name kept.asked (run_by words outcomes.second after) old.disk
+  pub exact : HasBuilt outcomes.second → (position : ℕ) →
+      let work = work_over records_in_image (order_in (reading scan words sources)) old.disk in
+      Contains (book_of work (compile_part after.events)).taken position ↔ ((request : Request) × (request_unless answer work.graph work.current position ≡ Some request))

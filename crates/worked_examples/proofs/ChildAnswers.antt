@@ -1,4 +1,4 @@
--- The examples of "Bytes: requests and records", by computation.
+-- The examples of "Bytes: requests", by computation.
 use Rattle.std.proofs.Common.{refl}
 use Rattle.scan_spec.specs.Units.{word_role}
 use Rattle.scan_spec.specs.Words.{reserved_words}

@@ -3,7 +3,6 @@ use Rattle.std.proofs.Common.{arith, refl, ◌<◌, ◌≤◌}
 use Rattle.vr_base.specs.Bytes.{text_bytes}
 use Rattle.vr_base.specs.Jobs.{all_built_bytes, built_bytes, compile_input, name_bytes}
 use Rattle.vr_base.specs.PresentGraph.{below}
-use Rattle.vr_base.specs.View.{part, viewed}
 use Rattle.run_spec.specs.ChildJournal.{after, after_all, artefact_by, built_at, exit_at, has_all, output_at}
 use Rattle.run_spec.specs.Folds.{upto}
 use Rattle.run_spec.specs.Moves.{first_from, is_startable, next_start}
@@ -14,15 +13,15 @@ unfolding text_bytes all_built_bytes built_bytes compile_input name_bytes below 
 made_in_the_end = record { first_alone = refl; both = refl; not_both = refl }
 
 pub answered_faults : AnsweredFaults
-unfolding text_bytes all_built_bytes built_bytes compile_input name_bytes part viewed after after_all artefact_by built_at has_all upto output_at first_from is_startable next_start
+unfolding text_bytes all_built_bytes built_bytes compile_input name_bytes after after_all artefact_by built_at has_all upto output_at first_from is_startable next_start
 answered_faults = record { lost = refl; no_memory = refl; before = refl; given = refl }
 
 pub given_before_losses : GivenBeforeLosses
-unfolding text_bytes all_built_bytes built_bytes compile_input name_bytes part viewed after after_all artefact_by built_at has_all upto output_at first_from is_startable next_start
+unfolding text_bytes all_built_bytes built_bytes compile_input name_bytes after after_all artefact_by built_at has_all upto output_at first_from is_startable next_start
 given_before_losses = record { given_one = refl; given_none = refl }
 
 pub first_of_two_faults : FirstOfTwoFaults
-unfolding text_bytes all_built_bytes built_bytes compile_input name_bytes part viewed after after_all artefact_by built_at has_all upto output_at first_from is_startable next_start
+unfolding text_bytes all_built_bytes built_bytes compile_input name_bytes after after_all artefact_by built_at has_all upto output_at first_from is_startable next_start
 first_of_two_faults = record { loss = let most : 0 ≤ 0 = omega arith in record { lost = refl; before = most }; disk = let least : 0 < 1 = omega arith in record { breaks = refl; before = least } }
 
 pub counted_faults : CountedFaults

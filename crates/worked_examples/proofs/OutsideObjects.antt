@@ -2,7 +2,6 @@
 use Rattle.std.proofs.Common.{[], arith, codes, inl, inr, refl}
 use Rattle.vr_base.specs.Bytes.{text_bytes}
 use Rattle.vr_base.specs.Jobs.{all_built_bytes, built_bytes, compile_input, name_bytes}
-use Rattle.vr_base.specs.View.{part, viewed}
 use Rattle.vr_outside.specs.Records.{latest}
 use Rattle.worked_examples.specs.OutsideObjects.{AskedAndPut, CountsAndReads, EndedChildren, LatestAfter, SidesOfDisks}
 
@@ -14,7 +13,7 @@ pub sides_of_disks : SidesOfDisks
 sides_of_disks = record { low = refl; high = refl; first_kept = refl; third_touched = refl; reads = refl; same_images = refl; synced_side = refl; through = refl; inside_cut_low = refl; inside_cut_high = refl; cut = refl; two_bytes = refl }
 
 pub latest_after : LatestAfter
-unfolding part viewed latest
+unfolding latest
 latest_after = record { of_a = refl; of_b = refl }
 
 pub counts_and_reads : CountsAndReads

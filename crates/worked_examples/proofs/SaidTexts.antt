@@ -8,21 +8,20 @@ use Rattle.std.specs.Str.Lossy.{utf8_error_len, utf8_lossy, utf8_valid_len}
 use Rattle.vr_base.specs.Bytes.{text_bytes}
 use Rattle.vr_base.specs.Jobs.{all_built_bytes, built_bytes, compile_input, name_bytes}
 use Rattle.vr_base.specs.PresentGraph.{below}
-use Rattle.vr_base.specs.View.{part, viewed}
 use Rattle.vr_outside.specs.Records.{latest}
 use Rattle.run_spec.specs.ChildJournal.{after, after_all, artefact_by, built_at, exit_at, has_all, output_at}
 use Rattle.run_spec.specs.Folds.{upto}
 use Rattle.run_spec.specs.CleanBuild.{results_after}
 use Rattle.run_spec.specs.Marks.{refused_files}
 use Rattle.run_spec.specs.Moves.{first_from, is_startable, next_start}
-use Rattle.run_spec.specs.Recorded.{is_same_view, recorded_at}
+use Rattle.run_spec.specs.Recorded.{current_by_request, is_same_asked}
 use Rattle.run_spec.specs.Settled.{settle}
 use Rattle.run_report.specs.Texts.{compile_failed, compile_passed, compiling, failed, file_words, files_text, limit_text, limit_words, listed_count, no_project, not_needed, over_limit, passed, program, skipped, use_of_all, warning_of, warning_word}
 use Rattle.test_report.specs.Listing.{tests_count}
 use Rattle.worked_examples.specs.SaidTexts.{BuildTexts, FileMarks, HaltedBuilds, OtherTexts}
 
 pub file_marks : FileMarks
-unfolding text_bytes all_built_bytes built_bytes compile_input name_bytes below part viewed latest after after_all artefact_by built_at has_all upto exit_at output_at results_after settle first_from is_startable next_start is_same_view recorded_at
+unfolding text_bytes all_built_bytes built_bytes compile_input name_bytes below latest after after_all artefact_by built_at has_all upto exit_at output_at results_after settle first_from is_startable next_start current_by_request is_same_asked
 file_marks = record { refused = refl; compiled = refl; steady = refl; some_refused = refl }
 
 pub build_texts : BuildTexts

@@ -2,17 +2,16 @@
 use Rattle.std.proofs.Common.{refl}
 use Rattle.vr_base.specs.Bytes.{text_bytes}
 use Rattle.vr_base.specs.Jobs.{all_built_bytes, built_bytes, compile_input, name_bytes}
-use Rattle.vr_base.specs.View.{part, viewed}
 use Rattle.vr_outside.specs.Records.{latest}
 use Rattle.run_spec.specs.ChildJournal.{AreRequested, EachAfter, after, after_all, artefact_by, built_at, has_all, moves_after, output_at, request_at}
 use Rattle.run_spec.specs.Folds.{upto}
 use Rattle.run_spec.specs.Moves.{GreedyMoves, LawfulMoves, after_move, after_moves, first_from, is_startable, next_start}
-use Rattle.run_spec.specs.Recorded.{is_same_view, recorded_at}
+use Rattle.run_spec.specs.Recorded.{current_by_request, is_same_asked}
 use Rattle.child_steps.specs.Steps.{step_at}
 use Rattle.worked_examples.specs.Starts.{BuildEvents, CompileParts, Journals, LawfulStarts, NextStarts, NextSteps, SoFar}
 
 pub journals : Journals
-unfolding text_bytes all_built_bytes built_bytes compile_input name_bytes part viewed latest is_same_view recorded_at
+unfolding text_bytes all_built_bytes built_bytes compile_input name_bytes latest current_by_request is_same_asked
 journals = record { last_two = refl; starts = refl; recorded = refl; nothing_recorded = refl }
 
 pub next_starts : NextStarts

@@ -3,17 +3,22 @@ use Rattle.std.proofs.Common.{refl}
 use Rattle.vr_base.specs.Bytes.{text_bytes}
 use Rattle.vr_base.specs.Jobs.{name_bytes}
 use Rattle.vr_base.specs.View.{part, viewed}
+use Rattle.vr_outside.specs.Records.{latest_alone}
 use Rattle.byte_codec.specs.Names.{name_at}
 use Rattle.byte_codec.specs.Reading.{counted_at, many_at, text_at}
-use Rattle.record_codec.specs.Found.{all_pairs, fit_deps, is_graph, is_whole, record_in, stands}
-use Rattle.record_codec.specs.Reading.{entry_at, record_read_at}
-use Rattle.record_codec.specs.Spelling.{entry_bytes, positions_bytes, record_bytes, words_bytes}
+use Rattle.record_codec.specs.Found.{all_pairs, fit_deps, is_graph, is_whole, stands}
 use Rattle.node_codec.specs.Forms.{draft_alone_in, draft_at, known_at, new_at, node_payload_by, node_payload_in, of_draft_in, of_node_in, source_at, source_by}
 use Rattle.node_codec.specs.Nodes.{node_files}
 use Rattle.node_codec.specs.Shelves.{after_payload, are_same_by, is_draft, is_same_node, shelf_of, with_payload}
+use Rattle.gate_journal.specs.Forms.{has_form}
 use Rattle.gate_journal.specs.Payloads.{block, counting, generation_of, header, is_live, payload_at, payloads, payloads_in, payloads_upto, side_bytes}
+use Rattle.request_codec.specs.Carrying.{carried_from, carry_own, carry_product, carry_request, compacted_requests}
+use Rattle.request_codec.specs.Forms.{command_bytes, product_draft_bytes, product_in, product_numbers_bytes, ref_by_number_at, ref_in_full_at, request_draft_bytes, request_in, request_payload_by, request_payload_bytes, request_payload_in, text_ref_at, text_ref_by, text_ref_bytes}
+use Rattle.request_codec.specs.Shelves.{after_request_payload, are_apart, is_new_product, is_request, request_shelf_of, with_request_payload}
+use Rattle.request_migration.specs.Migrating.{built_in, each_of, migrated_requests, put_ranked, ranked, request_for}
+use Rattle.request_migration.specs.ViewRecords.{is_same_view, latest_view, latest_views}
 use Rattle.worked_examples.specs.StoreRecords.{StoredRecords}
 
 pub stored_records : StoredRecords
-unfolding text_bytes name_bytes part viewed name_at counted_at many_at text_at all_pairs fit_deps is_graph is_whole record_in stands entry_at record_read_at entry_bytes positions_bytes record_bytes words_bytes draft_alone_in draft_at known_at new_at node_payload_by node_payload_in of_draft_in of_node_in source_at source_by node_files after_payload are_same_by is_draft is_same_node shelf_of with_payload block counting generation_of header is_live payload_at payloads payloads_in payloads_upto side_bytes
-stored_records = record { empty = refl; both = refl; of_nodes = refl; other_form = refl }
+unfolding text_bytes name_bytes part viewed latest_alone name_at counted_at many_at text_at all_pairs fit_deps is_graph is_whole stands draft_alone_in draft_at known_at new_at node_payload_by node_payload_in of_draft_in of_node_in source_at source_by node_files after_payload are_same_by is_draft is_same_node shelf_of with_payload has_form block counting generation_of header is_live payload_at payloads payloads_in payloads_upto side_bytes carried_from carry_own carry_product carry_request compacted_requests command_bytes product_draft_bytes product_in product_numbers_bytes ref_by_number_at ref_in_full_at request_draft_bytes request_in request_payload_by request_payload_bytes request_payload_in text_ref_at text_ref_by text_ref_bytes after_request_payload are_apart is_new_product is_request request_shelf_of with_request_payload built_in each_of migrated_requests put_ranked ranked request_for is_same_view latest_view latest_views
+stored_records = record { empty = refl; both = refl; of_views = refl; kept = refl; newer_counts = refl; form_1 = refl }

@@ -4,7 +4,6 @@ use Rattle.std.specs.Fmt.{digits}
 use Rattle.vr_base.specs.Bytes.{text_bytes}
 use Rattle.vr_base.specs.Jobs.{all_built_bytes, built_bytes, compile_input, name_bytes}
 use Rattle.vr_base.specs.PresentGraph.{below}
-use Rattle.vr_base.specs.View.{part, viewed}
 use Rattle.vr_outside.specs.Records.{latest}
 use Rattle.run_spec.specs.ChildJournal.{EachAfter}
 use Rattle.run_spec.specs.CleanBuild.{results_after}
@@ -34,7 +33,7 @@ unfolding text_bytes all_built_bytes built_bytes name_bytes EachAfter LawfulMove
 moves_of_tests = record { count = refl; lawful = refl; taken = refl; ended = refl; next = refl; last = refl; is_lawful = record { moves = (refl, (refl, tt)); requests = (refl, (tt, tt)); tickets = (refl, (tt, tt)) }; waits = refl; at_first = refl; second_step = refl }
 
 pub ends_of_tests : EndsOfTests
-unfolding text_bytes all_built_bytes built_bytes name_bytes below part viewed latest after_move first_from has_ended_well is_startable next_start bench_input texts_bytes configuration pairs_of escaped_byte output_path results_path run_name started_name verdicts after_test after_tests lent_at run_exit
+unfolding text_bytes all_built_bytes built_bytes name_bytes below latest after_move first_from has_ended_well is_startable next_start bench_input texts_bytes configuration pairs_of escaped_byte output_path results_path run_name started_name verdicts after_test after_tests lent_at run_exit
 ends_of_tests = record { verdicts_of = refl; lent = refl }
 
 pub runs_said : RunsSaid

@@ -2,7 +2,7 @@
 use Rattle.std.specs.Prelude.{◌≡◌, ◌∷◌, Bool, true, false, List, [], Some, None, codes}
 use Rattle.vr_outside.specs.Commits.{last_state}
 use Rattle.vr_outside.specs.Disks.{DiskState, Image, settled_disk}
-use Rattle.vr_outside.specs.declared.records.Record.{Record}
+use Rattle.vr_outside.specs.Records.{Record}
 use Rattle.history_spec.specs.Histories.{Order, empty_image, latest_over, work_over}
 use Rattle.worked_examples.specs.Example.{Ra, a_built, a_name, files}
 

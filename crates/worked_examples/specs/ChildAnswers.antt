@@ -1,4 +1,4 @@
--- The examples of "Bytes: requests and records", of the program as a child.
+-- The examples of "Bytes: requests", of the program as a child.
 use Rattle.std.specs.Prelude.{◌≡◌, ℕ, ◌∷◌, false, List, [], Some, codes}
 use Rattle.vr_base.specs.declared.child.Exit.{Exit}
 use Rattle.vr_base.specs.declared.child.MaybeText.TheVariants.{Given}

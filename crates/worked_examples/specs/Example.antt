@@ -11,7 +11,7 @@ use Rattle.vr_base.specs.declared.child.Request.{Request}
 use Rattle.vr_base.specs.declared.file.FileName.{FileName}
 use Rattle.vr_base.specs.declared.graph.BuiltFile.{BuiltFile}
 use Rattle.vr_base.specs.declared.graph.Entry.{Entry}
-use Rattle.vr_outside.specs.declared.records.Record.{Record}
+use Rattle.vr_outside.specs.Records.{Record, asked_of}
 use Rattle.run_spec.specs.ChildJournal.{Work}
 use Rattle.run_spec.specs.Settled.{none_current}
 
@@ -68,16 +68,20 @@ accepting request = compiler (exit 0 (codes "1")) (exit 0 (codes "2")) request
 abbrev pub refusing : Request → Exit
 refusing request = compiler (exit 1 (codes "no")) (exit 0 (codes "2")) request
 
--- the records of a with 1, and of a and b with 2
+-- the record of a file over files that were built, with its artefact
+abbrev pub recorded : Entry → List BuiltFile → List ℕ → Record
+recorded entry below artefact = record { asked = asked_of entry below; artefact = artefact }
+
+-- the records of a with 1, and of b over a's 1 with 2
 abbrev pub Ra : Record
-Ra = record { view = a_file ∷ []; artefact = codes "1" }
+Ra = recorded a_file [] (codes "1")
 
 abbrev pub Rb : Record
-Rb = record { view = files; artefact = codes "2" }
+Rb = recorded b_file (a_built ∷ []) (codes "2")
 
 -- the record of a with the text w and the artefact 8
 abbrev pub Rw : Record
-Rw = record { view = file a_name (codes "w") [] ∷ []; artefact = codes "8" }
+Rw = recorded (file a_name (codes "w") []) [] (codes "8")
 
 -- the build of a and b, nothing recorded, with so many slots
 abbrev pub work_with : ℕ → Bool → Work

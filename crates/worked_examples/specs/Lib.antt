@@ -14,7 +14,8 @@ pub mod NamePatterns
 pub mod BenchRuns
 pub mod SpelledBytes
 pub mod JournalSides
-pub mod StoredNodes
+pub mod StoredRequests
+pub mod MigratedRecords
 pub mod NumberedKeys
 pub mod SaidTexts
 pub mod OutsideObjects

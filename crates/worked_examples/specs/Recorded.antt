@@ -1,20 +1,28 @@
 -- The examples of "Records, and what a stop can leave".
-use Rattle.std.specs.Prelude.{◌≡◌, ◌∷◌, List, [], Option, Some, None, codes}
+use Rattle.std.specs.Prelude.{◌≡◌, ◌∷◌, true, false, List, [], Option, Some, None, codes}
 use Rattle.vr_base.specs.declared.file.FileName.{FileName}
-use Rattle.vr_outside.specs.Records.{IsAllOrLatest, deps_at, latest, latest_alone}
-use Rattle.vr_outside.specs.declared.records.Record.{Record}
+use Rattle.vr_base.specs.declared.graph.BuiltFile.{BuiltFile}
+use Rattle.vr_base.specs.declared.graph.Entry.{Entry}
+use Rattle.vr_outside.specs.Records.{IsAllOrLatest, Record, asked_now, asked_of, built_by, deps_at, latest, latest_alone, latest_built, request_of}
 use Rattle.run_spec.specs.Commits.{commits}
 use Rattle.run_spec.specs.Faithful.{IsTrueRecord}
-use Rattle.run_spec.specs.Recorded.{recorded_at}
-use Rattle.worked_examples.specs.Example.{Ra, Rb, Rw, a_name, accepting, b_file, b_name, events, exit, file, files, one_slot, with_end_of_b}
+use Rattle.run_spec.specs.Recorded.{current_by_request, is_same_asked}
+use Rattle.worked_examples.specs.Example.{Ra, Rb, Rw, a_built, a_name, accepting, b_file, b_name, b_request, built, events, exit, file, files, one_slot, recorded, with_end_of_b}
 
 -- of Ra, Rb and Rw
 abbrev three : List Record
 three = Ra ∷ Rb ∷ Rw ∷ []
 
--- the record of a with the text w, and of b over it
-abbrev other_b : Record
-other_b = record { view = file a_name (codes "w") [] ∷ b_file ∷ []; artefact = codes "7" }
+-- a with the text w, as in Rw, and as it was built so
+abbrev other_a : Entry
+other_a = file a_name (codes "w") []
+
+abbrev other_built : BuiltFile
+other_built = built a_name (codes "8")
+
+-- the record of a with the text w and the artefact that it had with x
+abbrev same_artefact : Record
+same_artefact = recorded other_a [] (codes "1")
 
 abbrev over : List Record → FileName → Option Record
 over records it = latest it records
@@ -27,11 +35,28 @@ pub record LatestRecords : Type 0 where
   pub all : IsAllOrLatest three three
   pub alone : IsAllOrLatest three (Rb ∷ Rw ∷ [])
 
--- what is recorded of a file: 1 at 0, nothing at 1, and nothing at 2, where there is no file
-pub record RecordedFiles : Type 0 where
-  pub first : recorded_at (over (Ra ∷ other_b ∷ [])) files 0 ≡ Some (codes "1")
-  pub second : recorded_at (over (Ra ∷ other_b ∷ [])) files 1 ≡ None
-  pub third : recorded_at (over (Ra ∷ other_b ∷ [])) files 2 ≡ None
+-- what compilers were asked, and what they would be asked now
+pub record AskedFiles : Type 0 where
+  pub request : request_of Rb.asked ≡ b_request
+  pub built_so : built_by Ra ≡ a_built
+  pub built_last : latest_built (over three) files 0 ≡ other_built
+  pub of_b : asked_now (over (Ra ∷ Rb ∷ [])) files b_file ≡ Rb.asked
+  pub over_other : asked_now (over three) files b_file ≡ asked_of b_file (other_built ∷ [])
+  pub same : is_same_asked Rb.asked (asked_of b_file (a_built ∷ [])) ≡ true
+  pub not_same : is_same_asked Rb.asked (asked_of b_file (other_built ∷ [])) ≡ false
+
+-- what is current of a file: 1 at 0, 2 at 1 over a's 1, and nothing at 2, where there is no file
+pub record CurrentFiles : Type 0 where
+  pub first : current_by_request (over (Ra ∷ Rb ∷ [])) files 0 [] ≡ Some (codes "1")
+  pub second : current_by_request (over (Ra ∷ Rb ∷ [])) files 1 (a_built ∷ []) ≡ Some (codes "2")
+  -- not over another artefact of a,
+  pub below_differs : current_by_request (over (Ra ∷ Rb ∷ [])) files 1 (other_built ∷ []) ≡ None
+  -- nor over none
+  pub none_below : current_by_request (over (Ra ∷ Rb ∷ [])) files 1 [] ≡ None
+  pub third : current_by_request (over (Ra ∷ Rb ∷ [])) files 2 [] ≡ None
+  -- where the text of a was changed a isn't current; b is, where a's artefact is the same
+  pub changed : current_by_request (over (Ra ∷ Rb ∷ [])) (other_a ∷ b_file ∷ []) 0 [] ≡ None
+  pub still_current : current_by_request (over (Ra ∷ Rb ∷ same_artefact ∷ [])) (other_a ∷ b_file ∷ []) 1 (a_built ∷ []) ≡ Some (codes "2")
   pub deps : deps_at files 1 ≡ 0 ∷ []
 
 -- what a build commits: where both end with code 0 Ra and Rb, where b ends with code 3 Ra
@@ -41,5 +66,5 @@ pub record BuildCommits : Type 0 where
 
 -- the records of a and of b are true
 pub record TrueRecords : Type 0 where
-  pub of_a_alone : IsTrueRecord accepting Ra
-  pub of_both : IsTrueRecord accepting Rb
+  pub of_a : IsTrueRecord accepting Ra
+  pub of_b : IsTrueRecord accepting Rb

@@ -1,5 +1,5 @@
--- The examples of "Bytes: requests and records".
-use Rattle.std.specs.Prelude.{◌≡◌, ℕ, ◌-◌, ◌++◌, ◌∷◌, false, List, [], Some, None, length, take, codes}
+-- The examples of "Bytes: requests".
+use Rattle.std.specs.Prelude.{◌≡◌, ℕ, ◌++◌, ◌∷◌, false, List, [], Some, None, length, take, codes}
 use Rattle.vr_base.specs.Bytes.{number_bytes, text_bytes}
 use Rattle.vr_base.specs.Jobs.{name_bytes}
 use Rattle.byte_codec.specs.Reading.{text_at}
@@ -7,9 +7,7 @@ use Rattle.test_spec.specs.declared.runs.TestRun.{TestRun}
 use Rattle.job_codec.specs.Reading.{job_at}
 use Rattle.job_codec.specs.Written.{begun, with_file}
 use Rattle.bench_codec.specs.Written.{begun_run}
-use Rattle.record_codec.specs.Found.{record_in}
-use Rattle.record_codec.specs.Spelling.{record_bytes}
-use Rattle.worked_examples.specs.Example.{a_built, a_file, a_name, a_request, b_file}
+use Rattle.worked_examples.specs.Example.{a_built, a_name, a_request, b_file}
 
 -- the name of a
 abbrev name_spelling : List ℕ
@@ -18,11 +16,6 @@ name_spelling = 3 ∷ 0 ∷ 0 ∷ 0 ∷ 108 ∷ 105 ∷ 98 ∷ 5 ∷ 0 ∷ 0 ∷
 -- the bytes of the job of a, and those of a as a file that was built
 abbrev job : List ℕ
 job = a_request.input
-
--- the file a with the command word cc and the artefact y
-abbrev spelled_record : List ℕ
-spelled_record = 1 ∷ 0 ∷ 0 ∷ 0 ∷ name_spelling ++ (1 ∷ 0 ∷ 0 ∷ 0 ∷ 2 ∷ 0 ∷ 0 ∷ 0 ∷ 99 ∷ 99 ∷ 1 ∷ 0 ∷ 0 ∷ 0 ∷ 120 ∷ 0 ∷ 0 ∷ 0 ∷ 0 ∷ 1 ∷ 0 ∷ 0 ∷ 0 ∷
-    121 ∷ [])
 
 -- numbers, texts and names
 pub record NumbersAndTexts : Type 0 where
@@ -58,10 +51,3 @@ run_of_one = record {
 pub record BenchJobs : Type 0 where
   pub begins : take 32 (begun_run run_of_one [] 0).input ≡ 86 ∷ 82 ∷ 66 ∷ 49 ∷ 3 ∷ 0 ∷ 0 ∷ 0 ∷ 108 ∷ 105 ∷ 98 ∷ 1 ∷ 0 ∷ 0 ∷ 0 ∷ 116 ∷ 1 ∷ 0 ∷ 0 ∷
       0 ∷ 97 ∷ 1 ∷ 0 ∷ 0 ∷ 0 ∷ 3 ∷ 0 ∷ 0 ∷ 0 ∷ 111 ∷ 110 ∷ 101 ∷ []
-
--- records of a store
-pub record SpelledRecords : Type 0 where
-  pub spelled : record_bytes (a_file ∷ []) (codes "y") ≡ spelled_record
-  pub read : record_in spelled_record ≡ Some (a_file ∷ [], codes "y")
-  pub shorter : record_in (take (length spelled_record - 1) spelled_record) ≡ None
-  pub longer : record_in (spelled_record ++ 0 ∷ []) ≡ None

@@ -1,23 +1,24 @@
 -- The examples of "Records, and what a stop can leave", of stores.
-use Rattle.std.specs.Prelude.{◌≡◌, ℕ, ◌∷◌, List, [], codes}
+use Rattle.std.specs.Prelude.{◌≡◌, ℕ, ◌∷◌, List, []}
 use Rattle.vr_outside.specs.Disks.{Image}
-use Rattle.record_codec.specs.Spelling.{record_bytes}
 use Rattle.gate_journal.specs.Payloads.{side_bytes}
-use Rattle.record_store.specs.Stored.{records_in}
-use Rattle.node_store.specs.Stored.{node_records_in}
-use Rattle.worked_examples.specs.Example.{Ra, Rb, a_file, files}
-use Rattle.worked_examples.specs.StoredNodes.{first, same_text, second}
+use Rattle.request_store.specs.Stored.{kept_payloads, requests_in}
+use Rattle.worked_examples.specs.MigratedRecords.{first_node, second_node}
+use Rattle.worked_examples.specs.StoredRequests.{first, second, two_records}
 
 -- an image whose side A has these payloads of a form
 abbrev holding : ℕ → List (List ℕ) → Image
 holding form payloads = record { a = side_bytes form 1 payloads; b = [] }
 
+-- the two payloads of form 2 of the example in FORMATS.md, of generation 9, beside a side of form 3 without payloads
+abbrev beside : Image
+beside = record { a = side_bytes 2 9 (first_node ∷ second_node ∷ []); b = side_bytes 3 1 [] }
+
 pub record StoredRecords : Type 0 where
-  pub empty : records_in (record { a = []; b = [] }) ≡ []
-  pub both : records_in (holding 1 (record_bytes (a_file ∷ []) (codes "1") ∷ record_bytes files (codes "2") ∷ [])) ≡ Ra ∷ Rb ∷ []
-  pub of_nodes : node_records_in (holding 2 (first ∷ second ∷ [])) ≡ record { view = a_file ∷ []; artefact = codes "y" } ∷ record {
-    view = a_file ∷
-        same_text ∷ [];
-    artefact = codes "z";
-  } ∷ []
-  pub other_form : node_records_in (holding 1 (first ∷ second ∷ [])) ≡ []
+  pub empty : requests_in (record { a = []; b = [] }) ≡ []
+  pub both : requests_in (holding 3 (first ∷ second ∷ [])) ≡ two_records
+  -- of form 2 what stands for its records, where no side is of form 3
+  pub of_views : requests_in (holding 2 (first_node ∷ second_node ∷ [])) ≡ two_records
+  pub kept : kept_payloads (holding 2 (first_node ∷ second_node ∷ [])) ≡ first ∷ second ∷ []
+  pub newer_counts : requests_in beside ≡ []
+  pub form_1 : requests_in (holding 1 (first ∷ second ∷ [])) ≡ []

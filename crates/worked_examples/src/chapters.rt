@@ -2,7 +2,7 @@
 
 ghost use Rattle.worked_examples.specs.Graphs.{ListedFiles, Orders, Ways, PositionSets, Views};
 ghost use Rattle.worked_examples.specs.Builds.{CompilerRequests, CleanBuilds, CleanRequests};
-ghost use Rattle.worked_examples.specs.Recorded.{LatestRecords, RecordedFiles, BuildCommits, TrueRecords};
+ghost use Rattle.worked_examples.specs.Recorded.{LatestRecords, AskedFiles, CurrentFiles, BuildCommits, TrueRecords};
 ghost use Rattle.worked_examples.specs.Starts.{Journals, NextStarts, LawfulStarts, SoFar, NextSteps, BuildEvents, CompileParts};
 ghost use Rattle.worked_examples.specs.DesignUnits.{TokenRoles, UnitNumbers};
 ghost use Rattle.worked_examples.specs.UnitReferences.{FoundReferences, GivenArchitectures, Clauses};
@@ -11,9 +11,10 @@ ghost use Rattle.worked_examples.specs.LinkedUnits.{LinkedFiles};
 ghost use Rattle.worked_examples.specs.TestBenches.{BenchEntities, CalledCases, SameSimComments, ProjectTests};
 ghost use Rattle.worked_examples.specs.NamePatterns.{PatternPieces, MatchedNames, SelectedCases};
 ghost use Rattle.worked_examples.specs.BenchRuns.{NamedRuns, BenchTexts, CaseVerdicts};
-ghost use Rattle.worked_examples.specs.SpelledBytes.{NumbersAndTexts, CompileJobs, BenchJobs, SpelledRecords};
+ghost use Rattle.worked_examples.specs.SpelledBytes.{NumbersAndTexts, CompileJobs, BenchJobs};
 ghost use Rattle.worked_examples.specs.JournalSides.{SpelledSides, ImagePayloads, SideHeaders};
-ghost use Rattle.worked_examples.specs.StoredNodes.{Nodes, SpelledPayloads, ShelfRecords, SpannedWords, CompactedRecords};
+ghost use Rattle.worked_examples.specs.StoredRequests.{SpelledPayloads, ShelvedRequests, CompactedRequests};
+ghost use Rattle.worked_examples.specs.MigratedRecords.{MigratedViews, RequestsOfNodes, MigratedPayloads};
 ghost use Rattle.worked_examples.specs.NumberedKeys.{NumberedRows, PlacesOfItems};
 ghost use Rattle.worked_examples.specs.SaidTexts.{FileMarks, BuildTexts, OtherTexts, HaltedBuilds};
 ghost use Rattle.worked_examples.specs.OutsideObjects.{EndedChildren, SidesOfDisks, LatestAfter, CountsAndReads, AskedAndPut};
@@ -46,7 +47,8 @@ pub fn examples_of_builds()
 /// The examples of "Records, and what a stop can leave".
 pub fn examples_of_recorded()
     ensures latest_records { LatestRecords }
-    ensures recorded_files { RecordedFiles }
+    ensures asked_files { AskedFiles }
+    ensures current_files { CurrentFiles }
     ensures build_commits { BuildCommits }
     ensures true_records { TrueRecords }
 {}
@@ -108,12 +110,11 @@ pub fn examples_of_bench_runs()
     ensures case_verdicts { CaseVerdicts }
 {}
 
-/// The examples of "Bytes: requests and records".
+/// The examples of "Bytes: requests".
 pub fn examples_of_spelled_bytes()
     ensures numbers_and_texts { NumbersAndTexts }
     ensures compile_jobs { CompileJobs }
     ensures bench_jobs { BenchJobs }
-    ensures spelled_records { SpelledRecords }
 {}
 
 /// The examples of "The journal of payloads".
@@ -123,16 +124,21 @@ pub fn examples_of_journal_sides()
     ensures side_headers { SideHeaders }
 {}
 
-/// The examples of "Texts and nodes stored once".
-pub fn examples_of_stored_nodes()
-    ensures nodes { Nodes }
+/// The examples of "Texts and products stored once".
+pub fn examples_of_stored_requests()
     ensures spelled_payloads { SpelledPayloads }
-    ensures shelf_records { ShelfRecords }
-    ensures spanned_words { SpannedWords }
-    ensures compacted_records { CompactedRecords }
+    ensures shelved_requests { ShelvedRequests }
+    ensures compacted_requests { CompactedRequests }
 {}
 
-/// The examples of "Texts, nodes and keys found by number".
+/// The examples of "Records of requests for records of views".
+pub fn examples_of_migrated_records()
+    ensures migrated_views { MigratedViews }
+    ensures requests_of_nodes { RequestsOfNodes }
+    ensures migrated_payloads { MigratedPayloads }
+{}
+
+/// The examples of "Texts, products and keys found by number".
 pub fn examples_of_numbered_keys()
     ensures numbered_rows { NumberedRows }
     ensures places_of_items { PlacesOfItems }
@@ -203,7 +209,7 @@ pub fn examples_of_tested_runs()
     ensures written_reports { WrittenReports }
 {}
 
-/// The examples of "Bytes: requests and records".
+/// The examples of "Bytes: requests".
 pub fn examples_of_child_answers()
     ensures compiler_answers { CompilerAnswers }
     ensures simulator_answers { SimulatorAnswers }

@@ -1,12 +1,15 @@
 -- Answers to the goals of `examples_of_recorded`.
-use Rattle.worked_examples.proofs.Recorded.{latest_records, recorded_files, build_commits, true_records}
+use Rattle.worked_examples.proofs.Recorded.{latest_records, asked_files, current_files, build_commits, true_records}
 use Rattle.worked_examples.proofs.chapters.examples_of_recorded.Goals as goal
 
 pub returns-clause-latest_records : goal.returns-clause-latest_records
 returns-clause-latest_records c = latest_records
 
-pub returns-clause-recorded_files : goal.returns-clause-recorded_files
-returns-clause-recorded_files c = recorded_files
+pub returns-clause-asked_files : goal.returns-clause-asked_files
+returns-clause-asked_files c = asked_files
+
+pub returns-clause-current_files : goal.returns-clause-current_files
+returns-clause-current_files c = current_files
 
 pub returns-clause-build_commits : goal.returns-clause-build_commits
 returns-clause-build_commits c = build_commits

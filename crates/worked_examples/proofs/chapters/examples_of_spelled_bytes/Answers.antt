@@ -1,5 +1,5 @@
 -- Answers to the goals of `examples_of_spelled_bytes`.
-use Rattle.worked_examples.proofs.SpelledBytes.{numbers_and_texts, compile_jobs, bench_jobs, spelled_records}
+use Rattle.worked_examples.proofs.SpelledBytes.{numbers_and_texts, compile_jobs, bench_jobs}
 use Rattle.worked_examples.proofs.chapters.examples_of_spelled_bytes.Goals as goal
 
 pub returns-clause-numbers_and_texts : goal.returns-clause-numbers_and_texts
@@ -10,6 +10,3 @@ returns-clause-compile_jobs c = compile_jobs
 
 pub returns-clause-bench_jobs : goal.returns-clause-bench_jobs
 returns-clause-bench_jobs c = bench_jobs
-
-pub returns-clause-spelled_records : goal.returns-clause-spelled_records
-returns-clause-spelled_records c = spelled_records
