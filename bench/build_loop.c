@@ -68,8 +68,48 @@ static void start(struct children *all, char **words, struct file *files, struct
     file->started = 1;
 }
 
+/* The texts of the store by their numbers, and where each is found: a number and one more, or 0. */
+struct texts { const struct bytes **all; uint64_t count; uint32_t *found, room; };
+
+static struct texts no_texts(uint32_t files) {
+    struct texts texts = { .all = malloc((2 * files + 1) * sizeof *texts.all), .room = 16 };
+    while (texts.room < 8 * (uint64_t)files) texts.room *= 2;
+    texts.found = calloc(texts.room, sizeof *texts.found);
+    if (!texts.all || !texts.found) fail("memory");
+    return texts;
+}
+
+static uint64_t hash_of(const struct bytes *text) {
+    uint64_t hash = text->length, word;
+    size_t at = 0;
+    for (; at + 8 <= text->length; at += 8) {
+        memcpy(&word, text->at + at, 8);
+        hash = (hash ^ word) * 0x9e3779b97f4a7c15u;
+        hash ^= hash >> 29;
+    }
+    for (; at < text->length; at++) hash = (hash ^ text->at[at]) * 0x9e3779b97f4a7c15u;
+    return hash ^ hash >> 32;
+}
+
+/* Adds the number of a text, or where it isn't there yet the text, which then is. */
+static void add_ref(struct bytes *to, struct texts *texts, const struct bytes *text) {
+    uint32_t at = (uint32_t)hash_of(text) & (texts->room - 1);
+    for (; texts->found[at]; at = (at + 1) & (texts->room - 1)) {
+        const struct bytes *other = texts->all[texts->found[at] - 1];
+        if (other->length == text->length && (!text->length || !memcmp(other->at, text->at, text->length))) {
+            add_number(to, 0, 1);
+            add_number(to, texts->found[at] - 1, 8);
+            return;
+        }
+    }
+    texts->all[texts->count++] = text;
+    texts->found[at] = (uint32_t)texts->count;
+    add_number(to, 1, 1);
+    add_text(to, text->at, text->length);
+}
+
 /* Writes length, payload and a closed gate, syncs, opens the gate, and syncs. */
-static void commit(int store, uint64_t *gate, char **command, const struct file *file, const uint64_t *numbers) {
+static void commit(int store, uint64_t *gate, char **command, const struct file *file, const uint64_t *numbers, struct texts *texts) {
     static struct bytes record;
     uint32_t length, words = 0;
     record.length = 0;
@@ -80,11 +120,10 @@ static void commit(int store, uint64_t *gate, char **command, const struct file 
     while (command[words]) words++;
     add_number(&record, words, 4);
     for (uint32_t at = 0; at < words; at++) add_text(&record, command[at], strlen(command[at]));
-    add_number(&record, 1, 1);
-    add_text(&record, file->source.at, file->source.length);
+    add_ref(&record, texts, &file->source);
     add_number(&record, file->count, 4);
     for (uint32_t at = 0; at < file->count; at++) add_number(&record, numbers[file->needs[at]], 8);
-    add_text(&record, file->child.output.at, file->child.output.length);
+    add_ref(&record, texts, &file->child.output);
     length = (uint32_t)(record.length - 4);
     memcpy(record.at, &length, 4);
     add_number(&record, 0, 1);
@@ -106,6 +145,7 @@ int main(int count, char **words) {
     uint64_t gate = 18, *numbers;
     struct file *files;
     struct children all;
+    struct texts texts;
     char **started, **recorded;
     int store;
     if (count < 5) {
@@ -121,7 +161,8 @@ int main(int count, char **words) {
     all = no_children(slots);
     store = open(words[3], O_RDWR | O_CREAT | O_TRUNC | O_CLOEXEC, 0644);
     if (store < 0 || !numbers) fail(words[3]);
-    if (pwrite(store, "\1VUNITREC\2\1\0\0\0\0\0\0\0\0", 19, 0) != 19 || fdatasync(store)) fail("store");
+    texts = no_texts(total);
+    if (pwrite(store, "\1VUNITREC\3\1\0\0\0\0\0\0\0\0", 19, 0) != 19 || fdatasync(store)) fail("store");
     for (uint32_t at = 0; at < total; at++) {
         int from = open(files[at].path, O_RDONLY | O_CLOEXEC);
         if (from < 0) fail(files[at].path);
@@ -140,7 +181,7 @@ int main(int count, char **words) {
         }
         file = (struct file *)take_any(&all);
         numbers[file - files] = ended++;
-        commit(store, &gate, recorded, file, numbers);
+        commit(store, &gate, recorded, file, numbers, &texts);
         file->done = 1;
     }
     printf("%u files\n", ended);

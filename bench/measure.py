@@ -66,6 +66,15 @@ def make_project(folder, count, kind, compiler=None, size=SIZE, simulator=None):
     return all_needs
 
 
+def make_listed(folder, count, size):
+    """Makes a listed project, each file of which depends on all before it, and gives these."""
+    make_project(folder, count, "near", size=size)
+    os.remove(os.path.join(folder, "vunit.toml"))
+    with open(os.path.join(folder, "vunit.csv"), "w") as file:
+        file.write("".join(f"lib,src/p{at:04}.vhd\n" for at in range(count)))
+    return [list(range(at)) for at in range(count)]
+
+
 def below(all_needs):
     """All that each file depends on, directly or indirectly, rising."""
     closed = []
@@ -98,9 +107,9 @@ def measured(words, folder):
     return took, usage, text
 
 
-def build(folder, *words):
+def build(folder, *words, program=PROGRAM):
     """Builds a project, and gives the seconds that it takes."""
-    took, _, text = timed([PROGRAM, "--compile", *words], folder)
+    took, _, text = timed([program, "--compile", *words], folder)
     if not text.endswith(b"Compile passed\n"):
         sys.exit(f"{folder} isn't built: it says {text[-200:]}")
     return took

@@ -1,5 +1,5 @@
-# Files are compiled after all that they depend on, and again exactly where they or one of these changed. What is wrong
-# with names and order is refused before a child is started.
+# Files are compiled after all that they depend on, and again exactly where they changed, or what was made of one of these. What is
+# wrong with names and order is refused before a child is started.
 . "$TOP/tests/support/program.sh"
 
 # Prints a package, and before it what stands for its context.
@@ -36,6 +36,10 @@ expect "the package that others use is edited" 0 "$users" --compile
 expect "nothing changed after that" 0 "Re-compile not needed" --compile
 package p >p.vhd
 expect "it is edited back" 0 "$users" --compile -p 3
+echo '-- a comment' >>p.vhd
+expect "it has a comment more, of which what is made of it says nothing" 0 "Compiling into lib: p.vhd passed
+Compile passed" --compile
+expect "nothing changed after that either" 0 "Re-compile not needed" --compile
 echo '-- child: note 1' >>v.vhd
 expect "a file alone is edited" 0 "Compiling into lib: v.vhd passed
 Compile passed" --compile
@@ -224,6 +228,9 @@ Compiling into lib: src/board.vhd passed
 Compiling into tb_lib: tb/tb_counter.vhd passed
 Compile passed" --compile -p 4
 echo '-- one more line' >>src/counter.vhd
+expect "the counter has a comment more" 0 "Compiling into lib: src/counter.vhd passed
+Compile passed" --compile
+echo '-- child: note 1' >>src/counter.vhd
 expect "the counter is edited" 0 "Compiling into lib: src/counter.vhd passed
 Compiling into lib: src/board.vhd passed
 Compiling into tb_lib: tb/tb_counter.vhd passed

@@ -1,13 +1,14 @@
 #!/bin/sh
 # What the program asks the system of its store, call by call: a first build, a run with nothing to do, one record more, a store
-# that is emptied, and one that is compacted as it is opened. What a file holds is on the device (`sync`, `datasync`) before the
+# that is emptied, one that is compacted as it is opened, and one of the older form. What a file holds is on the device (`sync`, `datasync`) before the
 # next write says that it is; both files are synced and their kept pages dropped (`advise`) before anything is read of
 # them; and a new file is in its folder, and that in the one around it, before the first write.
 . "$TOP/tests/support/needs.sh"
 needs python3 strace
 PYTHONPATH=$TOP/tests/support exec python3 -B - <<'END'
-import os, re
+import os, re, shutil
 
+from store_reader import Carried, FORM, migrated_of, read_sides, side_of, views_in
 from trial import end, fail, package, project, run, write
 
 CALLS = "?mkdir,mkdirat,?open,openat,close,flock,fsync,fdatasync,fadvise64,ftruncate,?read,pread64,?write,pwrite64,?rename,?renameat,?renameat2,?unlink,unlinkat,mmap"
@@ -66,6 +67,8 @@ SYNCED = ["sync a", "advise a", "sync b", "advise b"]
 OPENED = ["make vunit_out (there)", "create a (there)", "open a", "lock a", "create b (there)", "open b", "lock b", *SYNCED]
 CLOSED = ["close a", "close b"]
 HEAD = 19  # the first byte, the mark with its form, the generation, and the gate of the first payload
+# What a record has less whose artefact, `unit package a` and a line feed, is there already: its number, and not its length and it.
+LESS = 4 + 15 - 8
 
 
 def new_side(side, length=HEAD):
@@ -98,8 +101,8 @@ if found != [*OPENED, f"read a {HEAD} at 0", f"read a {first} at 0", *added("a",
 
 # (nothing of its records is read, and each side gives its room back before one is written)
 check("a store that is emptied", [*OPENED, f"read a {HEAD} at 0", "cut b to 0", "sync b", "write a 1 at 0", "datasync a",
-                                  *new_side("a"), *added("a", HEAD, HEAD + second - first), *CLOSED], "--clean", text=BUILT)
-if size("a") != HEAD + second - first or size("b") != 0:
+                                  *new_side("a"), *added("a", HEAD, HEAD + second - first + LESS), *CLOSED], "--clean", text=BUILT)
+if size("a") != HEAD + second - first + LESS or size("b") != 0:
     fail("a store that is emptied", f"its sides have {size('a')} and {size('b')} bytes")
 
 # A long text that was edited twice leaves two records of it that count no more, with over a mebibyte and more than the third:
@@ -117,21 +120,41 @@ edit.count = 0
 project("project", {})
 edit()
 calls_of()
-record = size("a") - HEAD
+record, more = size("a") - HEAD, size("a") - HEAD - LESS
 old, both = ["read a 19 at 0"], ["read a 19 at 0", "read b 19 at 0"]
 if not LENGTH < record < LENGTH + 1000:
     fail("a long record", f"it has {record} bytes")
 for count in 1, 2:
     edit()
-    there = HEAD + count * record
-    check(f"a long text that is edited, and {count} records before", [*OPENED, *old, f"read a {there} at 0", *added("a", there, there + record), *CLOSED], text=BUILT)
-check("a store that is compacted", [*OPENED, *old, f"read a {HEAD + 3 * record} at 0", *new_side("b", HEAD + record), *CLOSED], text="Re-compile not needed\n")
+    there = HEAD + record + (count - 1) * more
+    check(f"a long text that is edited, and {count} records before", [*OPENED, *old, f"read a {there} at 0", *added("a", there, there + more), *CLOSED], text=BUILT)
+check("a store that is compacted", [*OPENED, *old, f"read a {HEAD + record + 2 * more} at 0", *new_side("b", HEAD + record), *CLOSED], text="Re-compile not needed\n")
 check("a store that was compacted", [*OPENED, *both, f"read b {HEAD + record} at 0", *CLOSED], text="Re-compile not needed\n")
 for count in 1, 2:
     edit()
     calls_of()
 edit()
-check("a store that is compacted before one record more", [*OPENED, *both, f"read b {HEAD + 3 * record} at 0", *new_side("a", HEAD + record),
-                                                          *added("a", HEAD + record, HEAD + 2 * record), *CLOSED], text=BUILT)
+check("a store that is compacted before one record more", [*OPENED, *both, f"read b {HEAD + record + 2 * more} at 0", *new_side("a", HEAD + record),
+                                                          *added("a", HEAD + record, HEAD + record + more), *CLOSED], text=BUILT)
+
+# A store of the older form, of which one side is live, and one of which both are. It is read once, what stands for its records is written
+# beside it as a side is that is made anew, and it stays. Where the store is emptied, nothing of it is read. (The folder is listed
+# before, for the files of the project.)
+LISTED = ["close ."]
+for store, live, other in ("whole", "a", "b"), ("compacted", "b", "a"):
+    data = os.path.join(os.environ["TOP"], "tests", "data", "old_stores")
+    both = ["read a 19 at 0", "read b 19 at 0"] if store == "compacted" else ["read a 19 at 0"]
+    shutil.rmtree("project")
+    shutil.copytree(os.path.join(data, "project"), "project")
+    shutil.copytree(os.path.join(data, store), "project/vunit_out")
+    made, there = len(side_of(FORM, 1, Carried(migrated_of(views_in(read_sides("project")))).payloads)), size(live)
+    check(f"a store of the older form, {store}", [*LISTED, *OPENED, *both, f"read {live} {there} at 0", *new_side(other, made), *CLOSED], "-m", "no.such.test",
+          text="Re-compile not needed\n")
+    check(f"a store that was of the older form, {store}", [*LISTED, *OPENED, "read a 19 at 0", "read b 19 at 0", f"read {other} {made} at 0", *CLOSED], "-m", "no.such.test",
+          text="Re-compile not needed\n")
+    shutil.rmtree("project/vunit_out")
+    shutil.copytree(os.path.join(data, store), "project/vunit_out")
+    check(f"a store of the older form that is emptied, {store}", [*LISTED, *OPENED, *both, f"cut {other} to 0", f"sync {other}", f"write {live} 1 at 0", f"datasync {live}",
+                                                                 *new_side(live), *CLOSED], "--clean", "-m", "no.such.test", text="Re-compile not needed\n")
 end()
 END

@@ -1,21 +1,23 @@
 #!/bin/sh
 # What is compiled again after edits of a project, run by run over one store: exactly the files without a current record. Each
-# file depends on all before it: by the lines of a vunit.csv, or by the pairs of a vunit.toml, whose compiler refuses some texts.
+# file depends on all before it: by the lines of a vunit.csv, or by the pairs of a vunit.toml, where some texts are refused.
 . "$TOP/tests/support/needs.sh"
 needs python3 tomllib
 PYTHONPATH=$TOP/tests/support exec python3 -B - <<'END'
 import json, os
 
-from store_reader import stale_of
-from trial import COMPILER, build_text, end, environment, fail, package, project, run, started_in, write
+from store_reader import built_over, graph_of, records_of
+from trial import build_text, end, environment, fail, package, project, run, started_in, write
+
+COMPILER = ["sh", os.path.join(os.environ["TOP"], "tests", "support", "analysing.sh")]
 
 
 def part(word):
     """The library and the path that a word of a row names, and the text."""
     library, word = ("other", word[1:]) if word.startswith("O") else ("lib", word)
-    letter, number = word[0].lower(), word[1:]
-    notes = "-- child: refuse bad " + number + "\n" if number in ("X", "Y") else "-- a note\n" * int(number or 0)
-    return library, letter + ".vhd", package(letter) + notes
+    letter, number = word[0].lower(), word[1:].rstrip("'")
+    notes = f"-- child: {'refuse bad' if number in ('X', 'Y') else 'note'} {number}\n" if number else ""
+    return library, letter + ".vhd", package(letter) + "-- a comment\n" * word.count("'") + notes
 
 
 def listed(parts):
@@ -62,11 +64,12 @@ def follow(at, row, projected):
     names = [(parts[at][0].encode(), parts[at][1].encode()) for at in positions]
     if projected is paired and started_in("requests") != names:
         fail(f"line {at}: {row}", f"it started {started_in('requests')}")
-    if last == "done" and stale_of("project"):
-        fail(f"line {at}: {row}", f"without a record are {stale_of('project')}")
+    stale, _ = built_over(graph_of("project"), records_of("project"), lambda request: None)
+    if last == "done" and stale:
+        fail(f"line {at}: {row}", f"without a current record are the positions {stale}")
 
 
-def follow_all(projected, passed):
+def follow_all(projected, passed=None):
     """The sequences of the table, but for those that have a word that is passed over."""
     with open(os.path.join(os.environ["TOP"], "tests", "support", "edit_rows.txt")) as file:
         lines = list(enumerate(file.read().split("\n"), 1))
@@ -85,8 +88,8 @@ def follow_all(projected, passed):
     return count
 
 
-# (the compiler of a vunit.csv refuses nothing)
-counts = follow_all(listed, "refused"), follow_all(paired, "none")
+# (what a compiler of a vunit.csv was asked isn't kept)
+counts = follow_all(listed), follow_all(paired)
 if min(counts) < 100:
     fail("the table", f"it has only {counts} runs")
 end()

@@ -7,8 +7,8 @@ needs python3 tomllib strace
 PYTHONPATH=$TOP/tests/support exec python3 -B - <<'END'
 import os, re, shutil, subprocess, time
 
-from store_reader import read_request, records_of, stale_of
-from trial import COMPILER, PROGRAM, build_text, end, environment, expect, fail, package, project, run, started_in, toml, write
+from store_reader import read_request, records_of
+from trial import COMPILER, PROGRAM, build_text, end, environment, expect, fail, package, project, run, stale_of, started_in, toml, write
 
 FILES = {"p.vhd": package("p"), "u.vhd": package("u", "work.p"), "v.vhd": package("v"), "w.vhd": package("w")}
 FILES["vunit.toml"] = toml({"lib": ["*.vhd"]}, COMPILER)

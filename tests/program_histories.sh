@@ -7,8 +7,8 @@ needs python3 tomllib
 PYTHONPATH=$TOP/tests/support exec python3 -B - <<'END'
 import ctypes, os, random, subprocess, time
 
-from store_reader import clean_artefacts, graph_of, records_of, request_of, stale_of, view_at
-from trial import COMPILER, PROGRAM, artefact_of, end, environment, fail, package, project, requests_in, run, toml, write
+from store_reader import asked_at, built_over, graph_of, records_of, request_of
+from trial import COMPILER, PROGRAM, artefact_of, end, environment, fail, is_true, package, project, requests_in, run, stale_of, toml, write
 
 SEEDS, RUNS = range(30), 8
 ctypes.CDLL(None).prctl(36, 1, 0, 0, 0)  # what a killed program leaves running becomes a child of this process
@@ -86,16 +86,9 @@ def planned(history, graph, stale, keeps):
 
 
 def check_records(name):
-    for view, artefact in records_of("project"):
-        if view not in true:
-            true[view] = clean_artefacts(view, artefact_of)[-1]
-        if artefact != true[view]:
-            fail(name, f"the record of {view[-1][:2]} isn't true")
-
-
-def wanted_request(graph, at):
-    view = view_at(graph, at)
-    return request_of(view, clean_artefacts(view, artefact_of)[:-1])
+    for record in records_of("project"):
+        if not is_true(record):
+            fail(name, f"the record of {record.asked.path} isn't true")
 
 
 def check_run(name, history):
@@ -112,7 +105,8 @@ def check_run(name, history):
     ran = run("project", *words, env=environment("requests"))
     if ran != (status, text.encode(), b""):
         fail(f"{name}: {words}", f"it is {ran}\nand not {(status, text)}")
-    requests, wanted = requests_in("requests"), [wanted_request(graph, at) for at in started]
+    built = built_over(graph, [], artefact_of)[1]
+    requests, wanted = requests_in("requests"), [request_of(asked_at(graph, at, built)) for at in started]
     if sorted(requests) != sorted(wanted) or slots == 1 and requests != wanted:
         fail(f"{name}: {words}", "other compilers were started")
     if status == 0 and stale_of("project"):
@@ -134,7 +128,6 @@ def kill_run(history):
             return
 
 
-true = {}
 kills = 0
 for seed in SEEDS:
     history = History(seed)

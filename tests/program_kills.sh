@@ -7,9 +7,9 @@ needs python3 tomllib
 PYTHONPATH=$TOP/tests/support exec python3 -B - <<'END'
 import ctypes, json, os, shutil, subprocess, sys, time
 
-from store_reader import clean_artefacts, graph_of, latest_of, read_request, records_of, request_of, stale_of, view_at
-from trial import (COMPILER, PROGRAM, artefact_of, build_text, end, environment, expect, fail, package, project, requests_in, run,
-                   started_in, toml, write)
+from store_reader import asked_at, built_over, graph_of, latest_of, read_request, records_of, request_of
+from trial import (COMPILER, PROGRAM, artefact_of, build_text, end, environment, expect, fail, is_true, package, project, requests_in, run,
+                   stale_of, started_in, toml, write)
 
 KILLS, SECONDS = 36, 75
 ctypes.CDLL(None).prctl(36, 1, 0, 0, 0)  # what a killed program leaves running becomes a child of this process
@@ -31,19 +31,17 @@ def edited(path, number):
 
 
 def check_store(name):
-    """The records of the disk, each of which is true: a clean build of its files gives its artefact."""
+    """The records of the disk, each of which is true: the compiler gives its artefact for its request."""
     records = records_of("project")
-    for view, artefact in records:
-        if view not in true:
-            true[view] = clean_artefacts(view, artefact_of)[-1]
-        if artefact != true[view]:
-            fail(name, f"the record of {view[-1][:2]} isn't true")
+    for record in records:
+        if not is_true(record):
+            fail(name, f"the record of {record.asked.path} isn't true")
     return records
 
 
 def check_requests(name, records, folder):
     """Each request of a killed run was made over artefacts that are on the disk."""
-    kept = {(*record.view[-1][:2], record.artefact) for record in records}
+    kept = {(record.asked.library, record.asked.path, record.artefact) for record in records}
     for request in requests_in(folder):
         for dependency in read_request(request)[3]:
             if dependency not in kept:
@@ -58,11 +56,11 @@ def check_run(name, folder):
     expect(name, "project", 0, build_text(stale), "--compile", "-p", "4", env=environment(folder))
     if sorted(started_in(folder)) != sorted(stale):
         fail(name, f"it started {started_in(folder)}\nand not {stale}")
-    place = {entry[:2]: at for at, entry in enumerate(graph)}
+    place, built = {entry[:2]: at for at, entry in enumerate(graph)}, built_over(graph, [], artefact_of)[1]
     for request in requests_in(folder):
-        view = view_at(graph, place[read_request(request)[:2]])
-        if request != request_of(view, clean_artefacts(view, artefact_of)[:-1]):
-            fail(name, f"{view[-1][:2]} was started with another request than by a clean build")
+        at = place[read_request(request)[:2]]
+        if request != request_of(asked_at(graph, at, built)):
+            fail(name, f"{graph[at][:2]} was started with another request than by a clean build")
     check_store(name)
     if stale_of("project"):
         fail(name, f"after it these are stale: {stale_of('project')}")
@@ -90,7 +88,6 @@ def reap():
         pass
 
 
-true = {}
 # From where the builds that are killed begin: no store, a store with a part that is stale, one that is stale as a whole, and one that is emptied.
 project("project", FILES | {"vunit.toml": listing("-a")})
 shutil.copytree("project", "empty")

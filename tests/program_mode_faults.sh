@@ -9,8 +9,8 @@ needs python3 tomllib strace
 PYTHONPATH=$TOP/tests/support exec python3 -B - <<'END'
 import ctypes, json, os, re, shutil, subprocess, sys
 
-from store_reader import records_of, stale_of
-from trial import COMPILER, PROGRAM, build_text, end, environment, expect, fail, package, project, started_in, toml
+from store_reader import records_of
+from trial import COMPILER, PROGRAM, build_text, end, environment, expect, fail, package, project, stale_of, started_in, toml
 
 ctypes.CDLL(None).prctl(36, 1, 0, 0, 0)  # what a program leaves running becomes a child of this process
 HERE = os.path.abspath("project")

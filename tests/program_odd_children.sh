@@ -76,7 +76,7 @@ few = ["sh", "-c", 'ulimit -n 40; exec "$@"', "sh"]
 error = start_fault("start: Too many open files (os error 24)")
 expect("descriptors run out", "project", 3, "", "--compile", "-p", "64", error=error, before=few)
 begun = [name for name in os.listdir("project") if name.startswith("begun.")]
-kept = {record.view[-1].path for record in records_of("project")}
+kept = {record.asked.path for record in records_of("project")}
 if not 10 <= len(begun) < 64 or len(kept) != len(begun):
     fail("descriptors run out", f"{len(begun)} were started, and {len(kept)} are recorded")
 write("project", {"go": ""})

@@ -9,8 +9,8 @@ if [ "$(id -u)" -eq 0 ] && unshare -m true 2>/dev/null; then own="unshare -m"; f
 PYTHONPATH=$TOP/tests/support exec $own python3 -B - <<'END'
 import fcntl, os, random, shutil, stat, struct, subprocess, time
 
-from store_reader import graph_of, payloads, read_sides, records_of, stale_of
-from trial import COMPILER, PROGRAM, build_text, end, environment, expect, fail, package, project, started_in, toml, write
+from store_reader import FORM, OLD_FORM, Requests, payloads, read_sides, records_of, spelled
+from trial import COMPILER, PROGRAM, build_text, end, environment, expect, fail, package, project, stale_of, started_in, toml, write
 
 A, B, OUT = "project/vunit_out/store_a", "project/vunit_out/store_b", "project/vunit_out"
 FILES = {"p.vhd": package("p"), "u1.vhd": package("u1", "work.p"), "u2.vhd": package("u2", "work.p"), "v.vhd": package("v")}
@@ -164,16 +164,26 @@ with open(A, "rb") as file:
 check_build("a store that is free again")
 
 # Bytes of every kind. The other reader says which records they stand for.
-header = live[:18]
 given, gate = payloads(live)
-def side(payloads, generation=1, form=2, first=1, end=b"\0"):
+def side(payloads, generation=1, form=FORM, first=1, end=b"\0"):
     body = b"".join(b"\1" + struct.pack("<I", len(payload)) + payload for payload in payloads)
     return bytes([first]) + b"VUNITREC" + bytes([form]) + struct.pack("<Q", generation) + body + end
+def number(at): return b"\0" + struct.pack("<Q", at)
+def new(text): return b"\1" + spelled(text)
+def product(path, text): return b"\0" + spelled(b"lib") + spelled(path) + text
+def record(path, text, below, artefact, command=COMPILER):
+    words = b"".join(spelled(word.encode()) for word in command)
+    numbers = struct.pack("<I%dQ" % len(below), len(below), *below)
+    return b"\1" + spelled(b"lib") + spelled(path) + struct.pack("<I", len(command)) + words + text + numbers + artefact
+# (each file has a text and then an artefact, in the order p, u1, u2, v)
+if given[1] != record(b"u1.vhd", new(FILES["u1.vhd"].encode()), [0], new(Requests(given).texts[3])) or len(given) != 4:
+    fail("the payloads", f"they are {given}")
 last = 2**64 - 1
 chance = random.Random(15)
 contents = [
     ("no bytes", b"", b""), ("19 bytes whose first is 2", side([], first=2), b""), ("one side is full and its first byte is 2", side(given, first=2), b""),
-    ("a thousand bytes of value 1", b"\1" * 1000, b"\1" * 1000), ("another form", side(given, form=1), b""), ("form 3", side(given, form=3), b""),
+    ("a thousand bytes of value 1", b"\1" * 1000, b"\1" * 1000), ("another form", side(given, form=1), b""), ("a form that comes later", side(given, form=FORM + 1), b""),
+    ("payloads that are none of the older form", side(given, form=OLD_FORM), b""),
     ("another mark", live.replace(b"VUNITREC", b"VUNITREX", 1), b""), ("18 bytes", live[:18], b""),
     ("both sides", side(given), side(given[:1])), ("the second is newer", side(given), side(given[:1], 2)),
     ("the first is newer", side(given[:1], 2), side(given)), ("the last generation", side(given[:2], last), side(given)),
@@ -186,9 +196,19 @@ contents = [
     ("each payload twice", side([one for one in given for _ in range(2)]), b""), ("the payloads from the last on", side(given[::-1]), b""),
     ("without the first", side(given[1:]), b""), ("empty payloads", side([b""] * 3 + given + [b""] * 3), b""),
     ("payloads of nothing known", side([b"\3", b"\0" * 9, b"\1", b"\2", *given]), b""),
-    ("an artefact of another node", side([*given, b"\0" + struct.pack("<Q", 2) + b"\2\0\0\0no"]), b""),
-    ("an artefact of no node", side([*given, b"\0" + struct.pack("<Q", 9) + b"\2\0\0\0no"]), b""),
-    ("only nodes", side([b"\2" + one[1:-4 - 67] for one in given]), b""),
+    ("another artefact of p", side([*given, record(b"p.vhd", number(0), [], new(b"no"))]), b""),
+    ("another artefact of p, and then the one it had", side([*given, record(b"p.vhd", number(0), [], new(b"no")), record(b"p.vhd", number(0), [], number(1))]), b""),
+    ("another artefact of u1", side([*given, record(b"u1.vhd", number(2), [0], new(b"no"))]), b""),
+    ("another command of p", side([*given, record(b"p.vhd", number(0), [], number(1), [*COMPILER, "-x"])]), b""),
+    ("another text of p", side([*given, record(b"p.vhd", new(b"no"), [], number(1))]), b""),
+    ("u1 over nothing", side([*given, record(b"u1.vhd", number(2), [], number(3))]), b""),
+    ("u1 over v", side([*given, record(b"u1.vhd", number(2), [3], number(3))]), b""),
+    ("u1 over another p", side([*given, product(b"p.vhd", new(b"no")), record(b"u1.vhd", number(2), [4], number(3))]), b""),
+    ("u1 over no product", side([*given, record(b"u1.vhd", number(2), [9], number(3))]), b""),
+    ("the text of u1 of no number", side([*given, record(b"u1.vhd", number(99), [0], number(3))]), b""),
+    ("only products", side([product(path.encode(), new(b"made of " + path.encode())) for path in sorted(FILES)]), b""),
+    ("products that nothing is over", side([product(b"p.vhd", new(b"no")), *given]), b""),
+    ("products after the records", side([*given, product(b"p.vhd", new(b"no")), product(b"w.vhd", number(1))]), b""),
     ("counts beyond the bytes", side([*given[:2], given[2][:21] + b"\xff\xff\xff\xff" + given[2][25:]]), b""),
     ("a gigabyte of length", side(given[:1], end=b"\1\0\0\0\x40"), b""),
 ]
@@ -251,12 +271,12 @@ if root and subprocess.run(["mount", "-t", "tmpfs", "-o", "size=256k", "none", "
         os.truncate("small/filler", os.stat("small/filler").st_size - 60000)
         full = fault("vunit_out/store_a", "write", FULL)
         expect("a disk that fills", "project", 3, "", "--compile", error=full, env=environment("requests"))
-        kept = [record.view[-1].path for record in records_of("project")]
+        kept = [record.asked.path for record in records_of("project")]
         started = [path for _, path in started_in("requests")]
         if not 1 <= len(kept) < 6 or started != [*kept, b"f%d.vhd" % len(kept)]:
             fail("a disk that fills", f"it kept {kept} and started {started}")
         expect("a disk that is still full", "project", 3, "", "--compile", error=full, env=environment("requests"))
-        if [record.view[-1].path for record in records_of("project")][:len(kept)] != kept:
+        if [record.asked.path for record in records_of("project")][:len(kept)] != kept:
             fail("a disk that is still full", "a record is lost")
         # What is kept gives its room back before anything is written, so `--clean` builds as much again on a full disk.
         for at in range(len(kept), 6):

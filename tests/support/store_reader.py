@@ -1,24 +1,27 @@
-"""Reads the store of a project, and says which files a build of the project must compile.
+"""Reads the store of a project, of either form, and says which files a build of the project must compile.
 
 It is written from docs/FORMATS.md alone and shares nothing with the program. The model knows simple sources only: packages
 that are declared at the start of a line, and uses of them by `use LIBRARY.PACKAGE`.
 
-usage: store_reader.py FOLDER       lists the records of the folder's store
+usage: store_reader.py FOLDER       lists the records that the folder's store has for a run
 """
 import collections, fnmatch, os, re, struct, sys
 
-FORM = 2
+# The form that the program writes, and the older one that it takes over.
+FORM, OLD_FORM = 3, 2
 FILES, TEXT, ALL_TEXT, ARTEFACT = 4096, 4194304, 67108864, 262144
 
-# `deps` are positions of files before it, rising; a view is a tuple of entries, and its last one depends on all others.
+# `deps` are positions of files before it, rising.
 Entry = collections.namedtuple("Entry", "library path command text deps")
-Record = collections.namedtuple("Record", "view artefact")
-Node = collections.namedtuple("Node", "library path command text needs")
 
-# What a compiler was asked: `below` are the files that a file depends on, as they were built, in graph order.
+# Of form 3. What a compiler was asked: `below` are the files that a file depends on, as they were built, in graph order.
 Asked = collections.namedtuple("Asked", "command library path text below")
 Product = collections.namedtuple("Product", "library path artefact")
 RequestRecord = collections.namedtuple("RequestRecord", "asked artefact")
+
+# Of form 2. A view is a tuple of entries, of which the last depends on all others.
+ViewRecord = collections.namedtuple("ViewRecord", "view artefact")
+Node = collections.namedtuple("Node", "library path command text needs")
 
 
 class Bad(Exception):
@@ -122,7 +125,7 @@ def unfold(nodes, texts, node):
     return tuple(entries)
 
 
-class Store:
+class Views:
     """The texts, nodes and records of payloads of form 2."""
 
     def __init__(self, given):
@@ -161,7 +164,7 @@ class Store:
             self.nodes.append(node)
             self.views.append(view)
         if kind != 2:
-            self.records.append(Record(self.views[number], artefact))
+            self.records.append(ViewRecord(self.views[number], artefact))
 
     def new_node(self, data):
         """The node, and the new text if it has one."""
@@ -191,6 +194,7 @@ class Requests:
 
     def __init__(self, given):
         self.texts, self.products, self.records = [], [], []
+        self.text_numbers, self.product_numbers = {}, {}
         for payload in given:
             try:
                 self.add(Bytes(payload))
@@ -201,26 +205,45 @@ class Requests:
         kind = data.byte()
         if kind not in (0, 1):
             raise Bad
-        texts = list(self.texts)
+        new = []
         library, path = data.text(), data.text()
         command = data.many(data.u32(), data.text) if kind == 1 else None
-        text = told_text(data, texts) if kind == 1 else b""
+        text = self.told_text(data, new) if kind == 1 else b""
         numbers = data.many(data.u32(), data.u64) if kind == 1 else ()
-        product = Product(library, path, told_text(data, texts))
+        product = Product(library, path, self.told_text(data, new))
         data.end()
         if not (1 <= len(library) <= 64 and 1 <= len(path) <= 1024 and len(product.artefact) <= ARTEFACT):
             raise Bad
         if kind == 0:
-            if product in self.products:
+            if product in self.product_numbers:
                 raise Bad
         else:
             below = self.below(product, numbers)
             if not 1 <= len(command) <= 64 or any(len(word) > 1024 for word in command) or len(text) > TEXT:
                 raise Bad
             self.records.append(RequestRecord(Asked(command, library, path, text, below), product.artefact))
-        self.texts = texts
-        if product not in self.products:
+        for one in new:
+            self.text_numbers[one] = len(self.texts)
+            self.texts.append(one)
+        if product not in self.product_numbers:
+            self.product_numbers[product] = len(self.products)
             self.products.append(product)
+
+    def told_text(self, data, new):
+        """A text by its number, or one that isn't there yet, which is added to the new ones."""
+        kind = data.byte()
+        if kind == 0:
+            number = data.u64()
+            if number >= len(self.texts) + len(new):
+                raise Bad
+            return self.texts[number] if number < len(self.texts) else new[number - len(self.texts)]
+        if kind != 1:
+            raise Bad
+        text = data.text()
+        if text in self.text_numbers or text in new:
+            raise Bad
+        new.append(text)
+        return text
 
     def below(self, product, numbers):
         """The products of the numbers, of files with different names, none of which is the record's."""
@@ -232,31 +255,20 @@ class Requests:
         return below
 
 
-def told_text(data, texts):
-    """A text by its number, or a new one, which is added to the texts."""
-    kind = data.byte()
-    if kind == 0:
-        number = data.u64()
-        if number >= len(texts):
-            raise Bad
-        return texts[number]
-    if kind != 1:
-        raise Bad
-    text = data.text()
-    if text in texts:
-        raise Bad
-    texts.append(text)
-    return text
-
-
 def name_asked(record):
     """The library and the path of the file that a record is of."""
     return record.asked.library, record.asked.path
 
 
+def latest_of(records):
+    """The latest record of each library and path."""
+    return {name_asked(record): record for record in records}
+
+
 def latest_requests(records):
-    """The latest record of each name, in their order."""
-    return [record for at, record in enumerate(records) if all(name_asked(other) != name_asked(record) for other in records[at + 1:])]
+    """The same as a list, in the order of the records."""
+    latest = latest_of(records)
+    return [record for record in records if latest[name_asked(record)] is record]
 
 
 def spelled(data):
@@ -269,31 +281,29 @@ class Carried:
     is over and that aren't there yet."""
 
     def __init__(self, records):
-        self.texts, self.products, self.payloads = [], [], []
+        self.texts, self.products, self.payloads = {}, {}, []
         for record in latest_requests(records):
             for product in record.asked.below:
                 if product not in self.products:
                     self.payloads.append(b"\0" + spelled(product.library) + spelled(product.path) + self.ref(product.artefact))
-                    self.products.append(product)
+                    self.products[product] = len(self.products)
             self.add(record)
 
     def ref(self, text):
         """A text by its number, or as a new one, which then is there."""
         if text in self.texts:
-            return b"\0" + struct.pack("<Q", self.texts.index(text))
-        self.texts.append(text)
+            return b"\0" + struct.pack("<Q", self.texts[text])
+        self.texts[text] = len(self.texts)
         return b"\1" + spelled(text)
 
     def add(self, record):
         asked = record.asked
-        numbers = [self.products.index(product) for product in asked.below]
+        numbers = [self.products[product] for product in asked.below]
         self.payloads.append(b"".join([
             b"\1", spelled(asked.library), spelled(asked.path),
             struct.pack("<I", len(asked.command)), *map(spelled, asked.command), self.ref(asked.text),
             struct.pack("<I%dQ" % len(numbers), len(numbers), *numbers), self.ref(record.artefact)]))
-        own = Product(asked.library, asked.path, record.artefact)
-        if own not in self.products:
-            self.products.append(own)
+        self.products.setdefault(Product(asked.library, asked.path, record.artefact), len(self.products))
 
 
 def side_of(form, generation, given):
@@ -302,35 +312,62 @@ def side_of(form, generation, given):
     return b"\1VUNITREC" + bytes([form]) + struct.pack("<Q", generation) + blocks + b"\0"
 
 
-def latest_built(records, entry):
-    """A file as its latest record built it, or None where it has none."""
-    kept = [record for record in records if name_asked(record) == entry[:2]]
-    return Product(*entry[:2], kept[-1].artefact) if kept else None
+def payloads_of_views(records):
+    """Payloads of form 2 that stand for records of views: each after the nodes of its view that aren't there yet."""
+    texts, nodes, given = {}, {}, []
+
+    def node_of(view, at):
+        entry = view[at]
+        if entry.text in texts:
+            text = b"\0" + struct.pack("<Q", texts[entry.text])
+        else:
+            texts[entry.text], text = len(texts), b"\1" + spelled(entry.text)
+        needs = [nodes[view_at(view, dep)] for dep in entry.deps]
+        return b"".join([spelled(entry.library), spelled(entry.path), struct.pack("<I", len(entry.command)), *map(spelled, entry.command), text,
+                         struct.pack("<I%dQ" % len(needs), len(needs), *needs)])
+
+    for view, artefact in records:
+        for at in range(len(view)):
+            is_last, one = at + 1 == len(view), view_at(view, at)
+            if one not in nodes:
+                given.append((b"\1" + node_of(view, at) + spelled(artefact)) if is_last else b"\2" + node_of(view, at))
+                nodes[one] = len(nodes)
+            elif is_last:
+                given.append(b"\0" + struct.pack("<Q", nodes[one]) + spelled(artefact))
+    return given
 
 
-def has_asked(records, graph, at):
-    """Whether all files that a file depends on have a record, and its own latest record has what would be asked for it now."""
-    entry = graph[at]
-    built = tuple(latest_built(records, graph[dep]) for dep in entry.deps)
-    own = [record.asked for record in records if name_asked(record) == entry[:2]]
-    return None not in built and own[-1:] == [Asked(entry.command, entry.library, entry.path, entry.text, built)]
+def migrated_of(records):
+    """The records of requests that stand for records of views. For each name its latest record counts, where each file that
+    the last of its view depends on has a latest record of the view that it has there: the request is that of the last file,
+    over what these records gave."""
+    latest = {record.view[-1][:2]: record for record in records}
+    moved = []
+    for view, artefact in latest.values():
+        last = view[-1]
+        below = [(view_at(view, dep), latest.get(view[dep][:2])) for dep in last.deps]
+        if all(record is not None and record.view == there for there, record in below):
+            built = tuple(Product(*there[-1][:2], record.artefact) for there, record in below)
+            moved.append(RequestRecord(Asked(last.command, last.library, last.path, last.text, built), artefact))
+    return sorted(moved, key=lambda record: (len(record.asked.below), *name_asked(record)))
 
 
-def requests_of(folder):
-    """The records of requests of a folder's store of form 3, oldest first."""
-    side = counting_side(read_sides(folder), 3)
-    return Requests(payloads(side)[0]).records if side is not None else []
+def views_in(sides):
+    """The records of views of two sides, oldest first."""
+    side = counting_side(sides, OLD_FORM)
+    return Views(payloads(side)[0]).records if side is not None else []
+
+
+def records_in(sides):
+    """The records that two sides have for a run, oldest first: those of form 3 where a side of it is live, and else those that
+    stand for records of views."""
+    side = counting_side(sides)
+    return Requests(payloads(side)[0]).records if side is not None else migrated_of(views_in(sides))
 
 
 def records_of(folder):
-    """The records of a folder's store, oldest first."""
-    side = counting_side(read_sides(folder))
-    return Store(payloads(side)[0]).records if side is not None else []
-
-
-def latest_of(records):
-    """The latest record of each library and path."""
-    return {record.view[-1][:2]: record for record in records}
+    """The same of the store of a folder."""
+    return records_in(read_sides(folder))
 
 
 def files_of(folder):
@@ -404,27 +441,45 @@ def view_at(graph, at):
     return tuple(graph[old]._replace(deps=tuple(place[dep] for dep in graph[old].deps)) for old in kept)
 
 
-def stale_of(folder, records=None):
-    """The libraries and paths of the files that a build must compile, in compile order."""
-    latest = latest_of(records_of(folder) if records is None else records)
-    graph = graph_of(folder)
-    stale = []
+def asked_at(graph, at, built):
+    """What the compiler of a file is asked, where these are the files before it as they are built."""
+    entry = graph[at]
+    return Asked(entry.command, entry.library, entry.path, entry.text, tuple(built[dep] for dep in entry.deps))
+
+
+def latest_built(records, entry):
+    """A file as its latest record built it, or None where it has none."""
+    record = latest_of(records).get(entry[:2])
+    return Product(*entry[:2], record.artefact) if record is not None else None
+
+
+def has_asked(records, graph, at):
+    """Whether all files that a file depends on have a record, and its own latest record has what would be asked for it now."""
+    built, own = [latest_built(records, entry) for entry in graph], latest_of(records).get(graph[at][:2])
+    return None not in [built[dep] for dep in graph[at].deps] and own is not None and own.asked == asked_at(graph, at, built)
+
+
+def built_over(graph, records, compiler):
+    """The positions of the files that a build over these records compiles, and each file as it is built then: where its
+    compiler, which gives an artefact for a request, gives None, or a file that it depends on isn't built, it is None."""
+    latest, compiled, built = latest_of(records), [], []
     for at, entry in enumerate(graph):
-        record = latest.get(entry[:2])
-        if record is None or record.view != view_at(graph, at):
-            stale.append(entry[:2])
-    return stale
+        artefact = None
+        if all(built[dep] is not None for dep in entry.deps):
+            asked, record = asked_at(graph, at, built), latest.get(entry[:2])
+            if record is not None and record.asked == asked:
+                artefact = record.artefact
+            else:
+                compiled.append(at)
+                artefact = compiler(request_of(asked))
+        built.append(None if artefact is None else Product(*entry[:2], artefact))
+    return compiled, built
 
 
-def request_of(view, artefacts):
-    """What the compiler of a view's last file is asked, where the others gave these artefacts."""
-    def text(data):
-        return struct.pack("<I", len(data)) + data
-    last = view[-1]
-    parts = [b"VRC1", text(last.library), text(last.path), text(last.text), struct.pack("<I", len(view) - 1)]
-    for entry, artefact in zip(view, artefacts):
-        parts += [text(entry.library), text(entry.path), text(artefact)]
-    return b"".join(parts)
+def request_of(asked):
+    """The bytes that the compiler is handed."""
+    parts = [b"VRC1", spelled(asked.library), spelled(asked.path), spelled(asked.text), struct.pack("<I", len(asked.below))]
+    return b"".join([*parts, *(spelled(part) for product in asked.below for part in product)])
 
 
 def read_request(data):
@@ -440,23 +495,14 @@ def read_request(data):
         return None
 
 
-def clean_artefacts(view, compiler):
-    """The artefact of each file of a view, where each is compiled over those of the files before it."""
-    made = []
-    for at in range(len(view)):
-        made.append(compiler(request_of(view_at(view, at), [made[dep] for dep in view[at].deps])))
-    return made
-
-
 def main():
     if len(sys.argv) != 2:
         sys.exit(__doc__)
-    for view, artefact in records_of(sys.argv[1]):
-        last = view[-1]
-        print(f"{last.library.decode()}, {last.path.decode()}: {len(last.text)} bytes by {' '.join(w.decode() for w in last.command)},"
-              f" artefact of {len(artefact)} bytes, over {len(view) - 1} files")
-        for entry in view[:-1]:
-            print(f"  {entry.library.decode()}, {entry.path.decode()}")
+    for asked, artefact in records_of(sys.argv[1]):
+        print(f"{asked.library.decode()}, {asked.path.decode()}: {len(asked.text)} bytes by {' '.join(w.decode() for w in asked.command)},"
+              f" artefact of {len(artefact)} bytes, over {len(asked.below)} files")
+        for product in asked.below:
+            print(f"  {product.library.decode()}, {product.path.decode()}: {len(product.artefact)} bytes")
 
 
 if __name__ == "__main__":

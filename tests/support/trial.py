@@ -105,8 +105,20 @@ def started_in(folder):
 
 
 def artefact_of(request):
-    """What the compiler gives for a request that it doesn't refuse."""
-    return hashlib.sha256(request).hexdigest().encode() + b"  -\n"
+    """What the compiler gives for a request, or None where it refuses the file."""
+    return None if b"-- child: refuse " in request else hashlib.sha256(request).hexdigest().encode() + b"  -\n"
+
+
+def stale_of(folder, records=None):
+    """The libraries and paths of the files that a build by this compiler compiles, in compile order."""
+    graph = store_reader.graph_of(folder)
+    compiled, _ = store_reader.built_over(graph, store_reader.records_of(folder) if records is None else records, artefact_of)
+    return [graph[at][:2] for at in compiled]
+
+
+def is_true(record):
+    """Whether the compiler gives the artefact of a record for its request."""
+    return artefact_of(store_reader.request_of(record.asked)) == record.artefact
 
 
 def build_text(names):
