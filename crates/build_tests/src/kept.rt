@@ -33,9 +33,9 @@ pub(super) fn none_kept() -> AllKept {
 }
 
 /// The place of the name of a file.
-fn place(project: &Project, at: u8) -> usize {
+fn place(project: &Project, at: u8) -> u8 {
     let other = if has(project.moved, at) { 8 } else { 0 };
-    (at % 8 + other) as usize
+    at % 8 + other
 }
 
 /// What is asked for a file, over files with these artefacts.
@@ -66,7 +66,7 @@ fn same_asked(asked: &Asked, other: &Asked) -> bool {
 /// What the latest record of a file gave, where that was asked exactly what would be asked over files with these artefacts;
 /// and else 0.
 pub(super) fn current(kept: &AllKept, project: &Project, made: &[u8; 8], at: u8) -> u8 {
-    let last = &kept[place(project, at)];
+    let last = &kept[(place(project, at) % 16) as usize];
     if same_asked(&last.asked, &asked_of(project, made, at)) {
         last.given
     } else {
@@ -76,7 +76,7 @@ pub(super) fn current(kept: &AllKept, project: &Project, made: &[u8; 8], at: u8)
 
 /// Keeps what a file was asked over files with these artefacts, and what its compiler gave.
 pub(super) fn keep(kept: &mut AllKept, project: &Project, made: &[u8; 8], at: u8) {
-    kept[place(project, at)] = Kept {
+    kept[(place(project, at) % 16) as usize] = Kept {
         asked: asked_of(project, made, at),
         given: given(project, at),
     };

@@ -1,5 +1,7 @@
 //! Builds over a disk and children in memory, and what they tell.
 
+ghost use Rattle.std.specs.Prelude.{◌≡◌, [], IsTrue};
+
 use crate::plain::{NEVER, Way, pick_of};
 use crate::sets::has;
 use crate::shapes::{Project, file_at, file_of, given, graph_of, input_of, letter, word};
@@ -109,6 +111,13 @@ fn script(
     Ok(ScriptProcs::new(alloc, answers, picks, one(alloc, way.failing)?))
 }
 
+/// Whether no child runs.
+fn is_idle(procs: &ScriptProcs) -> bool
+    ensures { IsTrue result → procs.now.book.running ≡ [] }
+{
+    procs.running().is_empty()
+}
+
 /// Builds over a store that is opened over the disk. A store that can't be opened is the fault of a build.
 fn build_over(
     rt: &impl Abort,
@@ -124,7 +133,7 @@ fn build_over(
         Err(StoreFault::NoMemory) => return Err(BuildFault::NoMemory),
         Err(StoreFault::DiskFailed) => return Err(BuildFault::DiskFailed),
     };
-    assert!(rt; procs.running().is_empty());
+    assert!(rt; is_idle(procs));
     assert!(rt; limit >= 1);
     assert!(rt; limit <= 64);
     build(alloc, graph, &mut store, disk, procs, limit, keep_going)
@@ -270,7 +279,7 @@ fn build_marks_over(
     keep_going: bool,
 ) -> Result<MarkList, Fail> {
     let mut store = RequestStore::from_disk(alloc, disk)?;
-    assert!(rt; procs.running().is_empty());
+    assert!(rt; is_idle(procs));
     assert!(rt; limit >= 1);
     assert!(rt; limit <= 64);
     Ok(build_marks(alloc, graph, &mut store, disk, procs, limit, keep_going)?)
