@@ -10,6 +10,6 @@ kit=$(dirname "$(rt doc)")
 while [ ! -f "$kit/c/liblibc_c.a" ]; do kit=$(dirname "$kit"); done
 work=$(mktemp -d)
 trap 'rm -rf "$work"' EXIT
-(cd ../crates/scan_c && rt lib >"$work/log" 2>&1) || { tail -5 "$work/log"; exit 1; }
-${CC:-cc} -O2 -o "$work/scope" scope.c ../crates/scan_c/out/libscan_c.a "$kit/c/liblibc_c.a"
+(cd ../crates/bench_scanner && rt lib >"$work/log" 2>&1) || { tail -5 "$work/log"; exit 1; }
+${CC:-cc} -O2 -o "$work/scope" scope.c ../crates/bench_scanner/out/libscan_c.a "$kit/c/liblibc_c.a"
 "$work/scope" "${1:-5}"

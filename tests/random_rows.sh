@@ -1,9 +1,9 @@
 #!/bin/sh
-# The table of random projects that project_tests reads, and the phrases that its capitals stand for, are those
+# The table of random projects that tests_project reads, and the phrases that its capitals stand for, are those
 # of the plain program that made them.
 . "$TOP/tests/support/needs.sh"
 needs python3
-PYTHONPATH=$TOP/tests/support exec python3 -B - "$TOP/crates/project_tests/src/random_projects.rt" <<'END'
+PYTHONPATH=$TOP/tests/support exec python3 -B - "$TOP/crates/tests_project/src/random_projects.rt" <<'END'
 import re, sys
 
 import random_projects

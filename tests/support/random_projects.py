@@ -4,7 +4,7 @@ to each other in all forms. Some have units twice, units that are missing, circl
     make(SEED)            the project, for the plain rules and for the program
     make(SEED, Short)     a project in few bytes: without what only looks like a reference, and in lower case
     toml_of(PROJECT)      its vunit.toml in one line a key
-    row_of(SEED)          a short project and what is to be read of it, as a line of the table of crates/project_tests
+    row_of(SEED)          a short project and what is to be read of it, as a line of the table of crates/tests_project
 
 usage: random_projects.py COUNT        prints how many of the first projects are read, and how many refused for what
        random_projects.py rows COUNT   prints the table of the first short projects

@@ -2,7 +2,7 @@
 numbers meet, and of which some are none.
 
     side_at(SEED)         the bytes of a side of generation 1
-    row_of(SEED)          a side and what a store says of it, as a line of the table of crates/request_store_tests
+    row_of(SEED)          a side and what a store says of it, as a line of the table of crates/tests_store
 
 usage: random_requests.py COUNT     prints the table of the first sides
 

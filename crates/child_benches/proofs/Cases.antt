@@ -1,7 +1,7 @@
 -- The answer from a case on.
 use Rattle.std.proofs.Common.{◌≡◌, ℕ, ◌+◌, ◌<◌, ◌≤◌, Bool, true, false, cond, List, ◌∷◌, ◌++◌, length, get_or, drop, sym, ap, ◌∙◌}
 use Rattle.std.proofs.lemmas.List.{drop_all, drop_more}
-use Rattle.vr_base.specs.declared.child.Exit.{Exit}
+use Rattle.base.specs.declared.child.Exit.{Exit}
 use Rattle.test_spec.specs.declared.jobs.BenchJob.{BenchJob}
 use Rattle.child_benches.specs.Benches.{all_done, cases_from, failed_case, fails, full_name, start_line}
 

@@ -3,7 +3,7 @@ use Rattle.std.proofs.Common.{◌≡◌, ℕ, true, false, true≢false, Option,
 use Rattle.std.specs.Prelude.{IfSome, IsSome, MatchOption}
 use Rattle.test_spec.specs.declared.jobs.BenchJob.{BenchJob}
 use Rattle.test_spec.specs.BenchJobs.{IsBenchJob, bench_input}
-use Rattle.bench_codec.specs.Reading.{bench_at}
+use Rattle.child_bench_codec.specs.Reading.{bench_at}
 
 module _ (input : List ℕ) (takes : (job : BenchJob) → bench_at input ≡ Some job → IsBenchJob job × (input ≡ bench_input job)) (again : (job : BenchJob) → IsBenchJob job → bench_at (bench_input job) ≡ Some job) where
   -- no job is read of bytes that aren't those of one

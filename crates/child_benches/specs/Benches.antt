@@ -3,11 +3,11 @@ use Rattle.std.specs.Prelude.{ℕ, Bool, ◌&&◌, if◌then◌else◌, List, []
 use Rattle.std.specs.List.{list_any}
 use Rattle.std.specs.Option.{option_map_or}
 use Rattle.std.specs.Str.{bytes_eq}
-use Rattle.vr_base.specs.declared.child.Exit.{Exit}
-use Rattle.vr_base.specs.declared.child.MaybeText.TheVariants.{Given}
-use Rattle.vr_base.specs.declared.graph.BuiltFile.{BuiltFile}
+use Rattle.base.specs.declared.child.Exit.{Exit}
+use Rattle.base.specs.declared.child.MaybeText.TheVariants.{Given}
+use Rattle.base.specs.declared.graph.BuiltFile.{BuiltFile}
 use Rattle.test_spec.specs.declared.jobs.BenchJob.{BenchJob}
-use Rattle.bench_codec.specs.Reading.{bench_at}
+use Rattle.child_bench_codec.specs.Reading.{bench_at}
 use Rattle.child_lines.specs.Ends.{bad_request}
 use Rattle.child_lines.specs.Lines.{in_library, lines}
 

@@ -2,7 +2,7 @@
 
 ghost use Rattle.std.specs.Prelude.{◌≡◌, [], IfOk, MatchOption, None, Some};
 ghost use Rattle.std.specs.List.{list_any};
-ghost use Rattle.bench_codec.specs.Reading.{bench_at};
+ghost use Rattle.child_bench_codec.specs.Reading.{bench_at};
 ghost use Rattle.child_lines.specs.Lines.{in_library, lines};
 ghost use Rattle.child_benches.specs.Benches.{bench_answer, cases_from, cases_of, has_bench, is_bench_file, is_entity_line, simulation, whole_bench};
 ghost use Rattle.child_benches.specs.Failures.{KnowsFailures};
@@ -10,11 +10,11 @@ ghost use Rattle.child_benches.specs.Failures.{KnowsFailures};
 use crate::ends::{all_done, failed_case, no_bench, put_start};
 use crate::failures::{failures_of, full_name};
 use crate::names::Names;
-use bench_codec::{laws_of_bench_jobs, read_bench_request};
+use base::{BuiltFile, Exit, NoMemory};
+use child_bench_codec::{laws_of_bench_jobs, read_bench_request};
 use child_lines::{after_word, bad_request, next_line};
 use std::alloc::Global;
 use test_spec::BenchJob;
-use vr_base::{BuiltFile, Exit, NoMemory};
 
 /// Whether a line is of the entity of a name.
 fn is_entity_line(name: &[u8], line: &[u8]) -> bool

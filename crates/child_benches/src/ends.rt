@@ -3,9 +3,9 @@
 ghost use Rattle.std.specs.Prelude.{◌≡◌, ◌++◌, IfOk, OnOk};
 ghost use Rattle.child_benches.specs.Benches.{all_done, failed_case, no_bench, start_line, with_results};
 
+use base::{Exit, MaybeText, NoMemory, Text};
 use child_lines::put;
 use std::alloc::Global;
-use vr_base::{Exit, MaybeText, NoMemory, Text};
 
 /// An end with a code, an output and results.
 fn with_results(code: u32, output: Text, results: Text) -> Exit

@@ -7,10 +7,10 @@ ghost use Rattle.child_benches.specs.Benches.{fails, full_name, is_failure};
 ghost use Rattle.child_benches.specs.Failures.{HasAll, KnowsFailures, Takes, full_names};
 
 use crate::names::Names;
+use base::{BuiltFile, NoMemory, Text, TextList};
 use child_lines::{after_word, next_line, put};
 use std::alloc::Global;
 use test_spec::BenchJob;
-use vr_base::{BuiltFile, NoMemory, Text, TextList};
 
 /// The full name of a case of a bench.
 #[tactic(auto, unfolding(crate::specs::Benches::full_name))]

@@ -4,10 +4,10 @@ ghost use Rattle.std.specs.Prelude.{◌≡◌, ◌||◌, [], Bool, List, ℕ, On
 ghost use Rattle.std.specs.Str.{bytes_eq};
 ghost use Rattle.test_spec.specs.Verdicts.{has_case};
 
+use base::NoMemory;
 use std::alloc::Global;
 use std::collections::BTreeSet;
 use std::marker::Model;
-use vr_base::NoMemory;
 
 /// A set of names that are lent, by a tree of their bytes. Contracts see a list of them, in an order that is no
 /// promise: they ask what it has.

@@ -1,7 +1,7 @@
 -- How a child of the program ends.
 use Rattle.std.specs.Prelude.{ℕ, List, [], ◌∷◌, ◌++◌, codes}
-use Rattle.vr_base.specs.declared.child.Exit.{Exit}
-use Rattle.vr_base.specs.declared.child.MaybeText.TheVariants.{Nothing}
+use Rattle.base.specs.declared.child.Exit.{Exit}
+use Rattle.base.specs.declared.child.MaybeText.TheVariants.{Nothing}
 
 -- an end with this code and output, and no results
 abbrev pub ends_with : ℕ → List ℕ → Exit

@@ -2,7 +2,7 @@
 use Rattle.std.specs.Prelude.{ℕ, Bool, ◌==◌, if◌then◌else◌, List, length, drop, Option, Some, None}
 use Rattle.std.specs.List.{slice_split, starts_with}
 use Rattle.std.specs.Str.{bytes_eq}
-use Rattle.vr_base.specs.declared.graph.BuiltFile.{BuiltFile}
+use Rattle.base.specs.declared.graph.BuiltFile.{BuiltFile}
 
 -- the lines of bytes, between line feeds; what comes after the last one is a line too
 abbrev pub lines : List ℕ → List (List ℕ)

@@ -3,8 +3,8 @@
 ghost use Rattle.std.specs.Prelude.{◌≡◌, ◌++◌, IfOk, OnOk};
 ghost use Rattle.child_lines.specs.Ends.{bad_request, ends_with};
 
+use base::{Exit, MaybeText, NoMemory, Text};
 use std::alloc::Global;
-use vr_base::{Exit, MaybeText, NoMemory, Text};
 
 /// Puts bytes after others.
 pub fn put(out: &mut Vec<u8>, bytes: &[u8]) -> Result<(), NoMemory>

@@ -1,17 +1,17 @@
 -- What is found in a text, and which job an input is.
 use Rattle.std.proofs.Common.{◌≡◌, ℕ, true, false, true≢false, Option, Some, None, List, refl, sym, ap, ◌∙◌}
 use Rattle.std.specs.Prelude.{IfSome, IsSome, MatchOption}
-use Rattle.vr_base.specs.declared.design.Scan.{Scan}
-use Rattle.vr_base.specs.declared.design.UnitFault.{UnitFault}
-use Rattle.vr_base.specs.declared.lexical.LexFault.{LexFault}
-use Rattle.vr_base.specs.declared.lexical.Tokens.{Tokens}
-use Rattle.scan_spec.proofs.OneFinding.{one_finding}
-use Rattle.scan_spec.specs.Scans.{Finding, Clean, Lexical, Grammatical, IsScanOf, IsScanner}
-use Rattle.scan_spec.specs.Tokens.{HasFault}
-use Rattle.scan_spec.specs.Units.{AreTokensOf, HasUnitFault}
-use Rattle.job_codec.specs.Jobs.{IsJob, job_bytes}
-use Rattle.job_codec.specs.Reading.{job_at}
-use Rattle.job_codec.specs.declared.reading.CompileJob.{CompileJob}
+use Rattle.base.specs.declared.design.Scan.{Scan}
+use Rattle.base.specs.declared.design.UnitFault.{UnitFault}
+use Rattle.base.specs.declared.lexical.LexFault.{LexFault}
+use Rattle.base.specs.declared.lexical.Tokens.{Tokens}
+use Rattle.vhdl_spec.proofs.OneFinding.{one_finding}
+use Rattle.vhdl_spec.specs.Scans.{Finding, Clean, Lexical, Grammatical, IsScanOf, IsScanner}
+use Rattle.vhdl_spec.specs.Tokens.{HasFault}
+use Rattle.vhdl_spec.specs.Units.{AreTokensOf, HasUnitFault}
+use Rattle.child_job_codec.specs.Jobs.{IsJob, job_bytes}
+use Rattle.child_job_codec.specs.Reading.{job_at}
+use Rattle.child_job_codec.specs.declared.reading.CompileJob.{CompileJob}
 use Rattle.child_tools.specs.Answers.{answer, answer_by, not_vhdl, scripted}
 use Rattle.child_tools.specs.Found.{IsFoundClean, clean_scan}
 

@@ -1,10 +1,10 @@
 -- The comments of a cut are in the text.
 use Rattle.std.proofs.Common.{◌≡◌, ℕ, zero, suc, ◌<◌, ◌≤◌, List, [], ◌∷◌, ◌++◌, length, sym, subst, arith}
 use Rattle.std.specs.Prelude.{slice_index_or}
-use Rattle.vr_base.specs.declared.lexical.Span.{Span}
-use Rattle.vr_base.specs.declared.lexical.Tokens.{Tokens}
-use Rattle.scan_spec.specs.Tokens.{Row, byte_order_mark, blank, line_comment, block_comment, tool_directive, token, Piece, Place, Leads, comment_of, comments_of, place_after, text_start}
-use Rattle.scan_spec.specs.Units.{AreTokensOf}
+use Rattle.base.specs.declared.lexical.Span.{Span}
+use Rattle.base.specs.declared.lexical.Tokens.{Tokens}
+use Rattle.vhdl_spec.specs.Tokens.{Row, byte_order_mark, blank, line_comment, block_comment, tool_directive, token, Piece, Place, Leads, comment_of, comments_of, place_after, text_start}
+use Rattle.vhdl_spec.specs.Units.{AreTokensOf}
 
 abbrev pub comment_at : List Span → ℕ → Span
 comment_at comments at = slice_index_or comments at (record { start = 0; end = 0 })

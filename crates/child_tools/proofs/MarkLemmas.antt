@@ -3,7 +3,7 @@ use Rattle.std.proofs.Common.{ℕ, Bool, ◌&&◌, ◌||◌, Option, List}
 use Rattle.std.specs.List.{list_any}
 use Rattle.std.specs.Option.{option_map}
 use Rattle.std.specs.Str.{bytes_eq}
-use Rattle.key_index.specs.Maps.{Entries, get}
+use Rattle.base_key_index.specs.Maps.{Entries, get}
 use Rattle.child_tools.specs.Exports.{is_export}
 use Rattle.child_tools.specs.NameOrder.{is_same_unit}
 use Rattle.child_tools.specs.declared.names.UnitName.{UnitName}

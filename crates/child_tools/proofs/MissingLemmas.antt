@@ -5,8 +5,8 @@ use Rattle.std.specs.List.{list_any}
 use Rattle.std.specs.Str.{bytes_eq}
 use Rattle.std.proofs.lemmas.List.{drop_all, drop_more, take_more}
 use Rattle.std.proofs.lemmas.List.Folds.{list_any-append}
-use Rattle.vr_base.specs.declared.graph.BuiltFile.{BuiltFile}
-use Rattle.key_index.specs.Maps.{get}
+use Rattle.base.specs.declared.graph.BuiltFile.{BuiltFile}
+use Rattle.base_key_index.specs.Maps.{get}
 use Rattle.child_lines.specs.Lines.{in_library}
 use Rattle.child_tools.specs.Exports.{first_missing, has_library, is_missing}
 use Rattle.child_tools.specs.Marks.{KnowsLibraries}

@@ -5,11 +5,11 @@ use Rattle.std.specs.List.{flat_map}
 use Rattle.std.specs.Option.{option_map}
 use Rattle.std.proofs.lemmas.Grind.{flat_map-append}
 use Rattle.std.proofs.lemmas.List.{length-map}
-use Rattle.vr_base.specs.declared.design.Scan.{Scan}
-use Rattle.scan_spec.proofs.Lying.{tokens_few}
-use Rattle.scan_spec.proofs.Placed.{units_few}
-use Rattle.scan_spec.specs.Scans.{IsScanOf}
-use Rattle.scan_spec.specs.Units.{role_of, roles_of}
+use Rattle.base.specs.declared.design.Scan.{Scan}
+use Rattle.vhdl_spec.proofs.Lying.{tokens_few}
+use Rattle.vhdl_spec.proofs.Placed.{units_few}
+use Rattle.vhdl_spec.specs.Scans.{IsScanOf}
+use Rattle.vhdl_spec.specs.Units.{role_of, roles_of}
 
 module _ {X Y : Type 0} (f : X → List Y) where
   take_got : (xs : List X) (i : ℕ) (x : X) → slice_get xs i ≡ Some x → take (i + 1) xs ≡ take i xs ++ x ∷ []

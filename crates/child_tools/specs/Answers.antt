@@ -1,15 +1,15 @@
 -- What the compiler that is part of the program answers, for each input.
 use Rattle.std.specs.Prelude.{ℕ, nat_le, if◌then◌else◌, List, [], ◌∷◌, ◌++◌, length, codes}
 use Rattle.std.specs.Option.{option_map_or}
-use Rattle.vr_base.specs.declared.child.Exit.{Exit}
-use Rattle.vr_base.specs.declared.design.Scan.{Scan}
-use Rattle.vr_base.specs.declared.file.FileName.{FileName}
-use Rattle.vr_base.specs.declared.graph.BuiltFile.{BuiltFile}
-use Rattle.vr_base.specs.declared.limits.TheConstants.{ARTEFACT_LIMIT}
+use Rattle.base.specs.declared.child.Exit.{Exit}
+use Rattle.base.specs.declared.design.Scan.{Scan}
+use Rattle.base.specs.declared.file.FileName.{FileName}
+use Rattle.base.specs.declared.graph.BuiltFile.{BuiltFile}
+use Rattle.base.specs.declared.limits.TheConstants.{ARTEFACT_LIMIT}
 use Rattle.child_lines.specs.Ends.{bad_request, ends_with}
-use Rattle.job_codec.specs.Reading.{job_at}
-use Rattle.job_codec.specs.declared.reading.CompileJob.{CompileJob}
-use Rattle.scan_spec.specs.Scans.{Finding, Clean, Lexical, Grammatical}
+use Rattle.child_job_codec.specs.Reading.{job_at}
+use Rattle.child_job_codec.specs.declared.reading.CompileJob.{CompileJob}
+use Rattle.vhdl_spec.specs.Scans.{Finding, Clean, Lexical, Grammatical}
 use Rattle.child_tools.specs.Artefacts.{artefact_of}
 use Rattle.child_tools.specs.Exports.{first_missing, wanted_units}
 use Rattle.child_tools.specs.Scripts.{first_refusal}

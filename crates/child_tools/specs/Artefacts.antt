@@ -3,13 +3,13 @@
 use Rattle.std.specs.Prelude.{ℕ, List, [], ◌∷◌, ◌++◌, codes}
 use Rattle.std.specs.List.{flat_map}
 use Rattle.std.specs.Option.{option_map_or}
-use Rattle.vr_base.specs.declared.child.MaybeText.{MaybeText}
-use Rattle.vr_base.specs.declared.design.Scan.{Scan}
-use Rattle.vr_base.specs.declared.design.Unit.{Unit as DesignUnit}
-use Rattle.vr_base.specs.declared.design.UnitKind.{UnitKind}
-use Rattle.vr_base.specs.declared.design.UnitKind.TheVariants as kinds
-use Rattle.vr_base.specs.declared.lexical.Span.{Span}
-use Rattle.scan_spec.specs.References.{owner_name}
+use Rattle.base.specs.declared.child.MaybeText.{MaybeText}
+use Rattle.base.specs.declared.design.Scan.{Scan}
+use Rattle.base.specs.declared.design.Unit.{Unit as DesignUnit}
+use Rattle.base.specs.declared.design.UnitKind.{UnitKind}
+use Rattle.base.specs.declared.design.UnitKind.TheVariants as kinds
+use Rattle.base.specs.declared.lexical.Span.{Span}
+use Rattle.vhdl_spec.specs.References.{owner_name}
 use Rattle.child_tools.specs.Scripts.{script_at}
 
 unfoldable pub kind_word : UnitKind → List ℕ

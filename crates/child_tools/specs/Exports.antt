@@ -3,10 +3,10 @@ use Rattle.std.specs.Prelude.{ℕ, Bool, false, ◌&&◌, not, if◌then◌else�
 use Rattle.std.specs.List.{flat_map, list_any}
 use Rattle.std.specs.Option.{option_map_or, option_or}
 use Rattle.std.specs.Str.{bytes_eq}
-use Rattle.vr_base.specs.declared.design.Scan.{Scan}
-use Rattle.vr_base.specs.declared.graph.BuiltFile.{BuiltFile}
-use Rattle.vr_base.specs.declared.refs.Ref.{Ref}
-use Rattle.scan_spec.specs.References.{refs_of, work}
+use Rattle.base.specs.declared.design.Scan.{Scan}
+use Rattle.base.specs.declared.graph.BuiltFile.{BuiltFile}
+use Rattle.base.specs.declared.refs.Ref.{Ref}
+use Rattle.vhdl_spec.specs.References.{refs_of, work}
 use Rattle.child_lines.specs.Lines.{after_word, in_library, lines}
 use Rattle.child_tools.specs.declared.names.UnitName.{UnitName}
 

@@ -1,7 +1,7 @@
 -- What scanning a text gives: its scan, or none where it has a fault.
 use Rattle.std.specs.Prelude.{◌≡◌, ℕ, List, Option, Some, None}
-use Rattle.vr_base.specs.declared.design.Scan.{Scan}
-use Rattle.scan_spec.specs.Scans.{Finding, Clean, Lexical, Grammatical, IsFinding, IsScanOf}
+use Rattle.base.specs.declared.design.Scan.{Scan}
+use Rattle.vhdl_spec.specs.Scans.{Finding, Clean, Lexical, Grammatical, IsFinding, IsScanOf}
 
 abbrev pub clean_scan : Finding → Option Scan
 clean_scan (Clean scan) = Some scan

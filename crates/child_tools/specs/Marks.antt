@@ -2,8 +2,8 @@
 use Rattle.std.specs.Prelude.{◌≡◌, ℕ, Bool, ◌||◌, if◌then◌else◌, List, [], Some, None, is_some}
 use Rattle.std.specs.List.{list_any}
 use Rattle.std.specs.Option.{option_map}
-use Rattle.vr_base.specs.declared.graph.BuiltFile.{BuiltFile}
-use Rattle.key_index.specs.Maps.{Entries, get}
+use Rattle.base.specs.declared.graph.BuiltFile.{BuiltFile}
+use Rattle.base_key_index.specs.Maps.{Entries, get}
 use Rattle.child_tools.specs.Exports.{exports, has_library}
 use Rattle.child_tools.specs.NameOrder.{is_same_unit}
 use Rattle.child_tools.specs.declared.names.UnitName.{UnitName}

@@ -3,7 +3,7 @@
 use Rattle.std.specs.Prelude.{ℕ, List, slice_get, slice_range, codes, Option}
 use Rattle.std.specs.List.{filter_map}
 use Rattle.std.specs.Option.{option_and_then}
-use Rattle.vr_base.specs.declared.lexical.Span.{Span}
+use Rattle.base.specs.declared.lexical.Span.{Span}
 use Rattle.child_lines.specs.Lines.{after_word}
 
 -- the script line of the comment at some bytes of a text, if it is one

@@ -1,10 +1,10 @@
 //! The compiler that is part of the program.
 
 ghost use Rattle.std.specs.Prelude.{◌≡◌, ◌≤◌, ℕ, List, IfOk, IfSome, MatchOption, None, Some, length};
-ghost use Rattle.scan_spec.specs.Scans.{Finding, IsScanOf, IsScanner};
-ghost use Rattle.scan_spec.specs.Units.{AreTokensOf, roles_of};
-ghost use Rattle.job_codec.specs.Jobs.{IsJob};
-ghost use Rattle.job_codec.specs.Reading.{job_at};
+ghost use Rattle.vhdl_spec.specs.Scans.{Finding, IsScanOf, IsScanner};
+ghost use Rattle.vhdl_spec.specs.Units.{AreTokensOf, roles_of};
+ghost use Rattle.child_job_codec.specs.Jobs.{IsJob};
+ghost use Rattle.child_job_codec.specs.Reading.{job_at};
 ghost use Rattle.child_tools.specs.Answers.{analysis, answer, linked, scripted};
 ghost use Rattle.child_tools.specs.Artefacts.{artefact_of};
 ghost use Rattle.child_tools.specs.Exports.{wanted_units};
@@ -16,12 +16,12 @@ use crate::exports::first_missing;
 use crate::names::UnitName;
 use crate::scripts::first_refusal;
 use crate::wanted::wanted_units;
+use base::{Exit, NoMemory, OrMemory, RoleList, Scan, TEXT_LIMIT, Text, Tokens};
+use child_job_codec::{CompileJob, laws_of_jobs, read_compile_request};
 use child_lines::bad_request;
-use job_codec::{CompileJob, laws_of_jobs, read_compile_request};
 use std::alloc::Global;
 use vhdl_lex::{no_tokens, scan_with_roles};
 use vhdl_units::outline_by_roles;
-use vr_base::{Exit, NoMemory, OrMemory, RoleList, Scan, TEXT_LIMIT, Text, Tokens};
 
 /// The answer to a file that wants some units, and of which an artefact would be made.
 #[tactic(auto, unfolding(crate::specs::Answers::linked))]

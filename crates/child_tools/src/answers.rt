@@ -4,9 +4,9 @@ ghost use Rattle.std.specs.Prelude.{◌≡◌, IfOk};
 ghost use Rattle.child_tools.specs.Answers.{made, no_unit, not_vhdl, refused};
 
 use crate::names::UnitName;
+use base::{ARTEFACT_LIMIT, Exit, FileName, NoMemory, Text};
 use child_lines::{ends_with, put};
 use std::alloc::Global;
-use vr_base::{ARTEFACT_LIMIT, Exit, FileName, NoMemory, Text};
 
 /// A refusal with a line, to which its line feed is added.
 #[tactic(auto, unfolding(crate::specs::Answers::refused))]

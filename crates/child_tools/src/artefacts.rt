@@ -2,15 +2,15 @@
 
 ghost use Rattle.std.specs.Prelude.{◌≡◌, ◌++◌, ◌≤◌, length, IfOk, OnOk};
 ghost use Rattle.std.specs.List.{flat_map};
-ghost use Rattle.scan_spec.specs.References.{owner_name};
-ghost use Rattle.scan_spec.specs.Scans.{IsScanOf};
-ghost use Rattle.scan_spec.specs.Units.{AreTokensOf};
+ghost use Rattle.vhdl_spec.specs.References.{owner_name};
+ghost use Rattle.vhdl_spec.specs.Scans.{IsScanOf};
+ghost use Rattle.vhdl_spec.specs.Units.{AreTokensOf};
 ghost use Rattle.child_tools.specs.Artefacts.{artefact_of, comment_line, kind_word, of_entity, script_line, unit_line};
 
 use crate::scripts::script_at;
+use base::{MaybeText, NoMemory, Scan, Span, Text, Tokens, Unit, UnitKind};
 use child_lines::put;
 use std::alloc::Global;
-use vr_base::{MaybeText, NoMemory, Scan, Span, Text, Tokens, Unit, UnitKind};
 
 #[tactic(auto, unfolding(crate::specs::Artefacts::kind_word))]
 fn put_kind(out: &mut Vec<u8>, kind: UnitKind) -> Result<(), NoMemory>

@@ -4,17 +4,17 @@ ghost use Rattle.std.specs.Prelude.{◌≡◌, ◌&&◌, ◌∷◌, ◌++◌, []
 ghost use Rattle.std.specs.List.{list_any};
 ghost use Rattle.std.specs.Option.{option_map};
 ghost use Rattle.std.specs.Str.{bytes_eq};
-ghost use Rattle.vr_base.specs.declared.graph.BuiltFile.{BuiltFile};
-ghost use Rattle.key_index.specs.Maps.{get};
+ghost use Rattle.base.specs.declared.graph.BuiltFile.{BuiltFile};
+ghost use Rattle.base_key_index.specs.Maps.{get};
 ghost use Rattle.child_tools.specs.NameOrder.{is_same_unit};
 ghost use Rattle.child_tools.specs.Exports.{exported_by, exports, exports_unit, first_missing, is_export, is_missing};
 ghost use Rattle.child_tools.specs.Marks.{Marks, KnowsLibraries, KnowsUnits};
 
 use crate::names::{UnitName, library_key, put_name};
+use base::{BuiltFile, NoMemory, Text};
+use base_key_index::{Key, KeyMap};
 use child_lines::{after_word, next_line};
-use key_index::{Key, KeyMap};
 use std::alloc::Global;
-use vr_base::{BuiltFile, NoMemory, Text};
 
 /// The primary unit that a line of an artefact is of.
 #[tactic(auto, unfolding(crate::specs::Exports::exported_by))]

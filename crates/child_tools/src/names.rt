@@ -8,12 +8,12 @@ ghost use Rattle.std.specs.Ordering.{as_partial_cmp, nat_cmp};
 ghost use Rattle.std.proofs.Common.{refl, rules};
 ghost use Rattle.child_tools.specs.NameOrder.{is_same_unit, unit_cmp, unit_ties, unit_total, units_decide};
 
-use key_index::Key;
+use base::{NoMemory, Text};
+use base_key_index::Key;
 use std::alloc::Global;
 use std::cmp::Ordering;
 use std::hash::{Hash, Hasher};
 use std::mem::replace;
-use vr_base::{NoMemory, Text};
 
 /// What names a primary unit: its library and its name, of any lengths. With an empty name it stands for the library.
 #[derive(Drop)]

@@ -1,11 +1,11 @@
 //! The script lines of a file.
 
 ghost use Rattle.std.specs.Prelude.{◌≡◌, ◌≤◌, length, MatchOption, None, Some};
-ghost use Rattle.scan_spec.specs.Units.{AreTokensOf};
+ghost use Rattle.vhdl_spec.specs.Units.{AreTokensOf};
 ghost use Rattle.child_tools.specs.Scripts.{first_refusal, refusal_at, script_at};
 
+use base::{Span, Tokens};
 use child_lines::after_word;
-use vr_base::{Span, Tokens};
 
 /// The script line of the comment at some bytes of a text, if it is one.
 pub fn script_at(text: &[u8], span: Span) -> Option<&[u8]>

@@ -2,16 +2,16 @@
 
 ghost use Rattle.std.specs.Prelude.{◌≡◌, ◌++◌, ◌<◌, ◌≤◌, IfOk, OnOk, Some, length, slice_get};
 ghost use Rattle.std.specs.Option.{option_map};
-ghost use Rattle.scan_spec.specs.References.{refs_of, work};
-ghost use Rattle.scan_spec.specs.Scans.{IsScanOf};
-ghost use Rattle.scan_spec.specs.Units.{roles_of};
+ghost use Rattle.vhdl_spec.specs.References.{refs_of, work};
+ghost use Rattle.vhdl_spec.specs.Scans.{IsScanOf};
+ghost use Rattle.vhdl_spec.specs.Units.{roles_of};
 ghost use Rattle.std.specs.Str.{bytes_eq};
 ghost use Rattle.child_tools.specs.Exports.{named_library, strict_unit, strict_units, wanted_units};
 
 use crate::names::UnitName;
+use base::{NoMemory, Ref, RoleList, Scan, TEXT_LIMIT, Text};
 use std::alloc::Global;
 use vhdl_refs::find_refs;
-use vr_base::{NoMemory, Ref, RoleList, Scan, TEXT_LIMIT, Text};
 
 fn is_work(name: &[u8]) -> bool
     ensures { result ≡ bytes_eq name.now work }

@@ -1,2 +1,4 @@
 -- The lemmas.
 pub mod Packages
+mod Paths
+mod Places

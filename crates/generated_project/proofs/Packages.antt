@@ -1,9 +1,9 @@
 -- The files of packages, one by one.
 use Rattle.std.proofs.Common.{◌≡◌, ℕ, ◌+◌, List, [], ◌∷◌, ◌++◌, map, refl, ap, ◌∙◌}
 use Rattle.std.proofs.lemmas.List.{map-append}
-use Rattle.vr_base.specs.declared.file.NamedText.{NamedText}
-use Rattle.vr_base.specs.PresentGraph.{below}
-use Rattle.vr_base.proofs.Below.{below-zero, below-more}
+use Rattle.base.specs.declared.file.NamedText.{NamedText}
+use Rattle.base.specs.PresentGraph.{below}
+use Rattle.base.proofs.Below.{below-zero, below-more}
 use Rattle.generated_project.specs.Files.{package_file, packages}
 
 abbrev file_after : ℕ → ℕ → NamedText

@@ -1,8 +1,8 @@
 -- The files of the generated project, by how many packages it has, and by which of them is edited.
 use Rattle.std.specs.Prelude.{ℕ, ◌+◌, ◌/◌, ◌==◌, Bool, true, false, nat_lt, if◌then◌else◌, List, [], ◌∷◌, ◌++◌, codes, map}
 use Rattle.std.specs.Fmt.{decimal}
-use Rattle.vr_base.specs.declared.file.NamedText.{NamedText}
-use Rattle.vr_base.specs.PresentGraph.{below}
+use Rattle.base.specs.declared.file.NamedText.{NamedText}
+use Rattle.base.specs.PresentGraph.{below}
 
 -- ## The project file
 

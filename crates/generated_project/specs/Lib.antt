@@ -1,3 +1,4 @@
 -- The definitions.
 pub mod Files
 pub mod Lines
+pub mod HeldFiles

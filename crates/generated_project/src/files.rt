@@ -5,8 +5,8 @@ ghost use Rattle.std.specs.Fmt.{decimal};
 ghost use Rattle.generated_project.specs.Files.{toml_path, toml_text, toml_file, bench_path, bench_head, bench_body, bench_file, source_folder, source_end, package_path, library_words, all_words, use_lines, used_lines, package_words, constant_words, end_words, package_begin, package_end, package_lines, note_line, noted_lines, package_text, package_file, packages, generated_files, edited_package};
 
 use crate::puts::{put, put_number};
+use base::{NamedText, NamedTextList, NoMemory, Text};
 use std::alloc::Global;
-use vr_base::{NamedText, NamedTextList, NoMemory, Text};
 
 /// The project file: one library, which has all sources.
 #[tactic(auto, unfolding(crate::specs::Files::toml_path, crate::specs::Files::toml_text))]

@@ -4,8 +4,8 @@ ghost use Rattle.std.specs.Prelude.{◌≡◌, ◌++◌, IfOk, OnOk};
 ghost use Rattle.generated_project.specs.Lines.{files_words, first_words, second_words, passed_words, of_word, number_line, passed_line, count_lines};
 
 use crate::puts::{put, put_number, put_wide};
+use base::{NoMemory, Text};
 use std::alloc::Global;
-use vr_base::{NoMemory, Text};
 
 /// How many files there are, how many of them each of two builds compiled, how many test cases there are, and how many of
 /// these have passed. A sum over the cases of runs has room in 128 bits.

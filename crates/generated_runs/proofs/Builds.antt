@@ -1,18 +1,18 @@
 -- What the first build did, from what it did over its disk.
 use Rattle.std.proofs.Common.{Bool, true, false, List, Result, Ok, Err, refl}
-use Rattle.vr_base.specs.declared.graph.Entry.{Entry}
-use Rattle.vr_base.specs.declared.child.Request.{Request}
-use Rattle.vr_base.specs.declared.child.Exit.{Exit}
-use Rattle.vr_base.specs.declared.child.Event.{Event}
+use Rattle.base.specs.declared.graph.Entry.{Entry}
+use Rattle.base.specs.declared.child.Request.{Request}
+use Rattle.base.specs.declared.child.Exit.{Exit}
+use Rattle.base.specs.declared.child.Event.{Event}
 use Rattle.run_spec.specs.declared.marks.Mark.{Mark}
-use Rattle.vr_outside.specs.Disks.{DiskState, Moments, IsImage, IsSound, reads_of}
+use Rattle.outside.specs.Disks.{DiskState, Moments, IsImage, IsSound, reads_of}
 use Rattle.run_spec.specs.ChildJournal.{Work}
 use Rattle.run_spec.proofs.Parts.{build_parts}
-use Rattle.history_spec.specs.Histories.{Order}
-use Rattle.compile_loop.specs.declared.faults.BuildFault.{BuildFault}
-use Rattle.disk_runs.specs.Building.{BuildsOver}
-use Rattle.disk_runs.specs.Orders.{order_by}
-use Rattle.request_store.specs.Stored.{requests_in}
+use Rattle.run_histories.specs.Histories.{Order}
+use Rattle.build_loop.specs.declared.faults.BuildFault.{BuildFault}
+use Rattle.run_build.specs.Building.{BuildsOver}
+use Rattle.run_build.specs.Orders.{order_by}
+use Rattle.store_requests.specs.Stored.{requests_in}
 use Rattle.generated_runs.specs.declared.options.GenerateOptions.{GenerateOptions}
 use Rattle.generated_runs.specs.Sources.{first_work}
 use Rattle.generated_runs.specs.Ran.{RanFirst}

@@ -4,23 +4,23 @@ use Rattle.std.specs.Prelude.{count_by}
 use Rattle.std.specs.List.{list_all}
 use Rattle.std.proofs.lemmas.Bool.{cond-true, cond-false, false≢true}
 use Rattle.std.proofs.lemmas.List.{append-nil, append_assoc}
-use Rattle.vr_base.specs.declared.child.Request.{Request}
-use Rattle.vr_base.specs.declared.child.Exit.{Exit}
-use Rattle.vr_base.specs.declared.child.Event.{Event}
-use Rattle.vr_outside.specs.Records.{Record}
+use Rattle.base.specs.declared.child.Request.{Request}
+use Rattle.base.specs.declared.child.Exit.{Exit}
+use Rattle.base.specs.declared.child.Event.{Event}
+use Rattle.outside.specs.Records.{Record}
 use Rattle.run_spec.specs.declared.marks.Mark.{Mark}
-use Rattle.vr_outside.specs.Disks.{DiskState}
+use Rattle.outside.specs.Disks.{DiskState}
 use Rattle.run_spec.specs.Moves.{LawfulMoves}
 use Rattle.run_spec.specs.ChildJournal.{Work, EachAfter, since}
 use Rattle.run_spec.specs.JournalParts.{compile_part}
 use Rattle.run_spec.specs.Marks.{is_compiled, marks_of}
 use Rattle.run_spec.proofs.Journal.{since-added}
 use Rattle.run_spec.proofs.Prefixes.{lawful_none}
-use Rattle.compile_loop.specs.declared.faults.BuildFault.{BuildFault}
-use Rattle.compile_loop.specs.Faults.{FaultCounts, NoneFell}
-use Rattle.compile_loop.specs.Ran.{is_made}
+use Rattle.build_loop.specs.declared.faults.BuildFault.{BuildFault}
+use Rattle.build_loop.specs.Faults.{FaultCounts, NoneFell}
+use Rattle.build_loop.specs.Ran.{is_made}
 use Rattle.test_journal.specs.TestJournal.{TestSetting, LawfulTests, test_moves, AreTestsRequested}
-use Rattle.tested_runs.specs.declared.testing.Tested.{Tested}
+use Rattle.run_tested.specs.declared.testing.Tested.{Tested}
 use Rattle.project_reading.specs.Reading.{SourceReading, Found}
 use Rattle.project_reading.specs.declared.linking.ReadProject.{ReadProject}
 use Rattle.generated_runs.specs.declared.options.GenerateOptions.{GenerateOptions}

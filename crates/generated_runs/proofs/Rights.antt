@@ -3,30 +3,30 @@ use Rattle.std.proofs.Common.{◌≡◌, true, List, [], ◌∷◌, ◌++◌, Re
 use Rattle.std.specs.Prelude.{All}
 use Rattle.std.specs.List.{list_all}
 use Rattle.std.proofs.lemmas.Option.{none-some}
-use Rattle.vr_base.specs.declared.graph.BuiltFile.{BuiltFile}
-use Rattle.vr_base.specs.declared.graph.Entry.{Entry}
-use Rattle.vr_base.specs.declared.child.Request.{Request}
-use Rattle.vr_base.specs.declared.child.Exit.{Exit}
-use Rattle.vr_base.specs.declared.child.Event.{Event}
-use Rattle.vr_base.specs.declared.child.Event.TheVariants.{Started}
-use Rattle.vr_base.specs.Graphs.{IsGraph}
-use Rattle.vr_outside.specs.Records.{Record}
-use Rattle.vr_outside.specs.Records.{latest}
+use Rattle.base.specs.declared.graph.BuiltFile.{BuiltFile}
+use Rattle.base.specs.declared.graph.Entry.{Entry}
+use Rattle.base.specs.declared.child.Request.{Request}
+use Rattle.base.specs.declared.child.Exit.{Exit}
+use Rattle.base.specs.declared.child.Event.{Event}
+use Rattle.base.specs.declared.child.Event.TheVariants.{Started}
+use Rattle.base.specs.Graphs.{IsGraph}
+use Rattle.outside.specs.Records.{Record}
+use Rattle.outside.specs.Records.{latest}
 use Rattle.run_spec.specs.ChildJournal.{Work, Lawful, Answered}
 use Rattle.run_spec.specs.CleanBuild.{RecordsClean}
 use Rattle.run_spec.specs.Faithful.{IsTrueRecord}
 use Rattle.run_spec.specs.JournalParts.{compile_part, test_part}
 use Rattle.run_spec.specs.Marks.{marks_of}
-use Rattle.clean_laws.proofs.CleanCommits.{commits_true}
-use Rattle.clean_laws.proofs.CleanSettled.{request_clean}
-use Rattle.clean_laws.proofs.JournalSettled.{asked, all_started, all_steady}
-use Rattle.clean_laws.proofs.TrueRecords.{records_clean, All-latest}
-use Rattle.compile_loop.specs.declared.faults.BuildFault.{BuildFault}
-use Rattle.compile_loop.specs.Ran.{is_made}
+use Rattle.run_laws.proofs.CleanCommits.{commits_true}
+use Rattle.run_laws.proofs.CleanSettled.{request_clean}
+use Rattle.run_laws.proofs.JournalSettled.{asked, all_started, all_steady}
+use Rattle.run_laws.proofs.TrueRecords.{records_clean, All-latest}
+use Rattle.build_loop.specs.declared.faults.BuildFault.{BuildFault}
+use Rattle.build_loop.specs.Ran.{is_made}
 use Rattle.test_journal.specs.TestJournal.{LawfulTests}
-use Rattle.tested_laws.proofs.CleanLibraries.{built_clean}
-use Rattle.tested_histories.specs.Rights.{clean_setting}
-use Rattle.tested_histories.proofs.TestedRights.{lawful_right, no_tests}
+use Rattle.run_tested_laws.proofs.CleanLibraries.{built_clean}
+use Rattle.run_tested_laws.specs.Rights.{clean_setting}
+use Rattle.run_tested_laws.proofs.TestedRights.{lawful_right, no_tests}
 use Rattle.project_reading.specs.declared.linking.ReadProject.{ReadProject}
 use Rattle.generated_runs.specs.declared.options.GenerateOptions.{GenerateOptions}
 use Rattle.generated_runs.specs.declared.options.GeneratedSaid.{GeneratedSaid}

@@ -3,25 +3,25 @@ use Rattle.std.proofs.Common.{◌≡◌, Bool, true, List, [], ◌++◌, Option,
 use Rattle.std.specs.Prelude.{if◌then◌else◌}
 use Rattle.std.specs.List.{list_all}
 use Rattle.std.proofs.lemmas.Bool.{cond-true, cond-false, false≢true}
-use Rattle.vr_base.specs.declared.child.Request.{Request}
-use Rattle.vr_base.specs.declared.child.Exit.{Exit}
-use Rattle.vr_base.specs.declared.child.Event.{Event}
-use Rattle.vr_outside.specs.Records.{Record}
+use Rattle.base.specs.declared.child.Request.{Request}
+use Rattle.base.specs.declared.child.Exit.{Exit}
+use Rattle.base.specs.declared.child.Event.{Event}
+use Rattle.outside.specs.Records.{Record}
 use Rattle.run_spec.specs.declared.marks.Mark.{Mark}
-use Rattle.vr_outside.specs.Disks.{DiskState, Moments}
+use Rattle.outside.specs.Disks.{DiskState, Moments}
 use Rattle.run_spec.specs.ChildJournal.{Work, Answered, IsWhole}
-use Rattle.vr_base.specs.Graphs.{IsGraph}
+use Rattle.base.specs.Graphs.{IsGraph}
 use Rattle.run_spec.specs.JournalParts.{compile_part, test_part}
 use Rattle.run_spec.specs.Marks.{marks_of}
-use Rattle.compile_loop.specs.declared.faults.BuildFault.{BuildFault}
-use Rattle.compile_loop.specs.Ran.{is_made}
+use Rattle.build_loop.specs.declared.faults.BuildFault.{BuildFault}
+use Rattle.build_loop.specs.Ran.{is_made}
 use Rattle.test_spec.specs.declared.ends.TestEnd.{TestEnd}
 use Rattle.test_spec.specs.declared.ends.RunEnd.{RunEnd}
 use Rattle.test_journal.specs.TestJournal.{TestSetting, LawfulTests, IsWholeTests}
 use Rattle.test_loop.specs.Results.{test_ends}
-use Rattle.tested_runs.specs.declared.testing.Tested.{Tested}
-use Rattle.tested_runs.specs.Tested.{SaysTests, TestsOver}
-use Rattle.request_store.specs.Stored.{requests_in}
+use Rattle.run_tested.specs.declared.testing.Tested.{Tested}
+use Rattle.run_tested.specs.Tested.{SaysTests, TestsOver}
+use Rattle.store_requests.specs.Stored.{requests_in}
 use Rattle.project_reading.specs.declared.linking.ReadProject.{ReadProject}
 use Rattle.generated_runs.specs.declared.options.GenerateOptions.{GenerateOptions}
 use Rattle.generated_runs.specs.Sources.{second_work, second_order, plan_of, setting_of}

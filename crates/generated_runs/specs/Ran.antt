@@ -1,13 +1,13 @@
 -- What the two builds of the generated project did, and the tests after the second.
 use Rattle.std.specs.Prelude.{◌≡◌, ◌↔◌, ℕ, true, false, List, [], ◌∷◌, ◌++◌, Some, Result, IfOk, OnOk, Contains}
 use Rattle.std.specs.List.{list_all, list_any}
-use Rattle.vr_base.specs.declared.child.Request.{Request}
-use Rattle.vr_base.specs.declared.child.Exit.{Exit}
-use Rattle.vr_base.specs.declared.child.Event.{Event}
-use Rattle.vr_base.specs.declared.child.Event.TheVariants.{Started}
-use Rattle.vr_base.specs.Graphs.{IsGraph}
-use Rattle.vr_outside.specs.Records.{Record}
-use Rattle.vr_outside.specs.Disks.{DiskState, reads_of}
+use Rattle.base.specs.declared.child.Request.{Request}
+use Rattle.base.specs.declared.child.Exit.{Exit}
+use Rattle.base.specs.declared.child.Event.{Event}
+use Rattle.base.specs.declared.child.Event.TheVariants.{Started}
+use Rattle.base.specs.Graphs.{IsGraph}
+use Rattle.outside.specs.Records.{Record}
+use Rattle.outside.specs.Disks.{DiskState, reads_of}
 use Rattle.run_spec.specs.declared.marks.Mark.{Mark}
 use Rattle.run_spec.specs.ChildJournal.{Work, Lawful, Answered, IsWhole, book_of, next_position}
 use Rattle.run_spec.specs.CleanBuild.{clean_request}
@@ -15,12 +15,12 @@ use Rattle.run_spec.specs.Settled.{request_unless}
 use Rattle.run_spec.specs.Commits.{commits}
 use Rattle.run_spec.specs.JournalParts.{compile_part, test_part}
 use Rattle.run_spec.specs.Marks.{is_refused, marks_of, steady_marks}
-use Rattle.compile_loop.specs.declared.faults.BuildFault.{BuildFault}
-use Rattle.compile_loop.specs.Ran.{is_made}
+use Rattle.build_loop.specs.declared.faults.BuildFault.{BuildFault}
+use Rattle.build_loop.specs.Ran.{is_made}
 use Rattle.test_journal.specs.TestJournal.{TestSetting, LawfulTests, IsWholeTests}
-use Rattle.tested_runs.specs.declared.testing.Tested.{Tested}
-use Rattle.tested_histories.specs.Rights.{AreRightTests}
-use Rattle.request_store.specs.Stored.{requests_in}
+use Rattle.run_tested.specs.declared.testing.Tested.{Tested}
+use Rattle.run_tested_laws.specs.Rights.{AreRightTests}
+use Rattle.store_requests.specs.Stored.{requests_in}
 use Rattle.project_reading.specs.Reading.{SourceReading, Found}
 use Rattle.project_reading.specs.declared.linking.ReadProject.{ReadProject}
 use Rattle.generated_runs.specs.declared.options.GenerateOptions.{GenerateOptions}

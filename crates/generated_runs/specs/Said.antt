@@ -1,22 +1,22 @@
 -- What is said of the generated project.
 use Rattle.std.specs.Prelude.{ℕ, List, ◌++◌, Option, Some, None, if◌then◌else◌, count_by}
 use Rattle.std.specs.List.{list_all}
-use Rattle.vr_base.specs.declared.child.Event.{Event}
-use Rattle.vr_outside.specs.Records.{Record}
-use Rattle.outcomes.specs.declared.outcome.Outcome.{Outcome}
-use Rattle.outcomes.specs.declared.outcome.Outcome.TheVariants as outcome
-use Rattle.outcomes.specs.declared.outcome.Limit.{Limit}
-use Rattle.outcomes.specs.declared.outcome.Refusal.{Refusal}
+use Rattle.base.specs.declared.child.Event.{Event}
+use Rattle.outside.specs.Records.{Record}
+use Rattle.base_outcomes.specs.declared.outcome.Outcome.{Outcome}
+use Rattle.base_outcomes.specs.declared.outcome.Outcome.TheVariants as outcome
+use Rattle.base_outcomes.specs.declared.outcome.Limit.{Limit}
+use Rattle.base_outcomes.specs.declared.outcome.Refusal.{Refusal}
 use Rattle.run_spec.specs.declared.marks.Mark.{Mark}
 use Rattle.run_spec.specs.ChildJournal.{Work}
 use Rattle.run_spec.specs.JournalParts.{compile_part, test_part}
 use Rattle.run_spec.specs.Marks.{is_compiled, marks_of}
-use Rattle.run_report.specs.Outcomes.{build_outcome}
-use Rattle.run_report.specs.Texts.{shown_bytes, build_text, refusal_text, limit_text, warning_text}
-use Rattle.compile_loop.specs.Ran.{is_made}
+use Rattle.report_run.specs.Outcomes.{build_outcome}
+use Rattle.report_run.specs.Texts.{shown_bytes, build_text, refusal_text, limit_text, warning_text}
+use Rattle.build_loop.specs.Ran.{is_made}
 use Rattle.test_spec.specs.declared.ends.TestEnd.{TestEnd}
 use Rattle.test_loop.specs.Results.{test_ends}
-use Rattle.verdict_report.specs.Counts.{all_verdicts, tally, tests_outcome}
+use Rattle.report_verdicts.specs.Counts.{all_verdicts, tally, tests_outcome}
 use Rattle.project_reading.specs.Reading.{SourceReading, Stops, Over, Found}
 use Rattle.project_reading.specs.declared.linking.ReadProject.{ReadProject}
 use Rattle.generated_project.specs.Files.{files_in}

@@ -1,21 +1,21 @@
 -- What the sources of the generated project say is to be done, and what is built of them.
 use Rattle.std.specs.Prelude.{ℕ, false, List, [], ◌∷◌, codes, Option, None}
-use Rattle.vr_base.specs.declared.file.FileName.{FileName}
-use Rattle.vr_base.specs.declared.file.NamedText.{NamedText}
-use Rattle.vr_base.specs.declared.graph.Entry.{Entry}
-use Rattle.vr_base.specs.declared.child.Event.{Event}
-use Rattle.vr_outside.specs.Records.{Record}
-use Rattle.vr_outside.specs.Records.{latest}
-use Rattle.vr_memory.specs.Trees.{file_at, listed_of}
+use Rattle.base.specs.declared.file.FileName.{FileName}
+use Rattle.base.specs.declared.file.NamedText.{NamedText}
+use Rattle.base.specs.declared.graph.Entry.{Entry}
+use Rattle.base.specs.declared.child.Event.{Event}
+use Rattle.outside.specs.Records.{Record}
+use Rattle.outside.specs.Records.{latest}
+use Rattle.memory_outside.specs.Trees.{file_at, listed_of}
 use Rattle.run_spec.specs.ChildJournal.{Work}
 use Rattle.run_spec.specs.Commits.{work_of, commits}
 use Rattle.test_spec.specs.declared.runs.TestRun.{TestRun}
 use Rattle.test_spec.specs.Runs.{test_runs}
 use Rattle.test_journal.specs.TestJournal.{TestPlan, TestSetting}
-use Rattle.compile_loop.specs.Ran.{built_by}
-use Rattle.disk_runs.specs.Orders.{order_by}
-use Rattle.history_spec.specs.Histories.{Order}
-use Rattle.scan_spec.specs.Scans.{Finding}
+use Rattle.build_loop.specs.Ran.{built_by}
+use Rattle.run_build.specs.Orders.{order_by}
+use Rattle.run_histories.specs.Histories.{Order}
+use Rattle.vhdl_spec.specs.Scans.{Finding}
 use Rattle.project_reading.specs.Reading.{SourceReading, project_reading}
 use Rattle.project_reading.specs.Wishes.{chosen}
 use Rattle.project_reading.specs.declared.linking.ReadProject.{ReadProject}

@@ -1,22 +1,22 @@
 //! The first build of the generated project, over an empty disk.
 
 ghost use Rattle.std.specs.Prelude.{◌≡◌, ◌≤◌, ◌++◌, [], ℕ, Some, length, IfOk};
-ghost use Rattle.vr_memory.specs.Disks.{moments_of};
+ghost use Rattle.memory_outside.specs.Disks.{moments_of};
 ghost use Rattle.run_spec.specs.ChildJournal.{since};
-ghost use Rattle.compile_loop.specs.Faults.{Explains, FaultCounts, NoneFell, fault_of};
-ghost use Rattle.compile_loop.specs.declared.faults.BuildFault.TheVariants as fault;
+ghost use Rattle.build_loop.specs.Faults.{Explains, FaultCounts, NoneFell, fault_of};
+ghost use Rattle.build_loop.specs.declared.faults.BuildFault.TheVariants as fault;
 ghost use Rattle.generated_runs.specs.Sources.{first_work};
 ghost use Rattle.generated_runs.specs.Ran.{RanFirst};
 
 use crate::options::GenerateOptions;
-use compile_loop::BuildFault;
-use disk_runs::{BuildOptions, build_over};
-use request_store::RequestStore;
+use base::{Graph, SLOT_LIMIT};
+use build_loop::BuildFault;
+use memory_outside::MemDisk;
+use outside::Procs;
+use run_build::{BuildOptions, build_over};
 use run_spec::MarkList;
 use std::alloc::Global;
-use vr_base::{Graph, SLOT_LIMIT};
-use vr_memory::MemDisk;
-use vr_outside::Procs;
+use store_requests::RequestStore;
 
 /// Why a build over a disk in memory ended, which fails for want of memory alone.
 pub fn own_fault(fault: BuildFault) -> BuildFault

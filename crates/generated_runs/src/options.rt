@@ -1,7 +1,7 @@
 //! How a project is generated, and what is said of it.
 
-use outcomes::Outcome;
-use vr_base::Text;
+use base::Text;
+use base_outcomes::Outcome;
 
 /// So many packages are generated beside the bench; so many children run at once; and whether failed tests are no matter for
 /// the answer.

@@ -2,11 +2,11 @@
 
 ghost use Rattle.std.specs.Prelude.{◌≡◌, ◌≤◌, ◌++◌, [], ℕ, List, All, length, count_by, IfOk};
 ghost use Rattle.std.specs.List.{list_all};
-ghost use Rattle.vr_outside.specs.Records.{Record};
-ghost use Rattle.vr_memory.specs.Disks.{moments_of};
+ghost use Rattle.outside.specs.Records.{Record};
+ghost use Rattle.memory_outside.specs.Disks.{moments_of};
 ghost use Rattle.run_spec.specs.ChildJournal.{since};
-ghost use Rattle.compile_loop.specs.Faults.{Explains, NoneFell, fault_of};
-ghost use Rattle.scan_spec.specs.Scans.{Finding, IsScanner};
+ghost use Rattle.build_loop.specs.Faults.{Explains, NoneFell, fault_of};
+ghost use Rattle.vhdl_spec.specs.Scans.{Finding, IsScanner};
 ghost use Rattle.test_spec.specs.Runs.{FitsRun};
 ghost use Rattle.project_reading.specs.Reading.{Found};
 ghost use Rattle.project_reading.specs.Sources.{IsReadProject};
@@ -20,14 +20,14 @@ use crate::options::{GenerateOptions, GeneratedSaid};
 use crate::saying::{are_made, compiled, marks_said, stop_said, tested_said};
 use crate::sources::read_generated;
 use crate::testing::{all_runs, test_second};
-use compile_loop::BuildFault;
+use base::{CASE_LIMIT, Numbers, SLOT_LIMIT};
+use build_loop::BuildFault;
 use generated_project::edited_package;
+use memory_outside::MemDisk;
+use outside::Procs;
 use project_reading::{Extent, ReadProject};
 use std::alloc::Global;
 use test_spec::TestRunList;
-use vr_base::{CASE_LIMIT, Numbers, SLOT_LIMIT};
-use vr_memory::MemDisk;
-use vr_outside::Procs;
 
 /// The package that no edit changes.
 const UNEDITED: u64 = 0;

@@ -2,27 +2,27 @@
 
 ghost use Rattle.std.specs.Prelude.{◌≡◌, ◌≤◌, ◌<◌, ◌^◌, ◌++◌, ℕ, List, Err, length, count_by, IfOk, OnOk};
 ghost use Rattle.std.specs.List.{list_all};
-ghost use Rattle.vr_base.specs.declared.child.Event.{Event};
-ghost use Rattle.vr_outside.specs.Records.{Record};
+ghost use Rattle.base.specs.declared.child.Event.{Event};
+ghost use Rattle.outside.specs.Records.{Record};
 ghost use Rattle.run_spec.specs.Marks.{is_compiled};
-ghost use Rattle.run_report.specs.Texts.{shown_bytes, build_text, warning_text};
-ghost use Rattle.compile_loop.specs.Ran.{is_made};
+ghost use Rattle.report_run.specs.Texts.{shown_bytes, build_text, warning_text};
+ghost use Rattle.build_loop.specs.Ran.{is_made};
 ghost use Rattle.project_reading.specs.Reading.{SourceReading, Found};
 ghost use Rattle.project_reading.specs.Sources.{LeadsTo};
 ghost use Rattle.project_reading.specs.declared.stops.ReadStop.TheVariants as why;
 ghost use Rattle.generated_runs.specs.Said.{IsAnswer, refusal_said, limit_said, marks_said, counted_said, tested_said, second_said, generated_said};
 
 use crate::options::{GenerateOptions, GeneratedSaid};
+use base::{NoMemory, Text};
+use base_outcomes::{Limit, Outcome, Refusal};
 use generated_project::{Counts, count_lines};
-use outcomes::{Limit, Outcome, Refusal};
 use project_reading::{ReadProject, ReadStop};
-use run_report::{build_outcome, build_text, limit_text, refusal_text, warning_text};
+use report_run::{build_outcome, build_text, limit_text, refusal_text, warning_text};
+use report_verdicts::{tally_of, tests_outcome};
 use run_spec::{Mark, MarkList};
+use run_tested::Tested;
 use std::alloc::Global;
 use test_spec::TestEnd;
-use tested_runs::Tested;
-use verdict_report::{tally_of, tests_outcome};
-use vr_base::{NoMemory, Text};
 
 fn is_compiled(mark: &Mark) -> bool
     ensures { result ≡ is_compiled mark.now }

@@ -1,17 +1,17 @@
 //! What is read of the generated project.
 
 ghost use Rattle.std.specs.Prelude.{◌≡◌, ◌<◌, ◌≤◌, ℕ, List, Err, IfOk};
-ghost use Rattle.scan_spec.specs.Scans.{Finding, IsScanner};
+ghost use Rattle.vhdl_spec.specs.Scans.{Finding, IsScanner};
 ghost use Rattle.generated_project.specs.Files.{generated_files};
 ghost use Rattle.project_reading.specs.Reading.{SourceReading};
 ghost use Rattle.project_reading.specs.Sources.{IsReadProject, LeadsTo};
 ghost use Rattle.project_reading.specs.declared.stops.ReadStop.TheVariants as why;
 ghost use Rattle.generated_runs.specs.Sources.{any_name, files_reading, wish_for};
 
-use generated_tree::GeneratedTree;
+use base::{NoMemory, Text, TextList};
+use generated_project::GeneratedTree;
 use project_reading::{Extent, ReadProject, ReadStop, Wish, read_project};
 use std::alloc::Global;
-use vr_base::{NoMemory, Text, TextList};
 
 /// Why nothing is compiled, where a tree in memory fails for want of memory alone.
 fn own_stop(stop: ReadStop) -> ReadStop

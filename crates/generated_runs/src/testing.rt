@@ -1,10 +1,10 @@
 //! The second build of the generated project, over the records of the first, and its tests.
 
 ghost use Rattle.std.specs.Prelude.{◌≡◌, ◌≤◌, ◌++◌, [], ℕ, List, All, length, IfOk};
-ghost use Rattle.vr_outside.specs.Records.{Record};
-ghost use Rattle.vr_memory.specs.Disks.{moments_of};
+ghost use Rattle.outside.specs.Records.{Record};
+ghost use Rattle.memory_outside.specs.Disks.{moments_of};
 ghost use Rattle.run_spec.specs.ChildJournal.{since};
-ghost use Rattle.compile_loop.specs.Faults.{Explains, NoneFell, fault_of};
+ghost use Rattle.build_loop.specs.Faults.{Explains, NoneFell, fault_of};
 ghost use Rattle.test_spec.specs.Runs.{FitsRun};
 ghost use Rattle.project_reading.specs.Sources.{IsReadProject};
 ghost use Rattle.generated_runs.specs.Sources.{runs_in, second_work, wish_for};
@@ -14,17 +14,17 @@ ghost use Rattle.generated_runs.specs.Ran.{RanTested, records_on};
 use crate::building::own_fault;
 use crate::options::GenerateOptions;
 use crate::sources::wish_for;
-use compile_loop::BuildFault;
-use disk_runs::BuildOptions;
-use planned_tests::planned_runs;
+use base::{CASE_LIMIT, NoMemory, SLOT_LIMIT};
+use build_loop::BuildFault;
+use memory_outside::MemDisk;
+use outside::Procs;
 use project_reading::{Extent, ReadProject};
-use request_store::RequestStore;
+use run_build::BuildOptions;
+use run_tested::{Tested, test_over};
 use std::alloc::Global;
+use store_requests::RequestStore;
+use test_plan::planned_runs;
 use test_spec::TestRunList;
-use tested_runs::{Tested, test_over};
-use vr_base::{CASE_LIMIT, NoMemory, SLOT_LIMIT};
-use vr_memory::MemDisk;
-use vr_outside::Procs;
 
 /// The runs of all tests of a project.
 pub fn all_runs(alloc: Global, read: &ReadProject) -> Result<TestRunList, NoMemory>

@@ -1,9 +1,9 @@
 -- What reports over memory hold.
 use Rattle.std.specs.Prelude.{◌≡◌, false, List, Result, Ok, Err}
-use Rattle.vr_base.specs.declared.file.NamedText.{NamedText}
-use Rattle.vr_memory.specs.declared.failing.Calls.{Calls}
-use Rattle.vr_memory.specs.Failing.{fails_next}
-use Rattle.report_files.specs.declared.reports.ReportFault.{ReportFault}
+use Rattle.base.specs.declared.file.NamedText.{NamedText}
+use Rattle.memory_outside.specs.declared.failing.Calls.{Calls}
+use Rattle.memory_outside.specs.Failing.{fails_next}
+use Rattle.outside.specs.declared.reports.ReportFault.{ReportFault}
 
 -- what was written, the last first, so that of a path the first one counts; and the calls
 pub record HeldReports : Type 0 where

@@ -1,17 +1,16 @@
 //! Reports in memory.
 ghost use Rattle.std.specs.Prelude.{◌≡◌, [], ◌∷◌, OnOk, OnErr};
 ghost use Rattle.std.specs.Option.{option_copied};
-ghost use Rattle.vr_outside.specs.Counts.{Counted};
-ghost use Rattle.vr_memory.specs.Failing.{no_calls, fails_next, next_call, MakesCall};
-ghost use Rattle.vr_memory.specs.Trees.{file_at};
-ghost use Rattle.report_files.specs.Reports.{Reported, ReportCounts};
+ghost use Rattle.outside.specs.Counts.{Counted};
+ghost use Rattle.memory_outside.specs.Failing.{no_calls, fails_next, next_call, MakesCall};
+ghost use Rattle.memory_outside.specs.Trees.{file_at};
+ghost use Rattle.outside.specs.Reports.{Reported, ReportCounts};
 ghost use Rattle.memory_reports.specs.HeldReports.{ReportFails};
 
-use report_files::{ReportFault, Reports};
+use base::{NamedText, NoMemory, Numbers, Text};
+use outside::{ReportFault, Reports, counted};
 use std::alloc::Global;
 use std::marker::Model;
-use vr_base::{NamedText, NoMemory, Numbers, Text};
-use vr_outside::counted;
 
 /// Reports in memory. All that was written is kept.
 #[derive(Drop)]

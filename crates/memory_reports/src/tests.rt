@@ -1,10 +1,10 @@
 //! Reports in memory: what was written last counts, and a call that is to fail changes nothing.
 
 use crate::MemReports;
-use report_files::{ReportFault, Reports};
+use base::{NoMemory, Numbers, Text};
+use outside::{ReportFault, Reports};
 use std::alloc::Global;
 use std::test::Fail;
-use vr_base::{NoMemory, Numbers, Text};
 
 /// Reports whose call 2 fails.
 fn reports(alloc: Global) -> Result<MemReports, NoMemory> {

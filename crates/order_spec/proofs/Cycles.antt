@@ -8,8 +8,8 @@ use Rattle.std.proofs.lemmas.Cmp.{nat_eq_equiv}
 use Rattle.std.proofs.lemmas.Map.Keys.{IsDistinct-push, apart_from_distinct}
 use Rattle.std.proofs.lemmas.Map.Steps.{length-le_from_distinct_below, le-length_from_below}
 use Rattle.std.proofs.lemmas.List.{length-append, length-drop, length-take-le, get_or_append_left, get_or_at, get_or_default, get_or-drop, get_or-take}
-use Rattle.vr_base.specs.PresentGraph.{below}
-use Rattle.vr_base.specs.View.{place_in}
+use Rattle.base.specs.PresentGraph.{below}
+use Rattle.base.specs.View.{place_in}
 use Rattle.order_spec.specs.BuildOrder.{deps_in, AreEdges, has_taken, can_take, first_free, all_taken, first_untaken, untaken_dep, repeated, reported_cycle, FileOrder, Ordered, Cyclic, file_order, IsBuildOrder, IsCycle}
 use Rattle.order_spec.proofs.Finds.{found_passes, found_within, none_passes, all_pass, in_below, below_bounded}
 use Rattle.order_spec.proofs.Members.{contains_taken, taken_other, place_within, at_place}

@@ -5,8 +5,8 @@ use Rattle.std.specs.List.{find, list_all}
 use Rattle.std.specs.Option.{option_or}
 use Rattle.std.proofs.lemmas.Bool.{cases_Bool, cases_lt, cond-true, cond-false}
 use Rattle.std.proofs.lemmas.List.Folds.{find-append}
-use Rattle.vr_base.specs.PresentGraph.{below}
-use Rattle.vr_base.proofs.Below.{length-below, get_or-below}
+use Rattle.base.specs.PresentGraph.{below}
+use Rattle.base.proofs.Below.{length-below, get_or-below}
 
 pub Contains-later : {X : Type 0} (x y : X) (xs : List X) → Contains xs y → Contains (x ∷ xs) y
 Contains-later x y xs there = (suc there.0, omega (arith, there.1), there.2)

@@ -5,7 +5,7 @@ use Rattle.std.proofs.lemmas.Bool.{cases_eq, cond-true, cond-false, eq-eqb, ne_e
 use Rattle.std.proofs.lemmas.Cmp.{nat_eq_equiv}
 use Rattle.std.proofs.lemmas.Map.Views.{Contains-from_any, list_any-from_Contains}
 use Rattle.std.proofs.lemmas.List.Folds.{list_any-append}
-use Rattle.vr_base.specs.View.{place_in}
+use Rattle.base.specs.View.{place_in}
 use Rattle.order_spec.specs.BuildOrder.{has_taken}
 
 or_false : (x : Bool) → (x || false) ≡ x

@@ -11,7 +11,7 @@ use Rattle.std.proofs.lemmas.Map.Made.{AllPairs-from_IsDistinct}
 use Rattle.std.proofs.lemmas.Map.Steps.{length-le_from_distinct_below}
 use Rattle.std.proofs.lemmas.List.{length-append, get_or_append_left, get_or_at, get_or_default, take-append-le, take_all}
 use Rattle.std.proofs.lemmas.List.Sums.{AllPass-from_list_all}
-use Rattle.vr_base.specs.PresentGraph.{below}
+use Rattle.base.specs.PresentGraph.{below}
 use Rattle.order_spec.specs.BuildOrder.{deps_in, has_taken, can_take, first_free, with_taken, taken_after, IsBuildOrder}
 use Rattle.order_spec.proofs.Finds.{found_passes, found_within, below_bounded}
 use Rattle.order_spec.proofs.Members.{taken_contains, contains_taken, taken_other}

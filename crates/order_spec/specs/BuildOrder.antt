@@ -5,11 +5,11 @@ use Rattle.std.specs.Prelude.{◌≡◌, ◌≢◌, ℕ, zero, suc, ◌+◌, ◌
 use Rattle.std.specs.List.{find, list_any, list_all}
 use Rattle.std.specs.List.Sorted.{IsStrictlyIncreasing}
 use Rattle.std.specs.Option.{option_map_or}
-use Rattle.vr_base.specs.declared.limits.TheConstants.{FILE_LIMIT}
-use Rattle.vr_base.specs.declared.linking.OrderFault.{OrderFault}
-use Rattle.vr_base.specs.declared.linking.OrderFault.TheVariants.{NoMemory, Cycle}
-use Rattle.vr_base.specs.PresentGraph.{below}
-use Rattle.vr_base.specs.View.{place_in}
+use Rattle.base.specs.declared.limits.TheConstants.{FILE_LIMIT}
+use Rattle.base.specs.declared.linking.OrderFault.{OrderFault}
+use Rattle.base.specs.declared.linking.OrderFault.TheVariants.{NoMemory, Cycle}
+use Rattle.base.specs.PresentGraph.{below}
+use Rattle.base.specs.View.{place_in}
 
 -- ## Edges
 

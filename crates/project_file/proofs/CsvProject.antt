@@ -11,15 +11,15 @@ use Rattle.std.proofs.lemmas.List.Elements.{All-push}
 use Rattle.std.proofs.lemmas.List.Quantifiers.{all_pairs_push}
 use Rattle.std.proofs.lemmas.List.Folds.{list_any_at}
 use Rattle.std.proofs.lemmas.Option.{none-some, same_Some}
-use Rattle.vr_base.specs.declared.file.FileName.{FileName}
-use Rattle.vr_base.specs.declared.project.ProjectFile.{ProjectFile}
-use Rattle.vr_base.specs.declared.project.ProjectFault.{ProjectFault}
-use Rattle.vr_base.specs.declared.project.ProjectFault.TheVariants.{WorkLibrary, DuplicateFile, BadLine}
-use Rattle.vr_base.specs.Names.{IsBetween, FitsName, is_same_name, has_name}
-use Rattle.vr_base.specs.Projects.{IsProject, IsProjectFile}
-use Rattle.name_set.proofs.SameNames.{same_names}
+use Rattle.base.specs.declared.file.FileName.{FileName}
+use Rattle.base.specs.declared.project.ProjectFile.{ProjectFile}
+use Rattle.base.specs.declared.project.ProjectFault.{ProjectFault}
+use Rattle.base.specs.declared.project.ProjectFault.TheVariants.{WorkLibrary, DuplicateFile, BadLine}
+use Rattle.base.specs.Names.{IsBetween, FitsName, is_same_name, has_name}
+use Rattle.base.specs.Projects.{IsProject, IsProjectFile}
+use Rattle.base_name_set.proofs.SameNames.{same_names}
 use Rattle.project_file.specs.Csv.{csv_file_of, names_file, trim, begins_with_letter, name_fault, admitted, then_read, added_by, files_after, listed_file, listed_project, listed_command}
-use Rattle.vr_base.specs.declared.limits.TheConstants.{WORD_LIMIT}
+use Rattle.base.specs.declared.limits.TheConstants.{WORD_LIMIT}
 
 ok_is : {X : Type 0} (x y : X) → ◌≡◌ {A = Result X ProjectFault} (Ok x) (Ok y) → x ≡ y
 ok_is x y e = cc

@@ -8,9 +8,9 @@ use Rattle.std.proofs.lemmas.List.Folds.{list_any_at}
 use Rattle.std.proofs.lemmas.Map.Views.{Contains-from_any}
 use Rattle.std.proofs.lemmas.Slice.Eq.{bytes_eq-Decides}
 use Rattle.std.proofs.lemmas.Option.{get_or_from_slice_get, slice_get_within}
-use Rattle.vr_base.specs.declared.file.FileName.{FileName}
-use Rattle.vr_base.specs.declared.project.ProjectFault.TheVariants.{WorkLibrary, DuplicateLibrary}
-use Rattle.numbering.specs.Numbers.{IsNumbered}
+use Rattle.base.specs.declared.file.FileName.{FileName}
+use Rattle.base.specs.declared.project.ProjectFault.TheVariants.{WorkLibrary, DuplicateLibrary}
+use Rattle.base_numbering.specs.Numbers.{IsNumbered}
 use Rattle.project_file.specs.Toml.{is_among, new_library}
 use Rattle.project_file.specs.Libraries.{alone, libraries_of}
 

@@ -2,11 +2,11 @@
 use Rattle.std.proofs.Common.{◌≡◌, ℕ, ◌+◌, ◌<◌, ◌≤◌, List, [], ◌∷◌, ◌++◌, length, take, drop, get_or, map, Option, Some, None, Ok, Err, Result, refl, sym, ap, subst, ◌∙◌}
 use Rattle.std.proofs.lemmas.List.{drop_more, drop_all, map_push, take_more, take_all}
 use Rattle.toml.specs.Data.{Members}
-use Rattle.vr_base.specs.declared.file.FileName.{FileName}
-use Rattle.vr_base.specs.declared.memory.OrMemory.{OrMemory}
-use Rattle.vr_base.specs.declared.memory.OrMemory.TheVariants as memory
-use Rattle.vr_base.specs.declared.project.ProjectFile.{ProjectFile}
-use Rattle.vr_base.specs.declared.project.ProjectFault.{ProjectFault}
+use Rattle.base.specs.declared.file.FileName.{FileName}
+use Rattle.base.specs.declared.memory.OrMemory.{OrMemory}
+use Rattle.base.specs.declared.memory.OrMemory.TheVariants as memory
+use Rattle.base.specs.declared.project.ProjectFile.{ProjectFile}
+use Rattle.base.specs.declared.project.ProjectFault.{ProjectFault}
 use Rattle.project_file.specs.Csv.{then_read}
 use Rattle.project_file.specs.Steps.{ReadsStep}
 use Rattle.project_file.specs.Toml.{library_after, library_files, library_in, files_of, new_library, required, text_of}

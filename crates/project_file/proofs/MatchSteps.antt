@@ -11,9 +11,9 @@ use Rattle.std.proofs.lemmas.List.Folds.{list_any_at, list_any-append}
 use Rattle.std.proofs.lemmas.Map.Views.{Contains-from_any}
 use Rattle.std.proofs.lemmas.Slice.Eq.{bytes_eq-Decides}
 use Rattle.test_select.specs.Fits.{ends_of, first_is, fits_pieces}
-use Rattle.numbering.specs.Numbers.{NumbersBelow, IsAdded}
-use Rattle.vr_base.specs.declared.project.ProjectFault.{ProjectFault}
-use Rattle.vr_base.specs.declared.project.ProjectFault.TheVariants.{NothingMatches}
+use Rattle.base_numbering.specs.Numbers.{NumbersBelow, IsAdded}
+use Rattle.base.specs.declared.project.ProjectFault.{ProjectFault}
+use Rattle.base.specs.declared.project.ProjectFault.TheVariants.{NothingMatches}
 use Rattle.project_file.specs.declared.paths.Part.{Part}
 use Rattle.project_file.specs.Paths.{components, is_any_components, is_component_of, matches_path}
 use Rattle.project_file.specs.PathRows.{part_of, fits_parts}

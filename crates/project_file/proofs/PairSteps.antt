@@ -7,16 +7,16 @@ use Rattle.std.proofs.lemmas.Bool.{cases_Bool, cases_lt, cond-true, ltb-false}
 use Rattle.std.proofs.lemmas.List.Quantifiers.{position-Some}
 use Rattle.std.proofs.lemmas.List.{drop_more, drop_all, append-nil, append_assoc, get_or-map, length-map, map_push, take_more, get_or-take, length-take}
 use Rattle.std.proofs.lemmas.Option.{get_or_from_slice_get, slice_get_within, none-some}
-use Rattle.numbering.specs.Numbers.{IsNumbered}
-use Rattle.numbering.specs.NameLaws.{names_decide}
+use Rattle.base_numbering.specs.Numbers.{IsNumbered}
+use Rattle.base_numbering.specs.NameLaws.{names_decide}
 use Rattle.toml.specs.Data.{Members}
-use Rattle.vr_base.specs.declared.file.FileName.{FileName}
-use Rattle.vr_base.specs.declared.memory.OrMemory.{OrMemory}
-use Rattle.vr_base.specs.declared.project.Pair.{Pair}
-use Rattle.vr_base.specs.declared.project.ProjectFile.{ProjectFile}
-use Rattle.vr_base.specs.declared.project.ProjectFault.{ProjectFault}
-use Rattle.vr_base.specs.declared.project.ProjectFault.TheVariants.{UnknownDependency}
-use Rattle.vr_base.specs.Names.{is_same_name}
+use Rattle.base.specs.declared.file.FileName.{FileName}
+use Rattle.base.specs.declared.memory.OrMemory.{OrMemory}
+use Rattle.base.specs.declared.project.Pair.{Pair}
+use Rattle.base.specs.declared.project.ProjectFile.{ProjectFile}
+use Rattle.base.specs.declared.project.ProjectFault.{ProjectFault}
+use Rattle.base.specs.declared.project.ProjectFault.TheVariants.{UnknownDependency}
+use Rattle.base.specs.Names.{is_same_name}
 use Rattle.project_file.specs.Csv.{then_read}
 use Rattle.project_file.specs.Steps.{ReadsStep}
 use Rattle.project_file.specs.Toml.{place_of, pair_of, pairs_of}

@@ -7,9 +7,9 @@ use Rattle.std.proofs.lemmas.Bool.{cond-true, cond-false, false_from_ne_true}
 use Rattle.std.proofs.lemmas.Str.{is_utf8-from_IsUtf8, IsUtf8-from_is_utf8}
 use Rattle.toml.specs.Data.{Members, as_bool}
 use Rattle.toml.specs.Parse.{parse_document}
-use Rattle.vr_base.specs.declared.project.Project.{Project}
-use Rattle.vr_base.specs.declared.project.ProjectFault.{ProjectFault}
-use Rattle.vr_base.specs.declared.project.ProjectFault.TheVariants.{NotToml}
+use Rattle.base.specs.declared.project.Project.{Project}
+use Rattle.base.specs.declared.project.ProjectFault.{ProjectFault}
+use Rattle.base.specs.declared.project.ProjectFault.TheVariants.{NotToml}
 use Rattle.project_file.specs.Csv.{then_read, listed_command, listed_simulator}
 use Rattle.project_file.specs.Toml.{optional, words_of, texts_of, library_in, files_project, table_project, toml_project}
 

@@ -11,14 +11,14 @@ use Rattle.std.proofs.lemmas.List.Elements.{All-append, All-cons, All-nil, All-f
 use Rattle.std.proofs.lemmas.Option.{none-some, same_Some}
 use Rattle.toml.specs.Data.{Data, Members, as_array, as_bool, as_str, as_table, get_member}
 use Rattle.toml.specs.Parse.{parse_document}
-use Rattle.vr_base.specs.declared.memory.OrMemory.{OrMemory}
-use Rattle.vr_base.specs.declared.project.Project.{Project}
-use Rattle.vr_base.specs.declared.project.ProjectFile.{ProjectFile}
-use Rattle.vr_base.specs.declared.project.ProjectFault.{ProjectFault}
-use Rattle.vr_base.specs.declared.project.ProjectFault.TheVariants.{MissingKey, NotToml, NothingMatches, WrongType}
-use Rattle.vr_base.specs.declared.limits.TheConstants.{LIBRARY_LIMIT, LISTED_WORD_LIMIT, PATH_LIMIT, WORD_LIMIT}
-use Rattle.vr_base.specs.Names.{IsBetween, FitsCommand}
-use Rattle.vr_base.specs.Projects.{FitsSimulator, IsProject, IsProjectFile}
+use Rattle.base.specs.declared.memory.OrMemory.{OrMemory}
+use Rattle.base.specs.declared.project.Project.{Project}
+use Rattle.base.specs.declared.project.ProjectFile.{ProjectFile}
+use Rattle.base.specs.declared.project.ProjectFault.{ProjectFault}
+use Rattle.base.specs.declared.project.ProjectFault.TheVariants.{MissingKey, NotToml, NothingMatches, WrongType}
+use Rattle.base.specs.declared.limits.TheConstants.{LIBRARY_LIMIT, LISTED_WORD_LIMIT, PATH_LIMIT, WORD_LIMIT}
+use Rattle.base.specs.Names.{IsBetween, FitsCommand}
+use Rattle.base.specs.Projects.{FitsSimulator, IsProject, IsProjectFile}
 use Rattle.project_file.specs.Csv.{is_library, listed_command, listed_simulator, then_read}
 use Rattle.project_file.specs.Paths.{matches_path}
 use Rattle.project_file.specs.Pairs.{names_of}

@@ -5,13 +5,13 @@ use Rattle.std.specs.Option.{ok_or}
 use Rattle.std.specs.Char.{is_ascii_alphabetic, is_ascii_digit, to_ascii_lowercase}
 use Rattle.std.specs.Str.{is_utf8, bytes_eq}
 use Rattle.std.specs.Str.Lines.{lines}
-use Rattle.vr_base.specs.declared.file.FileName.{FileName}
-use Rattle.vr_base.specs.declared.project.Project.{Project}
-use Rattle.vr_base.specs.declared.project.ProjectFile.{ProjectFile}
-use Rattle.vr_base.specs.declared.project.ProjectFault.{ProjectFault}
-use Rattle.vr_base.specs.declared.project.ProjectFault.TheVariants.{WorkLibrary, DuplicateFile, BadLine}
-use Rattle.vr_base.specs.declared.limits.TheConstants.{LIBRARY_LIMIT, PATH_LIMIT}
-use Rattle.vr_base.specs.Names.{has_name}
+use Rattle.base.specs.declared.file.FileName.{FileName}
+use Rattle.base.specs.declared.project.Project.{Project}
+use Rattle.base.specs.declared.project.ProjectFile.{ProjectFile}
+use Rattle.base.specs.declared.project.ProjectFault.{ProjectFault}
+use Rattle.base.specs.declared.project.ProjectFault.TheVariants.{WorkLibrary, DuplicateFile, BadLine}
+use Rattle.base.specs.declared.limits.TheConstants.{LIBRARY_LIMIT, PATH_LIMIT}
+use Rattle.base.specs.Names.{has_name}
 
 -- an ASCII letter, a digit or an underscore
 abbrev pub is_library_byte : ℕ → Bool

@@ -1,13 +1,13 @@
 -- What is known of the libraries and the names of files that were read so far.
 use Rattle.std.specs.Prelude.{◌≡◌, ℕ, ◌<◌, ◌≤◌, Bool, true, false, not, ◌&&◌, List, [], ◌∷◌, ◌++◌, length, map, filter, All, slice_index_or, Result, Ok, Err}
 use Rattle.std.specs.List.{list_any}
-use Rattle.numbering.specs.Numbers.{NumbersBelow, IsAdded}
+use Rattle.base_numbering.specs.Numbers.{NumbersBelow, IsAdded}
 use Rattle.toml.specs.Data.{Members}
-use Rattle.vr_base.specs.declared.file.FileName.{FileName}
-use Rattle.vr_base.specs.declared.memory.OrMemory.{OrMemory}
-use Rattle.vr_base.specs.declared.memory.OrMemory.TheVariants as memory
-use Rattle.vr_base.specs.declared.project.ProjectFile.{ProjectFile}
-use Rattle.vr_base.specs.declared.project.ProjectFault.{ProjectFault}
+use Rattle.base.specs.declared.file.FileName.{FileName}
+use Rattle.base.specs.declared.memory.OrMemory.{OrMemory}
+use Rattle.base.specs.declared.memory.OrMemory.TheVariants as memory
+use Rattle.base.specs.declared.project.ProjectFile.{ProjectFile}
+use Rattle.base.specs.declared.project.ProjectFault.{ProjectFault}
 use Rattle.project_file.specs.Csv.{then_read}
 use Rattle.project_file.specs.Paths.{matches_path}
 use Rattle.project_file.specs.Steps.{ReadsStep}

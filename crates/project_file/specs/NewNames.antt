@@ -1,10 +1,10 @@
 -- Names that a project file adds, and the set of those before them.
 use Rattle.std.specs.Prelude.{◌≡◌, List, [], ◌∷◌, ◌++◌, Option, Some, None, Result, Ok, Err}
-use Rattle.vr_base.specs.declared.file.FileName.{FileName}
-use Rattle.vr_base.specs.declared.memory.OrMemory.{OrMemory}
-use Rattle.vr_base.specs.declared.memory.OrMemory.TheVariants as memory
-use Rattle.vr_base.specs.declared.project.ProjectFault.{ProjectFault}
-use Rattle.name_set.specs.Names.{Holds}
+use Rattle.base.specs.declared.file.FileName.{FileName}
+use Rattle.base.specs.declared.memory.OrMemory.{OrMemory}
+use Rattle.base.specs.declared.memory.OrMemory.TheVariants as memory
+use Rattle.base.specs.declared.project.ProjectFault.{ProjectFault}
+use Rattle.base_name_set.specs.Names.{Holds}
 
 -- what a line adds, and the set then holds
 abbrev pub AddsName : List FileName → List FileName → Result FileName ProjectFault → Result FileName (OrMemory ProjectFault) → Type 0

@@ -1,7 +1,7 @@
 -- Places of files in a project, by an index of their names.
 use Rattle.std.specs.Prelude.{◌≡◌, ◌≢◌, List, map, AllPairs}
-use Rattle.vr_base.specs.declared.file.FileName.{FileName}
-use Rattle.vr_base.specs.declared.project.ProjectFile.{ProjectFile}
+use Rattle.base.specs.declared.file.FileName.{FileName}
+use Rattle.base.specs.declared.project.ProjectFile.{ProjectFile}
 
 abbrev pub names_of : List ProjectFile → List FileName
 names_of files = map (λ file. file.name) files

@@ -1,9 +1,9 @@
 -- What the parts of a project file give, one after the other, and what is read of them.
 use Rattle.std.specs.Prelude.{◌≡◌, ℕ, ◌+◌, List, ◌∷◌, Result, Ok, Err}
-use Rattle.vr_base.specs.declared.file.FileName.{FileName}
-use Rattle.vr_base.specs.declared.memory.OrMemory.{OrMemory}
-use Rattle.vr_base.specs.declared.memory.OrMemory.TheVariants as memory
-use Rattle.vr_base.specs.declared.project.ProjectFault.{ProjectFault}
+use Rattle.base.specs.declared.file.FileName.{FileName}
+use Rattle.base.specs.declared.memory.OrMemory.{OrMemory}
+use Rattle.base.specs.declared.memory.OrMemory.TheVariants as memory
+use Rattle.base.specs.declared.project.ProjectFault.{ProjectFault}
 use Rattle.project_file.specs.Csv.{files_after}
 
 -- one more line of a project file, after the files of those before it

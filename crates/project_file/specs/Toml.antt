@@ -6,14 +6,14 @@ use Rattle.std.specs.Char.{to_ascii_lowercase}
 use Rattle.std.specs.Str.{is_utf8, bytes_eq}
 use Rattle.toml.specs.Data.{Data, Items, no_items, item, Members, get_member, as_str, as_bool, as_array, as_table}
 use Rattle.toml.specs.Parse.{parse_document}
-use Rattle.vr_base.specs.declared.file.FileName.{FileName}
-use Rattle.vr_base.specs.declared.project.Pair.{Pair}
-use Rattle.vr_base.specs.declared.project.Project.{Project}
-use Rattle.vr_base.specs.declared.project.ProjectFile.{ProjectFile}
-use Rattle.vr_base.specs.declared.project.ProjectFault.{ProjectFault}
-use Rattle.vr_base.specs.declared.project.ProjectFault.TheVariants.{NotToml, MissingKey, WrongType, WorkLibrary, DuplicateLibrary, NothingMatches, UnknownDependency}
-use Rattle.vr_base.specs.declared.limits.TheConstants.{WORD_LIMIT, LISTED_WORD_LIMIT}
-use Rattle.vr_base.specs.Names.{is_same_name}
+use Rattle.base.specs.declared.file.FileName.{FileName}
+use Rattle.base.specs.declared.project.Pair.{Pair}
+use Rattle.base.specs.declared.project.Project.{Project}
+use Rattle.base.specs.declared.project.ProjectFile.{ProjectFile}
+use Rattle.base.specs.declared.project.ProjectFault.{ProjectFault}
+use Rattle.base.specs.declared.project.ProjectFault.TheVariants.{NotToml, MissingKey, WrongType, WorkLibrary, DuplicateLibrary, NothingMatches, UnknownDependency}
+use Rattle.base.specs.declared.limits.TheConstants.{WORD_LIMIT, LISTED_WORD_LIMIT}
+use Rattle.base.specs.Names.{is_same_name}
 use Rattle.project_file.specs.Csv.{is_library, is_path, listed_command, listed_simulator, then_read}
 use Rattle.project_file.specs.Paths.{matches_path}
 

@@ -10,9 +10,9 @@ ghost use Rattle.project_file.specs.Few.{all_match, checked_library};
 use crate::keys::{texts_at, words_at};
 use crate::paths::{matches_path, parts_of};
 use crate::values::Form;
+use base::{NoMemory, OrMemory, ProjectFault, ProjectFileList, Text};
 use std::alloc::Global;
 use toml::Table;
-use vr_base::{NoMemory, OrMemory, ProjectFault, ProjectFileList, Text};
 
 /// Whether a pattern matches a name: no name is looked at after the first that it matches.
 fn any_match(alloc: Global, names: &[Text], pattern: &[u8]) -> Result<bool, NoMemory>

@@ -6,19 +6,19 @@ ghost use Rattle.std.specs.Char.{to_ascii_lowercase};
 ghost use Rattle.std.specs.Str.{is_utf8, bytes_eq};
 ghost use Rattle.std.specs.Str.Lines.{lines};
 ghost use Rattle.project_file.specs.Csv.{is_library, is_library_byte, is_path, is_path_byte, is_component, has_components, has_path_bytes, begins_with_letter, is_line_blank, without_blanks, trim, names_file, csv_file_of, name_fault, added_by, csv_files, csv_project, listed_file, listed_project};
-ghost use Rattle.vr_base.specs.declared.file.FileName.{FileName};
-ghost use Rattle.vr_base.specs.Projects.{IsProject};
-ghost use Rattle.name_set.specs.Names.{Holds};
+ghost use Rattle.base.specs.declared.file.FileName.{FileName};
+ghost use Rattle.base.specs.Projects.{IsProject};
+ghost use Rattle.base_name_set.specs.Names.{Holds};
 ghost use Rattle.project_file.specs.NewNames.{AddsName, Admits};
 ghost use Rattle.project_file.specs.Steps.{TakesLine, ReadsStep};
 
 use crate::parts::{cut_at, next_line, sides};
-use name_set::NameSet;
-use std::alloc::Global;
-use vr_base::{
+use base::{
     FileList, FileName, LIBRARY_LIMIT, NoMemory, OrMemory, PATH_LIMIT, PairList, Project,
     ProjectFault, ProjectFile, ProjectFileList, Text, TextList,
 };
+use base_name_set::NameSet;
+use std::alloc::Global;
 
 /// Whether two texts have the same bytes.
 pub fn is_same(a: &[u8], b: &[u8]) -> bool

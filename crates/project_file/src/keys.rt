@@ -4,16 +4,16 @@ ghost use Rattle.std.specs.Prelude.{◌≡◌, ◌++◌, ◌∷◌, [], false, E
 ghost use Rattle.std.specs.Option.{ok_or};
 ghost use Rattle.toml.specs.Data.{as_bool, as_table, get_member};
 ghost use Rattle.toml.specs.View.{view, table_view};
-ghost use Rattle.vr_base.specs.declared.project.ProjectFault.TheVariants.{MissingKey, WrongType};
+ghost use Rattle.base.specs.declared.project.ProjectFault.TheVariants.{MissingKey, WrongType};
 ghost use Rattle.project_file.specs.Toml.{array_of, library_in, text_of, texts_of, words_of, required, optional};
 ghost use Rattle.project_file.specs.Forms.{form_of, tables_view};
 ghost use Rattle.project_file.specs.Steps.{ReadsStep, ReadsAs};
 
 use crate::csv::words;
 use crate::values::{Form, Tables, tables_of, text_of, texts_of, words_of};
+use base::{NoMemory, OrMemory, ProjectFault, Text, TextList};
 use std::alloc::Global;
 use toml::{Table, Value};
-use vr_base::{NoMemory, OrMemory, ProjectFault, Text, TextList};
 
 fn value_at<'a>(table: &'a Table, key: &str) -> Option<&'a Value>
     ensures { option_map (λ value. view value.now) result

@@ -1,7 +1,7 @@
 //! The libraries of a TOML table, and their files.
 
 ghost use Rattle.std.specs.Prelude.{◌≡◌, ◌≢◌, ◌<◌, ◌≤◌, ◌+◌, ◌++◌, [], ◌∷◌, List, ℕ, Ok, Some, nat_le, length, map, AllPairs, All, IfOk, IfErr, OnOk};
-ghost use Rattle.numbering.specs.Numbers.{IsAdded};
+ghost use Rattle.base_numbering.specs.Numbers.{IsAdded};
 ghost use Rattle.toml.specs.View.{table_view};
 ghost use Rattle.project_file.specs.Toml.{new_library, library_after, matching_names, file_in, library_files, files_of};
 ghost use Rattle.project_file.specs.Csv.{then_read};
@@ -14,13 +14,13 @@ use crate::csv::is_same;
 use crate::keys::{text_at, texts_at, words_at};
 use crate::paths::{either, matches_path, parts_of};
 use crate::values::Form;
-use numbering::{NumberSet, Numbered};
-use std::alloc::Global;
-use toml::Table;
-use vr_base::{
+use base::{
     FILE_LIMIT, FileName, NoMemory, OrMemory, ProjectFault, ProjectFile, ProjectFileList, Text,
     TextList,
 };
+use base_numbering::{NumberSet, Numbered};
+use std::alloc::Global;
+use toml::Table;
 
 /// A library without a path.
 pub fn alone(alloc: Global, library: &Text) -> Result<FileName, NoMemory>

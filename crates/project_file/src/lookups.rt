@@ -3,7 +3,7 @@
 ghost use Rattle.std.specs.Prelude.{◌≡◌, ◌≢◌, [], Ok, IfOk, AllPairs, List, ℕ, length, map};
 ghost use Rattle.std.specs.List.{list_any};
 ghost use Rattle.toml.specs.View.{table_view};
-ghost use Rattle.vr_base.specs.declared.project.ProjectFile.{ProjectFile as project_file};
+ghost use Rattle.base.specs.declared.project.ProjectFile.{ProjectFile as project_file};
 ghost use Rattle.project_file.specs.Paths.{matches_path};
 ghost use Rattle.project_file.specs.Steps.{ReadsStep};
 ghost use Rattle.project_file.specs.Libraries.{alone};
@@ -15,10 +15,10 @@ use crate::libraries::alone;
 use crate::pairs::named_file;
 use crate::paths::{matches_path, parts_of};
 use crate::values::Form;
-use numbering::Numbered;
+use base::{FileName, NoMemory, OrMemory, ProjectFault, Text};
+use base_numbering::Numbered;
 use std::alloc::Global;
 use toml::Table;
-use vr_base::{FileName, NoMemory, OrMemory, ProjectFault, Text};
 
 /// All names, as keys.
 fn index_of(alloc: Global, names: &[Text]) -> Result<Numbered<FileName>, NoMemory>

@@ -2,17 +2,17 @@
 
 ghost use Rattle.std.specs.Prelude.{◌≡◌, ◌≢◌, List, map, AllPairs, IfOk};
 ghost use Rattle.toml.specs.View.{table_view};
-ghost use Rattle.vr_base.specs.declared.project.ProjectFile.{ProjectFile as project_file};
+ghost use Rattle.base.specs.declared.project.ProjectFile.{ProjectFile as project_file};
 ghost use Rattle.project_file.specs.Toml.{place_of, named_file, pair_of, pairs_of};
 ghost use Rattle.project_file.specs.Steps.{ReadsStep};
 ghost use Rattle.project_file.specs.Pairs.{names_of, IsIndexOf};
 
 use crate::keys::text_at;
 use crate::values::Form;
-use numbering::Numbered;
+use base::{FileName, NoMemory, OrMemory, Pair, PairList, ProjectFault, ProjectFile};
+use base_numbering::Numbered;
 use std::alloc::Global;
 use toml::Table;
-use vr_base::{FileName, NoMemory, OrMemory, Pair, PairList, ProjectFault, ProjectFile};
 
 /// An index of the names of files.
 #[tactic(auto, using(crate::proofs::PairSteps::name_more))]

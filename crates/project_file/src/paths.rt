@@ -8,9 +8,9 @@ ghost use Rattle.project_file.specs.PathRows.{part_of, texts_seen, fits_parts, I
 
 use crate::csv::is_same;
 use crate::parts::cut_at;
+use base::{Items, NoMemory};
 use std::alloc::Global;
 use test_select::{Pattern, matches, read_pattern};
-use vr_base::{Items, NoMemory};
 
 /// A part of a pattern: it stands for any number of components, or for one that its pattern matches.
 #[derive(Drop)]

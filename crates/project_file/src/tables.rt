@@ -3,10 +3,10 @@
 ghost use Rattle.std.specs.Prelude.{◌≡◌, ◌≢◌, [], ℕ, None, Ok, List, All, AllPairs, MatchResult, IfOk, IfSome, length, map};
 ghost use Rattle.toml.specs.Parse.{parse_document};
 ghost use Rattle.toml.specs.View.{table_view};
-ghost use Rattle.vr_base.specs.declared.limits.TheConstants.{PATH_LIMIT};
-ghost use Rattle.vr_base.specs.Names.{IsBetween};
-ghost use Rattle.vr_base.specs.Projects.{IsProject};
-ghost use Rattle.vr_base.specs.declared.project.ProjectFile.{ProjectFile as project_file};
+ghost use Rattle.base.specs.declared.limits.TheConstants.{PATH_LIMIT};
+ghost use Rattle.base.specs.Names.{IsBetween};
+ghost use Rattle.base.specs.Projects.{IsProject};
+ghost use Rattle.base.specs.declared.project.ProjectFile.{ProjectFile as project_file};
 ghost use Rattle.project_file.specs.Csv.{then_read};
 ghost use Rattle.project_file.specs.Few.{few_files, few_said, checked_links, AreLibraries};
 ghost use Rattle.project_file.specs.Toml.{files_of, linked_project, files_project, table_project, toml_project};
@@ -17,12 +17,12 @@ use crate::keys::{any_tables_at, command_at, flag_at, libraries_at, tables_at};
 use crate::libraries::files_of;
 use crate::lookups::check_pairs;
 use crate::pairs::pairs_of;
-use numbering::Numbered;
-use std::alloc::Global;
-use toml::Table;
-use vr_base::{
+use base::{
     FileName, OrMemory, PATH_LIMIT, Project, ProjectFault, ProjectFileList, Text, TextList,
 };
+use base_numbering::Numbered;
+use std::alloc::Global;
+use toml::Table;
 
 /// The settings of a project file.
 #[derive(Drop)]

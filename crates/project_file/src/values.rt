@@ -7,9 +7,9 @@ ghost use Rattle.project_file.specs.Toml.{all_read, array_of, word_in, library_i
 ghost use Rattle.project_file.specs.Forms.{form_of, tables_view};
 
 use crate::csv::{is_library, is_path, to_lower_case};
+use base::{LISTED_WORD_LIMIT, NoMemory, Text, TextList, WORD_LIMIT};
 use std::alloc::Global;
 use toml::{Table, Value};
-use vr_base::{LISTED_WORD_LIMIT, NoMemory, Text, TextList, WORD_LIMIT};
 
 /// What a text has to be: a word of a command, the name of a library, a path, or any pattern.
 #[derive(Clone, Copy)]

@@ -2,9 +2,9 @@
 use Rattle.std.proofs.Common.{◌≡◌, ◌+◌, ◌<◌, ◌≤◌, ℕ, List, [], ◌∷◌, ◌++◌, length, get_or, take, drop, Result, Ok, Err, refl, sym, ap, subst, ◌∙◌, append_assoc, Option, None, Some, Bool, true, false}
 use Rattle.std.specs.Prelude.{nat_le, if◌then◌else◌}
 use Rattle.std.proofs.lemmas.List.{append-nil, take_more, take_all, drop_more, map-append, take-append-drop}
-use Rattle.vr_base.specs.declared.project.ProjectFile.{ProjectFile}
-use Rattle.vr_outside.specs.declared.tree.ReadEnd.TheVariants.{Got, Absent, TooLong}
-use Rattle.vr_outside.specs.Trees.{read_end}
+use Rattle.base.specs.declared.project.ProjectFile.{ProjectFile}
+use Rattle.outside.specs.declared.tree.ReadEnd.TheVariants.{Got, Absent, TooLong}
+use Rattle.outside.specs.Trees.{read_end}
 use Rattle.project_reading.specs.Asked.{AsksFirst, AsksInOrder, file_paths}
 use Rattle.project_reading.specs.declared.stops.ReadStop.{ReadStop}
 

@@ -2,13 +2,13 @@
 use Rattle.std.proofs.Common.{◌≡◌, ℕ, List, [], length, Option, Some, None, Result, Ok, Err, ap, sym, ◌∙◌}
 use Rattle.std.specs.Option.{option_map_or, option_or}
 use Rattle.std.proofs.lemmas.List.{length-map}
-use Rattle.vr_base.specs.declared.linking.Linked.{Linked}
-use Rattle.vr_base.specs.declared.linking.LinkFault.{LinkFault}
-use Rattle.vr_base.specs.declared.project.Project.{Project}
-use Rattle.vr_base.specs.PresentGraph.{below}
-use Rattle.vr_base.proofs.Below.{length-below}
+use Rattle.base.specs.declared.linking.Linked.{Linked}
+use Rattle.base.specs.declared.linking.LinkFault.{LinkFault}
+use Rattle.base.specs.declared.project.Project.{Project}
+use Rattle.base.specs.PresentGraph.{below}
+use Rattle.base.proofs.Below.{length-below}
 use Rattle.std.specs.List.{filter, flat_map}
-use Rattle.scan_spec.specs.Dependencies.{LinkUnit, link_of, edges_of, depends_on, warnings_of, first_duplicate, first_missing}
+use Rattle.vhdl_spec.specs.Dependencies.{LinkUnit, link_of, edges_of, depends_on, warnings_of, first_duplicate, first_missing}
 
 same_edges : (mine said : Linked) → ◌≡◌ {A = Result Linked LinkFault} (Ok mine) (Ok said) → mine.edges ≡ said.edges
 same_edges mine said same = cc

@@ -5,7 +5,7 @@ use Rattle.std.specs.Ordering.{nat_cmp}
 use Rattle.std.specs.Cmp.Lexicographic.{slice_cmp}
 use Rattle.std.specs.declared.cmp.Ordering.TheVariants.{Less, Equal}
 use Rattle.std.proofs.lemmas.Cmp.{nat_list_cmp_total, tied_itself}
-use Rattle.vr_outside.specs.Trees.{IsRising}
+use Rattle.outside.specs.Trees.{IsRising}
 
 less_later : (first : List ℕ) (paths : List (List ℕ)) (j : ℕ) (d : List ℕ) → IsRising (first ∷ paths) → j < length paths → slice_cmp nat_cmp first (get_or paths j d) ≡ Less
 less_later first [] j d rising within = absurd (omega arith)

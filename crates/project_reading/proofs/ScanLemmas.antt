@@ -3,21 +3,21 @@ use Rattle.std.proofs.Common.{◌≡◌, ℕ, ◌+◌, ◌<◌, ◌≤◌, List,
 use Rattle.std.specs.Prelude.{slice_get}
 use Rattle.std.proofs.lemmas.List.{append-nil, drop_more, drop_all, take_all}
 use Rattle.std.proofs.lemmas.Option.{slice_get-get_or}
-use Rattle.vr_base.specs.declared.file.FileName.{FileName}
-use Rattle.vr_base.specs.declared.project.ProjectFile.{ProjectFile}
-use Rattle.vr_base.specs.declared.lexical.LexFault.{LexFault}
-use Rattle.vr_base.specs.declared.lexical.Tokens.{Tokens}
-use Rattle.vr_base.specs.declared.design.UnitFault.{UnitFault}
-use Rattle.vr_base.specs.declared.design.Scan.{Scan}
-use Rattle.outcomes.specs.declared.outcome.Refusal.{Refusal}
-use Rattle.outcomes.specs.declared.outcome.Refusal.TheVariants as refusal
-use Rattle.scan_spec.specs.Tokens.{HasFault}
-use Rattle.scan_spec.specs.Units.{HasUnitFault, AreTokensOf}
-use Rattle.file_outlines.specs.declared.outlines.Outlines.{Outlines}
-use Rattle.file_outlines.specs.Outlines.{AreOutlinesOf, FilesLieIn, HasAdded}
-use Rattle.file_outlines.proofs.OutlineLemmas.{lie_more, no_outlines, no_scans, none_lie, outlines_more, scans_more, take_got}
-use Rattle.scan_spec.specs.Scans.{AreScansOf, Finding, Clean, Lexical, Grammatical, IsFinding, IsScanner, IsScanOf}
-use Rattle.scan_spec.proofs.OneFinding.{one_finding}
+use Rattle.base.specs.declared.file.FileName.{FileName}
+use Rattle.base.specs.declared.project.ProjectFile.{ProjectFile}
+use Rattle.base.specs.declared.lexical.LexFault.{LexFault}
+use Rattle.base.specs.declared.lexical.Tokens.{Tokens}
+use Rattle.base.specs.declared.design.UnitFault.{UnitFault}
+use Rattle.base.specs.declared.design.Scan.{Scan}
+use Rattle.base_outcomes.specs.declared.outcome.Refusal.{Refusal}
+use Rattle.base_outcomes.specs.declared.outcome.Refusal.TheVariants as refusal
+use Rattle.vhdl_spec.specs.Tokens.{HasFault}
+use Rattle.vhdl_spec.specs.Units.{HasUnitFault, AreTokensOf}
+use Rattle.vhdl_outlines.specs.declared.outlines.Outlines.{Outlines}
+use Rattle.vhdl_outlines.specs.Outlines.{AreOutlinesOf, FilesLieIn, HasAdded}
+use Rattle.vhdl_outlines.proofs.OutlineLemmas.{lie_more, no_outlines, no_scans, none_lie, outlines_more, scans_more, take_got}
+use Rattle.vhdl_spec.specs.Scans.{AreScansOf, Finding, Clean, Lexical, Grammatical, IsFinding, IsScanner, IsScanOf}
+use Rattle.vhdl_spec.proofs.OneFinding.{one_finding}
 use Rattle.project_reading.specs.Reading.{SourceReading, Stops, scan_of, scans_of, and_others}
 use Rattle.project_reading.specs.Scanning.{AreScanned, GivesScan}
 use Rattle.project_reading.specs.Sources.{Gives}

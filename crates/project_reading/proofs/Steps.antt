@@ -4,19 +4,19 @@ use Rattle.std.specs.Prelude.{IfOk, nat_le}
 use Rattle.std.proofs.lemmas.Bool.{cases_Bool, cond-true, cond-false}
 use Rattle.vhdl_benches.specs.declared.bench.Bench.{Bench}
 use Rattle.vhdl_benches.specs.declared.bench.TestFault.{TestFault}
-use Rattle.vr_base.specs.declared.design.Scan.{Scan}
-use Rattle.outcomes.specs.declared.outcome.Limit.TheVariants as limit
-use Rattle.vr_base.specs.declared.linking.Linked.{Linked}
-use Rattle.vr_base.specs.declared.linking.LinkFault.{LinkFault}
-use Rattle.vr_base.specs.declared.project.Project.{Project}
-use Rattle.vr_base.specs.Projects.{IsProject}
+use Rattle.base.specs.declared.design.Scan.{Scan}
+use Rattle.base_outcomes.specs.declared.outcome.Limit.TheVariants as limit
+use Rattle.base.specs.declared.linking.Linked.{Linked}
+use Rattle.base.specs.declared.linking.LinkFault.{LinkFault}
+use Rattle.base.specs.declared.project.Project.{Project}
+use Rattle.base.specs.Projects.{IsProject}
 use Rattle.order_spec.specs.BuildOrder.{FileOrder, Ordered, Cyclic, file_order}
 use Rattle.order_spec.specs.LinkedGraph.{FitTexts}
-use Rattle.scan_spec.specs.Dependencies.{link_units, link_of}
-use Rattle.scan_spec.specs.Scans.{AreScansOf, Finding}
+use Rattle.vhdl_spec.specs.Dependencies.{link_units, link_of}
+use Rattle.vhdl_spec.specs.Scans.{AreScansOf, Finding}
 use Rattle.test_select.specs.Selection.{count_of_tests}
 use Rattle.test_scan.specs.Benches.{sources_of, tests_of}
-use Rattle.vr_base.specs.declared.limits.TheConstants.{CASE_LIMIT, FILE_LIMIT}
+use Rattle.base.specs.declared.limits.TheConstants.{CASE_LIMIT, FILE_LIMIT}
 use Rattle.project_reading.specs.declared.linking.ReadProject.{ReadProject}
 use Rattle.project_reading.specs.declared.stops.ReadStop.{ReadStop}
 use Rattle.project_reading.specs.declared.wish.Wish.{Wish}

@@ -1,9 +1,9 @@
 -- The texts of the files of a project, one after the other.
 use Rattle.std.proofs.Common.{◌≡◌, ℕ, ◌+◌, ◌<◌, ◌≤◌, List, [], ◌∷◌, ◌++◌, length, get_or, drop, Option, Result, Ok, Err, sym, ap, ◌∙◌}
 use Rattle.std.proofs.lemmas.List.{append-nil, drop_more, drop_all}
-use Rattle.vr_base.specs.declared.limits.TheConstants.{TEXT_LIMIT}
-use Rattle.vr_base.specs.declared.project.ProjectFile.{ProjectFile}
-use Rattle.vr_outside.specs.Trees.{read_end}
+use Rattle.base.specs.declared.limits.TheConstants.{TEXT_LIMIT}
+use Rattle.base.specs.declared.project.ProjectFile.{ProjectFile}
+use Rattle.outside.specs.Trees.{read_end}
 use Rattle.project_reading.specs.Reading.{SourceReading, text_of, texts_of, and_others}
 use Rattle.project_reading.specs.Sources.{Gives}
 use Rattle.project_reading.specs.declared.stops.ReadStop.{ReadStop}

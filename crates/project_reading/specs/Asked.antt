@@ -1,11 +1,11 @@
 -- Which paths a tree is asked for: those of a project's sources, each once, in project order.
 use Rattle.std.specs.Prelude.{◌≡◌, ℕ, nat_le, if◌then◌else◌, List, [], ◌∷◌, ◌++◌, length, map, codes, Option, Result, Ok, Err}
-use Rattle.vr_base.specs.declared.limits.TheConstants.{FILE_LIMIT, TEXT_LIMIT}
-use Rattle.vr_base.specs.declared.project.Project.{Project}
-use Rattle.vr_base.specs.declared.project.ProjectFile.{ProjectFile}
-use Rattle.vr_outside.specs.declared.tree.ReadEnd.{ReadEnd}
-use Rattle.vr_outside.specs.declared.tree.ReadEnd.TheVariants as read
-use Rattle.vr_outside.specs.Trees.{read_end}
+use Rattle.base.specs.declared.limits.TheConstants.{FILE_LIMIT, TEXT_LIMIT}
+use Rattle.base.specs.declared.project.Project.{Project}
+use Rattle.base.specs.declared.project.ProjectFile.{ProjectFile}
+use Rattle.outside.specs.declared.tree.ReadEnd.{ReadEnd}
+use Rattle.outside.specs.declared.tree.ReadEnd.TheVariants as read
+use Rattle.outside.specs.Trees.{read_end}
 use Rattle.project_reading.specs.Reading.{SourceReading, project_in}
 use Rattle.project_reading.specs.declared.stops.ReadStop.{ReadStop}
 

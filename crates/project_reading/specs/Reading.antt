@@ -1,36 +1,36 @@
 -- What the sources of a project say is to be done: a function of what a tree holds and lists.
 use Rattle.std.specs.Prelude.{ℕ, ◌+◌, nat_le, Bool, if◌then◌else◌, List, [], ◌∷◌, length, codes, slice_get, Option, Some, None, option_map, Result, Ok, Err}
 use Rattle.std.specs.List.{filter_map}
-use Rattle.vr_base.specs.declared.file.FileName.{FileName}
-use Rattle.vr_base.specs.declared.project.Project.{Project}
-use Rattle.vr_base.specs.declared.project.ProjectFile.{ProjectFile}
-use Rattle.vr_base.specs.declared.project.ProjectFault.{ProjectFault}
+use Rattle.base.specs.declared.file.FileName.{FileName}
+use Rattle.base.specs.declared.project.Project.{Project}
+use Rattle.base.specs.declared.project.ProjectFile.{ProjectFile}
+use Rattle.base.specs.declared.project.ProjectFault.{ProjectFault}
 use Rattle.vhdl_benches.specs.declared.bench.Bench.{Bench}
 use Rattle.vhdl_benches.specs.declared.bench.TestFault.{TestFault}
-use Rattle.vr_base.specs.declared.design.Scan.{Scan}
-use Rattle.vr_base.specs.declared.linking.Linked.{Linked}
-use Rattle.vr_base.specs.declared.linking.LinkFault.{LinkFault}
-use Rattle.vr_base.specs.declared.linking.LinkFault.TheVariants as link
-use Rattle.outcomes.specs.declared.outcome.Refusal.{Refusal}
-use Rattle.outcomes.specs.declared.outcome.Refusal.TheVariants as refusal
-use Rattle.outcomes.specs.declared.outcome.Limit.{Limit}
-use Rattle.outcomes.specs.declared.outcome.Limit.TheVariants as limit
-use Rattle.vr_base.specs.declared.limits.TheConstants.{CASE_LIMIT, FILE_LIMIT, GRAPH_TEXT_LIMIT, TEXT_LIMIT, NAME_LIMIT}
-use Rattle.vr_base.specs.PresentGraph.{below, listed}
-use Rattle.vr_outside.specs.declared.tree.ReadEnd.{ReadEnd}
-use Rattle.vr_outside.specs.declared.tree.ReadEnd.TheVariants as read
-use Rattle.vr_outside.specs.declared.tree.NamesEnd.{NamesEnd}
-use Rattle.vr_outside.specs.declared.tree.NamesEnd.TheVariants as names
-use Rattle.vr_outside.specs.Trees.{read_end, names_end}
+use Rattle.base.specs.declared.design.Scan.{Scan}
+use Rattle.base.specs.declared.linking.Linked.{Linked}
+use Rattle.base.specs.declared.linking.LinkFault.{LinkFault}
+use Rattle.base.specs.declared.linking.LinkFault.TheVariants as link
+use Rattle.base_outcomes.specs.declared.outcome.Refusal.{Refusal}
+use Rattle.base_outcomes.specs.declared.outcome.Refusal.TheVariants as refusal
+use Rattle.base_outcomes.specs.declared.outcome.Limit.{Limit}
+use Rattle.base_outcomes.specs.declared.outcome.Limit.TheVariants as limit
+use Rattle.base.specs.declared.limits.TheConstants.{CASE_LIMIT, FILE_LIMIT, GRAPH_TEXT_LIMIT, TEXT_LIMIT, NAME_LIMIT}
+use Rattle.base.specs.PresentGraph.{below, listed}
+use Rattle.outside.specs.declared.tree.ReadEnd.{ReadEnd}
+use Rattle.outside.specs.declared.tree.ReadEnd.TheVariants as read
+use Rattle.outside.specs.declared.tree.NamesEnd.{NamesEnd}
+use Rattle.outside.specs.declared.tree.NamesEnd.TheVariants as names
+use Rattle.outside.specs.Trees.{read_end, names_end}
 use Rattle.project_file.specs.Csv.{csv_project}
 use Rattle.project_file.specs.Toml.{toml_project}
-use Rattle.scan_spec.specs.Scans.{Finding, Clean, Lexical, Grammatical}
-use Rattle.scan_spec.specs.Dependencies.{link_units, link_of}
+use Rattle.vhdl_spec.specs.Scans.{Finding, Clean, Lexical, Grammatical}
+use Rattle.vhdl_spec.specs.Dependencies.{link_units, link_of}
 use Rattle.test_select.specs.Selection.{count_of_tests}
 use Rattle.test_scan.specs.Benches.{sources_of, tests_of}
 use Rattle.order_spec.specs.BuildOrder.{FileOrder, Ordered, Cyclic, file_order}
 use Rattle.order_spec.specs.LinkedGraph.{linked}
-use Rattle.minimal_set.specs.MinimalSet.{NeedSources, needed_places, said_of}
+use Rattle.vhdl_minimal_set.specs.MinimalSet.{NeedSources, needed_places, said_of}
 use Rattle.project_reading.specs.declared.linking.ReadProject.{ReadProject}
 use Rattle.project_reading.specs.declared.wish.Wish.{Wish}
 use Rattle.project_reading.specs.Wishes.{chosen, wants_tests, wished}

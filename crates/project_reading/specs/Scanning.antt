@@ -1,11 +1,11 @@
 -- What scanning a file gives.
 use Rattle.std.specs.Prelude.{◌≡◌, ℕ, List, Result, Ok, Err}
-use Rattle.vr_base.specs.declared.file.FileName.{FileName}
-use Rattle.vr_base.specs.declared.design.Scan.{Scan}
-use Rattle.vr_base.specs.declared.project.ProjectFile.{ProjectFile}
-use Rattle.scan_spec.specs.Scans.{AreScansOf, Finding, IsFinding, IsScanOf, IsScanner}
-use Rattle.file_outlines.specs.declared.outlines.Outlines.{Outlines}
-use Rattle.file_outlines.specs.Outlines.{AreOutlinesOf, FilesLieIn}
+use Rattle.base.specs.declared.file.FileName.{FileName}
+use Rattle.base.specs.declared.design.Scan.{Scan}
+use Rattle.base.specs.declared.project.ProjectFile.{ProjectFile}
+use Rattle.vhdl_spec.specs.Scans.{AreScansOf, Finding, IsFinding, IsScanOf, IsScanner}
+use Rattle.vhdl_outlines.specs.declared.outlines.Outlines.{Outlines}
+use Rattle.vhdl_outlines.specs.Outlines.{AreOutlinesOf, FilesLieIn}
 use Rattle.project_reading.specs.Reading.{Stops, scan_of, scans_of}
 use Rattle.project_reading.specs.Sources.{Gives}
 use Rattle.project_reading.specs.declared.stops.ReadStop.{ReadStop}

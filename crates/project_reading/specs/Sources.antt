@@ -1,13 +1,13 @@
 -- What the steps of reading give, and what each answer comes of.
 use Rattle.std.specs.Prelude.{◌≡◌, ℕ, ◌≤◌, nat_le, if◌then◌else◌, List, length, Result, Ok, Err}
-use Rattle.vr_base.specs.Projects.{IsProject}
-use Rattle.vr_base.specs.declared.design.Scan.{Scan}
-use Rattle.outcomes.specs.declared.outcome.Limit.TheVariants as limit
-use Rattle.vr_base.specs.declared.project.Project.{Project}
-use Rattle.vr_outside.specs.Counts.{Counted}
+use Rattle.base.specs.Projects.{IsProject}
+use Rattle.base.specs.declared.design.Scan.{Scan}
+use Rattle.base_outcomes.specs.declared.outcome.Limit.TheVariants as limit
+use Rattle.base.specs.declared.project.Project.{Project}
+use Rattle.outside.specs.Counts.{Counted}
 use Rattle.order_spec.specs.LinkedGraph.{FitTexts}
-use Rattle.scan_spec.specs.Scans.{AreScansOf}
-use Rattle.vr_base.specs.declared.limits.TheConstants.{FILE_LIMIT}
+use Rattle.vhdl_spec.specs.Scans.{AreScansOf}
+use Rattle.base.specs.declared.limits.TheConstants.{FILE_LIMIT}
 use Rattle.project_reading.specs.Reading.{SourceReading, Stops, Over, Found, scanned_reading}
 use Rattle.project_reading.specs.declared.linking.ReadProject.{ReadProject}
 use Rattle.project_reading.specs.declared.stops.ReadStop.{ReadStop}

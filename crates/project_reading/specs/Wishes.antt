@@ -1,7 +1,7 @@
 -- What is wanted of the sources of a project.
 use Rattle.std.specs.Prelude.{ℕ, Bool, true, false, List, map}
-use Rattle.vr_base.specs.declared.graph.Entry.{Entry}
-use Rattle.vr_base.specs.View.{part}
+use Rattle.base.specs.declared.graph.Entry.{Entry}
+use Rattle.base.specs.View.{part}
 use Rattle.vhdl_benches.specs.declared.bench.Bench.{Bench}
 use Rattle.test_select.specs.Patterns.{pieces_of}
 use Rattle.test_select.specs.Selection.{selection}

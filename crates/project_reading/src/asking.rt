@@ -1,14 +1,14 @@
 //! What a tree is asked for.
 
 ghost use Rattle.std.specs.Prelude.{◌≡◌, ◌∷◌, [], IfOk};
-ghost use Rattle.vr_outside.specs.Trees.{read_end, names_end, FitsReadLimit, IsListing};
+ghost use Rattle.outside.specs.Trees.{read_end, names_end, FitsReadLimit, IsListing};
 ghost use Rattle.project_reading.specs.Sources.{ReadCounts, IsPlain};
 ghost use Rattle.project_reading.specs.Asked.{AsksInOrder};
 
 use crate::stops::ReadStop;
+use base::Text;
+use outside::{NamesEnd, ReadEnd, Tree, TreeFault};
 use std::alloc::Global;
-use vr_base::Text;
-use vr_outside::{NamesEnd, ReadEnd, Tree, TreeFault};
 
 /// What is read of the file of a path, up to a limit.
 pub(crate) fn read_file<T: Tree>(

@@ -1,40 +1,40 @@
 //! The graph of a project whose texts and outlines are there.
 
 ghost use Rattle.std.specs.Prelude.{◌≡◌, ◌≤◌, ℕ, List, nat_lt, ◌∷◌, ◌++◌, [], length, Result, Err, Some, IfOk, OnOk};
-ghost use Rattle.vr_base.specs.declared.design.Scan.{Scan};
-ghost use Rattle.vr_base.specs.declared.linking.Linked.{Linked as Links};
-ghost use Rattle.vr_base.specs.declared.linking.LinkFault.{LinkFault as Fault};
-ghost use Rattle.vr_base.specs.PresentGraph.{below, listed};
-ghost use Rattle.vr_base.specs.Projects.{IsProject};
-ghost use Rattle.minimal_set.specs.MinimalSet.{needed_places, said_of};
+ghost use Rattle.base.specs.declared.design.Scan.{Scan};
+ghost use Rattle.base.specs.declared.linking.Linked.{Linked as Links};
+ghost use Rattle.base.specs.declared.linking.LinkFault.{LinkFault as Fault};
+ghost use Rattle.base.specs.PresentGraph.{below, listed};
+ghost use Rattle.base.specs.Projects.{IsProject};
+ghost use Rattle.vhdl_minimal_set.specs.MinimalSet.{needed_places, said_of};
 ghost use Rattle.project_reading.specs.Wishes.{chosen, wished};
 ghost use Rattle.test_select.specs.Selection.{count_of_tests};
 ghost use Rattle.test_scan.specs.Benches.{sources_of, tests_of};
 ghost use Rattle.order_spec.specs.BuildOrder.{AreEdges, IsBuildOrder, file_order};
 ghost use Rattle.order_spec.specs.LinkedGraph.{FitTexts, linked};
-ghost use Rattle.file_outlines.specs.Outlines.{AreOutlined, AreOutlinesOf};
-ghost use Rattle.file_graph.specs.Results.{GivesLinks};
-ghost use Rattle.name_scope.specs.Tables.{AreVisible};
+ghost use Rattle.vhdl_outlines.specs.Outlines.{AreOutlined, AreOutlinesOf};
+ghost use Rattle.vhdl_graph.specs.Results.{GivesLinks};
+ghost use Rattle.vhdl_scope.specs.Tables.{AreVisible};
 ghost use Rattle.project_reading.specs.Reading.{linked_or, links_of, listed_needs, names_at, order_or, wanted_tests, tests_or, listed_reading, order_reading, linked_reading, then_read, scanned_reading};
 ghost use Rattle.project_reading.specs.Sources.{Gives, LeadsTo, ReadCounts};
 
 use crate::stops::ReadStop;
 use crate::wish::{Extent, Wish, chosen, wants_tests};
-use build_order::order;
-use file_graph::link_by_sets;
-use file_outlines::Outlines;
-use minimal_graph::{minimal_graph, minimal_listed_graph};
-use name_scope::{VisibleLibraries, visible_sets_by_outlines};
-use outcomes::{Limit, Refusal};
-use present_graph::graph_of;
-use source_view::listed_graph;
-use std::alloc::Global;
-use test_scan::benches;
-use vhdl_benches::Tests;
-use vr_base::{
+use base::{
     CASE_LIMIT, Edges, FILE_LIMIT, FileList, Graph, LinkFault, Linked, NoMemory, OrMemory, Order,
     OrderFault, Project, ProjectFile, TextList, WarningList,
 };
+use base_outcomes::{Limit, Refusal};
+use order_files::order;
+use project_graph::graph_of;
+use project_minimal::{minimal_graph, minimal_listed_graph};
+use project_views::listed_graph;
+use std::alloc::Global;
+use test_scan::benches;
+use vhdl_benches::Tests;
+use vhdl_graph::link_by_sets;
+use vhdl_outlines::Outlines;
+use vhdl_scope::{VisibleLibraries, visible_sets_by_outlines};
 
 /// The most cases of all benches.
 const MOST_CASES: u64 = CASE_LIMIT as u64;

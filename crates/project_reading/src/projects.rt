@@ -1,10 +1,10 @@
 //! The project that the project file of a tree says.
 
 ghost use Rattle.std.specs.Prelude.{◌≡◌, ◌≤◌, ◌∷◌, [], ℕ, length, codes, Result, Ok, Err, IfOk, IfSome};
-ghost use Rattle.vr_base.specs.declared.project.Project.{Project as Said};
-ghost use Rattle.vr_base.specs.declared.project.ProjectFault.{ProjectFault as Fault};
-ghost use Rattle.vr_base.specs.Projects.{IsProject};
-ghost use Rattle.vr_outside.specs.Trees.{read_end, names_end, IsListing, FitsReadLimit};
+ghost use Rattle.base.specs.declared.project.Project.{Project as Said};
+ghost use Rattle.base.specs.declared.project.ProjectFault.{ProjectFault as Fault};
+ghost use Rattle.base.specs.Projects.{IsProject};
+ghost use Rattle.outside.specs.Trees.{read_end, names_end, IsListing, FitsReadLimit};
 ghost use Rattle.project_file.specs.Csv.{csv_project};
 ghost use Rattle.project_file.specs.Toml.{toml_project};
 ghost use Rattle.project_file.specs.Steps.{ReadsStep};
@@ -15,13 +15,11 @@ ghost use Rattle.project_reading.specs.Asked.{project_file_paths, AsksInOrder};
 
 use crate::asking::{list_names, read_file};
 use crate::stops::ReadStop;
-use outcomes::{Limit, Refusal};
+use base::{FILE_LIMIT, NAME_LIMIT, OrMemory, Project, ProjectFault, TEXT_LIMIT, Text, TextList};
+use base_outcomes::{Limit, Refusal};
+use outside::{NamesEnd, ReadEnd, Tree};
 use project_file::{read_csv_project, read_toml_project};
 use std::alloc::Global;
-use vr_base::{
-    FILE_LIMIT, NAME_LIMIT, OrMemory, Project, ProjectFault, TEXT_LIMIT, Text, TextList,
-};
-use vr_outside::{NamesEnd, ReadEnd, Tree};
 
 /// The most bytes of a project file.
 const MOST_TEXT: u64 = TEXT_LIMIT as u64;

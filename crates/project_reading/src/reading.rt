@@ -1,8 +1,8 @@
 //! What is read of a tree: the project in it, with its graph; or why nothing is compiled.
 
 ghost use Rattle.std.specs.Prelude.{◌≡◌, ◌≤◌, length, List, ℕ, IfOk};
-ghost use Rattle.vr_base.specs.Projects.{IsProject};
-ghost use Rattle.scan_spec.specs.Scans.{Finding, IsScanner};
+ghost use Rattle.base.specs.Projects.{IsProject};
+ghost use Rattle.vhdl_spec.specs.Scans.{Finding, IsScanner};
 ghost use Rattle.order_spec.specs.LinkedGraph.{FitTexts};
 ghost use Rattle.project_reading.specs.Reading.{texts_reading, files_reading, sources_reading, project_reading};
 ghost use Rattle.project_reading.specs.Sources.{LeadsTo, ReadCounts, IsReadProject};
@@ -14,10 +14,10 @@ use crate::scanning::scan_all;
 use crate::stops::ReadStop;
 use crate::texts::texts_of;
 use crate::wish::Wish;
-use outcomes::Limit;
+use base::{FILE_LIMIT, Project, TextList};
+use base_outcomes::Limit;
+use outside::Tree;
 use std::alloc::Global;
-use vr_base::{FILE_LIMIT, Project, TextList};
-use vr_outside::Tree;
 
 /// The most files of a project.
 const MOST_FILES: u64 = FILE_LIMIT as u64;

@@ -1,21 +1,21 @@
 //! The outlines of the files of a project, or the refusal of the first file that has a fault.
 
 ghost use Rattle.std.specs.Prelude.{◌≡◌, ◌≤◌, ℕ, length, IfOk};
-ghost use Rattle.scan_spec.specs.Units.{AreTokensOf, roles_of};
+ghost use Rattle.vhdl_spec.specs.Units.{AreTokensOf, roles_of};
 ghost use Rattle.order_spec.specs.LinkedGraph.{FitTexts};
 ghost use Rattle.project_reading.specs.Sources.{ReadCounts};
 ghost use Rattle.project_reading.specs.Scanning.{GivesOutlines, GivesScan};
 
 use crate::stops::ReadStop;
-use file_outlines::Outlines;
-use outcomes::Refusal;
-use std::alloc::Global;
-use vhdl_lex::{no_tokens, scan_with_roles};
-use vhdl_units::outline_by_roles;
-use vr_base::{
+use base::{
     FileName, LexFault, NoMemory, OrMemory, ProjectFile, RoleList, Scan, TEXT_LIMIT, Text, Tokens,
     UnitFault,
 };
+use base_outcomes::Refusal;
+use std::alloc::Global;
+use vhdl_lex::{no_tokens, scan_with_roles};
+use vhdl_outlines::Outlines;
+use vhdl_units::outline_by_roles;
 
 /// A refusal of a file for a lexical fault.
 fn lexical(alloc: Global, file: &FileName, fault: LexFault) -> Result<Refusal, NoMemory>

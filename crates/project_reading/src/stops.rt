@@ -3,8 +3,8 @@
 ghost use Rattle.std.specs.Prelude.{◌≡◌};
 ghost use Rattle.project_reading.specs.declared.stops.ReadStop.TheVariants.{NoMemory as out_of_memory};
 
-use outcomes::{Limit, Refusal};
-use vr_base::NoMemory;
+use base::NoMemory;
+use base_outcomes::{Limit, Refusal};
 
 /// Why nothing is compiled.
 #[derive(Drop)]

@@ -1,7 +1,7 @@
 //! The texts of the files of a project.
 
 ghost use Rattle.std.specs.Prelude.{◌≡◌, ◌+◌, ◌≤◌, ◌∷◌, [], length, ℕ, IfOk};
-ghost use Rattle.vr_outside.specs.Trees.{read_end};
+ghost use Rattle.outside.specs.Trees.{read_end};
 ghost use Rattle.order_spec.specs.LinkedGraph.{FitTexts};
 ghost use Rattle.project_reading.specs.Reading.{text_after, text_of, texts_of};
 ghost use Rattle.project_reading.specs.Sources.{Gives, ReadCounts};
@@ -9,10 +9,10 @@ ghost use Rattle.project_reading.specs.Asked.{file_paths, AsksInOrder};
 
 use crate::asking::read_file;
 use crate::stops::ReadStop;
-use outcomes::{Limit, Refusal};
+use base::{FileName, GRAPH_TEXT_LIMIT, NoMemory, ProjectFile, TEXT_LIMIT, Text, TextList};
+use base_outcomes::{Limit, Refusal};
+use outside::{ReadEnd, Tree};
 use std::alloc::Global;
-use vr_base::{FileName, GRAPH_TEXT_LIMIT, NoMemory, ProjectFile, TEXT_LIMIT, Text, TextList};
-use vr_outside::{ReadEnd, Tree};
 
 /// The most bytes of a file.
 const MOST_TEXT: u64 = TEXT_LIMIT as u64;

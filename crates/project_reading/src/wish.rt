@@ -4,10 +4,10 @@ ghost use Rattle.std.specs.Prelude.{◌≡◌, map, IfOk};
 ghost use Rattle.test_select.specs.Patterns.{pieces_of};
 ghost use Rattle.project_reading.specs.Wishes.{chosen, wants_tests};
 
+use base::{NoMemory, Text, TextList};
 use std::alloc::Global;
 use test_select::{PatternList, read_pattern, select};
 use vhdl_benches::Tests;
-use vr_base::{NoMemory, Text, TextList};
 
 /// How much is wanted.
 #[derive(Clone, Copy, Debug, PartialEq, Eq)]

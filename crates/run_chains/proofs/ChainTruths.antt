@@ -3,25 +3,25 @@ use Rattle.std.proofs.Common.{◌≡◌, ℕ, ◌<◌, Bool, true, false, eqb, L
 use Rattle.std.specs.Prelude.{◌↔◌, All, is_some, slice_get, unwrap_or, Contains}
 use Rattle.std.specs.List.{list_any}
 use Rattle.std.specs.Option.{option_map_or}
-use Rattle.vr_base.specs.declared.graph.Entry.{Entry}
-use Rattle.vr_base.specs.Graphs.{IsGraph}
-use Rattle.vr_base.specs.PresentGraph.{below}
-use Rattle.vr_base.proofs.Below.{get_or-below, length-below}
+use Rattle.base.specs.declared.graph.Entry.{Entry}
+use Rattle.base.specs.Graphs.{IsGraph}
+use Rattle.base.specs.PresentGraph.{below}
+use Rattle.base.proofs.Below.{get_or-below, length-below}
 use Rattle.std.proofs.lemmas.Bool.{or_from, false≢true}
 use Rattle.std.proofs.lemmas.List.{append-nil}
 use Rattle.std.proofs.lemmas.List.Elements.{All-head, All-tail}
-use Rattle.vr_base.specs.declared.file.FileName.{FileName}
-use Rattle.vr_base.specs.declared.graph.BuiltFile.{BuiltFile}
-use Rattle.vr_base.specs.declared.child.Request.{Request}
-use Rattle.vr_base.specs.declared.child.Exit.{Exit}
-use Rattle.vr_base.specs.declared.child.Event.{Event}
-use Rattle.outcomes.specs.declared.outcome.Outcome.{Outcome}
-use Rattle.vr_outside.specs.Records.{Record, IsRecorded, asked_now, built_by, deps_at, latest_built, no_built}
-use Rattle.vr_outside.specs.Disks.{DiskState, reads_of, settled_disk}
-use Rattle.vr_outside.specs.Commits.{last_state}
+use Rattle.base.specs.declared.file.FileName.{FileName}
+use Rattle.base.specs.declared.graph.BuiltFile.{BuiltFile}
+use Rattle.base.specs.declared.child.Request.{Request}
+use Rattle.base.specs.declared.child.Exit.{Exit}
+use Rattle.base.specs.declared.child.Event.{Event}
+use Rattle.base_outcomes.specs.declared.outcome.Outcome.{Outcome}
+use Rattle.outside.specs.Records.{Record, IsRecorded, asked_now, built_of_record, deps_at, latest_built, no_built}
+use Rattle.outside.specs.Disks.{DiskState, reads_of, settled_disk}
+use Rattle.outside.specs.Commits.{last_state}
 use Rattle.run_spec.specs.ChildJournal.{Work, End, book_of, exit_at, built_file, built_at, artefact_so_far, artefact_after}
 use Rattle.run_spec.specs.Faithful.{IsFaithfulDisk}
-use Rattle.history_spec.specs.Histories.{Sources, Order, ProgramRun, HistoryStep, Ran, Stopped, empty_image, IsReadable, IsMoment, IsLeft, RunStep, IsHistory, work_over, latest_over}
+use Rattle.run_histories.specs.Histories.{Sources, Order, ProgramRun, HistoryStep, Ran, Stopped, empty_image, IsReadable, IsMoment, IsLeft, RunStep, IsHistory, work_over, latest_over}
 use Rattle.run_spec.specs.JournalParts.{compile_part, test_part}
 use Rattle.run_spec.specs.Recorded.{current_by_request}
 use Rattle.run_spec.specs.Settled.{request_unless}
@@ -29,18 +29,18 @@ use Rattle.run_spec.specs.Marks.{mark_of, mark_at, is_refused}
 use Rattle.run_spec.proofs.Parts.{all_compiled}
 use Rattle.run_spec.proofs.Artefacts.{deps_before}
 use Rattle.run_spec.proofs.RecordedArtefacts.{current_of_record}
-use Rattle.clean_laws.proofs.CleanPlaces.{filter_map-cons}
-use Rattle.clean_laws.proofs.JournalStarted.{nothing_due}
-use Rattle.history_laws.specs.Rights.{AllRight}
-use Rattle.history_laws.specs.Spares.{IsAcknowledged, SparesFile, AllSpare}
-use Rattle.history_laws.proofs.RightRuns.{all_right, all_right_from_empty}
-use Rattle.history_laws.proofs.SparedRuns.{all_there}
-use Rattle.history_laws.proofs.StoppedRuns.{stopped_spares}
-use Rattle.scan_spec.specs.Scans.{Finding}
-use Rattle.tested_histories.specs.Histories.{TestedStep, HasTested, TestsStep, IsTestedHistory}
-use Rattle.tested_histories.specs.Histories as tested
-use Rattle.tested_histories.specs.Rights.{AllTestedRight}
-use Rattle.tested_histories.proofs.TestedRights.{all_tested_right_from_empty}
+use Rattle.run_laws.proofs.CleanPlaces.{filter_map-cons}
+use Rattle.run_laws.proofs.JournalStarted.{nothing_due}
+use Rattle.run_laws.specs.Rights.{AllRight}
+use Rattle.run_laws.specs.Spares.{IsAcknowledged, SparesFile, AllSpare}
+use Rattle.run_laws.proofs.RightRuns.{all_right, all_right_from_empty}
+use Rattle.run_laws.proofs.SparedRuns.{all_there}
+use Rattle.run_laws.proofs.StoppedRuns.{stopped_spares}
+use Rattle.vhdl_spec.specs.Scans.{Finding}
+use Rattle.run_tested_laws.specs.Histories.{TestedStep, HasTested, TestsStep, IsTestedHistory}
+use Rattle.run_tested_laws.specs.Histories as tested
+use Rattle.run_tested_laws.specs.Rights.{AllTestedRight}
+use Rattle.run_tested_laws.proofs.TestedRights.{all_tested_right_from_empty}
 use Rattle.vunit_top.specs.Store.{records_in_image}
 use Rattle.vunit_top.specs.Reading.{Reading, Testing, Bad, Child, Stops, Over, Lists, ListsTests, Exports, Builds, Runs, reading, Generates}
 use Rattle.vunit_top.specs.Runs.{world_of, tested_world_of, RunsAs}
@@ -71,8 +71,8 @@ module _ (latest_of : FileName → Option Record) (graph : List Entry) where
   built_one : (position : ℕ) → IsRecorded latest_of graph position → built_file (slice_get graph position) (Some (kept_artefact latest_of graph position)) ≡ Some (latest_built latest_of graph position)
   built_one position recorded =
       let kept : Record = record { asked = asked_now latest_of graph recorded.entry; artefact = recorded.artefact } in
-      let built : latest_built latest_of graph position ≡ built_by kept =
-      ap (λ (o : Option Entry). option_map_or (λ (e : Entry). option_map_or built_by (latest_of e.name) no_built) o no_built) recorded.is_entry ∙ ap (λ (o : Option Record). option_map_or built_by o no_built) recorded.is in
+      let built : latest_built latest_of graph position ≡ built_of_record kept =
+      ap (λ (o : Option Entry). option_map_or (λ (e : Entry). option_map_or built_of_record (latest_of e.name) no_built) o no_built) recorded.is_entry ∙ ap (λ (o : Option Record). option_map_or built_of_record o no_built) recorded.is in
       ap (λ (o : Option Entry). built_file o (Some (kept_artefact latest_of graph position))) recorded.is_entry
       ∙ ap (λ (file : BuiltFile). Some (record { name = recorded.entry.name; artefact = file.artefact })) built
       ∙ ap (λ (file : BuiltFile). Some file) (sym built)
@@ -93,7 +93,7 @@ module _ (latest_of : FileName → Option Record) (graph : List Entry) where
       let files : built_at graph (λ p. Some (kept_artefact latest_of graph p)) (deps_at graph at) ≡ map (latest_built latest_of graph) here.entry.deps =
       built_all (deps_at graph at) (λ k d l. each (get_or (deps_at graph at) k d) (omega (arith, deps_before graph is at k d l, lt))) ∙ ap (map (latest_built latest_of graph)) deps_are in
       let own : latest_built latest_of graph at ≡ record { name = here.entry.name; artefact = here.artefact } =
-      ap (λ (o : Option Entry). option_map_or (λ (e : Entry). option_map_or built_by (latest_of e.name) no_built) o no_built) here.is_entry ∙ ap (λ (o : Option Record). option_map_or built_by o no_built) here.is in
+      ap (λ (o : Option Entry). option_map_or (λ (e : Entry). option_map_or built_of_record (latest_of e.name) no_built) o no_built) here.is_entry ∙ ap (λ (o : Option Record). option_map_or built_of_record o no_built) here.is in
       ap (current_by_request latest_of graph at) files
       ∙ current_of_record latest_of graph at here.entry (map (latest_built latest_of graph) here.entry.deps) here.is_entry here.artefact here.is
       ∙ ap (λ (file : BuiltFile). Some file.artefact) (sym own)

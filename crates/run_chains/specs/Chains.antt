@@ -1,22 +1,22 @@
 -- What two runs did, one after the other.
 use Rattle.std.specs.Prelude.{◌≡◌, ◌↔◌, ℕ, Bool, List, [], ◌∷◌, ◌++◌, false, Some, None, Contains}
-use Rattle.vr_base.specs.declared.file.FileName.{FileName}
-use Rattle.vr_base.specs.declared.child.Request.{Request}
-use Rattle.vr_base.specs.declared.child.Exit.{Exit}
-use Rattle.vr_base.specs.declared.child.Event.{Event}
-use Rattle.outcomes.specs.declared.outcome.Outcome.{Outcome}
-use Rattle.vr_outside.specs.Records.{Record}
-use Rattle.vr_outside.specs.Disks.{DiskState}
-use Rattle.vr_outside.specs.Commits.{last_state}
+use Rattle.base.specs.declared.file.FileName.{FileName}
+use Rattle.base.specs.declared.child.Request.{Request}
+use Rattle.base.specs.declared.child.Exit.{Exit}
+use Rattle.base.specs.declared.child.Event.{Event}
+use Rattle.base_outcomes.specs.declared.outcome.Outcome.{Outcome}
+use Rattle.outside.specs.Records.{Record}
+use Rattle.outside.specs.Disks.{DiskState}
+use Rattle.outside.specs.Commits.{last_state}
 use Rattle.run_spec.specs.ChildJournal.{book_of}
 use Rattle.run_spec.specs.Faithful.{IsFaithfulDisk}
-use Rattle.history_spec.specs.Histories.{Sources, ProgramRun, Ran, Stopped, IsHistory, work_over}
+use Rattle.run_histories.specs.Histories.{Sources, ProgramRun, Ran, Stopped, IsHistory, work_over}
 use Rattle.run_spec.specs.Settled.{request_unless}
 use Rattle.run_spec.specs.JournalParts.{compile_part, test_part}
-use Rattle.history_laws.specs.Spares.{IsAcknowledged, SparesFile}
-use Rattle.scan_spec.specs.Scans.{Finding}
-use Rattle.tested_histories.specs.Histories.{TestedRun, IsTestedHistory}
-use Rattle.tested_histories.specs.Histories as tested
+use Rattle.run_laws.specs.Spares.{IsAcknowledged, SparesFile}
+use Rattle.vhdl_spec.specs.Scans.{Finding}
+use Rattle.run_tested_laws.specs.Histories.{TestedRun, IsTestedHistory}
+use Rattle.run_tested_laws.specs.Histories as tested
 use Rattle.vunit_top.specs.Store.{records_in_image}
 use Rattle.vunit_top.specs.Reading.{reading}
 use Rattle.vunit_top.specs.Runs.{world_of, tested_world_of, run_of}

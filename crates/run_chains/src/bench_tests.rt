@@ -3,16 +3,15 @@
 
 ghost use Rattle.std.specs.Prelude.{◌≡◌, []};
 
-use loop_procs::LoopProcs;
+use base::{Items, NamedText, NamedTextList, NoMemory, Numbers, Positions, Text, TextList};
+use base_outcomes::Outcome;
+use memory_children::LoopProcs;
+use memory_outside::{MemDisk, MemSink, MemSource, MemTree, have_paths};
 use memory_reports::MemReports;
-use outcomes::Outcome;
-use report_files::Reports;
+use outside::{Disk, Procs, Reports, Sink, Source, Tree};
 use std::alloc::Global;
 use std::process::Abort;
 use std::test::Fail;
-use vr_base::{Items, NamedText, NamedTextList, NoMemory, Numbers, Positions, Text, TextList};
-use vr_memory::{MemDisk, MemSink, MemSource, MemTree, have_paths};
-use vr_outside::{Disk, Procs, Sink, Source, Tree};
 use vunit_top::run_vunit;
 
 /// A row a line: the lines of `vunit.csv`; what `t.vhd` begins with; the words; what was said; and the report that is in

@@ -1,19 +1,18 @@
 //! Two runs of the program, one after the other.
 
 ghost use Rattle.std.specs.Prelude.{◌≡◌, [], ℕ, List, false};
-ghost use Rattle.vr_outside.specs.Disks.{DiskState, added_since};
+ghost use Rattle.outside.specs.Disks.{DiskState, added_since};
 ghost use Rattle.run_spec.specs.ChildJournal.{since};
-ghost use Rattle.history_spec.specs.Histories.{IsMoment, IsLeft};
-ghost use Rattle.scan_spec.specs.Scans.{Finding, IsScanner};
-ghost use Rattle.disk_runs.specs.Building.{has_risen};
+ghost use Rattle.run_histories.specs.Histories.{IsMoment, IsLeft};
+ghost use Rattle.vhdl_spec.specs.Scans.{Finding, IsScanner};
+ghost use Rattle.run_build.specs.Building.{has_risen};
 ghost use Rattle.vunit_top.specs.Reading.{generates, words_job};
 ghost use Rattle.run_chains.specs.Chains.{RanTwice, RanAfterStop};
 
-use outcomes::Outcome;
-use report_files::Reports;
+use base::TextList;
+use base_outcomes::Outcome;
+use outside::{Disk, Procs, Reports, Sink, Source, Tree};
 use std::alloc::Global;
-use vr_base::TextList;
-use vr_outside::{Disk, Procs, Sink, Source, Tree};
 use vunit_top::run_vunit;
 
 /// What two runs answered.

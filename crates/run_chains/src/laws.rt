@@ -1,14 +1,14 @@
 //! The laws of histories, of the program.
 
 ghost use Rattle.std.specs.Prelude.{ℕ, List};
-ghost use Rattle.vr_base.specs.declared.child.Exit.{Exit};
-ghost use Rattle.vr_base.specs.declared.child.Request.{Request};
-ghost use Rattle.vr_outside.specs.Disks.{settled_disk};
-ghost use Rattle.history_spec.specs.Histories.{Sources, HistoryStep, IsHistory, empty_image};
-ghost use Rattle.history_laws.specs.Rights.{AllRight};
-ghost use Rattle.scan_spec.specs.Scans.{Finding};
-ghost use Rattle.tested_histories.specs.Histories.{TestedStep, IsTestedHistory};
-ghost use Rattle.tested_histories.specs.Rights.{AllTestedRight};
+ghost use Rattle.base.specs.declared.child.Exit.{Exit};
+ghost use Rattle.base.specs.declared.child.Request.{Request};
+ghost use Rattle.outside.specs.Disks.{settled_disk};
+ghost use Rattle.run_histories.specs.Histories.{Sources, HistoryStep, IsHistory, empty_image};
+ghost use Rattle.run_laws.specs.Rights.{AllRight};
+ghost use Rattle.vhdl_spec.specs.Scans.{Finding};
+ghost use Rattle.run_tested_laws.specs.Histories.{TestedStep, IsTestedHistory};
+ghost use Rattle.run_tested_laws.specs.Rights.{AllTestedRight};
 ghost use Rattle.vunit_top.specs.Runs.{tested_world_of, world_of};
 
 /// What holds of every history of runs of the program, edits of the sources, and stops.

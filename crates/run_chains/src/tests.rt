@@ -1,13 +1,13 @@
 //! Two runs over a project of two packages, whose compiler refuses each file.
 
 use crate::{Outcomes, run_after_stop, run_twice};
+use base::{Items, NamedText, NamedTextList, NoMemory, Numbers, Positions, Text, TextList};
+use base_outcomes::Outcome;
+use memory_outside::{MemDisk, MemSink, MemSource, MemTree, ScriptProcs, can_answer, have_paths};
 use memory_reports::MemReports;
-use outcomes::Outcome;
 use std::alloc::Global;
 use std::process::Abort;
 use std::test::Fail;
-use vr_base::{Items, NamedText, NamedTextList, NoMemory, Numbers, Positions, Text, TextList};
-use vr_memory::{MemDisk, MemSink, MemSource, MemTree, ScriptProcs, can_answer, have_paths};
 
 fn add_file(
     alloc: Global,

@@ -5,9 +5,9 @@ use Rattle.std.specs.Option.{option_map_or}
 use Rattle.std.proofs.lemmas.Bool.{cases_Bool, cases_lt, cond-true, cond-false, false≢true}
 use Rattle.std.proofs.lemmas.Option.{none-some, slice_get_cases}
 use Rattle.std.proofs.lemmas.List.{map-append}
-use Rattle.vr_base.specs.declared.graph.Entry.{Entry}
-use Rattle.vr_base.specs.Graphs.{IsGraph, IsEntryAt}
-use Rattle.vr_outside.specs.Records.{deps_at}
+use Rattle.base.specs.declared.graph.Entry.{Entry}
+use Rattle.base.specs.Graphs.{IsGraph, IsEntryAt}
+use Rattle.outside.specs.Records.{deps_at}
 use Rattle.run_spec.specs.Folds.{upto}
 use Rattle.run_spec.specs.Moves.{EndedChild, IsStepwise}
 use Rattle.run_spec.specs.ChildJournal.{Work, End, child_of_end, artefact_so_far, output_at, or_else, has_all, built_at, next_artefact, artefact_by, job_of}

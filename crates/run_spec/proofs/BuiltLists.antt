@@ -2,7 +2,7 @@
 use Rattle.std.proofs.Common.{◌≡◌, ℕ, suc, zero, true, ◌&&◌, List, [], ◌∷◌, Option, Some, None, refl, ap, ap₂, ◌∙◌, arith, is_some, All, slice_get}
 use Rattle.std.specs.List.{cons_option}
 use Rattle.std.proofs.lemmas.Bool.{and_parts, and_from, false≢true}
-use Rattle.vr_base.specs.declared.graph.Entry.{Entry}
+use Rattle.base.specs.declared.graph.Entry.{Entry}
 use Rattle.run_spec.specs.ChildJournal.{built_file, has_all, built_at}
 
 -- each file keeps the artefact that it has

@@ -1,17 +1,17 @@
 -- A build's journal, part after part: what has happened, its moves and its requests.
-use Rattle.std.proofs.Common.{◌≡◌, ℕ, ◌||◌, ◌&&◌, not, eqb, List, map, Option, Some, None, cond, inl, inr, sym, subst, ◌∙◌, [], ◌∷◌, ◌++◌, length, refl, ap}
+use Rattle.std.proofs.Common.{◌≡◌, ℕ, ◌&&◌, not, eqb, List, map, Option, Some, None, cond, inl, inr, sym, subst, ◌∙◌, [], ◌∷◌, ◌++◌, length, refl, ap}
 use Rattle.std.specs.Prelude.{is_some, is_none}
 use Rattle.std.specs.List.{list_any, list_all}
 use Rattle.std.proofs.lemmas.List.{drop_at, map_push, map-append, append-nil, append_assoc}
 use Rattle.std.proofs.lemmas.Bool.{eq-eqb, ne_eqb, cond-true, cond-false, cases_Bool}
-use Rattle.vr_base.specs.declared.graph.BuiltFile.{BuiltFile}
-use Rattle.vr_base.specs.declared.child.Request.{Request}
-use Rattle.vr_base.specs.declared.child.Exit.{Exit}
-use Rattle.vr_base.specs.declared.child.Event.{Event}
-use Rattle.vr_base.specs.declared.child.Event.TheVariants.{Started, Ended, Gone}
-use Rattle.vr_outside.specs.Records.{deps_at}
-use Rattle.run_spec.specs.Moves.{Job, RunningChild, EndedChild, Core, empty_core, Move, is_made_so_far, is_startable, position_of, without_child, ended_child, after_move, after_moves, LawfulMoves, GreedyMoves}
-use Rattle.run_spec.specs.ChildJournal.{Work, Run, End, Book, empty_book, exit_at, output_at, artefact_so_far, job_of, child_of_run, child_of_end, core_of, next_position, files_below, run_of, others_of, end_of, after, after_all, book_of, move_of, moves_after, moves_of, AreRequested, EachAfter, HasFreshTicket, HoldsAnswer, Answered, Lawful, Greedy, since, starts_of}
+use Rattle.base.specs.declared.graph.BuiltFile.{BuiltFile}
+use Rattle.base.specs.declared.child.Request.{Request}
+use Rattle.base.specs.declared.child.Exit.{Exit}
+use Rattle.base.specs.declared.child.Event.{Event}
+use Rattle.base.specs.declared.child.Event.TheVariants.{Started, Ended, Gone}
+use Rattle.outside.specs.Records.{deps_at}
+use Rattle.run_spec.specs.Moves.{Job, RunningChild, EndedChild, Core, Move, is_made_so_far, is_startable, position_of, without_child, ended_child, after_move, after_moves, LawfulMoves, GreedyMoves}
+use Rattle.run_spec.specs.ChildJournal.{Work, Run, End, Book, exit_at, output_at, artefact_so_far, job_of, child_of_run, child_of_end, core_of, run_of, others_of, end_of, after, after_all, move_of, moves_after, AreRequested, EachAfter, HoldsAnswer, Answered, since, starts_of}
 
 pub after_all-append : (s : Work) (b : Book) (xs ys : List Event) → after_all s b (xs ++ ys) ≡ after_all s (after_all s b xs) ys
 unfolding after_all
@@ -84,40 +84,12 @@ unfolding EachAfter
 EachAfter-append P before [] ys h k = subst (λ (l : List Event). EachAfter P l ys) (append-nil before) k
 EachAfter-append P before (x ∷ xs) ys h k = (h.0, EachAfter-append P (before ++ x ∷ []) xs ys h.1 (subst (λ (l : List Event). EachAfter P l ys) (sym (append_assoc before (x ∷ []) xs)) k))
 
--- more events after lawful ones
-pub lawful_more : (s : Work) (events more : List Event) → Lawful s events →
-    LawfulMoves (job_of s) (core_of (book_of s events)) (moves_after s (book_of s events) more) → AreRequested s (book_of s events) more → EachAfter HasFreshTicket events more →
-    Lawful s (events ++ more)
-lawful_more s events more lawful moves requests tickets = record {
-  moves = subst (LawfulMoves (job_of s) empty_core) (sym (moves-append s empty_book events more))
-      (LawfulMoves-append (job_of s) empty_core (moves_of s events) (moves_after s (book_of s events) more) lawful.moves
-      (subst (λ (core : Core). LawfulMoves (job_of s) core (moves_after s (book_of s events) more)) (core_after_all s empty_book events) moves));
-  requests = AreRequested-append s empty_book events more lawful.requests requests;
-  tickets = EachAfter-append HasFreshTicket [] events more lawful.tickets tickets;
-}
-
-pub greedy_more : (s : Work) (events more : List Event) → Greedy s events → GreedyMoves (job_of s) (core_of (book_of s events)) (moves_after s (book_of s events) more) → Greedy s (events ++ more)
-greedy_more s events more greedy moves =
-    subst (GreedyMoves (job_of s) empty_core) (sym (moves-append s empty_book events more))
-    (GreedyMoves-append (job_of s) empty_core (moves_of s events) (moves_after s (book_of s events) more) greedy
-    (subst (λ (core : Core). GreedyMoves (job_of s) core (moves_after s (book_of s events) more)) (core_after_all s empty_book events) moves))
-
 pub answered_more : (answer : Request → Exit) (events more : List Event) → Answered answer events → EachAfter (HoldsAnswer answer) events more → Answered answer (events ++ more)
 answered_more answer events more answered then = EachAfter-append (HoldsAnswer answer) [] events more answered then
 
 -- what was added to a journal
 pub since-added : (old added : List Event) → since old (old ++ added) ≡ added
 since-added old added = drop_at old added (length old) refl
-
-pub after_two : (s : Work) (b : Book) (x y : Event) → after_all s b (x ∷ y ∷ []) ≡ after s (after s b x) y
-unfolding after_all
-after_two s b x y = refl
-
--- one child has run where none ran
-pub after_run : (s : Work) (b : Book) (t i : ℕ) (r : Request) (e : Exit) → b.runs ≡ [] → next_position s b ≡ Some i →
-    after s (after s b (Started t r)) (Ended t e) ≡ record { taken = b.taken ++ i ∷ []; runs = []; ends = b.ends ++ (record { position = i; request = r; below = files_below s b.ends i; exit = e }) ∷ []; halted = b.halted || (not s.keep_going && not (eqb e.code 0)) }
-unfolding after
-after_run s b t i r e idle next = rw (next, idle, eq-eqb t t refl) refl
 
 pub starts_of-append : (xs ys : List Event) → starts_of (xs ++ ys) ≡ starts_of xs ++ starts_of ys
 starts_of-append [] ys = refl
@@ -159,16 +131,6 @@ pub output_at-push_other : (ended : List EndedChild) (end : EndedChild) (k : ℕ
 unfolding output_at
 output_at-push_other [] end k h = rw (ne_eqb end.position k h) refl
 output_at-push_other (first ∷ ended) end k h = ap (cond (eqb first.position k && first.ok) (Some first.output)) (output_at-push_other ended end k h)
-
--- no end, nothing printed
-pub no_output : (ends : List End) (k : ℕ) → exit_at ends k ≡ None → output_at (map child_of_end ends) k ≡ None
-unfolding exit_at output_at
-no_output [] k h = refl
-no_output (end ∷ ends) k h =
-    elim (cases_Bool (eqb end.position k)) [
-      | inl t ↦ absurd (no_exit end.exit (sym (cond-true (eqb end.position k) (Some end.exit) (exit_at ends k) t) ∙ h))
-      | inr f ↦ rw f (no_output ends k (sym (cond-false (eqb end.position k) (Some end.exit) (exit_at ends k) f) ∙ h))
-    ]
 
 -- no child runs
 pub no_runs : (runs : List Run) → map child_of_run runs ≡ [] → runs ≡ []

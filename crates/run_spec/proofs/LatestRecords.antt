@@ -5,8 +5,8 @@ use Rattle.std.specs.Option.{option_or}
 use Rattle.std.proofs.lemmas.Bool.{cond-true, cond-false, or_parts}
 use Rattle.std.proofs.lemmas.List.{take-append-drop}
 use Rattle.std.proofs.lemmas.List.Folds.{list_any-append}
-use Rattle.vr_base.specs.declared.file.FileName.{FileName}
-use Rattle.vr_outside.specs.Records.{Record, is_of, latest}
+use Rattle.base.specs.declared.file.FileName.{FileName}
+use Rattle.outside.specs.Records.{Record, is_of, latest}
 
 module _ (name : FileName) where
   -- none of the records is of the name

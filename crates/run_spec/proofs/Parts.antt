@@ -4,12 +4,12 @@ use Rattle.std.specs.Prelude.{slice_get, filter}
 use Rattle.std.specs.Option.{option_map, option_and_then}
 use Rattle.std.proofs.lemmas.Bool.{cond-true, cond-false, cases_Bool, false≢true}
 use Rattle.std.proofs.lemmas.Option.{none-some}
-use Rattle.vr_base.specs.declared.graph.Entry.{Entry}
-use Rattle.vr_base.specs.declared.child.Request.{Request}
-use Rattle.vr_base.specs.declared.child.Event.{Event}
-use Rattle.vr_base.specs.declared.child.Event.TheVariants.{Started, Ended, Gone}
-use Rattle.vr_base.specs.Jobs.{compile_request}
-use Rattle.vr_outside.specs.Children.{started_with}
+use Rattle.base.specs.declared.graph.Entry.{Entry}
+use Rattle.base.specs.declared.child.Request.{Request}
+use Rattle.base.specs.declared.child.Event.{Event}
+use Rattle.base.specs.declared.child.Event.TheVariants.{Started, Ended, Gone}
+use Rattle.base.specs.Jobs.{compile_request}
+use Rattle.outside.specs.Children.{started_with}
 use Rattle.run_spec.specs.Moves.{first_from, next_start, is_startable, LawfulMoves}
 use Rattle.run_spec.specs.ChildJournal.{Work, End, Book, empty_book, artefact_so_far, built_at, job_of, core_of, next_position, request_at, after, moves_after, AreRequested, Lawful}
 use Rattle.run_spec.specs.JournalParts.{is_test, is_test_event, compile_part, test_part}

@@ -2,11 +2,11 @@
 use Rattle.std.proofs.Common.{◌≡◌, List, [], ◌∷◌, ◌++◌, sym, ap, subst, ◌∙◌}
 use Rattle.std.proofs.lemmas.Grind.{flat_map-append}
 use Rattle.std.proofs.lemmas.List.{append-nil, append_assoc}
-use Rattle.vr_base.specs.declared.child.Request.{Request}
-use Rattle.vr_base.specs.declared.child.Exit.{Exit}
-use Rattle.vr_base.specs.declared.child.Event.{Event}
-use Rattle.vr_base.specs.declared.child.Event.TheVariants.{Started, Ended, Gone}
-use Rattle.vr_outside.specs.Records.{Record}
+use Rattle.base.specs.declared.child.Request.{Request}
+use Rattle.base.specs.declared.child.Exit.{Exit}
+use Rattle.base.specs.declared.child.Event.{Event}
+use Rattle.base.specs.declared.child.Event.TheVariants.{Started, Ended, Gone}
+use Rattle.outside.specs.Records.{Record}
 use Rattle.run_spec.specs.Moves.{Core, empty_core, after_move, LawfulMoves}
 use Rattle.run_spec.specs.ChildJournal.{Work, End, Book, empty_book, job_of, run_of, end_of, after, after_all, book_of, move_of, moves_after, IsRequested, AreRequested, EachAfter, HasFreshTicket, HoldsAnswer, Answered, Lawful}
 use Rattle.run_spec.specs.Commits.{commit_of, commits_of, commits}

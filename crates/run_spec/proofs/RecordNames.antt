@@ -4,12 +4,12 @@ use Rattle.std.specs.Prelude.{slice_get}
 use Rattle.std.specs.Option.{option_map_or}
 use Rattle.std.proofs.lemmas.Bool.{cases_Bool, cases_order}
 use Rattle.std.proofs.lemmas.Option.{slice_get_within, get_or_from_slice_get}
-use Rattle.vr_base.specs.declared.file.FileName.{FileName}
-use Rattle.vr_base.specs.declared.graph.BuiltFile.{BuiltFile}
-use Rattle.vr_base.specs.declared.graph.Entry.{Entry}
-use Rattle.vr_base.specs.Graphs.{IsGraph, IsEntryAt}
-use Rattle.vr_base.specs.Names.{is_same_name}
-use Rattle.vr_outside.specs.Records.{Asked, asked_of, is_of}
+use Rattle.base.specs.declared.file.FileName.{FileName}
+use Rattle.base.specs.declared.graph.BuiltFile.{BuiltFile}
+use Rattle.base.specs.declared.graph.Entry.{Entry}
+use Rattle.base.specs.Graphs.{IsGraph, IsEntryAt}
+use Rattle.base.specs.Names.{is_same_name}
+use Rattle.outside.specs.Records.{Asked, asked_of, is_of}
 use Rattle.run_spec.specs.Commits.{asked_over, record_at}
 use Rattle.run_spec.proofs.SameAsked.{same_names}
 

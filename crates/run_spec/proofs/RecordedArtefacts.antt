@@ -4,10 +4,10 @@ use Rattle.std.specs.Prelude.{slice_get, ◌↔◌}
 use Rattle.std.specs.Option.{option_and_then}
 use Rattle.std.proofs.lemmas.Bool.{cases_Bool, cond-true, cond-false}
 use Rattle.std.proofs.lemmas.Option.{none-some, same_Some}
-use Rattle.vr_base.specs.declared.file.FileName.{FileName}
-use Rattle.vr_base.specs.declared.graph.BuiltFile.{BuiltFile}
-use Rattle.vr_base.specs.declared.graph.Entry.{Entry}
-use Rattle.vr_outside.specs.Records.{Asked, Record, asked_of}
+use Rattle.base.specs.declared.file.FileName.{FileName}
+use Rattle.base.specs.declared.graph.BuiltFile.{BuiltFile}
+use Rattle.base.specs.declared.graph.Entry.{Entry}
+use Rattle.outside.specs.Records.{Asked, Record, asked_of}
 use Rattle.run_spec.specs.Recorded.{is_same_asked, artefact_for, current_by_request}
 use Rattle.run_spec.proofs.SameAsked.{same_asked}
 
@@ -43,8 +43,3 @@ module _ (latest_of : FileName → Option Record) (graph : List Entry) (at : ℕ
 
   pub current_of_record : (artefact : List ℕ) → latest_of entry.name ≡ Some (record { asked = asked_of entry built; artefact = artefact }) → current_by_request latest_of graph at built ≡ Some artefact
   current_of_record artefact h = current_is ∙ ap (option_and_then (artefact_for (asked_of entry built))) h ∙ of_record (asked_of entry built) artefact
-
--- nothing is current of a place past the end
-pub none_current_past : (latest_of : FileName → Option Record) (graph : List Entry) (at : ℕ) (built : List BuiltFile) → slice_get graph at ≡ None → current_by_request latest_of graph at built ≡ None
-unfolding current_by_request
-none_current_past latest_of graph at built none = rw none refl

@@ -4,10 +4,10 @@ use Rattle.std.specs.Bool.{Decides}
 use Rattle.std.specs.Cmp.Lexicographic.{pointwise_decides}
 use Rattle.std.proofs.lemmas.Bool.{and_parts, and_from}
 use Rattle.std.proofs.lemmas.Slice.Eq.{bytes_eq-Decides}
-use Rattle.vr_base.specs.declared.file.FileName.{FileName}
-use Rattle.vr_base.specs.declared.graph.BuiltFile.{BuiltFile}
-use Rattle.vr_base.specs.Names.{is_same_name}
-use Rattle.vr_outside.specs.Records.{Asked}
+use Rattle.base.specs.declared.file.FileName.{FileName}
+use Rattle.base.specs.declared.graph.BuiltFile.{BuiltFile}
+use Rattle.base.specs.Names.{is_same_name}
+use Rattle.outside.specs.Records.{Asked}
 use Rattle.run_spec.specs.Recorded.{is_same_built, is_same_asked}
 
 pub same_names : (a b : FileName) → Decides (is_same_name a b) (a ≡ b)

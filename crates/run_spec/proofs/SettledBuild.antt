@@ -4,11 +4,11 @@ use Rattle.std.specs.Option.{option_map}
 use Rattle.std.proofs.lemmas.Bool.{cases_Bool, cases_lt, cond-true, cond-false, and_parts, and_left, eqb-true, or_cases, false≢true}
 use Rattle.std.proofs.lemmas.Option.{none-some}
 use Rattle.std.proofs.lemmas.List.{map-append}
-use Rattle.vr_base.specs.declared.graph.Entry.{Entry}
-use Rattle.vr_base.specs.declared.graph.BuiltFile.{BuiltFile}
-use Rattle.vr_base.specs.declared.child.Request.{Request}
-use Rattle.vr_base.specs.declared.child.Exit.{Exit}
-use Rattle.vr_outside.specs.Records.{deps_at}
+use Rattle.base.specs.declared.graph.Entry.{Entry}
+use Rattle.base.specs.declared.graph.BuiltFile.{BuiltFile}
+use Rattle.base.specs.declared.child.Request.{Request}
+use Rattle.base.specs.declared.child.Exit.{Exit}
+use Rattle.outside.specs.Records.{deps_at}
 use Rattle.run_spec.specs.Folds.{upto}
 use Rattle.run_spec.specs.ChildJournal.{Work, End, child_of_end, exit_at, output_at, or_else, has_all, built_at, artefact_by, artefact_so_far}
 use Rattle.run_spec.specs.Settled.{Settled, Blocked, Compiled, Refused, settled_artefact, request_over, settled_by_exit, settled_by, next_settled, settle, artefact_settled, is_asked, request_unless, IsAsked, IsAnswered, has_ended, IsOver, none_current, IsTrueOver}

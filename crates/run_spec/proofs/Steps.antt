@@ -7,11 +7,11 @@ use Rattle.std.proofs.lemmas.Bool.{eq-eqb, eqb-true, cond-true, cond-false, case
 use Rattle.std.proofs.lemmas.List.{length-map}
 use Rattle.std.proofs.lemmas.List.Elements.{All-nil, All-head, All-tail, All-cons, All-push, All-weaker}
 use Rattle.std.proofs.lemmas.Option.{none-some, same_Some}
-use Rattle.vr_base.specs.declared.child.Request.{Request}
-use Rattle.vr_base.specs.declared.child.Exit.{Exit}
-use Rattle.vr_base.specs.declared.child.Event.{Event}
-use Rattle.vr_base.specs.declared.child.Event.TheVariants.{Started, Ended, Gone}
-use Rattle.vr_outside.specs.Children.{started_with, IsFresh}
+use Rattle.base.specs.declared.child.Request.{Request}
+use Rattle.base.specs.declared.child.Exit.{Exit}
+use Rattle.base.specs.declared.child.Event.{Event}
+use Rattle.base.specs.declared.child.Event.TheVariants.{Started, Ended, Gone}
+use Rattle.outside.specs.Children.{started_with, IsFresh}
 use Rattle.run_spec.specs.Moves.{Core, start_now, LawfulMoves}
 use Rattle.run_spec.specs.ChildJournal.{Work, Run, Book, empty_book, job_of, child_of_run, core_of, next_position, files_below, request_at, run_of, others_of, after, moves_after, AreRequested, EachAfter, HasFreshTicket, HoldsAnswer, Answered, Lawful}
 use Rattle.run_spec.proofs.Journal.{core_after}

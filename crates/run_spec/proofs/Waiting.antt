@@ -1,9 +1,9 @@
 -- Starts that wait for the commits before them, as a journal and the number of acknowledged commits grow.
 use Rattle.std.proofs.Common.{ℕ, ◌≤◌, List, [], ◌∷◌, ◌++◌, length, arith}
-use Rattle.vr_base.specs.declared.child.Request.{Request}
-use Rattle.vr_base.specs.declared.child.Exit.{Exit}
-use Rattle.vr_base.specs.declared.child.Event.{Event}
-use Rattle.vr_base.specs.declared.child.Event.TheVariants.{Started, Ended, Gone}
+use Rattle.base.specs.declared.child.Request.{Request}
+use Rattle.base.specs.declared.child.Exit.{Exit}
+use Rattle.base.specs.declared.child.Event.{Event}
+use Rattle.base.specs.declared.child.Event.TheVariants.{Started, Ended, Gone}
 use Rattle.run_spec.specs.ChildJournal.{Work, EachAfter}
 use Rattle.run_spec.specs.Commits.{commits, ComesAfterCommits, Waits}
 use Rattle.run_spec.proofs.Journal.{EachAfter-append}

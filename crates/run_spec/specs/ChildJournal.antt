@@ -2,15 +2,15 @@
 use Rattle.std.specs.Prelude.{◌≡◌, ℕ, Bool, true, false, not, ◌&&◌, ◌||◌, ◌==◌, if◌then◌else◌, List, [], ◌∷◌, ◌++◌, length, map, slice_get, drop, Option, Some, None, is_some, unwrap_or}
 use Rattle.std.specs.Option.{option_map, option_and_then}
 use Rattle.std.specs.List.{list_any, list_all, filter_map}
-use Rattle.vr_base.specs.declared.graph.Entry.{Entry}
-use Rattle.vr_base.specs.declared.graph.BuiltFile.{BuiltFile}
-use Rattle.vr_base.specs.declared.child.Request.{Request}
-use Rattle.vr_base.specs.declared.child.Exit.{Exit}
-use Rattle.vr_base.specs.declared.child.Event.{Event}
-use Rattle.vr_base.specs.declared.child.Event.TheVariants.{Started, Ended, Gone}
-use Rattle.vr_base.specs.Jobs.{compile_request}
-use Rattle.vr_outside.specs.Children.{started_with, IsFresh}
-use Rattle.vr_outside.specs.Records.{deps_at}
+use Rattle.base.specs.declared.graph.Entry.{Entry}
+use Rattle.base.specs.declared.graph.BuiltFile.{BuiltFile}
+use Rattle.base.specs.declared.child.Request.{Request}
+use Rattle.base.specs.declared.child.Exit.{Exit}
+use Rattle.base.specs.declared.child.Event.{Event}
+use Rattle.base.specs.declared.child.Event.TheVariants.{Started, Ended, Gone}
+use Rattle.base.specs.Jobs.{compile_request}
+use Rattle.outside.specs.Children.{started_with, IsFresh}
+use Rattle.outside.specs.Records.{deps_at}
 use Rattle.run_spec.specs.Folds.{upto}
 use Rattle.run_spec.specs.Moves.{Job, RunningChild, EndedChild, Core, empty_core, Move, Starts, Ends, Loses, next_start, LawfulMoves, GreedyMoves, IsFinished}
 

@@ -1,9 +1,9 @@
 -- True records, and disks that hold no others.
 use Rattle.std.specs.Prelude.{◌≡◌, List, All}
-use Rattle.vr_base.specs.declared.child.Request.{Request}
-use Rattle.vr_base.specs.declared.child.Exit.{Exit}
-use Rattle.vr_outside.specs.Disks.{DiskState, Image, IsImage}
-use Rattle.vr_outside.specs.Records.{Record, request_of}
+use Rattle.base.specs.declared.child.Request.{Request}
+use Rattle.base.specs.declared.child.Exit.{Exit}
+use Rattle.outside.specs.Disks.{DiskState, Image, IsImage}
+use Rattle.outside.specs.Records.{Record, request_of}
 
 -- a record is true: the compiler answers its request with the code 0 and its artefact
 pub record IsTrueRecord (answer : Request → Exit) (kept : Record) : Type 0 where

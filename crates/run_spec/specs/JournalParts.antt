@@ -1,11 +1,11 @@
 -- The two parts of a journal: the events of compilers, and those of tests.
 use Rattle.std.specs.Prelude.{Bool, true, false, not, List, filter, Option, Some, None}
-use Rattle.vr_base.specs.declared.child.Request.{Request}
-use Rattle.vr_base.specs.declared.child.MaybeText.{MaybeText}
-use Rattle.vr_base.specs.declared.child.MaybeText.TheVariants.{Nothing, Given}
-use Rattle.vr_base.specs.declared.child.Event.{Event}
-use Rattle.vr_base.specs.declared.child.Event.TheVariants.{Started, Ended, Gone}
-use Rattle.vr_outside.specs.Children.{started_with}
+use Rattle.base.specs.declared.child.Request.{Request}
+use Rattle.base.specs.declared.child.MaybeText.{MaybeText}
+use Rattle.base.specs.declared.child.MaybeText.TheVariants.{Nothing, Given}
+use Rattle.base.specs.declared.child.Event.{Event}
+use Rattle.base.specs.declared.child.Event.TheVariants.{Started, Ended, Gone}
+use Rattle.outside.specs.Children.{started_with}
 
 -- whether a path is named
 abbrev pub is_given : MaybeText → Bool

@@ -1,15 +1,15 @@
 -- What became of each file of a build, by its journal.
 use Rattle.std.specs.Prelude.{◌≡◌, ◌⊎◌, ℕ, Bool, false, true, if◌then◌else◌, List, [], ◌∷◌, length, map, Option, Some, None}
 use Rattle.std.specs.List.{list_any}
-use Rattle.vr_base.specs.declared.graph.Entry.{Entry}
-use Rattle.vr_base.specs.declared.graph.BuiltFile.{BuiltFile}
-use Rattle.vr_base.specs.declared.file.FileName.{FileName}
-use Rattle.vr_base.specs.declared.child.Event.{Event}
-use Rattle.vr_base.specs.declared.child.Exit.{Exit}
+use Rattle.base.specs.declared.graph.Entry.{Entry}
+use Rattle.base.specs.declared.graph.BuiltFile.{BuiltFile}
+use Rattle.base.specs.declared.file.FileName.{FileName}
+use Rattle.base.specs.declared.child.Event.{Event}
+use Rattle.base.specs.declared.child.Exit.{Exit}
 use Rattle.run_spec.specs.declared.marks.Mark.{Mark}
 use Rattle.run_spec.specs.declared.marks.Mark.TheVariants.{Fresh, Compiled, Refused, Skipped, Left}
-use Rattle.vr_base.specs.declared.child.Request.{Request}
-use Rattle.vr_base.specs.PresentGraph.{below}
+use Rattle.base.specs.declared.child.Request.{Request}
+use Rattle.base.specs.PresentGraph.{below}
 use Rattle.run_spec.specs.Settled.{Settled, Blocked, settle}
 use Rattle.run_spec.specs.Settled as settled
 use Rattle.run_spec.specs.ChildJournal.{Work, End, exit_at, artefact_so_far, book_of}

@@ -2,11 +2,11 @@
 
 ghost use Rattle.std.specs.Prelude.{◌≡◌, ◌↔◌, ℕ, ◌<◌, ◌++◌, List, [], ◌∷◌, Option, Some, slice_get};
 ghost use Rattle.std.specs.Bool.{Decides};
-ghost use Rattle.vr_base.specs.declared.file.FileName.{FileName};
-ghost use Rattle.vr_base.specs.declared.graph.Entry.{Entry};
-ghost use Rattle.vr_base.specs.declared.graph.BuiltFile.{BuiltFile};
-ghost use Rattle.vr_outside.specs.Records.{Asked, Record, asked_of};
-ghost use Rattle.vr_base.specs.Graphs.{IsGraph};
+ghost use Rattle.base.specs.declared.file.FileName.{FileName};
+ghost use Rattle.base.specs.declared.graph.Entry.{Entry};
+ghost use Rattle.base.specs.declared.graph.BuiltFile.{BuiltFile};
+ghost use Rattle.outside.specs.Records.{Asked, Record, asked_of};
+ghost use Rattle.base.specs.Graphs.{IsGraph};
 ghost use Rattle.run_spec.specs.Moves.{IsStepwise};
 ghost use Rattle.run_spec.specs.ChildJournal.{Work, End, artefact_so_far, job_of};
 ghost use Rattle.run_spec.specs.Recorded.{current_by_request, is_same_asked};

@@ -1,6 +1,6 @@
 //! What became of each file in a build.
 
-use vr_base::{Items, Text};
+use base::{Items, Text};
 
 /// What became of a file in a build.
 #[derive(Drop)]

@@ -1,4 +1,20 @@
--- The lemmas.
-pub mod Following
-pub mod RowParts
-pub mod ShelfRows
+-- Lemmas of this crate.
+pub mod Picking
+pub mod Ranking
+pub mod SameViews
+pub mod LatestViews
+pub mod Requests
+pub mod BuiltBelow
+pub mod Sizes
+pub mod Members
+pub mod RankOrder
+pub mod ViewParts
+pub mod Earlier
+pub mod NodeRequests
+pub mod SortedOnce
+pub mod LatestNodes
+pub mod NodeNames
+pub mod RecordNodes
+pub mod CurrentRows
+pub mod RankedOnce
+pub mod MigratedRows

@@ -1,2 +1,7 @@
 -- The definitions.
-pub mod Taking
+pub mod ViewRecords
+pub mod Migrating
+pub mod ByNumber
+pub mod NodeRows
+pub mod RankedRows
+pub mod Samples

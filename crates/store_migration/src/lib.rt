@@ -1,7 +1,10 @@
-//! Takes over the records of a store of the earlier form, which are records of the views of nodes, as records of requests.
+//! Which records of requests stand for records of views, and how they are found by numbers.
 #![tactic(auto)]
 
-mod parts;
-mod taking;
+mod current;
+mod laws;
+mod ranks;
+mod standing;
 
-pub use taking::taken_over;
+pub use laws::{laws_of_migration, laws_of_node_requests};
+pub use ranks::migrated_rows;

@@ -4,8 +4,8 @@ use Rattle.std.specs.Prelude.{Option}
 use Rattle.std.specs.List.{list_any}
 use Rattle.std.proofs.lemmas.Bool.{cases_Bool, cond-true, cond-false, ltb-true, ne_eqb}
 use Rattle.std.proofs.lemmas.List.{length-append}
-use Rattle.vr_base.specs.PresentGraph.{below}
-use Rattle.vr_base.specs.declared.child.Event.{Event}
+use Rattle.base.specs.PresentGraph.{below}
+use Rattle.base.specs.declared.child.Event.{Event}
 use Rattle.run_spec.specs.Moves.{Job, Core, RunningChild, EndedChild, Move, Starts, Ends, Loses, Halts, empty_core, has_ended_well, next_start, start_now, position_of, without_child, ended_child, after_move, after_moves, LawfulMoves}
 use Rattle.test_journal.specs.TestJournal.{TestSetting, TestBook, test_job, test_moves, after_test, after_tests, empty_tests, book_of_tests, LawfulTests}
 use Rattle.test_journal.proofs.InLine.{IsInLine, first_in_line}

@@ -1,6 +1,6 @@
 -- One event more.
 use Rattle.std.proofs.Common.{◌≡◌, List, [], ◌∷◌, ◌++◌, refl, sym, ap, subst}
-use Rattle.vr_base.specs.declared.child.Event.{Event}
+use Rattle.base.specs.declared.child.Event.{Event}
 use Rattle.run_spec.specs.Moves.{Job, Core, Move, empty_core, after_moves, LawfulMoves, GreedyMoves, IsLawfulMove, IsGreedyMove}
 use Rattle.run_spec.proofs.Journal.{LawfulMoves-append, GreedyMoves-append}
 use Rattle.test_journal.specs.TestJournal.{TestSetting, TestBook, test_job, test_move, test_moves, after_test, after_tests, empty_tests, book_of_tests, IsTestRequested, AreTestsRequested}

@@ -1,8 +1,8 @@
 //! The laws of journals of tests.
 
 ghost use Rattle.std.specs.Prelude.{◌≡◌, ◌≤◌, length, List};
-ghost use Rattle.vr_base.specs.declared.child.Event.{Event};
-ghost use Rattle.vr_base.specs.PresentGraph.{below};
+ghost use Rattle.base.specs.declared.child.Event.{Event};
+ghost use Rattle.base.specs.PresentGraph.{below};
 ghost use Rattle.test_journal.specs.TestJournal.{TestSetting, LawfulTests, book_of_tests};
 
 /// Runs are started in order, each at most once.

@@ -7,13 +7,13 @@ use Rattle.std.proofs.lemmas.Bool.{eqb-true, cond-true, cond-false, cases_Bool, 
 use Rattle.std.proofs.lemmas.List.{append_assoc, append-nil}
 use Rattle.std.proofs.lemmas.Option.{none-some}
 use Rattle.std.proofs.lemmas.List.Elements.{All-nil, All-head, All-tail, All-cons, All-push, All-weaker}
-use Rattle.vr_base.specs.declared.child.Request.{Request}
-use Rattle.vr_base.specs.declared.child.Exit.{Exit}
-use Rattle.vr_base.specs.declared.child.Event.{Event}
-use Rattle.vr_base.specs.declared.child.Event.TheVariants.{Started, Ended, Gone}
-use Rattle.vr_outside.specs.declared.procs.WaitFault.{WaitFault}
-use Rattle.vr_outside.specs.declared.procs.WaitFault.TheVariants as wait
-use Rattle.vr_outside.specs.Children.{started_with, end_event}
+use Rattle.base.specs.declared.child.Request.{Request}
+use Rattle.base.specs.declared.child.Exit.{Exit}
+use Rattle.base.specs.declared.child.Event.{Event}
+use Rattle.base.specs.declared.child.Event.TheVariants.{Started, Ended, Gone}
+use Rattle.outside.specs.declared.procs.WaitFault.{WaitFault}
+use Rattle.outside.specs.declared.procs.WaitFault.TheVariants as wait
+use Rattle.outside.specs.Children.{started_with, end_event}
 use Rattle.run_spec.specs.Moves.{RunningChild, empty_core, without_child, after_move, LawfulMoves}
 use Rattle.run_spec.specs.ChildJournal.{EachAfter, HasFreshTicket, HoldsAnswer, Answered}
 use Rattle.run_spec.proofs.Journal.{EachAfter-append}

@@ -1,6 +1,6 @@
 -- What the counts say, event after event.
 use Rattle.std.proofs.Common.{◌≡◌, ℕ, ◌≤◌, Option, Some, None, Err, refl, ap, subst, arith}
-use Rattle.vr_outside.specs.Counts.{Rose, Counted}
+use Rattle.outside.specs.Counts.{Rose, Counted}
 use Rattle.test_loop.specs.declared.faults.TestRunFault.{TestRunFault}
 use Rattle.test_loop.specs.declared.faults.TestRunFault.TheVariants.{NoMemory, StartFailed, ChildLost}
 use Rattle.test_loop.specs.Faults.{TestCounts, TestsCountBy, CountsStart, noted_with}

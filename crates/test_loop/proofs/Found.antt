@@ -6,10 +6,10 @@ use Rattle.std.specs.Option.{option_or}
 use Rattle.std.specs.List.{list_all}
 use Rattle.std.proofs.lemmas.Bool.{cond-true, cond-false, eq-eqb, ne_eqb}
 use Rattle.std.proofs.lemmas.List.{append-nil}
-use Rattle.vr_base.specs.declared.child.Exit.{Exit}
-use Rattle.vr_base.specs.declared.child.Event.{Event}
-use Rattle.vr_base.specs.declared.child.Event.TheVariants.{Started, Ended}
-use Rattle.vr_base.specs.declared.child.Request.{Request}
+use Rattle.base.specs.declared.child.Exit.{Exit}
+use Rattle.base.specs.declared.child.Event.{Event}
+use Rattle.base.specs.declared.child.Event.TheVariants.{Started, Ended}
+use Rattle.base.specs.declared.child.Request.{Request}
 use Rattle.run_spec.specs.Moves.{position_of}
 use Rattle.test_spec.specs.declared.runs.TestRun.{TestRun}
 use Rattle.test_spec.specs.declared.ends.RunEnd.{RunEnd}

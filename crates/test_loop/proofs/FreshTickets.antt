@@ -1,13 +1,13 @@
 -- No ticket is given twice, event after event.
 use Rattle.std.proofs.Common.{◌≡◌, ℕ, List, [], ◌∷◌, ◌++◌, Err, sym, subst}
 use Rattle.std.proofs.lemmas.List.{append_assoc, append-nil}
-use Rattle.vr_base.specs.declared.child.Request.{Request}
-use Rattle.vr_base.specs.declared.child.Exit.{Exit}
-use Rattle.vr_base.specs.declared.child.Event.{Event}
-use Rattle.vr_base.specs.declared.child.Event.TheVariants.{Started, Ended, Gone}
-use Rattle.vr_outside.specs.declared.procs.WaitFault.{WaitFault}
-use Rattle.vr_outside.specs.declared.procs.WaitFault.TheVariants as wait
-use Rattle.vr_outside.specs.Children.{IsFresh, end_event}
+use Rattle.base.specs.declared.child.Request.{Request}
+use Rattle.base.specs.declared.child.Exit.{Exit}
+use Rattle.base.specs.declared.child.Event.{Event}
+use Rattle.base.specs.declared.child.Event.TheVariants.{Started, Ended, Gone}
+use Rattle.outside.specs.declared.procs.WaitFault.{WaitFault}
+use Rattle.outside.specs.declared.procs.WaitFault.TheVariants as wait
+use Rattle.outside.specs.Children.{IsFresh, end_event}
 use Rattle.run_spec.specs.ChildJournal.{EachAfter, HasFreshTicket}
 use Rattle.run_spec.proofs.Journal.{EachAfter-append}
 use Rattle.run_spec.proofs.Steps.{fresh_after}

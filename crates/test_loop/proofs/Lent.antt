@@ -6,21 +6,21 @@ use Rattle.std.specs.List.{filter_map, flat_map, cons_option}
 use Rattle.std.proofs.lemmas.List.{take_all}
 use Rattle.std.proofs.lemmas.List.Elements.{filter_map-append}
 use Rattle.std.proofs.lemmas.Option.{slice_get_within, get_or_from_slice_get}
-use Rattle.vr_base.specs.declared.file.FileName.{FileName}
-use Rattle.vr_base.specs.declared.graph.Entry.{Entry}
-use Rattle.vr_base.specs.declared.graph.BuiltFile.{BuiltFile}
-use Rattle.vr_base.specs.declared.child.Request.{Request}
-use Rattle.vr_base.specs.declared.child.MaybeText.TheVariants.{Given}
-use Rattle.vr_base.specs.Graphs.{IsGraph, IsEntryAt}
-use Rattle.vr_base.specs.Jobs.{built_bytes}
-use Rattle.vr_base.specs.PresentGraph.{below}
-use Rattle.vr_base.proofs.Below.{below-more}
-use Rattle.vr_outside.specs.Records.{Record}
-use Rattle.vr_outside.specs.Records.{IsRecorded}
+use Rattle.base.specs.declared.file.FileName.{FileName}
+use Rattle.base.specs.declared.graph.Entry.{Entry}
+use Rattle.base.specs.declared.graph.BuiltFile.{BuiltFile}
+use Rattle.base.specs.declared.child.Request.{Request}
+use Rattle.base.specs.declared.child.MaybeText.TheVariants.{Given}
+use Rattle.base.specs.Graphs.{IsGraph, IsEntryAt}
+use Rattle.base.specs.Jobs.{built_bytes}
+use Rattle.base.specs.PresentGraph.{below}
+use Rattle.base.proofs.Below.{below-more}
+use Rattle.outside.specs.Records.{Record}
+use Rattle.outside.specs.Records.{IsRecorded}
 use Rattle.test_spec.specs.declared.runs.TestRun.{TestRun}
 use Rattle.test_spec.specs.BenchJobs.{bench_request}
-use Rattle.bench_codec.specs.Written.{WrittenRun, begun_run, begun_run_input}
-use Rattle.bench_codec.proofs.WrittenRuns.{written_bench}
+use Rattle.child_bench_codec.specs.Written.{WrittenRun, begun_run, begun_run_input}
+use Rattle.child_bench_codec.proofs.WrittenRuns.{written_bench}
 use Rattle.test_loop.specs.Requests.{lent_file, lent_at, lent_files}
 
 abbrev pub file_of : FileName → List ℕ → BuiltFile

@@ -5,17 +5,17 @@ use Rattle.std.specs.Option.{option_and_then}
 use Rattle.std.specs.List.{list_any}
 use Rattle.std.proofs.lemmas.Bool.{false≢true}
 use Rattle.std.proofs.lemmas.List.Folds.{list_any-append}
-use Rattle.vr_base.specs.declared.child.Event.{Event}
-use Rattle.vr_base.specs.declared.child.Event.TheVariants.{Started, Ended, Gone}
-use Rattle.vr_base.specs.declared.child.Request.{Request}
-use Rattle.vr_base.specs.declared.child.Exit.{Exit}
+use Rattle.base.specs.declared.child.Event.{Event}
+use Rattle.base.specs.declared.child.Event.TheVariants.{Started, Ended, Gone}
+use Rattle.base.specs.declared.child.Request.{Request}
+use Rattle.base.specs.declared.child.Exit.{Exit}
 use Rattle.run_spec.specs.Moves.{Core, Move, Starts, Ends, Loses, Halts, next_start, start_now, position_of, is_running, after_move, IsFinished, IsLawfulMove}
 use Rattle.run_spec.specs.ChildJournal.{is_gone}
 use Rattle.test_spec.specs.declared.ends.RunEnd.{RunEnd}
 use Rattle.test_journal.specs.TestJournal.{TestSetting, TestBook, test_job, test_move, next_run, passed_at, after_test, empty_tests, book_of_tests, test_request_at}
 use Rattle.test_journal.proofs.TestSteps.{book_more, lawful_more, greedy_more, requests_more}
-use Rattle.child_steps.specs.Steps.{halted_if}
-use Rattle.child_steps.proofs.Halting.{halted_not, halted_after, halts_now, lost_halts, start_while}
+use Rattle.run_steps.specs.Steps.{halted_if}
+use Rattle.run_steps.proofs.Halting.{halted_not, halted_after, halts_now, lost_halts, start_while}
 use Rattle.test_row.specs.declared.row.Row.{Row}
 use Rattle.test_row.specs.Rows.{IsRowOf}
 use Rattle.test_loop.specs.Results.{test_ends}

@@ -2,14 +2,14 @@
 use Rattle.std.proofs.Common.{◌≡◌, ℕ, Bool, true, false, eqb, List, [], length, map, Option, Some, None, refl, sym, ◌∙◌}
 use Rattle.std.specs.Prelude.{is_some}
 use Rattle.std.proofs.lemmas.List.{append-nil}
-use Rattle.vr_base.specs.declared.child.Request.{Request}
-use Rattle.vr_base.specs.declared.child.Exit.{Exit}
-use Rattle.vr_base.specs.declared.child.Event.{Event}
+use Rattle.base.specs.declared.child.Request.{Request}
+use Rattle.base.specs.declared.child.Exit.{Exit}
+use Rattle.base.specs.declared.child.Event.{Event}
 use Rattle.run_spec.specs.Moves.{Job, Core, LawfulMoves, GreedyMoves, IsFinished, empty_core, start_now}
 use Rattle.run_spec.specs.ChildJournal.{EachAfter, Answered}
-use Rattle.child_steps.specs.Steps.{halted_if, step_of, step_at}
-use Rattle.child_steps.specs.declared.step.Step.TheVariants.{Start}
-use Rattle.child_steps.proofs.PlainSteps.{step_starts}
+use Rattle.run_steps.specs.Steps.{halted_if, step_of, step_at}
+use Rattle.run_steps.specs.declared.step.Step.TheVariants.{Start}
+use Rattle.run_steps.proofs.PlainSteps.{step_starts}
 use Rattle.test_spec.specs.declared.ends.RunEnd.{RunEnd}
 use Rattle.test_spec.specs.Verdicts.{unstarted_run}
 use Rattle.test_journal.specs.TestJournal.{TestSetting, LawfulTests, test_job, test_moves, after_tests, book_of_tests, AreTestsRequested}

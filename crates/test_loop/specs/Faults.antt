@@ -1,6 +1,6 @@
 -- The faults of runs of tests: which one is answered, and what the counts say of it.
 use Rattle.std.specs.Prelude.{◌≡◌, ℕ, ◌≤◌, Option, Some, None, Result, Ok, Err}
-use Rattle.vr_outside.specs.Counts.{Rose, Counted}
+use Rattle.outside.specs.Counts.{Rose, Counted}
 use Rattle.test_loop.specs.declared.faults.TestRunFault.{TestRunFault}
 use Rattle.test_loop.specs.declared.faults.TestRunFault.TheVariants.{NoMemory, StartFailed, ChildLost}
 

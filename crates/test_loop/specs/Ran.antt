@@ -2,9 +2,9 @@
 use Rattle.std.specs.Prelude.{◌≡◌, Bool, false, List, ◌++◌}
 use Rattle.std.specs.Bool.{OnTrue}
 use Rattle.std.specs.List.{list_any}
-use Rattle.vr_base.specs.declared.child.Request.{Request}
-use Rattle.vr_base.specs.declared.child.Exit.{Exit}
-use Rattle.vr_base.specs.declared.child.Event.{Event}
+use Rattle.base.specs.declared.child.Request.{Request}
+use Rattle.base.specs.declared.child.Exit.{Exit}
+use Rattle.base.specs.declared.child.Event.{Event}
 use Rattle.run_spec.specs.Moves.{empty_core, LawfulMoves, GreedyMoves, IsFinished}
 use Rattle.run_spec.specs.ChildJournal.{EachAfter, HasFreshTicket, Answered, is_gone}
 use Rattle.test_journal.specs.TestJournal.{TestSetting, test_job, test_moves, empty_tests, book_of_tests, AreTestsRequested, LawfulTests, IsWholeTests}

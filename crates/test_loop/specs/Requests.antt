@@ -2,12 +2,12 @@
 use Rattle.std.specs.Prelude.{◌≡◌, ℕ, List, length, slice_get, Option}
 use Rattle.std.specs.Option.{option_map, option_and_then}
 use Rattle.std.specs.List.{filter_map, flat_map}
-use Rattle.vr_base.specs.declared.file.FileName.{FileName}
-use Rattle.vr_base.specs.declared.graph.Entry.{Entry}
-use Rattle.vr_base.specs.declared.graph.BuiltFile.{BuiltFile}
-use Rattle.vr_base.specs.Jobs.{built_bytes}
-use Rattle.vr_base.specs.PresentGraph.{below}
-use Rattle.vr_outside.specs.Records.{Record}
+use Rattle.base.specs.declared.file.FileName.{FileName}
+use Rattle.base.specs.declared.graph.Entry.{Entry}
+use Rattle.base.specs.declared.graph.BuiltFile.{BuiltFile}
+use Rattle.base.specs.Jobs.{built_bytes}
+use Rattle.base.specs.PresentGraph.{below}
+use Rattle.outside.specs.Records.{Record}
 
 -- a file with the artefact of its latest record
 abbrev pub lent_file : (FileName → Option Record) → Entry → Option BuiltFile

@@ -1,18 +1,18 @@
 -- Runs of tests that are under way: what has happened, the row, and what became of the runs so far.
 use Rattle.std.specs.Prelude.{◌≡◌, ℕ, Bool, false, List, ◌++◌, IfSome}
 use Rattle.std.specs.List.{list_any}
-use Rattle.vr_base.specs.declared.child.Request.{Request}
-use Rattle.vr_base.specs.declared.child.Exit.{Exit}
-use Rattle.vr_base.specs.declared.child.Event.{Event}
-use Rattle.vr_base.specs.declared.child.Event.TheVariants.{Started, Ended, Gone}
-use Rattle.vr_base.specs.declared.graph.BuiltFile.{BuiltFile}
-use Rattle.vr_outside.specs.Children.{started_with}
+use Rattle.base.specs.declared.child.Request.{Request}
+use Rattle.base.specs.declared.child.Exit.{Exit}
+use Rattle.base.specs.declared.child.Event.{Event}
+use Rattle.base.specs.declared.child.Event.TheVariants.{Started, Ended, Gone}
+use Rattle.base.specs.declared.graph.BuiltFile.{BuiltFile}
+use Rattle.outside.specs.Children.{started_with}
 use Rattle.run_spec.specs.Moves.{empty_core, LawfulMoves, GreedyMoves}
 use Rattle.run_spec.specs.ChildJournal.{EachAfter, HasFreshTicket, is_gone}
 use Rattle.test_spec.specs.declared.runs.TestRun.{TestRun}
 use Rattle.test_spec.specs.declared.ends.RunEnd.{RunEnd}
 use Rattle.test_journal.specs.TestJournal.{TestSetting, test_job, test_moves, empty_tests, book_of_tests, AreTestsRequested}
-use Rattle.child_steps.specs.Steps.{halted_if}
+use Rattle.run_steps.specs.Steps.{halted_if}
 use Rattle.test_row.specs.declared.row.Row.{Row}
 use Rattle.test_row.specs.Rows.{IsRowOf}
 use Rattle.test_loop.specs.Results.{test_ends}

@@ -1,14 +1,14 @@
 //! The end of one run.
 
 ghost use Rattle.std.specs.Prelude.{◌≡◌, ◌<◌, ◌++◌, ◌∷◌, [], ℕ, Bool, List, Some, Err, length, Contains, is_some};
-ghost use Rattle.vr_base.specs.declared.child.Request.{Request};
-ghost use Rattle.vr_base.specs.declared.child.Exit.{Exit};
-ghost use Rattle.vr_base.specs.declared.child.Event.{Event};
-ghost use Rattle.vr_base.specs.declared.child.Event.TheVariants as event;
-ghost use Rattle.vr_base.specs.declared.graph.BuiltFile.{BuiltFile};
-ghost use Rattle.vr_outside.specs.Children.{without, ended_ticket, end_event};
-ghost use Rattle.vr_outside.specs.Counts.{ChildCounts};
-ghost use Rattle.child_steps.specs.declared.step.Step.TheVariants.{Wait};
+ghost use Rattle.base.specs.declared.child.Request.{Request};
+ghost use Rattle.base.specs.declared.child.Exit.{Exit};
+ghost use Rattle.base.specs.declared.child.Event.{Event};
+ghost use Rattle.base.specs.declared.child.Event.TheVariants as event;
+ghost use Rattle.base.specs.declared.graph.BuiltFile.{BuiltFile};
+ghost use Rattle.outside.specs.Children.{without, ended_ticket, end_event};
+ghost use Rattle.outside.specs.Counts.{ChildCounts};
+ghost use Rattle.run_steps.specs.declared.step.Step.TheVariants.{Wait};
 ghost use Rattle.test_spec.specs.declared.ends.RunEnd.{RunEnd};
 ghost use Rattle.test_row.specs.Rows.{next_of, tickets_of, run_count, to_come};
 ghost use Rattle.test_journal.specs.TestJournal.{TestSetting};
@@ -18,11 +18,11 @@ ghost use Rattle.test_loop.specs.UnderWay.{AreUnderWay, Goes, tests_with};
 use crate::faults::TestRunFault;
 use crate::notes::note;
 use crate::results::{ended_run, has_passed};
+use base::Exit;
+use outside::{Ended, Procs, WaitFault};
 use std::alloc::Global;
 use test_row::Row;
 use test_spec::{RunEnd, TestRunList};
-use vr_base::Exit;
-use vr_outside::{Ended, Procs, WaitFault};
 
 /// Takes the exit of a child: what became of its run. Where there is no memory for it, nothing more is started.
 fn take_exit(

@@ -3,7 +3,7 @@
 ghost use Rattle.std.specs.Prelude.{◌≡◌};
 ghost use Rattle.test_loop.specs.declared.faults.TestRunFault.TheVariants.{NoMemory as out_of_memory};
 
-use vr_base::NoMemory;
+use base::NoMemory;
 
 /// Why runs of tests didn't end by themselves.
 #[derive(Clone, Copy, Debug, PartialEq, Eq)]

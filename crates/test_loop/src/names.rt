@@ -3,9 +3,9 @@
 ghost use Rattle.std.specs.Prelude.{◌≡◌, ◌∷◌, [], codes, map, IfOk};
 ghost use Rattle.test_spec.specs.Runs.{case_names, name_of_case};
 
+use base::{NoMemory, Text, TextList};
 use std::alloc::Global;
 use test_spec::TestRun;
-use vr_base::{NoMemory, Text, TextList};
 
 /// The full name of a case.
 fn case_name(alloc: Global, run: &TestRun, case: &[u8]) -> Result<Text, NoMemory>

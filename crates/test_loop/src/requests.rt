@@ -2,17 +2,17 @@
 
 ghost use Rattle.std.specs.Prelude.{ℕ, ◌≡◌, ◌<◌, ◌++◌, ◌∷◌, [], length, IfOk, OnOk};
 ghost use Rattle.std.specs.List.{filter_map, flat_map};
-ghost use Rattle.vr_base.specs.Jobs.{built_bytes};
-ghost use Rattle.vr_outside.specs.Records.{IsRecorded};
+ghost use Rattle.base.specs.Jobs.{built_bytes};
+ghost use Rattle.outside.specs.Records.{IsRecorded};
 ghost use Rattle.test_spec.specs.Runs.{FitsRun};
 ghost use Rattle.test_spec.specs.BenchJobs.{bench_request};
 ghost use Rattle.test_loop.specs.Requests.{AreBuilt, lent_at, lent_files};
 
-use bench_codec::{BenchWriter, BuiltWriter};
+use base::{FILE_LIMIT, Graph, NoMemory, Request, Text, TextList};
+use child_bench_codec::{BenchWriter, BuiltWriter};
+use outside::Records;
 use std::alloc::Global;
 use test_spec::TestRun;
-use vr_base::{FILE_LIMIT, Graph, NoMemory, Request, Text, TextList};
-use vr_outside::Records;
 
 /// Adds the file at a position with the artefact that the store lends.
 fn add_lent<K: Records>(

@@ -5,10 +5,10 @@ ghost use Rattle.std.specs.List.{list_all};
 ghost use Rattle.test_spec.specs.Verdicts.{ended_run, is_passed_verdict, unstarted_run};
 
 use crate::names::case_names;
-use results_file::verdicts;
+use base::{Exit, NoMemory, Text, TextList};
 use std::alloc::Global;
+use test_results::verdicts;
 use test_spec::{RunEnd, SHOWN_LIMIT, TestRun, TestRunList, Verdict, VerdictList};
-use vr_base::{Exit, NoMemory, Text, TextList};
 
 /// A verdict for each name, none of which was started.
 fn all_skipped(alloc: Global, names: &TextList) -> Result<VerdictList, NoMemory>

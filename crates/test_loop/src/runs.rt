@@ -2,7 +2,7 @@
 
 ghost use Rattle.std.specs.Prelude.{◌≡◌, ◌<◌, ◌≤◌, [], ℕ, All, length, map, IfOk};
 ghost use Rattle.std.specs.Result.{is_ok};
-ghost use Rattle.vr_outside.specs.Records.{IsRecorded};
+ghost use Rattle.outside.specs.Records.{IsRecorded};
 ghost use Rattle.run_spec.specs.Moves.{Job, empty_core};
 ghost use Rattle.test_spec.specs.Runs.{FitsRun};
 ghost use Rattle.test_spec.specs.Verdicts.{unstarted_run};
@@ -18,12 +18,12 @@ use crate::faults::TestRunFault;
 use crate::requests::built_of;
 use crate::results::unstarted_runs;
 use crate::starts::start_one;
-use child_steps::Step;
+use base::{CASE_LIMIT, Graph, Items, NoMemory, SLOT_LIMIT, Text, TextList};
+use outside::{Procs, Records};
+use run_steps::Step;
 use std::alloc::Global;
 use test_row::Row;
 use test_spec::{RunEnd, TestEnd, TestRunList};
-use vr_base::{CASE_LIMIT, Graph, Items, NoMemory, SLOT_LIMIT, Text, TextList};
-use vr_outside::{Procs, Records};
 
 /// Runs of tests before their first start.
 #[derive(Drop)]

@@ -1,14 +1,14 @@
 //! The start of one run, and runs that are halted by a fault.
 
 ghost use Rattle.std.specs.Prelude.{◌≡◌, ◌<◌, ◌≤◌, ◌++◌, ◌∷◌, [], ℕ, Bool, List, Some, None, All, length, IfOk, OnErr, is_some};
-ghost use Rattle.vr_base.specs.declared.child.Request.{Request};
-ghost use Rattle.vr_base.specs.declared.child.Exit.{Exit};
-ghost use Rattle.vr_base.specs.declared.child.Event.{Event};
-ghost use Rattle.vr_base.specs.declared.child.Event.TheVariants.{Started};
-ghost use Rattle.vr_outside.specs.Children.{IsFresh};
+ghost use Rattle.base.specs.declared.child.Request.{Request};
+ghost use Rattle.base.specs.declared.child.Exit.{Exit};
+ghost use Rattle.base.specs.declared.child.Event.{Event};
+ghost use Rattle.base.specs.declared.child.Event.TheVariants.{Started};
+ghost use Rattle.outside.specs.Children.{IsFresh};
 ghost use Rattle.run_spec.specs.Moves.{Job, Core};
-ghost use Rattle.child_steps.specs.declared.step.Step.TheVariants.{Start};
-ghost use Rattle.child_steps.specs.Steps.{halted_if};
+ghost use Rattle.run_steps.specs.declared.step.Step.TheVariants.{Start};
+ghost use Rattle.run_steps.specs.Steps.{halted_if};
 ghost use Rattle.test_spec.specs.declared.ends.RunEnd.{RunEnd};
 ghost use Rattle.test_spec.specs.Runs.{FitsRun};
 ghost use Rattle.test_spec.specs.BenchJobs.{bench_request};
@@ -20,11 +20,11 @@ ghost use Rattle.test_loop.specs.UnderWay.{Goes, tests_with};
 use crate::faults::TestRunFault;
 use crate::notes::note;
 use crate::requests::request_of;
+use base::{Graph, Text, TextList};
+use outside::{Procs, Records, StartFault};
 use std::alloc::Global;
 use test_row::Row;
 use test_spec::{TestRun, TestRunList};
-use vr_base::{Graph, Text, TextList};
-use vr_outside::{Procs, Records, StartFault};
 
 /// Notes a fault, and nothing more is started.
 fn halt(row: &mut Row, noted: &mut Option<TestRunFault>, fault: TestRunFault)

@@ -4,11 +4,11 @@ use Rattle.std.specs.Prelude.{Option}
 use Rattle.std.proofs.lemmas.Bool.{ne_eqb, and_parts, not-true, ltb-true, eqb-true, eqb-false}
 use Rattle.std.proofs.lemmas.List.{map-append, length-map}
 use Rattle.run_spec.specs.Moves.{Job, Core, RunningChild, Starts, empty_core, has_ended_well, is_made_so_far, next_start, start_now, after_move, IsFinished}
-use Rattle.vr_base.specs.PresentGraph.{below}
+use Rattle.base.specs.PresentGraph.{below}
 use Rattle.test_journal.proofs.InLine.{first_in_line}
-use Rattle.child_steps.specs.Steps.{running_child, step_of, step_at, with_end}
-use Rattle.child_steps.specs.declared.step.Step.TheVariants.{Start, Wait, Finished}
-use Rattle.child_steps.proofs.PlainSteps.{step_starts, step_waits, step_ends, no_running, over_none, well_after_end}
+use Rattle.run_steps.specs.Steps.{running_child, step_of, step_at, with_end}
+use Rattle.run_steps.specs.declared.step.Step.TheVariants.{Start, Wait, Finished}
+use Rattle.run_steps.proofs.PlainSteps.{step_starts, step_waits, step_ends, no_running, over_none, well_after_end}
 use Rattle.test_row.specs.Rows.{candidate_of, next_of, IsRowJob, IsRowOf}
 use Rattle.test_row.specs.declared.row.Row.{Row}
 

@@ -1,9 +1,9 @@
 -- What a row is one of: a job of runs in order, and what has happened in it so far.
 use Rattle.std.specs.Prelude.{◌≡◌, ℕ, ◌+◌, ◌-◌, ◌*◌, ◌≤◌, nat_lt, Bool, false, not, ◌&&◌, ◌==◌, if◌then◌else◌, List, [], length, map, Option, Some, None}
-use Rattle.vr_base.specs.PresentGraph.{below}
+use Rattle.base.specs.PresentGraph.{below}
 use Rattle.run_spec.specs.Moves.{Job, Core, EndedChild, has_ended_well, is_made_so_far}
-use Rattle.child_steps.specs.declared.step.Step.{Step}
-use Rattle.child_steps.specs.Steps.{step_of, running_child}
+use Rattle.run_steps.specs.declared.step.Step.{Step}
+use Rattle.run_steps.specs.Steps.{step_of, running_child}
 use Rattle.test_row.specs.declared.row.Row.{Row}
 
 -- a job of so many runs, none of which depends on another, each made where its child has ended well

@@ -3,9 +3,9 @@
 ghost use Rattle.std.specs.Prelude.{◌≡◌, ◌<◌, ◌≤◌, length, All};
 ghost use Rattle.std.specs.Vec.{vec_capacity};
 
-use child_steps::{Child, Step, has_ticket, index_of};
+use base::NoMemory;
+use run_steps::{Child, Step, has_ticket, index_of};
 use std::alloc::Global;
-use vr_base::NoMemory;
 
 /// What runs of tests with many children have to do next. The runs are started in order. It takes no memory but in `new`.
 #[derive(Drop)]
@@ -26,15 +26,15 @@ pub struct Row {
 
 impl Row {
     ghost use Rattle.std.specs.Prelude.{◌≡◌, ◌≢◌, ◌↔◌, IsTrue, ℕ, ◌+◌, ◌<◌, ◌≤◌, ◌++◌, Bool, List, [], ◌∷◌, length, Contains, Option, Some, None, IfOk};
-    ghost use Rattle.vr_base.specs.declared.limits.TheConstants.{SLOT_LIMIT};
-    ghost use Rattle.vr_outside.specs.Children.{without};
+    ghost use Rattle.base.specs.declared.limits.TheConstants.{SLOT_LIMIT};
+    ghost use Rattle.outside.specs.Children.{without};
     ghost use Rattle.run_spec.specs.Moves.{Job, Core, Starts, Ends, Loses, Halts, IsLawfulMove, IsGreedyMove, IsFinished, empty_core, position_of, after_move};
-    ghost use Rattle.child_steps.specs.declared.step.Step.TheVariants.{Start, Wait, Finished};
-    ghost use Rattle.child_steps.specs.Steps.{step_at, without_ticket, with_end};
+    ghost use Rattle.run_steps.specs.declared.step.Step.TheVariants.{Start, Wait, Finished};
+    ghost use Rattle.run_steps.specs.Steps.{step_at, without_ticket, with_end};
     ghost use Rattle.test_row.specs.Rows.{IsRowJob, IsRowOf, next_of, candidate_of, tickets_of, run_count, to_come};
 
     /// The row of so many runs, with 1 to 64 slots, that stops at the first failed run or not. Nothing has happened yet.
-    #[tactic(auto, unfolding(crate::specs::Rows::run_count, crate::specs::Rows::tickets_of, vr_base::specs::PresentGraph::below))]
+    #[tactic(auto, unfolding(crate::specs::Rows::run_count, crate::specs::Rows::tickets_of, base::specs::PresentGraph::below))]
     pub fn new(alloc: Global, count: u32, limit: u32, fail_fast: bool) -> Result<Row, NoMemory>
         requires { (1 ≤ limit) × (limit ≤ SLOT_LIMIT) }
         ensures runs { IfOk result (λ row. run_count row ≡ count) }

@@ -3,10 +3,10 @@
 ghost use Rattle.std.specs.Prelude.{◌≡◌, ◌++◌, ◌∷◌, [], map, IfOk, OnOk};
 ghost use Rattle.test_spec.specs.Runs.{bench_runs, path_at, run_with, test_runs};
 
+use base::{NoMemory, Project, Text, TextList};
 use std::alloc::Global;
 use test_spec::{TestRun, TestRunList};
 use vhdl_benches::{Bench, TestCase, Tests};
-use vr_base::{NoMemory, Project, Text, TextList};
 
 /// The path of the file of a bench.
 fn path_of(alloc: Global, project: &Project, bench: &Bench) -> Result<Text, NoMemory>

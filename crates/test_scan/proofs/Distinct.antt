@@ -11,9 +11,9 @@ use Rattle.std.proofs.lemmas.Slice.Eq.{bytes_eq-Decides}
 use Rattle.vhdl_benches.specs.declared.bench.Bench.{Bench}
 use Rattle.vhdl_benches.specs.declared.bench.TestFault.{TestFault}
 use Rattle.vhdl_benches.specs.declared.bench.TestFault.TheVariants.{BadName, DuplicateTest}
-use Rattle.vr_base.specs.declared.refs.UnitId.{UnitId}
-use Rattle.scan_spec.specs.Dependencies.{is_one_of}
-use Rattle.scan_spec.proofs.SomeTests.{Contains-later}
+use Rattle.base.specs.declared.refs.UnitId.{UnitId}
+use Rattle.vhdl_spec.specs.Dependencies.{is_one_of}
+use Rattle.vhdl_spec.proofs.SomeTests.{Contains-later}
 use Rattle.test_select.specs.Selection.{bench_names}
 use Rattle.test_scan.specs.Benches.{IsBenchOfOne, ScannedFiles, architectures_of, bench_at, bench_fault, bench_name, bench_numbers, bench_of, bench_with, design_unit, first_bench_fault, first_repeated, found_bench, is_bad_case, names_of_found, tests_of, unit_library}
 

@@ -7,9 +7,9 @@ use Rattle.std.proofs.lemmas.List.{map-append}
 use Rattle.std.proofs.lemmas.List.Concat.{flat_map-append}
 use Rattle.vhdl_benches.specs.declared.bench.Bench.{Bench}
 use Rattle.vhdl_benches.specs.declared.bench.TestFault.{TestFault}
-use Rattle.vr_base.specs.declared.memory.OrMemory.{OrMemory}
-use Rattle.vr_base.specs.declared.memory.OrMemory.TheVariants.{NoMemory, Fault}
-use Rattle.vr_base.specs.declared.refs.UnitId.{UnitId}
+use Rattle.base.specs.declared.memory.OrMemory.{OrMemory}
+use Rattle.base.specs.declared.memory.OrMemory.TheVariants.{NoMemory, Fault}
+use Rattle.base.specs.declared.refs.UnitId.{UnitId}
 use Rattle.test_scan.specs.Benches.{GivesTests, ScannedFiles, bench_at, bench_fault, first_bench_fault, found_bench, names_of_found, tests_found}
 use Rattle.test_scan.specs.Paths.{HoldsFullNames}
 use Rattle.test_scan.specs.Results.{GivesBench, IsTestFault}

@@ -8,7 +8,7 @@ use Rattle.std.proofs.lemmas.List.{reverse-reverse}
 use Rattle.std.proofs.lemmas.Option.{get_or_from_slice_get, slice_get_within}
 use Rattle.std.proofs.lemmas.Bool.{cases_lt}
 use Rattle.std.proofs.lemmas.Slice.Eq.{bytes_eq-Decides}
-use Rattle.scan_spec.specs.Dependencies.{is_one_of}
+use Rattle.vhdl_spec.specs.Dependencies.{is_one_of}
 use Rattle.test_scan.specs.Paths.{AllLead, AreOnce, HasGrown, Leads, LeadsBack}
 use Rattle.test_scan.specs.declared.steps.Step.{Step}
 

@@ -2,15 +2,15 @@
 use Rattle.std.proofs.Common.{◌≡◌, ℕ, zero, suc, List, [], ◌∷◌, Some, map, sym, ◌∙◌, ap, arith}
 use Rattle.std.specs.Prelude.{slice_get, slice_index_or}
 use Rattle.std.proofs.lemmas.Option.{slice_get-get_or, slice_get_within, get_or_from_slice_get}
-use Rattle.vr_base.specs.declared.design.Scan.{Scan}
-use Rattle.vr_base.specs.declared.design.Unit.{Unit as DesignUnit}
-use Rattle.vr_base.specs.declared.project.ProjectFile.{ProjectFile}
-use Rattle.vr_base.specs.declared.refs.UnitId.{UnitId}
+use Rattle.base.specs.declared.design.Scan.{Scan}
+use Rattle.base.specs.declared.design.Unit.{Unit as DesignUnit}
+use Rattle.base.specs.declared.project.ProjectFile.{ProjectFile}
+use Rattle.base.specs.declared.refs.UnitId.{UnitId}
 use Rattle.vhdl_runs.specs.Runs.{unit_runs}
 use Rattle.vhdl_runs.specs.declared.runs.FileRuns.{FileRuns}
 use Rattle.vhdl_runs.specs.declared.runs.UnitRuns.{UnitRuns}
-use Rattle.file_outlines.specs.Outlines.{IsOutlineOf}
-use Rattle.file_outlines.specs.declared.outlines.FileOutline.{FileOutline}
+use Rattle.vhdl_outlines.specs.Outlines.{IsOutlineOf}
+use Rattle.vhdl_outlines.specs.declared.outlines.FileOutline.{FileOutline}
 use Rattle.vhdl_runs.specs.Calls.{asks_same_sim}
 use Rattle.test_scan.specs.Benches.{no_design_unit, no_scan, no_source}
 use Rattle.test_scan.specs.Files.{AreScannedAs, IsLocated, scanned}

@@ -4,8 +4,8 @@ use Rattle.std.specs.List.{All, flat_map}
 use Rattle.std.proofs.lemmas.List.{map-append}
 use Rattle.std.proofs.lemmas.List.Concat.{flat_map-append}
 use Rattle.std.proofs.lemmas.List.Elements.{All-append, All-nil, All-cons}
-use Rattle.vr_base.proofs.Below.{below-zero, below-more}
-use Rattle.vr_base.specs.PresentGraph.{below}
+use Rattle.base.proofs.Below.{below-zero, below-more}
+use Rattle.base.specs.PresentGraph.{below}
 
 pub no_numbers : {X : Type 0} (f : ℕ → X) → map f (below 0) ≡ []
 no_numbers f = ap (map f) below-zero

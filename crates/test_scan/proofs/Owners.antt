@@ -2,12 +2,12 @@
 use Rattle.std.proofs.Common.{◌≡◌, ℕ, Bool, true, false, cond, ◌&&◌, Option, Some, None, List, [], ◌∷◌, ◌++◌, ◌<◌, append-nil, filter, get_or, length, refl, sym, ◌∙◌, ap, subst, arith}
 use Rattle.std.specs.Prelude.{Ok, Err, if◌then◌else◌}
 use Rattle.std.specs.Str.{bytes_eq}
-use Rattle.key_index.specs.Maps.{Entries, get}
+use Rattle.base_key_index.specs.Maps.{Entries, get}
 use Rattle.std.proofs.lemmas.List.Elements.{filter-append, filter_passes}
-use Rattle.vr_base.specs.declared.refs.UnitId.{UnitId}
-use Rattle.scan_spec.specs.Dependencies.{is_architecture_kind}
-use Rattle.scan_spec.specs.References.{owner_name}
-use Rattle.scan_spec.proofs.SomeTests.{and_cases}
+use Rattle.base.specs.declared.refs.UnitId.{UnitId}
+use Rattle.vhdl_spec.specs.Dependencies.{is_architecture_kind}
+use Rattle.vhdl_spec.specs.References.{owner_name}
+use Rattle.vhdl_spec.proofs.SomeTests.{and_cases}
 use Rattle.test_scan.specs.Architectures.{AreFoundInFiles, HoldsArchitectures, IsArchitecture, first_of_some, one_more}
 use Rattle.vhdl_benches.specs.declared.bench.TestFault.TheVariants.{NoArchitecture, TwoArchitectures}
 use Rattle.test_scan.specs.Benches.{ScannedFiles, bench_name, bench_of, bench_with, design_unit, is_architecture_of, unit_library}

@@ -4,9 +4,9 @@ use Rattle.std.specs.Prelude.{Result, Ok, Err, if◌then◌else◌}
 use Rattle.std.specs.Option.{option_map}
 use Rattle.vhdl_benches.specs.declared.bench.TestFault.{TestFault}
 use Rattle.vhdl_benches.specs.declared.bench.TestFault.TheVariants.{DuplicateTest}
-use Rattle.vr_base.specs.declared.memory.OrMemory.{OrMemory}
-use Rattle.vr_base.specs.declared.memory.OrMemory.TheVariants.{NoMemory, Fault}
-use Rattle.scan_spec.specs.Dependencies.{is_one_of}
+use Rattle.base.specs.declared.memory.OrMemory.{OrMemory}
+use Rattle.base.specs.declared.memory.OrMemory.TheVariants.{NoMemory, Fault}
+use Rattle.vhdl_spec.specs.Dependencies.{is_one_of}
 use Rattle.test_scan.specs.Benches.{first_repeated}
 use Rattle.test_scan.specs.Results.{GivesOrFails, IsTestFault}
 

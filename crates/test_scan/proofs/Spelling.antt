@@ -10,7 +10,7 @@ use Rattle.std.proofs.Math.Seq.{drop-append_seam, get_or-append_seam, take-appen
 use Rattle.vhdl_benches.specs.declared.bench.Bench.{Bench}
 use Rattle.vhdl_benches.specs.declared.bench.TestCase.{TestCase}
 use Rattle.test_select.specs.Selection.{full_name}
-use Rattle.scan_spec.proofs.SomeTests.{and_cases}
+use Rattle.vhdl_spec.proofs.SomeTests.{and_cases}
 use Rattle.test_scan.specs.Benches.{bench_name, is_bad_case, is_control, is_good_name}
 
 both_ways : (a b : Bool) → (a ≡ true → b ≡ true) → (b ≡ true → a ≡ true) → a ≡ b

@@ -1,8 +1,8 @@
 -- The architectures of each entity of a project, as the program finds them.
 use Rattle.std.specs.Prelude.{◌≡◌, true, false, Option, Some, None, List, [], ◌∷◌, filter}
-use Rattle.scan_spec.specs.Dependencies.{is_architecture_kind}
-use Rattle.key_index.specs.Maps.{Entries, get}
-use Rattle.vr_base.specs.declared.refs.UnitId.{UnitId}
+use Rattle.vhdl_spec.specs.Dependencies.{is_architecture_kind}
+use Rattle.base_key_index.specs.Maps.{Entries, get}
+use Rattle.base.specs.declared.refs.UnitId.{UnitId}
 use Rattle.test_scan.specs.Benches.{ScannedFiles, design_unit, is_architecture_of}
 use Rattle.test_scan.specs.Files.{IsInFiles}
 use Rattle.test_scan.specs.declared.architectures.Architectures.{Architectures}

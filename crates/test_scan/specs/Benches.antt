@@ -6,23 +6,23 @@ use Rattle.std.specs.Prelude.{◌≡◌, ℕ, Bool, not, ◌&&◌, ◌||◌, ◌
 use Rattle.std.specs.List.{list_any}
 use Rattle.std.specs.Option.{option_map, option_map_or, option_or}
 use Rattle.std.specs.Str.{bytes_eq, is_utf8}
-use Rattle.vr_base.specs.PresentGraph.{below}
+use Rattle.base.specs.PresentGraph.{below}
 use Rattle.vhdl_benches.specs.declared.bench.Bench.{Bench}
 use Rattle.vhdl_benches.specs.declared.bench.TestCase.{TestCase}
 use Rattle.vhdl_benches.specs.declared.bench.TestFault.{TestFault}
 use Rattle.vhdl_benches.specs.declared.bench.TestFault.TheVariants.{TwoArchitectures, NoArchitecture, DuplicateTest, BadName}
-use Rattle.vr_base.specs.declared.child.MaybeText.TheVariants.{Nothing}
-use Rattle.vr_base.specs.declared.design.Scan.{Scan}
-use Rattle.vr_base.specs.declared.design.Unit.{Unit as DesignUnit}
-use Rattle.vr_base.specs.declared.design.UnitKind.TheVariants as kinds
-use Rattle.vr_base.specs.declared.lexical.Token.{Token}
-use Rattle.vr_base.specs.declared.memory.OrMemory.{OrMemory}
-use Rattle.vr_base.specs.declared.memory.OrMemory.TheVariants.{NoMemory, Fault}
-use Rattle.vr_base.specs.declared.project.Project.{Project}
-use Rattle.vr_base.specs.declared.project.ProjectFile.{ProjectFile}
-use Rattle.vr_base.specs.declared.refs.UnitId.{UnitId}
-use Rattle.scan_spec.specs.References.{owner_name}
-use Rattle.scan_spec.specs.Dependencies.{is_architecture_kind, is_one_of}
+use Rattle.base.specs.declared.child.MaybeText.TheVariants.{Nothing}
+use Rattle.base.specs.declared.design.Scan.{Scan}
+use Rattle.base.specs.declared.design.Unit.{Unit as DesignUnit}
+use Rattle.base.specs.declared.design.UnitKind.TheVariants as kinds
+use Rattle.base.specs.declared.lexical.Token.{Token}
+use Rattle.base.specs.declared.memory.OrMemory.{OrMemory}
+use Rattle.base.specs.declared.memory.OrMemory.TheVariants.{NoMemory, Fault}
+use Rattle.base.specs.declared.project.Project.{Project}
+use Rattle.base.specs.declared.project.ProjectFile.{ProjectFile}
+use Rattle.base.specs.declared.refs.UnitId.{UnitId}
+use Rattle.vhdl_spec.specs.References.{owner_name}
+use Rattle.vhdl_spec.specs.Dependencies.{is_architecture_kind, is_one_of}
 use Rattle.test_select.specs.Selection.{bench_names, full_name}
 use Rattle.vhdl_runs.specs.Calls.{asks_same_sim, called_cases, cases_or, whole_case}
 use Rattle.vhdl_runs.specs.Runs.{is_bench_unit}

@@ -1,15 +1,15 @@
 -- The files of a project and their design units, as the program holds them.
 use Rattle.std.specs.Prelude.{◌≡◌, ◌<◌, ◌≤◌, true, false, is_some, None, List, [], length, slice_index_or}
 use Rattle.std.specs.List.{All}
-use Rattle.vr_base.specs.declared.design.Scan.{Scan}
-use Rattle.vr_base.specs.declared.limits.TheConstants.{FILE_LIMIT}
-use Rattle.vr_base.specs.declared.refs.UnitId.{UnitId}
+use Rattle.base.specs.declared.design.Scan.{Scan}
+use Rattle.base.specs.declared.limits.TheConstants.{FILE_LIMIT}
+use Rattle.base.specs.declared.refs.UnitId.{UnitId}
 use Rattle.vhdl_runs.specs.Calls.{asks_same_sim}
 use Rattle.vhdl_runs.specs.Runs.{unit_runs}
 use Rattle.vhdl_runs.specs.declared.runs.UnitRuns.{UnitRuns}
-use Rattle.file_outlines.specs.Outlines.{FilesAreOf, FilesLieIn}
-use Rattle.file_outlines.specs.Roles.{IsTextSmall}
-use Rattle.file_outlines.specs.declared.outlines.FileOutline.{FileOutline}
+use Rattle.vhdl_outlines.specs.Outlines.{FilesAreOf, FilesLieIn}
+use Rattle.vhdl_outlines.specs.Roles.{IsTextSmall}
+use Rattle.vhdl_outlines.specs.declared.outlines.FileOutline.{FileOutline}
 use Rattle.test_scan.specs.Benches.{ScannedFiles, design_unit, unit_library, unit_scan, unit_text, unit_tokens}
 use Rattle.test_scan.specs.declared.files.Files.{Files}
 use Rattle.test_scan.specs.declared.files.Found.{Found}

@@ -1,20 +1,20 @@
 //! The architectures of each entity of a project: the first, and whether there are more.
 
 ghost use Rattle.std.specs.Prelude.{◌≡◌, ◌∷◌, ◌++◌, [], List, IfOk, OnOk};
-ghost use Rattle.vr_base.specs.declared.design.Scan.{Scan};
-ghost use Rattle.vr_base.specs.declared.refs.UnitId.{UnitId as UnitNumber};
-ghost use Rattle.key_index.specs.Maps.{get};
-ghost use Rattle.scan_spec.specs.Dependencies.{is_architecture_kind};
-ghost use Rattle.scan_spec.specs.References.{owner_name};
+ghost use Rattle.base.specs.declared.design.Scan.{Scan};
+ghost use Rattle.base.specs.declared.refs.UnitId.{UnitId as UnitNumber};
+ghost use Rattle.base_key_index.specs.Maps.{get};
+ghost use Rattle.vhdl_spec.specs.Dependencies.{is_architecture_kind};
+ghost use Rattle.vhdl_spec.specs.References.{owner_name};
 ghost use Rattle.test_scan.specs.Files.{AreFiles, AreInFiles, AreScannedAs, IsInFiles, scanned};
 ghost use Rattle.test_scan.specs.Architectures.{AreFoundInFiles, HoldsArchitectures, one_more};
 ghost use Rattle.test_scan.specs.Entities.{is_same_entity};
 
 use crate::files::{Files, Found, find};
 use crate::key::{EntityKey, entity_key};
-use key_index::KeyMap;
+use base::{MaybeText, NoMemory, Text, UnitId, UnitKind};
+use base_key_index::KeyMap;
 use std::alloc::Global;
-use vr_base::{MaybeText, NoMemory, Text, UnitId, UnitKind};
 
 /// The first architecture of an entity, and whether there are more.
 #[derive(Clone, Copy)]

@@ -2,7 +2,7 @@
 
 ghost use Rattle.std.specs.Prelude.{◌≡◌, List, IfOk};
 ghost use Rattle.vhdl_benches.specs.declared.bench.TestFault.TheVariants.{NoArchitecture, TwoArchitectures};
-ghost use Rattle.vr_base.specs.declared.design.Scan.{Scan};
+ghost use Rattle.base.specs.declared.design.Scan.{Scan};
 ghost use Rattle.test_scan.specs.Benches.{bench_at, bench_name, bench_of, unit_numbers};
 ghost use Rattle.test_scan.specs.Files.{AreFiles, AreScannedAs, IsInFiles, IsNamed, scanned};
 ghost use Rattle.test_scan.specs.Architectures.{AreFoundInFiles, HoldsArchitectures, IsArchitecture};
@@ -12,9 +12,9 @@ use crate::architectures::{Index, architectures_of};
 use crate::called::{called_cases, cases_or};
 use crate::files::{Files, Found, find};
 use crate::key::entity_key;
+use base::{NoMemory, OrMemory, Text, UnitId};
 use std::alloc::Global;
 use vhdl_benches::{Bench, CaseList, TestFault};
-use vr_base::{NoMemory, OrMemory, Text, UnitId};
 
 /// A bench as faults name it: its library and its name, with a dot between them.
 pub fn bench_name(alloc: Global, library: &Text, name: &Text) -> Result<Text, NoMemory>

@@ -2,15 +2,15 @@
 
 ghost use Rattle.std.specs.Prelude.{◌≡◌, List, ℕ, IfOk, Some, is_some, map, true};
 ghost use Rattle.std.specs.List.{All};
-ghost use Rattle.vr_base.specs.declared.design.Unit.{Unit as DesignUnit};
-ghost use Rattle.vr_base.specs.declared.lexical.Token.{Token as TextToken};
+ghost use Rattle.base.specs.declared.design.Unit.{Unit as DesignUnit};
+ghost use Rattle.base.specs.declared.lexical.Token.{Token as TextToken};
 ghost use Rattle.vhdl_runs.specs.Calls.{cases_or, string_case, whole_case};
 ghost use Rattle.vhdl_runs.specs.Runs.{IsStringIn, UnitRunsLieIn, unit_runs};
 
+use base::{NoMemory, Token};
 use std::alloc::Global;
 use vhdl_benches::CaseList;
 use vhdl_runs::{UnitRuns, string_case, whole_case};
-use vr_base::{NoMemory, Token};
 
 /// The cases that strings of the text of a file name, in order.
 pub fn called_cases(

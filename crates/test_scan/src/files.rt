@@ -1,13 +1,13 @@
 //! The files of a project with what is known of each, and their design units by number.
 
 ghost use Rattle.std.specs.Prelude.{◌≡◌, List};
-ghost use Rattle.vr_base.specs.declared.design.Scan.{Scan};
+ghost use Rattle.base.specs.declared.design.Scan.{Scan};
 ghost use Rattle.vhdl_runs.specs.Runs.{UnitRunsLieIn};
 ghost use Rattle.test_scan.specs.Files.{AreFiles, AreScannedAs, IsInFiles, IsLocated, runs_at, scanned};
 
-use file_outlines::FileOutline;
+use base::{Items, Project, Text, TextList, Unit, UnitId};
+use vhdl_outlines::FileOutline;
 use vhdl_runs::UnitRuns;
-use vr_base::{Items, Project, Text, TextList, Unit, UnitId};
 
 /// The files of a project, with the text and the outline of each.
 #[derive(Clone, Copy)]

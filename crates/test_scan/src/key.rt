@@ -9,11 +9,11 @@ ghost use Rattle.std.proofs.Common.{refl, rules};
 ghost use Rattle.test_scan.specs.Entities.{is_same_entity};
 ghost use Rattle.test_scan.specs.EntityOrder.{entities_decide, entity_cmp, entity_ties, entity_total};
 
-use key_index::Key;
+use base::{NoMemory, Text};
+use base_key_index::Key;
 use std::alloc::Global;
 use std::cmp::Ordering;
 use std::hash::{Hash, Hasher};
-use vr_base::{NoMemory, Text};
 
 /// What names an entity: its library and its own name.
 #[derive(Drop)]

@@ -5,7 +5,7 @@ ghost use Rattle.std.specs.List.{list_any};
 ghost use Rattle.std.specs.Option.{option_map};
 ghost use Rattle.std.specs.Str.{is_utf8};
 ghost use Rattle.vhdl_benches.specs.declared.bench.TestFault.TheVariants.{BadName, DuplicateTest};
-ghost use Rattle.scan_spec.specs.Dependencies.{is_one_of};
+ghost use Rattle.vhdl_spec.specs.Dependencies.{is_one_of};
 ghost use Rattle.test_select.specs.Selection.{bench_names, full_name, name_start};
 ghost use Rattle.test_scan.specs.Benches.{bench_name, case_fault, first_repeated, is_bad_case, is_control, is_good_name};
 ghost use Rattle.test_scan.specs.Paths.{HasGrown, HoldsFullNames, Leads};
@@ -14,13 +14,13 @@ ghost use Rattle.test_scan.specs.Results.{GivesOrFails};
 use crate::bench::bench_name;
 use crate::paths::{step, walk};
 use crate::steps::Step;
+use base::{NoMemory, OrMemory, Text};
+use base_numbering::Numbered;
 use indexmap::IndexSet;
-use numbering::Numbered;
 use std::alloc::Global;
 use std::str;
 use test_select::full_name;
 use vhdl_benches::{Bench, TestCase, TestFault};
-use vr_base::{NoMemory, OrMemory, Text};
 
 /// The full names so far: the steps of their paths, and the places where these end.
 #[derive(Drop)]

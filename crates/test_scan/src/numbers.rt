@@ -1,14 +1,14 @@
 //! The numbers of a project's design units, and of its benches.
 
 ghost use Rattle.std.specs.Prelude.{◌≡◌, ◌++◌, ◌∷◌, [], ◌≤◌, List, IfOk, OnOk, filter, if◌then◌else◌, is_some, map};
-ghost use Rattle.vr_base.specs.PresentGraph.{below};
-ghost use Rattle.vr_base.specs.declared.design.Scan.{Scan};
+ghost use Rattle.base.specs.PresentGraph.{below};
+ghost use Rattle.base.specs.declared.design.Scan.{Scan};
 ghost use Rattle.test_scan.specs.Benches.{is_bench, unit_number, unit_numbers};
 ghost use Rattle.test_scan.specs.Files.{AreFiles, AreInFiles, AreNamed, AreScannedAs, IsInFiles, runs_at, scanned};
 
 use crate::files::{Files, find};
+use base::{NoMemory, TEXT_LIMIT, UnitId};
 use std::alloc::Global;
-use vr_base::{NoMemory, TEXT_LIMIT, UnitId};
 
 /// Adds the numbers of the units of a file.
 fn add_numbers(file: u32, count: u64, ids: &mut Vec<UnitId>) -> Result<(), NoMemory>

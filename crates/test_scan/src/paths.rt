@@ -4,8 +4,8 @@ ghost use Rattle.std.specs.Prelude.{◌∷◌, ◌++◌, ℕ, List, IfOk, OnOk, 
 ghost use Rattle.test_scan.specs.Paths.{AreOnce, HasGrown, LeadsBack};
 
 use crate::steps::Step;
-use numbering::Numbered;
-use vr_base::NoMemory;
+use base::NoMemory;
+use base_numbering::Numbered;
 
 /// The place after one byte more.
 pub fn step(steps: &mut Numbered<Step>, from: usize, byte: u8) -> Result<usize, NoMemory>

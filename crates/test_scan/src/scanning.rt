@@ -1,9 +1,9 @@
 //! The tests of a project.
 
 ghost use Rattle.std.specs.Prelude.{◌≡◌, ◌≤◌, ℕ, List, All, IfOk, length, map};
-ghost use Rattle.vr_base.specs.declared.design.Scan.{Scan};
-ghost use Rattle.file_outlines.specs.Outlines.{AreOutlinesOf, FilesLieIn};
-ghost use Rattle.file_outlines.specs.Roles.{IsTextSmall};
+ghost use Rattle.base.specs.declared.design.Scan.{Scan};
+ghost use Rattle.vhdl_outlines.specs.Outlines.{AreOutlinesOf, FilesLieIn};
+ghost use Rattle.vhdl_outlines.specs.Roles.{IsTextSmall};
 ghost use Rattle.test_scan.specs.Benches.{GivesTests, bench_at, sources_of, tests_found, tests_of, unit_numbers};
 ghost use Rattle.test_scan.specs.Files.{AreFiles, AreInFiles, AreNamed, AreScannedAs, IsInFiles, IsNamed, scanned};
 ghost use Rattle.test_scan.specs.Architectures.{AreFoundInFiles, HoldsArchitectures};
@@ -15,10 +15,10 @@ use crate::bench::bench_at;
 use crate::files::Files;
 use crate::names::{Names, no_names, take_names};
 use crate::numbers::{bench_numbers, unit_numbers};
-use file_outlines::Outlines;
+use base::{FILE_LIMIT, OrMemory, Project, TextList, UnitId};
 use std::alloc::Global;
 use vhdl_benches::{TestFault, Tests};
-use vr_base::{FILE_LIMIT, OrMemory, Project, TextList, UnitId};
+use vhdl_outlines::Outlines;
 
 /// Adds the bench of an entity and its full names.
 fn push_bench(

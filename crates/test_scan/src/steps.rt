@@ -5,7 +5,7 @@ ghost use Rattle.std.specs.Cmp.Rules.{comparing};
 ghost use Rattle.std.proofs.Common.{rules};
 ghost use Rattle.test_scan.specs.Steps.{is_same_step, step_alike, step_sample, steps_decide};
 
-use numbering::Key;
+use base_numbering::Key;
 use std::hash::{Hash, Hasher};
 
 /// A step of a path: from a place by a byte. The place after a step is its number and one; 0 is where all paths begin.

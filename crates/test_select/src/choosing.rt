@@ -7,9 +7,9 @@ ghost use Rattle.test_select.specs.Choosing.{AreNumbersOf, AreUpTo, Chooses, IsB
 
 use crate::matching::matches;
 use crate::pattern::{Pattern, PatternList, Piece};
+use base::NoMemory;
 use indexmap::IndexSet;
 use std::alloc::Global;
-use vr_base::NoMemory;
 
 /// What patterns choose: all names, where one of them is a `*` alone; the names that are asked for byte by byte, none of
 /// which has more bytes than `longest`; and what the patterns of these numbers match.

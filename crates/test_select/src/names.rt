@@ -3,9 +3,9 @@
 ghost use Rattle.std.specs.Prelude.{◌≡◌, IfOk};
 ghost use Rattle.test_select.specs.Selection.{full_name};
 
+use base::NoMemory;
 use std::alloc::Global;
 use vhdl_benches::{Bench, TestCase};
-use vr_base::NoMemory;
 
 /// The full name of a case of a bench, as VUnit lists it: the library, the bench and the case, with a dot between them.
 pub fn full_name(alloc: Global, bench: &Bench, test_case: &TestCase) -> Result<Vec<u8>, NoMemory>

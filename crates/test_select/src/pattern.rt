@@ -2,8 +2,8 @@
 
 ghost use Rattle.std.specs.Prelude.{◌≡◌};
 
+use base::Items;
 use std::marker::Model;
-use vr_base::Items;
 
 /// The bytes from the first to the last; none where the first is above the last.
 #[derive(Clone, Copy, Debug, PartialEq, Eq)]

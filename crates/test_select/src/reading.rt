@@ -5,8 +5,8 @@ ghost use Rattle.test_select.specs.Patterns.{one_byte, before_closing, ranges_of
 ghost use Rattle.test_select.specs.Segments.{found_piece};
 
 use crate::pattern::{ByteRange, Pattern, Piece};
+use base::{Items, NoMemory};
 use std::alloc::Global;
-use vr_base::{Items, NoMemory};
 
 /// A piece, and how many of the bytes after its first one belong to it.
 #[derive(Drop)]

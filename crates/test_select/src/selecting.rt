@@ -6,9 +6,9 @@ ghost use Rattle.test_select.specs.Selection.{has_cases, is_selected, name_start
 
 use crate::choosing::{Choice, choice_of, is_chosen};
 use crate::pattern::PatternList;
+use base::NoMemory;
 use std::alloc::Global;
 use vhdl_benches::{Bench, CaseList, TestCase, Tests};
-use vr_base::NoMemory;
 
 fn copy_case(alloc: Global, test_case: &TestCase) -> Result<TestCase, NoMemory>
     ensures { IfOk result (λ copy. copy ≡ test_case.now) }

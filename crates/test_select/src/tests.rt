@@ -1,10 +1,10 @@
 //! Patterns and names whose answers follow from the rules by hand.
 
 use crate::{PatternList, full_name, matches, read_pattern, select};
+use base::{NoMemory, Text};
 use std::alloc::Global;
 use std::test::Fail;
 use vhdl_benches::{Bench, CaseList, TestCase, Tests};
-use vr_base::{NoMemory, Text};
 
 fn is_match(alloc: Global, pattern: &[u8], name: &[u8]) -> Result<bool, NoMemory> {
     Ok(matches(&read_pattern(alloc, pattern)?, name))

@@ -1,12 +1,12 @@
 -- What a simulator is asked: the bytes of its input, and what it is started with.
 use Rattle.std.specs.Prelude.{ℕ, ◌<◌, ◌^◌, List, ◌++◌, codes, length, All}
 use Rattle.std.specs.List.{flat_map}
-use Rattle.vr_base.specs.declared.graph.BuiltFile.{BuiltFile}
-use Rattle.vr_base.specs.declared.child.Request.{Request}
-use Rattle.vr_base.specs.declared.child.MaybeText.TheVariants.{Given}
-use Rattle.vr_base.specs.Bytes.{number_bytes, text_bytes}
-use Rattle.vr_base.specs.Graphs.{IsBuilt}
-use Rattle.vr_base.specs.Jobs.{all_built_bytes}
+use Rattle.base.specs.declared.graph.BuiltFile.{BuiltFile}
+use Rattle.base.specs.declared.child.Request.{Request}
+use Rattle.base.specs.declared.child.MaybeText.TheVariants.{Given}
+use Rattle.base.specs.Bytes.{number_bytes, text_bytes}
+use Rattle.base.specs.Graphs.{IsBuilt}
+use Rattle.base.specs.Jobs.{all_built_bytes}
 use Rattle.test_spec.specs.declared.runs.TestRun.{TestRun}
 use Rattle.test_spec.specs.declared.jobs.BenchJob.{BenchJob}
 use Rattle.test_spec.specs.Runs.{results_path}

@@ -3,8 +3,8 @@ use Rattle.std.specs.Prelude.{◌≡◌, ℕ, ◌+◌, ◌/◌, ◌%◌, ◌≤�
 use Rattle.std.specs.List.{flat_map}
 use Rattle.std.specs.Option.{option_map_or}
 use Rattle.std.specs.Char.{is_ascii_alphanumeric}
-use Rattle.vr_base.specs.declared.project.ProjectFile.{ProjectFile}
-use Rattle.vr_base.specs.declared.limits.TheConstants.{CASE_LIMIT, PATH_LIMIT, TEXT_LIMIT}
+use Rattle.base.specs.declared.project.ProjectFile.{ProjectFile}
+use Rattle.base.specs.declared.limits.TheConstants.{CASE_LIMIT, PATH_LIMIT, TEXT_LIMIT}
 use Rattle.vhdl_benches.specs.declared.bench.Bench.{Bench}
 use Rattle.test_spec.specs.declared.runs.TestRun.{TestRun}
 

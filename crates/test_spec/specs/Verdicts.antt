@@ -4,9 +4,9 @@ use Rattle.std.specs.List.{filter_map, last_or, list_all, list_any, slice_split}
 use Rattle.std.specs.Option.{option_map_or}
 use Rattle.std.specs.Str.{bytes_eq}
 use Rattle.std.specs.Str.Lines.{strip_carriage_return}
-use Rattle.vr_base.specs.declared.child.Exit.{Exit}
-use Rattle.vr_base.specs.declared.child.MaybeText.{MaybeText}
-use Rattle.vr_base.specs.declared.child.MaybeText.TheVariants.{Nothing, Given}
+use Rattle.base.specs.declared.child.Exit.{Exit}
+use Rattle.base.specs.declared.child.MaybeText.{MaybeText}
+use Rattle.base.specs.declared.child.MaybeText.TheVariants.{Nothing, Given}
 use Rattle.test_spec.specs.declared.ends.Verdict.{Verdict}
 use Rattle.test_spec.specs.declared.ends.Verdict.TheVariants.{Passed, Failed, Skipped}
 use Rattle.test_spec.specs.declared.ends.RunEnd.{RunEnd}

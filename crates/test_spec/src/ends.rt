@@ -1,6 +1,6 @@
 //! What became of test cases.
 
-use vr_base::{Items, Text, TextList};
+use base::{Items, Text, TextList};
 
 /// The most bytes of a run's output that are shown.
 pub const SHOWN_LIMIT: usize = 4_096;

@@ -1,6 +1,6 @@
 //! What a simulator is asked.
 
-use vr_base::{Built, Text, TextList};
+use base::{Built, Text, TextList};
 
 /// What a simulator is asked: a bench with its architecture, the names of the cases that it runs, the configuration that
 /// it hands to the bench, the path that the results go to, and all files of the project as they were built, in compile

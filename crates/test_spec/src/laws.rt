@@ -2,7 +2,7 @@
 
 ghost use Rattle.std.specs.Prelude.{◌≡◌, ◌≤◌, true, List, length, All};
 ghost use Rattle.std.specs.List.{flat_map};
-ghost use Rattle.vr_base.specs.declared.project.ProjectFile.{ProjectFile};
+ghost use Rattle.base.specs.declared.project.ProjectFile.{ProjectFile};
 ghost use Rattle.vhdl_benches.specs.declared.bench.Bench.{Bench};
 ghost use Rattle.test_select.specs.Selection.{bench_names, count_of_tests, has_cases};
 ghost use Rattle.test_spec.specs.Runs.{FitsBench, FitsRun, HasWholeCase, bench_runs, case_names, test_runs};

@@ -1,6 +1,6 @@
 //! Runs of tests.
 
-use vr_base::{Items, Text, TextList};
+use base::{Items, Text, TextList};
 
 /// A run of tests: the cases of a bench that one child of the simulator runs. `library`, `bench` and `architecture` have
 /// at most 4,194,304 bytes each, and so have the names of the cases together, of which there are at most 65,536.

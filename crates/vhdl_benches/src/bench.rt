@@ -1,6 +1,6 @@
 //! Test benches, their cases, and what is wrong with them.
 
-use vr_base::{Items, Text};
+use base::{Items, Text};
 
 /// A test case of a bench: its name, and the file in which it is, with the first byte and the number of bytes of the
 /// token that names it.

@@ -1,7 +1,7 @@
 -- The table of classes is right at each byte, by trying all 256.
 use Rattle.std.proofs.Common.{◌≡◌, ℕ, zero, suc, ◌<◌, ◌&&◌, ◌||◌, ◌⊎◌, inl, inr, Bool, true, false, not, cond, slice_index_or, nat_eq, nat_le, refl, subst, ⊎_elim, arith}
 use Rattle.std.proofs.str.Laws.{order}
-use Rattle.scan_spec.specs.Tokens.{is_line_end, is_word_byte, is_number_byte}
+use Rattle.vhdl_spec.specs.Tokens.{is_line_end, is_word_byte, is_number_byte}
 use Rattle.vhdl_lex.specs.declared.class.TheConstants.{CLASS}
 
 agree : Bool → Bool → Bool

@@ -1,11 +1,11 @@
 -- The table of the roles of delimiters is right, by trying all of its bytes.
 use Rattle.std.proofs.Common.{◌≡◌, ℕ, ◌<◌, List, map, slice_index_or, refl, sym, ◌∙◌, ap, subst}
 use Rattle.std.proofs.lemmas.List.{get_or-map}
-use Rattle.vr_base.specs.declared.design.Role.{Role}
-use Rattle.vr_base.specs.declared.design.Role.TheVariants.{Library}
-use Rattle.vr_base.specs.PresentGraph.{below}
-use Rattle.vr_base.proofs.Below.{get_or-below, length-below}
-use Rattle.scan_spec.specs.Units.{symbol_role}
+use Rattle.base.specs.declared.design.Role.{Role}
+use Rattle.base.specs.declared.design.Role.TheVariants.{Library}
+use Rattle.base.specs.PresentGraph.{below}
+use Rattle.base.proofs.Below.{get_or-below, length-below}
+use Rattle.vhdl_spec.specs.Units.{symbol_role}
 use Rattle.vhdl_lex.specs.declared.roles.TheConstants.{DELIMITERS}
 
 delimiters_are : map symbol_role (below 64) ≡ DELIMITERS

@@ -1,11 +1,11 @@
 -- What a scan gives is exact, since a text has one cut or one fault.
 use Rattle.std.proofs.Common.{ℕ, List, Ok, Err, Result, refl, subst}
-use Rattle.vr_base.specs.declared.lexical.Tokens.{Tokens}
-use Rattle.vr_base.specs.declared.lexical.LexFault.{LexFault}
-use Rattle.vr_base.specs.declared.memory.OrMemory.{OrMemory}
-use Rattle.vr_base.specs.declared.memory.OrMemory.TheVariants.{NoMemory, Fault}
-use Rattle.scan_spec.specs.Tokens.{Piece, IsCut, HasFault, AreOf, Scans}
-use Rattle.scan_spec.proofs.Cut.{one_cut, one_fault, no_cut_and_fault}
+use Rattle.base.specs.declared.lexical.Tokens.{Tokens}
+use Rattle.base.specs.declared.lexical.LexFault.{LexFault}
+use Rattle.base.specs.declared.memory.OrMemory.{OrMemory}
+use Rattle.base.specs.declared.memory.OrMemory.TheVariants.{NoMemory, Fault}
+use Rattle.vhdl_spec.specs.Tokens.{Piece, IsCut, HasFault, AreOf, Scans}
+use Rattle.vhdl_spec.proofs.Cut.{one_cut, one_fault, no_cut_and_fault}
 use Rattle.vhdl_lex.specs.Scanning.{GivesTokens, GivesFault}
 
 pub gives_tokens : (text : List ℕ) (result : Result Tokens (OrMemory LexFault)) → Scans text result → (pieces : List Piece) → IsCut text pieces → GivesTokens pieces result

@@ -1,9 +1,9 @@
 -- Where the loops end, the longest piece ends.
 use Rattle.std.proofs.Common.{◌≡◌, ℕ, ◌+◌, ◌<◌, ◌≤◌, Bool, true, false, not, List, [], ◌∷◌, length, slice_index, Option, Some, refl, sym, ap, subst, ⊎_elim, arith}
 use Rattle.std.proofs.str.Laws.{order}
-use Rattle.vr_base.specs.declared.lexical.Token.{Token}
-use Rattle.vr_base.specs.declared.lexical.TokenKind.TheVariants.{Word, Extended, Number, Str, Char, Tick, Symbol, High}
-use Rattle.scan_spec.specs.Tokens.{Row, byte_order_mark, blank, line_comment, block_comment, tool_directive, token, is_line_end, is_word_byte, is_number_byte, EachByte, IsLongest, row_at}
+use Rattle.base.specs.declared.lexical.Token.{Token}
+use Rattle.base.specs.declared.lexical.TokenKind.TheVariants.{Word, Extended, Number, Str, Char, Tick, Symbol, High}
+use Rattle.vhdl_spec.specs.Tokens.{Row, byte_order_mark, blank, line_comment, block_comment, tool_directive, token, is_line_end, is_word_byte, is_number_byte, EachByte, IsLongest, row_at}
 use Rattle.vhdl_lex.specs.Ends.{IsRunEnd, IsCommentEnd, IsMarkedEnd}
 use Rattle.vhdl_lex.specs.Pieces.{Skips}
 

@@ -2,9 +2,9 @@
 use Rattle.std.proofs.Common.{◌≡◌, ◌≢◌, ℕ, zero, suc, ◌+◌, ◌<◌, ◌≤◌, ◌⊎◌, true, false, List, length, slice_index, Option, Some, None, refl, sym, ◌∙◌, ap, subst, inl, inr, ⊎_elim, arith}
 use Rattle.std.proofs.str.Laws.{order}
 use Rattle.std.proofs.lemmas.List.{get_or_past}
-use Rattle.scan_spec.specs.Tokens.{is_line_end, Inside, nothing, byte, pair, IsMarked}
-use Rattle.scan_spec.proofs.Exists.{in_text, start_inside}
-use Rattle.scan_spec.proofs.Forms.{none_yet, last_byte, last_pair, last_step}
+use Rattle.vhdl_spec.specs.Tokens.{is_line_end, Inside, nothing, byte, pair, IsMarked}
+use Rattle.vhdl_spec.proofs.Exists.{in_text, start_inside}
+use Rattle.vhdl_spec.proofs.Forms.{none_yet, last_byte, last_pair, last_step}
 use Rattle.vhdl_lex.specs.Ends.{IsMarkedEnd}
 
 -- the first step from an offset inside marks towards a later one

@@ -1,10 +1,10 @@
 -- Which row of the table fits first, by the bytes that stand there.
 use Rattle.std.proofs.Common.{◌≡◌, ◌≢◌, ℕ, ◌<◌, ◌≤◌, ◌⊎◌, Bool, true, false, ⊎_elim, arith}
 use Rattle.std.proofs.lemmas.Bool.Decides.{nat_tests}
-use Rattle.vr_base.specs.declared.lexical.TokenKind.TheVariants.{Word, Extended, Number, Str, Char, Tick, Symbol, High}
+use Rattle.base.specs.declared.lexical.TokenKind.TheVariants.{Word, Extended, Number, Str, Char, Tick, Symbol, High}
 use Rattle.std.specs.Char.{is_ascii_alphabetic}
 use Rattle.vhdl_lex.specs.Pieces.{is_plain}
-use Rattle.scan_spec.specs.Tokens.{is_blank, byte_order_mark, blank, line_comment, block_comment, tool_directive, token, first_row}
+use Rattle.vhdl_spec.specs.Tokens.{is_blank, byte_order_mark, blank, line_comment, block_comment, tool_directive, token, first_row}
 
 module _ (start tick : Bool) (a b c : ℕ) where
   upper_row : 65 ≤ a → a ≤ 90 → first_row start tick a b c ≡ token Word

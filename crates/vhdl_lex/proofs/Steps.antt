@@ -4,18 +4,18 @@ use Rattle.std.proofs.Math.Seq.{get_or-append_seam}
 use Rattle.std.proofs.lemmas.List.{append-nil, length-append, map-append}
 use Rattle.std.proofs.lemmas.Option.{slice_get-get_or}
 use Rattle.std.proofs.lemmas.Grind.{flat_map-append}
-use Rattle.vr_base.specs.declared.lexical.Token.{Token}
-use Rattle.vr_base.specs.declared.design.Role.{Role}
-use Rattle.vr_base.specs.declared.lexical.TokenKind.{TokenKind}
-use Rattle.vr_base.specs.declared.lexical.Span.{Span}
-use Rattle.vr_base.specs.declared.lexical.Tokens.{Tokens}
-use Rattle.vr_base.specs.declared.lexical.LexFault.{LexFault}
-use Rattle.vr_base.specs.declared.lexical.LexFault.TheVariants.{UnclosedString, UnclosedExtended, UnclosedComment}
-use Rattle.vr_base.specs.declared.memory.OrMemory.TheVariants.{Fault}
+use Rattle.base.specs.declared.lexical.Token.{Token}
+use Rattle.base.specs.declared.design.Role.{Role}
+use Rattle.base.specs.declared.lexical.TokenKind.{TokenKind}
+use Rattle.base.specs.declared.lexical.Span.{Span}
+use Rattle.base.specs.declared.lexical.Tokens.{Tokens}
+use Rattle.base.specs.declared.lexical.LexFault.{LexFault}
+use Rattle.base.specs.declared.lexical.LexFault.TheVariants.{UnclosedString, UnclosedExtended, UnclosedComment}
+use Rattle.base.specs.declared.memory.OrMemory.TheVariants.{Fault}
 use Rattle.std.specs.Prelude.{Ok, Err}
-use Rattle.scan_spec.specs.Units.{role_of, roles_of}
-use Rattle.scan_spec.specs.Tokens.{Row, line_comment, block_comment, token, Piece, Place, text_start, place_after, EachByte, IsRight, Leads, Opens, is_blank, is_tick_at, tokens_of, comments_of, Scans}
-use Rattle.vr_base.specs.declared.lexical.TokenKind.TheVariants.{Str, Extended}
+use Rattle.vhdl_spec.specs.Units.{role_of, roles_of}
+use Rattle.vhdl_spec.specs.Tokens.{Row, line_comment, block_comment, token, Piece, Place, text_start, place_after, EachByte, IsRight, Leads, Opens, is_blank, is_tick_at, tokens_of, comments_of, Scans}
+use Rattle.base.specs.declared.lexical.TokenKind.TheVariants.{Str, Extended}
 use Rattle.vhdl_lex.specs.declared.piece.Found.TheVariants as found
 use Rattle.vhdl_lex.specs.Ends.{IsRunEnd}
 use Rattle.vhdl_lex.specs.Pieces.{LastIsIn, Skips, IsPieceEnd, HasNoEnd, IsFound, last_of}

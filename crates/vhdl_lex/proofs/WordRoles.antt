@@ -5,10 +5,10 @@ use Rattle.std.specs.Char.{to_ascii_lowercase}
 use Rattle.std.proofs.lemmas.List.{get_or-map}
 use Rattle.std.proofs.lemmas.List.Folds.{list_any_at}
 use Rattle.std.proofs.lemmas.Bool.Decides.{nat_tests}
-use Rattle.vr_base.specs.declared.design.Role.{Role}
-use Rattle.vr_base.specs.declared.design.Role.TheVariants.{Library, Use, Context, Entity, Architecture, Configuration, Package, Body, Is, Of, New, Function, Procedure, Generate, End, If, For, Case, Elsif, Else, Component, Inner, All, Generic, Name, Other}
-use Rattle.scan_spec.specs.Words.{is_reserved, lower_case, reserved_words}
-use Rattle.scan_spec.specs.Units.{word_role}
+use Rattle.base.specs.declared.design.Role.{Role}
+use Rattle.base.specs.declared.design.Role.TheVariants.{Library, Use, Context, Entity, Architecture, Configuration, Package, Body, Is, Of, New, Function, Procedure, Generate, End, If, For, Case, Elsif, Else, Component, Inner, All, Generic, Name, Other}
+use Rattle.vhdl_spec.specs.Words.{is_reserved, lower_case, reserved_words}
+use Rattle.vhdl_spec.specs.Units.{word_role}
 use Rattle.vhdl_lex.specs.declared.roles.TheConstants.{ROLES}
 
 roles_are : map word_role reserved_words ≡ ROLES

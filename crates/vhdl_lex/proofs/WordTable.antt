@@ -10,7 +10,7 @@ use Rattle.std.proofs.lemmas.List.{length-map}
 use Rattle.std.proofs.lemmas.List.Folds.{list_any_at}
 use Rattle.std.proofs.lemmas.Bool.{eqb-true}
 use Rattle.std.proofs.lemmas.Slice.Eq.{bytes_eq-Decides}
-use Rattle.scan_spec.specs.Words.{is_reserved, lower_case, reserved_words}
+use Rattle.vhdl_spec.specs.Words.{is_reserved, lower_case, reserved_words}
 use Rattle.vhdl_lex.specs.Places.{IsNumberOf, without_case, place_of}
 use Rattle.vhdl_lex.specs.declared.reserved.TheConstants.{LETTERS, LOWER, STARTS, NUMBERS}
 use Rattle.vhdl_lex.proofs.Classes.{tests_below, each_below, and_parts, or_parts}

@@ -1,7 +1,7 @@
 -- Where pieces of a text end.
 use Rattle.std.specs.Prelude.{◌≡◌, ℕ, ◌+◌, ◌-◌, ◌/◌, ◌^◌, ◌<◌, ◌≤◌, Bool, false, List, length, slice_index, Option, Some, None}
 use Rattle.std.specs.Int.{w64, trailing_zeros}
-use Rattle.scan_spec.specs.Tokens.{EachByte, IsBlockComment, IsMarked}
+use Rattle.vhdl_spec.specs.Tokens.{EachByte, IsBlockComment, IsMarked}
 
 -- from an offset up to the end each byte passes the test, and no further
 pub record IsRunEnd (test : ℕ → Bool) (text : List ℕ) (start end : ℕ) : Type 0 where

@@ -1,9 +1,9 @@
 -- What is at an offset of a text.
 use Rattle.std.specs.Prelude.{◌≡◌, ℕ, ◌-◌, ◌<◌, ◌≤◌, Bool, ◌&&◌, ◌||◌, ◌==◌, nat_le, List, [], length, slice_get, Option, Some, None}
-use Rattle.vr_base.specs.declared.lexical.Token.{Token}
-use Rattle.vr_base.specs.declared.lexical.TokenKind.TheVariants.{Str, Extended}
-use Rattle.vr_base.specs.declared.lexical.LexFault.TheVariants.{UnclosedString, UnclosedExtended, UnclosedComment}
-use Rattle.scan_spec.specs.Tokens.{Row, line_comment, block_comment, token, Piece, row_at, HasForm, IsLongest, Leads, tokens_of, comments_of}
+use Rattle.base.specs.declared.lexical.Token.{Token}
+use Rattle.base.specs.declared.lexical.TokenKind.TheVariants.{Str, Extended}
+use Rattle.base.specs.declared.lexical.LexFault.TheVariants.{UnclosedString, UnclosedExtended, UnclosedComment}
+use Rattle.vhdl_spec.specs.Tokens.{Row, line_comment, block_comment, token, Piece, row_at, HasForm, IsLongest, Leads, tokens_of, comments_of}
 use Rattle.vhdl_lex.specs.declared.piece.Found.{Found}
 use Rattle.vhdl_lex.specs.declared.piece.Found.TheVariants.{Gap, Comment, Lexeme, Unclosed}
 

@@ -1,5 +1,5 @@
 -- Where a word is in the table of reserved words.
-use Rattle.scan_spec.specs.Words.{is_reserved, lower_case, reserved_words}
+use Rattle.vhdl_spec.specs.Words.{is_reserved, lower_case, reserved_words}
 use Rattle.std.specs.Prelude.{◌≡◌, ◌<◌, zero, suc, false, [], slice_index_or, ℕ, ◌+◌, ◌-◌, ◌*◌, ◌/◌, ◌%◌, List, length, slice_index, bit_or}
 
 abbrev pub without_case : List ℕ → ℕ → ℕ

@@ -1,10 +1,10 @@
 -- What was read of a text so far.
 use Rattle.std.specs.Prelude.{◌≡◌, ℕ, ◌<◌, ◌≤◌, List, length, Result, Ok, Err}
-use Rattle.vr_base.specs.declared.lexical.Token.{Token}
-use Rattle.vr_base.specs.declared.lexical.Span.{Span}
-use Rattle.vr_base.specs.declared.lexical.LexFault.{LexFault}
-use Rattle.vr_base.specs.declared.memory.OrMemory.{OrMemory}
-use Rattle.scan_spec.specs.Tokens.{Piece, Leads, Scans, comments_of, text_start, tokens_of}
+use Rattle.base.specs.declared.lexical.Token.{Token}
+use Rattle.base.specs.declared.lexical.Span.{Span}
+use Rattle.base.specs.declared.lexical.LexFault.{LexFault}
+use Rattle.base.specs.declared.memory.OrMemory.{OrMemory}
+use Rattle.vhdl_spec.specs.Tokens.{Piece, Leads, Scans, comments_of, text_start, tokens_of}
 use Rattle.vhdl_lex.specs.Pieces.{LastIsIn, last_of}
 
 -- pieces from the start up to an offset, with their tokens and their comments

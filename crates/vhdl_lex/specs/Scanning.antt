@@ -1,10 +1,10 @@
 -- What a scan gives where the cut, or the fault, is known.
 use Rattle.std.specs.Prelude.{◌≡◌, List, Result, Ok, Err}
-use Rattle.vr_base.specs.declared.lexical.Tokens.{Tokens}
-use Rattle.vr_base.specs.declared.lexical.LexFault.{LexFault}
-use Rattle.vr_base.specs.declared.memory.OrMemory.{OrMemory}
-use Rattle.vr_base.specs.declared.memory.OrMemory.TheVariants.{NoMemory, Fault}
-use Rattle.scan_spec.specs.Tokens.{Piece, AreOf}
+use Rattle.base.specs.declared.lexical.Tokens.{Tokens}
+use Rattle.base.specs.declared.lexical.LexFault.{LexFault}
+use Rattle.base.specs.declared.memory.OrMemory.{OrMemory}
+use Rattle.base.specs.declared.memory.OrMemory.TheVariants.{NoMemory, Fault}
+use Rattle.vhdl_spec.specs.Tokens.{Piece, AreOf}
 
 -- the tokens of these pieces, or out of memory
 abbrev pub GivesTokens : List Piece → Result Tokens (OrMemory LexFault) → Type 0

@@ -1,7 +1,7 @@
 //! Classes of bytes (IEEE Std 1076-2008, clauses 15.2, 15.4 and 15.5).
 
 ghost use Rattle.std.specs.Prelude.{◌≡◌};
-ghost use Rattle.scan_spec.specs.Tokens.{is_blank, is_line_end, is_word_byte, is_number_byte};
+ghost use Rattle.vhdl_spec.specs.Tokens.{is_blank, is_line_end, is_word_byte, is_number_byte};
 ghost use Rattle.vhdl_lex.specs.Pieces.{is_plain};
 
 const LINE_END: u8 = 1;

@@ -1,12 +1,12 @@
 //! Where pieces of a text end: one function a form, each with one loop.
 
 ghost use Rattle.std.specs.Prelude.{◌≡◌, ◌+◌, ◌<◌, ◌≤◌, false, not, length};
-ghost use Rattle.scan_spec.specs.Tokens.{is_blank, is_line_end, is_word_byte, is_number_byte};
+ghost use Rattle.vhdl_spec.specs.Tokens.{is_blank, is_line_end, is_word_byte, is_number_byte};
 ghost use Rattle.vhdl_lex.specs.Ends.{AreStops, IsRunEnd, IsCommentEnd, IsMarkedEnd};
 
 use crate::class::{is_blank, is_line_end, is_number_byte, is_word_byte};
 use crate::stops::stop_from;
-use vr_base::TEXT_LIMIT;
+use base::TEXT_LIMIT;
 
 /// The end of the bytes of a word, where `stops` tells of 64 bytes from `base` on which are of none.
 #[inline(always)]

@@ -1,15 +1,15 @@
 //! The piece at an offset of a text: a gap, a line comment or a token, or what has no end.
 
 ghost use Rattle.std.specs.Prelude.{◌≡◌, ◌≢◌, ◌<◌, ◌≤◌, ◌^◌, length, slice_index, Option};
-ghost use Rattle.vr_base.specs.declared.lexical.Token.{Token};
-ghost use Rattle.scan_spec.specs.Tokens.{is_tick_at, is_word_byte};
+ghost use Rattle.base.specs.declared.lexical.Token.{Token};
+ghost use Rattle.vhdl_spec.specs.Tokens.{is_tick_at, is_word_byte};
 ghost use Rattle.vhdl_lex.specs.Ends.{AreStops};
 ghost use Rattle.vhdl_lex.specs.Pieces.{IsFound, LastIsIn, last_of};
 
 use crate::class::is_plain;
 use crate::ends::{comment_end, line_end, marked_end, number_end, word_end, word_end_by};
 use crate::reserved::is_reserved;
-use vr_base::{LexFault, TEXT_LIMIT, Token, TokenKind};
+use base::{LexFault, TEXT_LIMIT, Token, TokenKind};
 
 /// What is at an offset. Each but the last ends before a byte.
 pub enum Found {

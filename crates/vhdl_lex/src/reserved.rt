@@ -4,7 +4,7 @@
 
 ghost use Rattle.std.specs.Prelude.{◌≡◌, ◌<◌, ◌↔◌, IsTrue, length, slice_index, slice_index_or, []};
 ghost use Rattle.std.specs.Char.{to_ascii_lowercase};
-ghost use Rattle.scan_spec.specs.Words.{is_reserved, lower_case, reserved_words};
+ghost use Rattle.vhdl_spec.specs.Words.{is_reserved, lower_case, reserved_words};
 ghost use Rattle.vhdl_lex.specs.Places.{IsNumberOf, place_of};
 
 /// The letters of all reserved words, in order.

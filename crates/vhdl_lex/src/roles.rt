@@ -1,12 +1,12 @@
 //! What each token is to the grammar of design units.
 
 ghost use Rattle.std.specs.Prelude.{◌≡◌};
-ghost use Rattle.scan_spec.specs.Words.{lower_case};
-ghost use Rattle.scan_spec.specs.Units.{word_role, symbol_role, role_of};
+ghost use Rattle.vhdl_spec.specs.Words.{lower_case};
+ghost use Rattle.vhdl_spec.specs.Units.{word_role, symbol_role, role_of};
 ghost use Rattle.vhdl_lex.specs.Pieces.{LiesIn};
 
 use crate::reserved::reserved_number;
-use vr_base::{Role, Token, TokenKind};
+use base::{Role, Token, TokenKind};
 
 /// The roles of the reserved words, in the order of the alphabet.
 static ROLES: [Role; 115] = [

@@ -1,9 +1,9 @@
 //! The cut of a whole text, in one pass.
 
 ghost use Rattle.std.specs.Prelude.{◌≡◌, ◌<◌, ◌≤◌, ℕ, List, [], ◌∷◌, ◌++◌, length, true, IfOk};
-ghost use Rattle.vr_base.specs.declared.lexical.LexFault.{LexFault};
-ghost use Rattle.scan_spec.specs.Tokens.{Piece, IsCut, HasFault, AreOf, Scans};
-ghost use Rattle.scan_spec.specs.Units.{role_of, roles_of};
+ghost use Rattle.base.specs.declared.lexical.LexFault.{LexFault};
+ghost use Rattle.vhdl_spec.specs.Tokens.{Piece, IsCut, HasFault, AreOf, Scans};
+ghost use Rattle.vhdl_spec.specs.Units.{role_of, roles_of};
 ghost use Rattle.vhdl_lex.specs.Pieces.{LiesIn};
 ghost use Rattle.vhdl_lex.specs.Reading.{Read, ReadsOn};
 ghost use Rattle.vhdl_lex.specs.Scanning.{GivesTokens, GivesFault};
@@ -12,11 +12,9 @@ use crate::ends::gap_end_by;
 use crate::piece::{Found, next_piece};
 use crate::roles::role_of;
 use crate::stops::{gap_stops, word_stops};
+use base::{Items, LexFault, NoMemory, OrMemory, Role, RoleList, Span, TEXT_LIMIT, Token, Tokens};
 use std::alloc::Global;
 use std::mem::replace;
-use vr_base::{
-    Items, LexFault, NoMemory, OrMemory, Role, RoleList, Span, TEXT_LIMIT, Token, Tokens,
-};
 
 /// The tokens and the line comments of a text of at most 4,194,304 bytes, or its lexical fault, in time in
 /// proportion to its length (IEEE Std 1076-2008, clause 15).

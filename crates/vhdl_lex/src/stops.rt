@@ -1,11 +1,11 @@
 //! The bytes of a text, 64 at once: a bit for each at which a run of bytes stops.
 
 ghost use Rattle.std.specs.Prelude.{◌≡◌, ◌+◌, ◌≤◌, IfSome, length};
-ghost use Rattle.scan_spec.specs.Tokens.{is_blank, is_word_byte};
+ghost use Rattle.vhdl_spec.specs.Tokens.{is_blank, is_word_byte};
 ghost use Rattle.vhdl_lex.specs.Ends.{AreStops, IsStopFrom};
 
+use base::TEXT_LIMIT;
 use std::simd::prelude::*;
-use vr_base::TEXT_LIMIT;
 
 const LANES: usize = 64;
 

@@ -1,11 +1,11 @@
 -- One token more of a clause.
 use Rattle.std.proofs.Common.{◌≡◌, ◌≢◌, ℕ, ◌+◌, ◌<◌, Bool, true, false, cond, not, ◌&&◌, ◌||◌, List, [], ◌∷◌, ◌⊎◌, inl, inr, length, refl, sym, ◌∙◌, ap, subst, arith}
 use Rattle.std.specs.List.{list_any}
-use Rattle.vr_base.specs.declared.design.Role.{Role}
-use Rattle.vr_base.specs.declared.design.Role.TheVariants.{Library, Use, Context, Is, Semicolon}
-use Rattle.scan_spec.specs.Units.{role_at}
-use Rattle.scan_spec.specs.References.{back_to, ends_item, is_context_word, is_library_word, is_semicolon, is_use_word, lists_names}
-use Rattle.scan_spec.proofs.Backwards.{back_more}
+use Rattle.base.specs.declared.design.Role.{Role}
+use Rattle.base.specs.declared.design.Role.TheVariants.{Library, Use, Context, Is, Semicolon}
+use Rattle.vhdl_spec.specs.Units.{role_at}
+use Rattle.vhdl_spec.specs.References.{back_to, ends_item, is_context_word, is_library_word, is_semicolon, is_use_word, lists_names}
+use Rattle.vhdl_spec.proofs.Backwards.{back_more}
 use Rattle.vhdl_refs.specs.Clauses.{IsClauseAt}
 use Rattle.vhdl_refs.specs.declared.clause.Clause.{Clause}
 

@@ -1,9 +1,9 @@
 -- One token more that isn't `component`.
 use Rattle.std.proofs.Common.{◌≡◌, ℕ, ◌+◌, ◌<◌, ◌≤◌, ◌&&◌, ◌||◌, Bool, true, false, not, List, map, inl, inr, refl, sym, ◌∙◌, ap, arith}
 use Rattle.std.proofs.lemmas.Bool.{cases_lt}
-use Rattle.vr_base.specs.declared.design.Role.{Role}
-use Rattle.scan_spec.specs.References.{is_name, places, role_before}
-use Rattle.scan_spec.specs.Units.{role_at}
+use Rattle.base.specs.declared.design.Role.{Role}
+use Rattle.vhdl_spec.specs.References.{is_name, places, role_before}
+use Rattle.vhdl_spec.specs.Units.{role_at}
 use Rattle.vhdl_refs.specs.Components.{HasNoComponent, HasPassedWords, components_between, is_component, is_component_word, is_end_word, name_place}
 use Rattle.vhdl_refs.proofs.DotSteps.{places_skip}
 

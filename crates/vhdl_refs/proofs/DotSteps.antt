@@ -1,9 +1,9 @@
 -- One token more that isn't a dot, or that no dot follows.
 use Rattle.std.proofs.Common.{◌≡◌, ℕ, zero, suc, ◌+◌, ◌-◌, ◌<◌, ◌≤◌, ◌++◌, ◌&&◌, ◌||◌, Bool, true, false, not, cond, List, [], ◌∷◌, map, inl, inr, refl, sym, ◌∙◌, ap, subst, append-nil, arith}
 use Rattle.std.proofs.lemmas.Bool.{cases_lt}
-use Rattle.vr_base.specs.declared.design.Role.{Role}
-use Rattle.scan_spec.specs.References.{is_all_word, is_dot, is_name, is_reference, is_use_of_all, is_used, places, role_before}
-use Rattle.scan_spec.specs.Units.{role_at}
+use Rattle.base.specs.declared.design.Role.{Role}
+use Rattle.vhdl_spec.specs.References.{is_all_word, is_dot, is_name, is_reference, is_use_of_all, is_used, places, role_before}
+use Rattle.vhdl_spec.specs.Units.{role_at}
 use Rattle.vhdl_refs.specs.Dots.{HasPassed, IsDotless}
 use Rattle.vhdl_refs.proofs.PlaceSteps.{places_more}
 

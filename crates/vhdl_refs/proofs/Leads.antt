@@ -3,15 +3,15 @@ use Rattle.std.proofs.Common.{◌≡◌, ℕ, zero, suc, ◌+◌, ◌<◌, ◌�
 use Rattle.std.specs.List.{slice_get}
 use Rattle.std.proofs.lemmas.List.{length-map}
 use Rattle.std.proofs.lemmas.Option.{slice_get_within, get_or_from_slice_get}
-use Rattle.vr_base.specs.declared.design.Role.{Role}
-use Rattle.vr_base.specs.declared.design.Role.TheVariants.{Semicolon}
-use Rattle.vr_base.specs.declared.design.Scan.{Scan}
-use Rattle.vr_base.specs.declared.design.Unit.{Unit as DesignUnit}
-use Rattle.scan_spec.specs.Units.{role_at, role_of, roles_of}
-use Rattle.scan_spec.specs.Scans.{IsScanOf}
-use Rattle.scan_spec.specs.UnitPlaces.{FollowOn, IsPlaced}
-use Rattle.scan_spec.proofs.Lying.{tokens_few}
-use Rattle.scan_spec.proofs.Placed.{all_placed, follow_on}
+use Rattle.base.specs.declared.design.Role.{Role}
+use Rattle.base.specs.declared.design.Role.TheVariants.{Semicolon}
+use Rattle.base.specs.declared.design.Scan.{Scan}
+use Rattle.base.specs.declared.design.Unit.{Unit as DesignUnit}
+use Rattle.vhdl_spec.specs.Units.{role_at, role_of, roles_of}
+use Rattle.vhdl_spec.specs.Scans.{IsScanOf}
+use Rattle.vhdl_spec.specs.UnitPlaces.{FollowOn, IsPlaced}
+use Rattle.vhdl_spec.proofs.Lying.{tokens_few}
+use Rattle.vhdl_spec.proofs.Placed.{all_placed, follow_on}
 use Rattle.vhdl_refs.proofs.ClauseSteps.{BeginsClause}
 
 -- each unit ends with a `;` of the file

@@ -5,8 +5,8 @@ use Rattle.std.proofs.lemmas.List.{map-append}
 use Rattle.std.proofs.lemmas.List.Elements.{filter-append}
 use Rattle.std.proofs.lemmas.List.Folds.{find-append}
 use Rattle.std.specs.Option.{option_or}
-use Rattle.vr_base.specs.declared.design.Role.{Role}
-use Rattle.scan_spec.specs.References.{is_reference, places}
+use Rattle.base.specs.declared.design.Role.{Role}
+use Rattle.vhdl_spec.specs.References.{is_reference, places}
 use Rattle.vhdl_refs.specs.declared.places.RefPlace.{RefPlace}
 use Rattle.vhdl_refs.specs.Places.{ref_place, refs_between}
 

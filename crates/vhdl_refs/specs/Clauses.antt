@@ -1,10 +1,10 @@
 -- What is known of the clause of a token by the tokens before it.
 use Rattle.std.specs.Prelude.{◌≡◌, ℕ, ◌<◌, ◌≤◌, List, length}
 use Rattle.std.specs.List.{list_any}
-use Rattle.vr_base.specs.declared.design.Role.{Role}
-use Rattle.vr_base.specs.declared.design.Unit.{Unit as DesignUnit}
-use Rattle.vr_base.specs.declared.limits.TheConstants.{TEXT_LIMIT}
-use Rattle.scan_spec.specs.References.{back_to, clause_start, ends_item, is_context_word, is_in_name_list, is_in_use_list, is_library_word, is_semicolon}
+use Rattle.base.specs.declared.design.Role.{Role}
+use Rattle.base.specs.declared.design.Unit.{Unit as DesignUnit}
+use Rattle.base.specs.declared.limits.TheConstants.{TEXT_LIMIT}
+use Rattle.vhdl_spec.specs.References.{back_to, clause_start, ends_item, is_context_word, is_in_name_list, is_in_use_list, is_library_word, is_semicolon}
 use Rattle.vhdl_refs.specs.declared.clause.Clause.{Clause}
 use Rattle.vhdl_refs.specs.declared.clause.Reached.{Reached}
 

@@ -1,12 +1,12 @@
 -- The components that a design unit declares, or instantiates by that word (IEEE Std 1076-2008, clauses 6.8 and 11.7): the
 -- NAME after each `component`. After `end` the word says what ends.
 use Rattle.std.specs.Prelude.{◌≡◌, ℕ, ◌+◌, ◌<◌, ◌≤◌, ◌&&◌, not, Bool, true, false, List, map}
-use Rattle.vr_base.specs.declared.design.Role.{Role}
-use Rattle.vr_base.specs.declared.design.Role.TheVariants.{Component, End}
-use Rattle.vr_base.specs.declared.design.Unit.{Unit as DesignUnit}
-use Rattle.vr_base.specs.declared.lexical.Token.{Token}
-use Rattle.scan_spec.specs.References.{is_name, places, role_before}
-use Rattle.scan_spec.specs.Units.{name_of, role_at, roles_of}
+use Rattle.base.specs.declared.design.Role.{Role}
+use Rattle.base.specs.declared.design.Role.TheVariants.{Component, End}
+use Rattle.base.specs.declared.design.Unit.{Unit as DesignUnit}
+use Rattle.base.specs.declared.lexical.Token.{Token}
+use Rattle.vhdl_spec.specs.References.{is_name, places, role_before}
+use Rattle.vhdl_spec.specs.Units.{name_of, role_at, roles_of}
 
 abbrev pub is_component_word : Role → Bool
 is_component_word Component = true

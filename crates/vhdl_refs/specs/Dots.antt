@@ -1,8 +1,8 @@
 -- Tokens that are no dots, and tokens that no dot follows.
 use Rattle.std.specs.Prelude.{◌≡◌, ℕ, ◌+◌, ◌<◌, ◌≤◌, false, List}
-use Rattle.vr_base.specs.declared.design.Role.{Role}
-use Rattle.scan_spec.specs.References.{is_dot}
-use Rattle.scan_spec.specs.Units.{role_at}
+use Rattle.base.specs.declared.design.Role.{Role}
+use Rattle.vhdl_spec.specs.References.{is_dot}
+use Rattle.vhdl_spec.specs.Units.{role_at}
 
 -- no token from one up to another is a dot
 abbrev pub IsDotless : List Role → ℕ → ℕ → Type 0

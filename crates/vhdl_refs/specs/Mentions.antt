@@ -1,15 +1,15 @@
 -- What a design unit mentions, as tokens that are kept without those around them.
 use Rattle.std.specs.Prelude.{◌≡◌, ℕ, Option, Some, None, List, [], ◌∷◌, map}
 use Rattle.std.specs.List.{All}
-use Rattle.vr_base.specs.declared.child.MaybeText.{MaybeText}
-use Rattle.vr_base.specs.declared.child.MaybeText.TheVariants.{Nothing, Given}
-use Rattle.vr_base.specs.declared.design.Unit.{Unit as DesignUnit}
-use Rattle.vr_base.specs.declared.design.UnitKind.{UnitKind}
-use Rattle.vr_base.specs.declared.design.UnitKind.TheVariants as kinds
-use Rattle.vr_base.specs.declared.lexical.Token.{Token}
-use Rattle.vr_base.specs.declared.refs.Ref.{Ref}
-use Rattle.scan_spec.specs.References.{context_refs, named_refs, owner_name, structural_by, structural_ref, uses_of_all}
-use Rattle.scan_spec.specs.Units.{name_of, roles_of}
+use Rattle.base.specs.declared.child.MaybeText.{MaybeText}
+use Rattle.base.specs.declared.child.MaybeText.TheVariants.{Nothing, Given}
+use Rattle.base.specs.declared.design.Unit.{Unit as DesignUnit}
+use Rattle.base.specs.declared.design.UnitKind.{UnitKind}
+use Rattle.base.specs.declared.design.UnitKind.TheVariants as kinds
+use Rattle.base.specs.declared.lexical.Token.{Token}
+use Rattle.base.specs.declared.refs.Ref.{Ref}
+use Rattle.vhdl_spec.specs.References.{context_refs, named_refs, owner_name, structural_by, structural_ref, uses_of_all}
+use Rattle.vhdl_spec.specs.Units.{name_of, roles_of}
 use Rattle.vhdl_lex.specs.Pieces.{LiesIn}
 use Rattle.vhdl_units.specs.Names.{token_name}
 use Rattle.vhdl_refs.specs.Components.{component_names}

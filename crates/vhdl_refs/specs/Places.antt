@@ -1,9 +1,9 @@
 -- Where the references of a unit are.
 use Rattle.std.specs.Prelude.{◌≡◌, ℕ, ◌+◌, ◌<◌, List, length, map}
 use Rattle.std.specs.List.{All}
-use Rattle.vr_base.specs.declared.design.Role.{Role}
-use Rattle.vr_base.specs.declared.design.Unit.{Unit as DesignUnit}
-use Rattle.scan_spec.specs.References.{context_end, is_context_ref, is_reference, is_strict, places}
+use Rattle.base.specs.declared.design.Role.{Role}
+use Rattle.base.specs.declared.design.Unit.{Unit as DesignUnit}
+use Rattle.vhdl_spec.specs.References.{context_end, is_context_ref, is_reference, is_strict, places}
 use Rattle.vhdl_refs.specs.declared.places.RefPlace.{RefPlace}
 
 -- the token number of its library, and whether it is strict

@@ -1,12 +1,12 @@
 //! The clause of a token, as a walk over the tokens knows it.
 
 ghost use Rattle.std.specs.Prelude.{◌≡◌, ◌+◌, ◌<◌, ◌≤◌, false, length, true};
-ghost use Rattle.scan_spec.specs.References.{is_comma, is_in_name_list, is_in_use_list, role_before};
+ghost use Rattle.vhdl_spec.specs.References.{is_comma, is_in_name_list, is_in_use_list, role_before};
 ghost use Rattle.vhdl_refs.specs.Clauses.{HasReached, IsClauseAt};
 
 use crate::words::{is_comma, role_before};
+use base::Role;
 use vhdl_units::role_at;
-use vr_base::Role;
 
 /// What the tokens of a clause so far are: those since the last `;`.
 #[derive(Clone, Copy)]

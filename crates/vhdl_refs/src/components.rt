@@ -5,8 +5,8 @@ ghost use Rattle.std.specs.List.{All};
 ghost use Rattle.vhdl_refs.specs.Components.{HasNoComponent, HasPassedWords, components_between, is_component, name_place};
 
 use crate::words::{is_component_word, is_end_word, is_name, role_before};
+use base::{NoMemory, Role, TEXT_LIMIT};
 use vhdl_units::role_at;
-use vr_base::{NoMemory, Role, TEXT_LIMIT};
 
 /// Whether one of the 32 tokens from a place on is `component`. There is no early exit, so that many are tested at a time.
 fn has_component(roles: &[Role], from: usize) -> bool

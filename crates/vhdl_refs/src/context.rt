@@ -2,9 +2,9 @@
 
 ghost use Rattle.std.specs.Prelude.{◌≡◌, ◌+◌, ◌<◌, ◌≤◌, [], ◌∷◌, ◌++◌, if◌then◌else◌, IfOk, IsTrue, OnOk, Some, length, map, slice_get};
 ghost use Rattle.std.specs.Option.{option_map};
-ghost use Rattle.scan_spec.specs.Units.{AreTokensOf, name_of, roles_of};
-ghost use Rattle.scan_spec.specs.Scans.{IsScanOf};
-ghost use Rattle.scan_spec.specs.References.{context_end, context_refs, is_context_ref, is_in_library_clause, is_library_name, library_names, places};
+ghost use Rattle.vhdl_spec.specs.Units.{AreTokensOf, name_of, roles_of};
+ghost use Rattle.vhdl_spec.specs.Scans.{IsScanOf};
+ghost use Rattle.vhdl_spec.specs.References.{context_end, context_refs, is_context_ref, is_in_library_clause, is_library_name, library_names, places};
 ghost use Rattle.vhdl_refs.specs.Clauses.{BeginsUnit, IsClauseAt};
 ghost use Rattle.vhdl_refs.specs.Places.{AreRefPlaces, context_places, ref_place};
 
@@ -13,12 +13,12 @@ use crate::places::{RefPlace, is_reference, is_strict};
 use crate::refs::push_refs;
 use crate::unit::unit_at;
 use crate::words::{is_comma, is_context_word, is_library_word, is_name, role_before};
-use std::alloc::Global;
-use vhdl_units::{name_of, role_at};
-use vr_base::{
+use base::{
     Items, NoMemory, RefList, Role, RoleList, Scan, TEXT_LIMIT, Text, TextList, Tokens, Unit,
     UnitKind,
 };
+use std::alloc::Global;
+use vhdl_units::{name_of, role_at};
 
 /// Where the context items of a unit end.
 fn context_end(unit: &Unit) -> usize

@@ -4,8 +4,8 @@ ghost use Rattle.std.specs.Prelude.{◌≡◌, ◌+◌, ◌≤◌, IsTrue, false
 ghost use Rattle.vhdl_refs.specs.Dots.{HasPassed, IsDotless};
 
 use crate::words::is_dot;
+use base::Role;
 use vhdl_units::role_at;
-use vr_base::Role;
 
 /// Whether one of the 32 tokens from a place on is a dot. There is no early exit, so that many are tested at a time.
 fn has_dot(roles: &[Role], from: usize) -> bool

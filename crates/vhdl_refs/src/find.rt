@@ -2,16 +2,16 @@
 
 ghost use Rattle.std.specs.Prelude.{◌≡◌, ◌<◌, ◌≤◌, ◌++◌, IfOk, OnOk, Some, length, slice_get};
 ghost use Rattle.std.specs.Option.{option_map};
-ghost use Rattle.scan_spec.specs.Units.{AreTokensOf, roles_of};
-ghost use Rattle.scan_spec.specs.Scans.{IsScanOf};
-ghost use Rattle.scan_spec.specs.References.{refs_of, structural_by};
+ghost use Rattle.vhdl_spec.specs.Units.{AreTokensOf, roles_of};
+ghost use Rattle.vhdl_spec.specs.Scans.{IsScanOf};
+ghost use Rattle.vhdl_spec.specs.References.{refs_of, structural_by};
 
 use crate::named::push_places;
 use crate::refs::{no_ref, push_refs};
 use crate::structural::{configured_by, structural_ref};
 use crate::unit::unit_at;
+use base::{Items, NoMemory, Ref, RefList, Role, RoleList, Scan, TEXT_LIMIT, Tokens, Unit};
 use std::alloc::Global;
-use vr_base::{Items, NoMemory, Ref, RefList, Role, RoleList, Scan, TEXT_LIMIT, Tokens, Unit};
 
 /// Adds the structural reference of a unit, if it has one.
 fn push_structural(

@@ -3,10 +3,10 @@
 
 ghost use Rattle.std.specs.Prelude.{◌≡◌, ◌+◌, ◌<◌, ◌≤◌, IfOk, Some, length, map, slice_get};
 ghost use Rattle.std.specs.List.{All};
-ghost use Rattle.vr_base.specs.declared.design.Unit.{Unit as DesignUnit};
-ghost use Rattle.scan_spec.specs.Units.{AreTokensOf, name_of, roles_of};
-ghost use Rattle.scan_spec.specs.Scans.{IsScanOf};
-ghost use Rattle.scan_spec.specs.References.{architecture_at, context_refs, named_refs, ref_at, uses_of_all};
+ghost use Rattle.base.specs.declared.design.Unit.{Unit as DesignUnit};
+ghost use Rattle.vhdl_spec.specs.Units.{AreTokensOf, name_of, roles_of};
+ghost use Rattle.vhdl_spec.specs.Scans.{IsScanOf};
+ghost use Rattle.vhdl_spec.specs.References.{architecture_at, context_refs, named_refs, ref_at, uses_of_all};
 ghost use Rattle.vhdl_lex.specs.Pieces.{LiesIn};
 ghost use Rattle.vhdl_units.specs.Names.{token_name};
 ghost use Rattle.vhdl_refs.specs.Clauses.{BeginsUnit};
@@ -23,12 +23,12 @@ use crate::structural::configured_by;
 use crate::unit::unit_at;
 use crate::uses::push_uses;
 use crate::words::is_configuration;
-use std::alloc::Global;
-use vhdl_units::token_of;
-use vr_base::{
+use base::{
     Items, MaybeText, NoMemory, Role, RoleList, Scan, TEXT_LIMIT, Token, TokenList, Tokens, Unit,
     UnitKind,
 };
+use std::alloc::Global;
+use vhdl_units::token_of;
 
 /// A reference by name, `L.U` (IEEE Std 1076-2008, clause 13.2): the tokens that are its names, with that of the
 /// architecture that is given with an entity. `at` is the token number of `L`.

@@ -1,14 +1,14 @@
 //! Where the references by name, `L.U`, of some tokens are.
 
 ghost use Rattle.std.specs.Prelude.{◌≡◌, ◌<◌, ◌≤◌, [], ◌∷◌, ◌++◌, if◌then◌else◌, length, OnOk};
-ghost use Rattle.scan_spec.specs.References.{is_reference};
+ghost use Rattle.vhdl_spec.specs.References.{is_reference};
 ghost use Rattle.vhdl_refs.specs.Clauses.{HasReached, IsClauseAt};
 ghost use Rattle.vhdl_refs.specs.Places.{AreRefPlaces, ref_place, refs_between};
 
 use crate::clause::{Clause, Reached, follow};
 use crate::dots::next_dotted;
 use crate::places::{RefPlace, is_reference, is_strict};
-use vr_base::{NoMemory, Role, TEXT_LIMIT};
+use base::{NoMemory, Role, TEXT_LIMIT};
 
 /// Adds the place of the reference at a token, where one is.
 #[inline(always)]

@@ -1,14 +1,14 @@
 //! Where a reference is, and of what kind it is.
 
 ghost use Rattle.std.specs.Prelude.{◌≡◌, ◌+◌, ◌<◌, IsTrue, length, true};
-ghost use Rattle.scan_spec.specs.References.{has_architecture, has_block, is_comma, is_in_name_list, is_reference, is_strict, role_before};
+ghost use Rattle.vhdl_spec.specs.References.{has_architecture, has_block, is_comma, is_in_name_list, is_reference, is_strict, role_before};
 
 use crate::words::{
     follows_label, is_closing, is_comma, is_dot, is_entity_word, is_for, is_name, is_opening,
     is_semicolon, is_use_word, precedes_unit, role_before,
 };
+use base::Role;
 use vhdl_units::role_at;
-use vr_base::Role;
 
 /// Where a reference by name is, by the token number of its library, and whether it is strict.
 #[derive(Clone, Copy)]

@@ -1,16 +1,16 @@
 //! References with their names.
 
 ghost use Rattle.std.specs.Prelude.{◌≡◌, ◌+◌, ◌<◌, ◌++◌, IfOk, OnOk, length, map};
-ghost use Rattle.scan_spec.specs.Units.{AreTokensOf, roles_of};
-ghost use Rattle.scan_spec.specs.References.{ref_at};
+ghost use Rattle.vhdl_spec.specs.Units.{AreTokensOf, roles_of};
+ghost use Rattle.vhdl_spec.specs.References.{ref_at};
 ghost use Rattle.vhdl_refs.specs.Mentions.{NamedLiesIn, SomeLiesIn, named_architecture, named_ref};
 ghost use Rattle.vhdl_refs.specs.Places.{AreRefPlaces, IsRefPlace};
 
 use crate::mentions::{NamedRef, named_at};
 use crate::places::RefPlace;
+use base::{MaybeText, NoMemory, Ref, Role, Text, Token, Tokens, UnitKind};
 use std::alloc::Global;
 use vhdl_units::name_of_token;
-use vr_base::{MaybeText, NoMemory, Ref, Role, Text, Token, Tokens, UnitKind};
 
 /// A reference to nothing, which takes no memory: others are made in what one that isn't used any more leaves.
 pub fn no_ref(alloc: Global) -> Ref {

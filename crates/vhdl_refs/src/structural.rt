@@ -1,14 +1,14 @@
 //! The reference that a unit has by its structure: to its entity or its package.
 
 ghost use Rattle.std.specs.Prelude.{◌≡◌, ◌+◌, ◌<◌, ◌≤◌, [], ◌∷◌, if◌then◌else◌, IfOk, IfSome, length};
-ghost use Rattle.scan_spec.specs.Units.{AreTokensOf, roles_of, role_at, name_of};
-ghost use Rattle.scan_spec.specs.References.{configured, first_for, name_if, owner_name, structural_by, structural_ref};
+ghost use Rattle.vhdl_spec.specs.Units.{AreTokensOf, roles_of, role_at, name_of};
+ghost use Rattle.vhdl_spec.specs.References.{configured, first_for, name_if, owner_name, structural_by, structural_ref};
 ghost use Rattle.vhdl_refs.specs.Mentions.{structural_of};
 
 use crate::words::is_for;
+use base::{MaybeText, NoMemory, Ref, Role, Text, Tokens, Unit, UnitKind};
 use std::alloc::Global;
 use vhdl_units::{name_of, role_at};
-use vr_base::{MaybeText, NoMemory, Ref, Role, Text, Tokens, Unit, UnitKind};
 
 static WORK: [u8; 4] = *b"work";
 

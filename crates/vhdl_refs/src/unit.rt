@@ -1,12 +1,12 @@
 //! Where a design unit of a scan is among its tokens.
 
 ghost use Rattle.std.specs.Prelude.{◌≡◌, ◌<◌, ◌≤◌, Some, length, slice_get};
-ghost use Rattle.scan_spec.specs.Units.{roles_of};
-ghost use Rattle.scan_spec.specs.Scans.{IsScanOf};
+ghost use Rattle.vhdl_spec.specs.Units.{roles_of};
+ghost use Rattle.vhdl_spec.specs.Scans.{IsScanOf};
 ghost use Rattle.vhdl_refs.specs.Clauses.{IsClauseAt};
 
 use crate::clause::{Clause, clause_from};
-use vr_base::{Role, Scan, TEXT_LIMIT, Unit};
+use base::{Role, Scan, TEXT_LIMIT, Unit};
 
 /// The unit of a number in the scan of a text, and the clause that begins with its first token.
 pub fn unit_at<'a>(_text: &[u8], scan: &'a Scan, roles: &[Role], number: u32) -> (&'a Unit, Clause)

@@ -3,17 +3,17 @@
 ghost use Rattle.std.specs.Prelude.{◌≡◌, ◌<◌, ◌≤◌, [], ◌∷◌, ◌++◌, true, if◌then◌else◌, IfOk, OnOk, Some, length, slice_get};
 ghost use Rattle.std.specs.List.{All};
 ghost use Rattle.std.specs.Option.{option_map};
-ghost use Rattle.scan_spec.specs.Units.{roles_of};
-ghost use Rattle.scan_spec.specs.Scans.{IsScanOf};
-ghost use Rattle.scan_spec.specs.References.{is_all_of, is_comma, is_in_use_list, is_use_of_all, is_used, places, role_before, uses_of_all};
+ghost use Rattle.vhdl_spec.specs.Units.{roles_of};
+ghost use Rattle.vhdl_spec.specs.Scans.{IsScanOf};
+ghost use Rattle.vhdl_spec.specs.References.{is_all_of, is_comma, is_in_use_list, is_use_of_all, is_used, places, role_before, uses_of_all};
 ghost use Rattle.vhdl_refs.specs.Clauses.{HasReached, IsClauseAt};
 
 use crate::clause::{Clause, Reached, follow};
 use crate::dots::next_dotted;
 use crate::unit::unit_at;
 use crate::words::{is_all_word, is_comma, is_dot, is_name, is_use_word, role_before};
+use base::{Items, NoMemory, Positions, Role, RoleList, Scan, TEXT_LIMIT};
 use std::alloc::Global;
-use vr_base::{Items, NoMemory, Positions, Role, RoleList, Scan, TEXT_LIMIT};
 
 /// Whether the `L` of an `L.all` is at a token.
 #[inline(always)]

@@ -1,12 +1,12 @@
 //! What single tokens are to references.
 
 ghost use Rattle.std.specs.Prelude.{◌≡◌};
-ghost use Rattle.scan_spec.specs.Units.{is_opening, is_closing};
+ghost use Rattle.vhdl_spec.specs.Units.{is_opening, is_closing};
 ghost use Rattle.vhdl_refs.specs.Components.{is_component_word, is_end_word};
-ghost use Rattle.scan_spec.specs.References.{follows_label, is_all_word, is_comma, is_configuration, is_context_word, is_dot, is_entity_word, is_for, is_library_word, is_name, is_semicolon, is_use_word, precedes_unit, role_before};
+ghost use Rattle.vhdl_spec.specs.References.{follows_label, is_all_word, is_comma, is_configuration, is_context_word, is_dot, is_entity_word, is_for, is_library_word, is_name, is_semicolon, is_use_word, precedes_unit, role_before};
 
+use base::{Role, UnitKind};
 use vhdl_units::role_at;
-use vr_base::{Role, UnitKind};
 
 /// The role of the token before a place, and before the first that of a token which no rule names.
 pub fn role_before(roles: &[Role], at: usize) -> Role

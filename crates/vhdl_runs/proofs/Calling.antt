@@ -4,11 +4,11 @@ use Rattle.std.specs.Prelude.{IsTrue}
 use Rattle.std.specs.Str.{bytes_eq}
 use Rattle.std.proofs.lemmas.Bool.Decides.{same_from_decides}
 use Rattle.std.proofs.lemmas.Slice.Eq.{bytes_eq-Decides}
-use Rattle.vr_base.specs.declared.design.UnitKind.{UnitKind}
-use Rattle.vr_base.specs.declared.design.UnitKind.TheVariants as kinds
+use Rattle.base.specs.declared.design.UnitKind.{UnitKind}
+use Rattle.base.specs.declared.design.UnitKind.TheVariants as kinds
 use Rattle.std.proofs.Common.{codes, ◌&&◌}
-use Rattle.vr_base.specs.declared.lexical.Token.{Token}
-use Rattle.scan_spec.specs.Units.{is_closing, is_opening, name_token, role_at, roles_of, token_at}
+use Rattle.base.specs.declared.lexical.Token.{Token}
+use Rattle.vhdl_spec.specs.Units.{is_closing, is_opening, name_token, role_at, roles_of, token_at}
 use Rattle.vhdl_runs.specs.Runs.{is_entity_kind}
 use Rattle.vhdl_runs.specs.Calls.{is_run_call, is_string, is_word_at}
 

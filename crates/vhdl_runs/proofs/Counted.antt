@@ -4,9 +4,9 @@ use Rattle.std.specs.Prelude.{◌==◌}
 use Rattle.std.specs.List.{count_by}
 use Rattle.std.proofs.lemmas.List.Edits.{between_more}
 use Rattle.std.proofs.lemmas.List.Sums.{sum_by-append}
-use Rattle.vr_base.specs.declared.design.Role.{Role}
-use Rattle.vr_base.specs.declared.design.Role.TheVariants.{Other}
-use Rattle.scan_spec.specs.Units.{role_at}
+use Rattle.base.specs.declared.design.Role.{Role}
+use Rattle.base.specs.declared.design.Role.TheVariants.{Other}
+use Rattle.vhdl_spec.specs.Units.{role_at}
 
 pub count_more : (test : Role → Bool) (roles : List Role) (start at : ℕ) → start ≤ at → at < length roles → count_by test (slice_range roles start (at + 1)) ≡ count_by test (slice_range roles start at) + cond (test (role_at roles at)) 1 0
 count_more test roles start at ordered within =

@@ -5,7 +5,7 @@ use Rattle.std.proofs.lemmas.List.{map-append}
 use Rattle.std.proofs.lemmas.List.Elements.{filter-append}
 use Rattle.std.proofs.lemmas.List.Folds.{find-append}
 use Rattle.std.specs.Option.{option_or}
-use Rattle.scan_spec.specs.References.{places}
+use Rattle.vhdl_spec.specs.References.{places}
 
 range_more : (start n at : ℕ) → start + n ≡ at → range_with_len start (suc n) ≡ range_with_len start n ++ at ∷ []
 range_more start zero at is = let same : start ≡ at = omega arith in ap (λ (k : ℕ). k ∷ []) same

@@ -2,12 +2,12 @@
 use Rattle.std.proofs.Common.{◌≡◌, ℕ, zero, suc, ◌+◌, ◌-◌, ◌<◌, ◌≤◌, ◌++◌, ◌&&◌, ◌||◌, Bool, true, false, cond, codes, List, [], ◌∷◌, map, inl, inr, refl, sym, ◌∙◌, ap, subst, append-nil, arith}
 use Rattle.std.proofs.Math.ListN.{get_or-map}
 use Rattle.std.proofs.lemmas.Bool.{cases_lt}
-use Rattle.vr_base.specs.declared.design.Role.{Role}
-use Rattle.vr_base.specs.declared.lexical.Token.{Token}
-use Rattle.vr_base.specs.declared.lexical.TokenKind.{TokenKind}
-use Rattle.vr_base.specs.declared.lexical.TokenKind.TheVariants.{Word, Extended, Number, Str, Char, Tick, Symbol, High}
-use Rattle.scan_spec.specs.References.{places}
-use Rattle.scan_spec.specs.Units.{is_closing, is_opening, kind_role, role_at, role_of, roles_of, token_at}
+use Rattle.base.specs.declared.design.Role.{Role}
+use Rattle.base.specs.declared.lexical.Token.{Token}
+use Rattle.base.specs.declared.lexical.TokenKind.{TokenKind}
+use Rattle.base.specs.declared.lexical.TokenKind.TheVariants.{Word, Extended, Number, Str, Char, Tick, Symbol, High}
+use Rattle.vhdl_spec.specs.References.{places}
+use Rattle.vhdl_spec.specs.Units.{is_closing, is_opening, kind_role, role_at, role_of, roles_of, token_at}
 use Rattle.vhdl_runs.specs.Calls.{is_run_call, is_string, is_word_at}
 use Rattle.vhdl_runs.specs.Passing.{HasPassed, IsUncalled, is_other, may_call}
 use Rattle.vhdl_runs.proofs.FirstPlaces.{places_more}

@@ -1,13 +1,13 @@
 -- The strings of a cut have two quotes, and its comments are in the text.
 use Rattle.std.proofs.Common.{◌≡◌, ℕ, zero, suc, ◌+◌, ◌<◌, ◌≤◌, true, List, [], ◌∷◌, ◌++◌, length, sym, subst, arith}
-use Rattle.vr_base.specs.declared.lexical.Span.{Span}
-use Rattle.vr_base.specs.declared.lexical.Token.{Token}
-use Rattle.vr_base.specs.declared.lexical.Tokens.{Tokens}
-use Rattle.vr_base.specs.declared.lexical.TokenKind.{TokenKind}
-use Rattle.vr_base.specs.declared.lexical.TokenKind.TheVariants.{Word, Extended, Number, Str, Char, Tick, Symbol, High}
+use Rattle.base.specs.declared.lexical.Span.{Span}
+use Rattle.base.specs.declared.lexical.Token.{Token}
+use Rattle.base.specs.declared.lexical.Tokens.{Tokens}
+use Rattle.base.specs.declared.lexical.TokenKind.{TokenKind}
+use Rattle.base.specs.declared.lexical.TokenKind.TheVariants.{Word, Extended, Number, Str, Char, Tick, Symbol, High}
 use Rattle.std.specs.Prelude.{slice_index_or}
-use Rattle.scan_spec.specs.Tokens.{Row, byte_order_mark, blank, line_comment, block_comment, tool_directive, token, HasForm, Inside, nothing, byte, pair, Piece, Place, Leads, comment_of, comments_of, place_after, text_start, token_of, tokens_of}
-use Rattle.scan_spec.specs.Units.{token_at, AreTokensOf}
+use Rattle.vhdl_spec.specs.Tokens.{Row, byte_order_mark, blank, line_comment, block_comment, tool_directive, token, HasForm, Inside, nothing, byte, pair, Piece, Place, Leads, comment_of, comments_of, place_after, text_start, token_of, tokens_of}
+use Rattle.vhdl_spec.specs.Units.{token_at, AreTokensOf}
 use Rattle.vhdl_runs.specs.Calls.{is_string}
 
 inside_on : {mark : ℕ} {text : List ℕ} {start end : ℕ} → Inside mark text start end → start ≤ end

@@ -2,11 +2,11 @@
 use Rattle.std.proofs.Common.{◌≡◌, ℕ, ◌<◌, ◌≤◌, List, Some, length, All, sym, subst}
 use Rattle.std.specs.Prelude.{slice_get}
 use Rattle.std.proofs.lemmas.Option.{slice_get_within, get_or_from_slice_get}
-use Rattle.vr_base.specs.declared.design.Scan.{Scan}
-use Rattle.vr_base.specs.declared.design.Unit.{Unit as DesignUnit}
-use Rattle.scan_spec.specs.Scans.{IsScanOf}
-use Rattle.scan_spec.specs.UnitPlaces.{IsPlaced}
-use Rattle.scan_spec.proofs.Placed.{all_placed}
+use Rattle.base.specs.declared.design.Scan.{Scan}
+use Rattle.base.specs.declared.design.Unit.{Unit as DesignUnit}
+use Rattle.vhdl_spec.specs.Scans.{IsScanOf}
+use Rattle.vhdl_spec.specs.UnitPlaces.{IsPlaced}
+use Rattle.vhdl_spec.proofs.Placed.{all_placed}
 
 pub placed : (text : List ℕ) (scan : Scan) (is : IsScanOf text scan) (i : ℕ) (unit : DesignUnit) → slice_get scan.units i ≡ Some unit → IsPlaced text scan.tokens.list unit
 placed text scan is i unit there =

@@ -1,7 +1,7 @@
 -- What is left of a string after one byte.
 use Rattle.std.proofs.Common.{◌≡◌, ℕ, ◌<◌, Bool, true, false, cond, ◌&&◌, List, [], ◌∷◌, length, drop, get_or, refl, sym, ap, rules, tests, arith}
 use Rattle.std.specs.Prelude.{◌==◌}
-use Rattle.scan_spec.specs.Tokens.{quote}
+use Rattle.vhdl_spec.specs.Tokens.{quote}
 use Rattle.vhdl_runs.specs.Calls.{unquoted}
 
 not_quote : (byte : ℕ) → (byte ≡ quote → ⊥) → (byte == quote) ≡ false

@@ -6,16 +6,16 @@ use Rattle.std.specs.List.{list_any, range_with_len, starts_with}
 use Rattle.std.specs.Option.{option_map_or}
 use Rattle.std.specs.Str.{bytes_eq}
 use Rattle.vhdl_benches.specs.declared.bench.TestCase.{TestCase}
-use Rattle.vr_base.specs.declared.design.Role.{Role}
-use Rattle.vr_base.specs.declared.design.Role.TheVariants.{Generic}
-use Rattle.vr_base.specs.declared.design.Unit.{Unit as DesignUnit}
-use Rattle.vr_base.specs.declared.lexical.Span.{Span}
-use Rattle.vr_base.specs.declared.lexical.Token.{Token}
-use Rattle.vr_base.specs.declared.lexical.TokenKind.{TokenKind}
-use Rattle.vr_base.specs.declared.lexical.TokenKind.TheVariants.{Word, Extended, Number, Str, Char, Tick, Symbol, High}
-use Rattle.scan_spec.specs.Tokens.{quote}
-use Rattle.scan_spec.specs.Units.{is_opening, is_closing, name_of, name_token, role_at, roles_of, token_at}
-use Rattle.scan_spec.specs.References.{is_name, places}
+use Rattle.base.specs.declared.design.Role.{Role}
+use Rattle.base.specs.declared.design.Role.TheVariants.{Generic}
+use Rattle.base.specs.declared.design.Unit.{Unit as DesignUnit}
+use Rattle.base.specs.declared.lexical.Span.{Span}
+use Rattle.base.specs.declared.lexical.Token.{Token}
+use Rattle.base.specs.declared.lexical.TokenKind.{TokenKind}
+use Rattle.base.specs.declared.lexical.TokenKind.TheVariants.{Word, Extended, Number, Str, Char, Tick, Symbol, High}
+use Rattle.vhdl_spec.specs.Tokens.{quote}
+use Rattle.vhdl_spec.specs.Units.{is_opening, is_closing, name_of, name_token, role_at, roles_of, token_at}
+use Rattle.vhdl_spec.specs.References.{is_name, places}
 
 -- ## Words and places
 

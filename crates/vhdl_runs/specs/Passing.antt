@@ -1,8 +1,8 @@
 -- Tokens of which the roles alone tell that no case is called there.
 use Rattle.std.specs.Prelude.{◌≡◌, ℕ, ◌+◌, ◌<◌, ◌≤◌, Bool, true, false, ◌&&◌, List}
-use Rattle.vr_base.specs.declared.design.Role.{Role}
-use Rattle.vr_base.specs.declared.design.Role.TheVariants.{Other}
-use Rattle.scan_spec.specs.Units.{is_closing, is_opening, role_at}
+use Rattle.base.specs.declared.design.Role.{Role}
+use Rattle.base.specs.declared.design.Role.TheVariants.{Other}
+use Rattle.vhdl_spec.specs.Units.{is_closing, is_opening, role_at}
 
 -- a token that no rule names, as a string
 abbrev pub is_other : Role → Bool

@@ -1,13 +1,13 @@
 -- What the units of a file say of tests, kept without the tokens around it.
 use Rattle.std.specs.Prelude.{◌≡◌, ℕ, ◌+◌, ◌≤◌, Bool, true, false, ◌&&◌, if◌then◌else◌, Option, Some, None, List, [], length, map}
 use Rattle.std.specs.List.{All}
-use Rattle.vr_base.specs.declared.design.Scan.{Scan}
-use Rattle.vr_base.specs.declared.design.Unit.{Unit as DesignUnit}
-use Rattle.vr_base.specs.declared.design.UnitKind.{UnitKind}
-use Rattle.vr_base.specs.declared.design.UnitKind.TheVariants as kinds
-use Rattle.vr_base.specs.declared.lexical.Token.{Token}
-use Rattle.scan_spec.specs.Dependencies.{is_architecture_kind}
-use Rattle.scan_spec.specs.Units.{name_token, token_at}
+use Rattle.base.specs.declared.design.Scan.{Scan}
+use Rattle.base.specs.declared.design.Unit.{Unit as DesignUnit}
+use Rattle.base.specs.declared.design.UnitKind.{UnitKind}
+use Rattle.base.specs.declared.design.UnitKind.TheVariants as kinds
+use Rattle.base.specs.declared.lexical.Token.{Token}
+use Rattle.vhdl_spec.specs.Dependencies.{is_architecture_kind}
+use Rattle.vhdl_spec.specs.Units.{name_token, token_at}
 use Rattle.vhdl_lex.specs.Pieces.{LiesIn}
 use Rattle.vhdl_runs.specs.Calls.{asks_same_sim, has_runner, run_strings}
 use Rattle.vhdl_runs.specs.declared.runs.FileRuns.{FileRuns}

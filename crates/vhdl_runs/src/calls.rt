@@ -2,15 +2,15 @@
 
 ghost use Rattle.std.specs.Prelude.{◌≡◌, ◌+◌, ◌<◌, ◌≤◌, ◌∷◌, ◌++◌, [], IfOk, IsTrue, OnOk, if◌then◌else◌, length, true};
 ghost use Rattle.std.specs.List.{All};
-ghost use Rattle.scan_spec.specs.Units.{AreTokensOf, roles_of, token_at};
+ghost use Rattle.vhdl_spec.specs.Units.{AreTokensOf, roles_of, token_at};
 ghost use Rattle.vhdl_runs.specs.Calls.{is_run_call, is_string, run_strings};
 ghost use Rattle.vhdl_runs.specs.Runs.{IsStringIn};
 
 use crate::passing::next_call;
 use crate::words::{is_closing, is_opening, is_string, is_word};
+use base::{Items, NoMemory, Role, Token, TokenList, Tokens};
 use std::alloc::Global;
 use vhdl_units::role_at;
-use vr_base::{Items, NoMemory, Role, Token, TokenList, Tokens};
 
 /// The word that calls a test case.
 static RUN: [u8; 3] = *b"run";

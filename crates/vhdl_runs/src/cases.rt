@@ -5,9 +5,9 @@ ghost use Rattle.vhdl_lex.specs.Pieces.{LiesIn};
 ghost use Rattle.vhdl_runs.specs.Calls.{string_case, token_case, unquoted};
 ghost use Rattle.vhdl_runs.specs.Runs.{IsStringIn};
 
+use base::{NoMemory, Text, Token};
 use std::alloc::Global;
 use vhdl_benches::TestCase;
-use vr_base::{NoMemory, Text, Token};
 
 /// The name of the case of a bench that calls none.
 static ALL: [u8; 3] = *b"all";

@@ -1,10 +1,10 @@
 //! The comment that asks for one simulation of all cases.
 
 ghost use Rattle.std.specs.Prelude.{◌≡◌, ◌<◌, ◌≤◌, ℕ, Bool, false, List, MatchOption, length, slice_range};
-ghost use Rattle.scan_spec.specs.Units.{AreTokensOf};
+ghost use Rattle.vhdl_spec.specs.Units.{AreTokensOf};
 ghost use Rattle.vhdl_runs.specs.Calls.{after_pads, asks_same_sim, has_word_first, is_pad, is_same_sim};
 
-use vr_base::{Span, Tokens};
+use base::{Span, Tokens};
 
 fn is_pad(byte: u8) -> bool
     ensures { result ≡ is_pad byte }

@@ -5,8 +5,8 @@ ghost use Rattle.std.specs.Prelude.{◌≡◌, ◌+◌, ◌<◌, ◌≤◌, IsTr
 ghost use Rattle.vhdl_runs.specs.Passing.{HasPassed, IsUncalled, may_call};
 
 use crate::words::{is_closing, is_opening, is_other};
+use base::Role;
 use vhdl_units::role_at;
-use vr_base::Role;
 
 /// Whether `(`, a token that no rule names, as a string, and `)` follow a token.
 fn may_call(roles: &[Role], at: usize) -> bool

@@ -1,12 +1,12 @@
 //! Whether an entity is a test bench: whether its first generic clause has `runner_cfg`.
 
 ghost use Rattle.std.specs.Prelude.{◌≡◌, ◌<◌, ◌≤◌, IfSome, if◌then◌else◌, length};
-ghost use Rattle.scan_spec.specs.Units.{AreTokensOf, roles_of};
+ghost use Rattle.vhdl_spec.specs.Units.{AreTokensOf, roles_of};
 ghost use Rattle.vhdl_runs.specs.Calls.{closing_of, first_place, has_runner, lists_runner, names_runner, opens_generics};
 
 use crate::words::{is_closing, is_generic_word, is_opening, is_word};
+use base::{Role, Tokens, Unit};
 use vhdl_units::role_at;
-use vr_base::{Role, Tokens, Unit};
 
 /// The name of the generic that each test bench has.
 static RUNNER_CFG: [u8; 10] = *b"runner_cfg";

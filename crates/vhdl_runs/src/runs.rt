@@ -2,18 +2,18 @@
 
 ghost use Rattle.std.specs.Prelude.{◌≡◌, ◌+◌, ◌<◌, ◌≤◌, IfOk, IfSome, length};
 ghost use Rattle.std.specs.List.{All};
-ghost use Rattle.scan_spec.specs.Dependencies.{is_architecture_kind};
-ghost use Rattle.scan_spec.specs.Scans.{IsScanOf};
-ghost use Rattle.scan_spec.specs.Units.{AreTokensOf, roles_of};
+ghost use Rattle.vhdl_spec.specs.Dependencies.{is_architecture_kind};
+ghost use Rattle.vhdl_spec.specs.Scans.{IsScanOf};
+ghost use Rattle.vhdl_spec.specs.Units.{AreTokensOf, roles_of};
 ghost use Rattle.vhdl_runs.specs.Runs.{BenchLiesIn, IsStringIn, UnitRunsLieIn, bench_token, file_runs, is_bench_unit, is_entity_kind, unit_runs, unit_strings};
 
 use crate::calls::run_strings;
 use crate::comments::asks_same_sim;
 use crate::runner::has_runner;
 use crate::units::unit_at;
+use base::{Items, NoMemory, Role, RoleList, Scan, Token, TokenList, Tokens, Unit, UnitKind};
 use std::alloc::Global;
 use vhdl_units::token_of;
-use vr_base::{Items, NoMemory, Role, RoleList, Scan, Token, TokenList, Tokens, Unit, UnitKind};
 
 /// What a design unit says of tests: the token that names it, where it is an entity with the generic `runner_cfg`; and
 /// the strings that it calls `run` with, where it is an architecture.

@@ -1,10 +1,10 @@
 //! Where a design unit of a scan is among its tokens.
 
 ghost use Rattle.std.specs.Prelude.{◌≡◌, ◌+◌, ◌<◌, ◌≤◌, Some, length, slice_get};
-ghost use Rattle.scan_spec.specs.Units.{roles_of};
-ghost use Rattle.scan_spec.specs.Scans.{IsScanOf};
+ghost use Rattle.vhdl_spec.specs.Units.{roles_of};
+ghost use Rattle.vhdl_spec.specs.Scans.{IsScanOf};
 
-use vr_base::{Role, Scan, Unit};
+use base::{Role, Scan, Unit};
 
 /// The unit of a number in the scan of a text.
 pub fn unit_at<'a>(_text: &[u8], scan: &'a Scan, _roles: &[Role], number: u64) -> &'a Unit

@@ -2,13 +2,13 @@
 
 ghost use Rattle.std.specs.Prelude.{◌≡◌, ◌<◌, length};
 ghost use Rattle.std.specs.Str.{bytes_eq};
-ghost use Rattle.scan_spec.specs.References.{is_name};
-ghost use Rattle.scan_spec.specs.Units.{AreTokensOf, is_closing, is_opening, name_of, roles_of};
+ghost use Rattle.vhdl_spec.specs.References.{is_name};
+ghost use Rattle.vhdl_spec.specs.Units.{AreTokensOf, is_closing, is_opening, name_of, roles_of};
 ghost use Rattle.vhdl_runs.specs.Calls.{is_generic_word, is_string, is_word_at};
 ghost use Rattle.vhdl_runs.specs.Passing.{is_other};
 
+use base::{Role, TokenKind, Tokens};
 use vhdl_units::{is_named, role_at};
-use vr_base::{Role, TokenKind, Tokens};
 
 #[inline(always)]
 pub fn is_name(role: Role) -> bool

@@ -1,16 +1,16 @@
 -- An element more, with its unit, if it is one.
 use Rattle.std.proofs.Common.{◌≡◌, ℕ, ◌+◌, ◌*◌, ◌<◌, ◌≤◌, List, [], ◌∷◌, ◌++◌, length, Bool, false, Ok, Err, refl, sym, ◌∙◌, ap, subst, arith, append_assoc}
 use Rattle.std.proofs.lemmas.List.{append-nil, length-map}
-use Rattle.vr_base.specs.declared.lexical.Token.{Token}
-use Rattle.vr_base.specs.declared.design.Role.{Role}
-use Rattle.vr_base.specs.declared.design.UnitKind.{UnitKind}
-use Rattle.vr_base.specs.declared.design.Unit.{Unit as DesignUnit}
-use Rattle.vr_base.specs.declared.design.UnitFault.{UnitFault}
-use Rattle.vr_base.specs.declared.design.UnitFault.TheVariants.{NotUnit, NotEnded}
-use Rattle.vr_base.specs.declared.memory.OrMemory.{OrMemory}
-use Rattle.vr_base.specs.declared.memory.OrMemory.TheVariants.{NoMemory, Fault}
-use Rattle.scan_spec.specs.Units.{role_of, roles_of, begins_generate, Element, item, plain, owned, last_of, lead_after, IsElement, unit_of, units_from, units_of, Follow, Outlines}
-use Rattle.scan_spec.proofs.Files.{plain_after, end_part_after, element_after}
+use Rattle.base.specs.declared.lexical.Token.{Token}
+use Rattle.base.specs.declared.design.Role.{Role}
+use Rattle.base.specs.declared.design.UnitKind.{UnitKind}
+use Rattle.base.specs.declared.design.Unit.{Unit as DesignUnit}
+use Rattle.base.specs.declared.design.UnitFault.{UnitFault}
+use Rattle.base.specs.declared.design.UnitFault.TheVariants.{NotUnit, NotEnded}
+use Rattle.base.specs.declared.memory.OrMemory.{OrMemory}
+use Rattle.base.specs.declared.memory.OrMemory.TheVariants.{NoMemory, Fault}
+use Rattle.vhdl_spec.specs.Units.{role_of, roles_of, begins_generate, Element, item, plain, owned, last_of, lead_after, IsElement, unit_of, units_from, units_of, Follow, Outlines}
+use Rattle.vhdl_spec.proofs.Files.{plain_after, end_part_after, element_after}
 use Rattle.vhdl_units.specs.declared.file.Next.{Next}
 use Rattle.vhdl_units.specs.Standing.{Adds, IsAdded}
 

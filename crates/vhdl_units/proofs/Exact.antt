@@ -1,12 +1,12 @@
 -- What outlining gives is exact, since a file has one outline or one fault.
 use Rattle.std.proofs.Common.{ℕ, List, Ok, Err, Result, refl, ◌∙◌, ap}
-use Rattle.vr_base.specs.declared.lexical.Token.{Token}
-use Rattle.vr_base.specs.declared.design.Unit.{Unit as DesignUnit}
-use Rattle.vr_base.specs.declared.design.UnitFault.{UnitFault}
-use Rattle.vr_base.specs.declared.memory.OrMemory.{OrMemory}
-use Rattle.vr_base.specs.declared.memory.OrMemory.TheVariants.{NoMemory, Fault}
-use Rattle.scan_spec.specs.Units.{Element, IsOutline, HasUnitFault, Outlines, roles_of, units_of}
-use Rattle.scan_spec.proofs.Files.{one_outline, one_unit_fault, no_outline_and_fault}
+use Rattle.base.specs.declared.lexical.Token.{Token}
+use Rattle.base.specs.declared.design.Unit.{Unit as DesignUnit}
+use Rattle.base.specs.declared.design.UnitFault.{UnitFault}
+use Rattle.base.specs.declared.memory.OrMemory.{OrMemory}
+use Rattle.base.specs.declared.memory.OrMemory.TheVariants.{NoMemory, Fault}
+use Rattle.vhdl_spec.specs.Units.{Element, IsOutline, HasUnitFault, Outlines, roles_of, units_of}
+use Rattle.vhdl_spec.proofs.Files.{one_outline, one_unit_fault, no_outline_and_fault}
 use Rattle.vhdl_units.specs.Standing.{GivesUnits, GivesUnitFault}
 
 pub gives_units : (text : List ℕ) (tokens : List Token) (result : Result (List DesignUnit) (OrMemory UnitFault)) → Outlines text tokens result → (elements : List Element) → IsOutline (roles_of text tokens) elements → GivesUnits (units_of text tokens elements) result

@@ -5,9 +5,9 @@ use Rattle.std.proofs.Math.Seq.{take-length, take-take, drop-length}
 use Rattle.std.proofs.lemmas.List.{length-take-le}
 use Rattle.std.proofs.lemmas.Slice.{between_is}
 use Rattle.std.proofs.lemmas.List.Sums.{sum_by_more, sum_by-take-drop, count_by-le-length}
-use Rattle.vr_base.specs.declared.design.Role.{Role}
-use Rattle.vr_base.specs.declared.design.Role.TheVariants.{Opening, Closing, Other}
-use Rattle.scan_spec.specs.Units.{role_at, is_opening, is_closing, IsLevel}
+use Rattle.base.specs.declared.design.Role.{Role}
+use Rattle.base.specs.declared.design.Role.TheVariants.{Opening, Closing, Other}
+use Rattle.vhdl_spec.specs.Units.{role_at, is_opening, is_closing, IsLevel}
 use Rattle.vhdl_units.specs.Marks.{level_at}
 use Rattle.vhdl_units.proofs.Counting.{not_opening, not_closing}
 

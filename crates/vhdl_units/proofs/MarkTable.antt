@@ -3,9 +3,9 @@ use Rattle.std.proofs.Common.{◌≡◌, ◌≢◌, ℕ, ◌+◌, ◌-◌, ◌<�
 use Rattle.std.specs.List.{slice_set, count_by}
 use Rattle.std.proofs.str.Laws.{order}
 use Rattle.std.proofs.lemmas.List.{get_or-set_same, get_or-set_other, length-set, get_or-replicate, length-replicate}
-use Rattle.vr_base.specs.declared.design.Role.{Role}
-use Rattle.vr_base.specs.declared.design.Role.TheVariants.{Is, Semicolon, Function, Procedure, Opening, Closing}
-use Rattle.scan_spec.specs.Units.{role_at, is_opening, IsLevel}
+use Rattle.base.specs.declared.design.Role.{Role}
+use Rattle.base.specs.declared.design.Role.TheVariants.{Is, Semicolon, Function, Procedure, Opening, Closing}
+use Rattle.vhdl_spec.specs.Units.{role_at, is_opening, IsLevel}
 use Rattle.vhdl_units.specs.Marks.{level_at, IsMark, IsSubprogramWord, IsFirstMark, AreNearest, AreMarks}
 use Rattle.vhdl_units.specs.Parts.{IsNextMark}
 use Rattle.vhdl_units.proofs.Levels.{level_small, same_level, level_again, level_opening, level_closing, level_other, level_end}

@@ -1,15 +1,15 @@
 -- From a token within open regions on, the unit's close is that of the whole unit.
 use Rattle.std.proofs.Common.{◌≡◌, ℕ, ◌+◌, ◌<◌, ◌≤◌, Bool, true, false, List, [], ◌∷◌, ◌++◌, length, refl, sym, subst, arith}
-use Rattle.vr_base.specs.declared.design.Role.{Role}
-use Rattle.vr_base.specs.declared.design.Role.TheVariants.{End}
-use Rattle.scan_spec.specs.Units.{role_at, OpensItems, IsGenerateOpener, Closes, IsSingle, Items, nothing, single, items, region}
+use Rattle.base.specs.declared.design.Role.{Role}
+use Rattle.base.specs.declared.design.Role.TheVariants.{End}
+use Rattle.vhdl_spec.specs.Units.{role_at, OpensItems, IsGenerateOpener, Closes, IsSingle, Items, nothing, single, items, region}
 use Rattle.vhdl_units.specs.declared.class.Known.{Known}
 use Rattle.vhdl_units.specs.declared.class.Class.{Class}
 use Rattle.vhdl_units.specs.declared.class.Class.TheVariants as class
 use Rattle.vhdl_units.specs.Walk.{IsKnown, IsStep}
 use Rattle.vhdl_units.specs.Parts.{IsClass, IsUnitClose}
-use Rattle.scan_spec.proofs.Grammar.{close_word, items_ordered, items_of_single, items_of_opener, items_of_generate, items_of_close}
-use Rattle.scan_spec.proofs.Files.{in_file}
+use Rattle.vhdl_spec.proofs.Grammar.{close_word, items_ordered, items_of_single, items_of_opener, items_of_generate, items_of_close}
+use Rattle.vhdl_spec.proofs.Files.{in_file}
 
 -- From a token in open regions, outermost first, the unit's close is reached at the last.
 abbrev pub ReachesClose : List Role → ℕ → List Bool → Bool → ℕ → ℕ → Type 0

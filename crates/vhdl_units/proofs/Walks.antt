@@ -1,13 +1,13 @@
 -- Small walks over roles.
 use Rattle.std.proofs.Common.{◌≡◌, ◌≢◌, ℕ, ◌+◌, ◌*◌, ◌<◌, Bool, true, false, not, IsTrue, ◌↔◌, List, length, Option, Some, None, refl, sym, ◌∙◌, ap, subst, ⊎_elim, arith}
 use Rattle.std.proofs.str.Laws.{order}
-use Rattle.vr_base.specs.declared.design.Role.{Role}
-use Rattle.vr_base.specs.declared.design.Role.TheVariants.{Is, Dot, New, Name}
-use Rattle.vr_base.specs.declared.design.UnitKind.{UnitKind}
-use Rattle.vr_base.specs.declared.design.Beginning.TheVariants as begins
-use Rattle.scan_spec.specs.Units.{role_at, IsOwner, HasBody, IsFirstSemicolon, IsEndPart, beginning_at, Begins, BeginsAs, Element, item, plain, owned, IsElement}
-use Rattle.scan_spec.proofs.Files.{in_file}
-use Rattle.scan_spec.proofs.Grammar.{one_close, one_owner}
+use Rattle.base.specs.declared.design.Role.{Role}
+use Rattle.base.specs.declared.design.Role.TheVariants.{Is, Dot, New, Name}
+use Rattle.base.specs.declared.design.UnitKind.{UnitKind}
+use Rattle.base.specs.declared.design.Beginning.TheVariants as begins
+use Rattle.vhdl_spec.specs.Units.{role_at, IsOwner, HasBody, IsFirstSemicolon, IsEndPart, beginning_at, Begins, BeginsAs, Element, item, plain, owned, IsElement}
+use Rattle.vhdl_spec.proofs.Files.{in_file}
+use Rattle.vhdl_spec.proofs.Grammar.{one_close, one_owner}
 use Rattle.vhdl_units.specs.Parts.{IsNextMark, IsUnitClose, IsSemicolonFrom, IsEndFrom}
 
 -- the names of an owner and the dots between them, as far as the walk has come

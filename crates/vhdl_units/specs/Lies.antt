@@ -1,7 +1,7 @@
 -- Tokens that lie in a text.
 use Rattle.std.specs.Prelude.{ℕ, ◌<◌, List, length}
-use Rattle.vr_base.specs.declared.lexical.Token.{Token}
-use Rattle.scan_spec.specs.Units.{token_at}
+use Rattle.base.specs.declared.lexical.Token.{Token}
+use Rattle.vhdl_spec.specs.Units.{token_at}
 use Rattle.vhdl_lex.specs.Pieces.{LiesIn}
 
 abbrev pub AllLieIn : List ℕ → List Token → Type 0

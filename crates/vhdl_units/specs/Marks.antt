@@ -1,8 +1,8 @@
 -- The next `is` or `;` of each depth of parentheses, found once for a whole file.
 use Rattle.std.specs.Prelude.{◌≡◌, ◌≢◌, ◌⊎◌, ℕ, ◌+◌, ◌<◌, ◌≤◌, Bool, true, false, List, length, take, drop, count_by, slice_index}
-use Rattle.vr_base.specs.declared.design.Role.{Role}
-use Rattle.vr_base.specs.declared.design.Role.TheVariants.{Is, Semicolon, Function, Procedure}
-use Rattle.scan_spec.specs.Units.{role_at, is_opening, is_closing}
+use Rattle.base.specs.declared.design.Role.{Role}
+use Rattle.base.specs.declared.design.Role.TheVariants.{Is, Semicolon, Function, Procedure}
+use Rattle.vhdl_spec.specs.Units.{role_at, is_opening, is_closing}
 
 -- the parentheses that open before a token and those that close from it on: as many at two tokens of one depth, and never
 -- more than the file has tokens

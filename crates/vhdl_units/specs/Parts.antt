@@ -1,8 +1,8 @@
 -- What the walk through the roles of a file finds.
 use Rattle.std.specs.Prelude.{◌≡◌, ◌≢◌, ℕ, ◌<◌, ◌≤◌, Bool, false, List, length, Option, Some, None}
-use Rattle.vr_base.specs.declared.design.Role.{Role}
-use Rattle.vr_base.specs.declared.design.Role.TheVariants.{Is, Semicolon}
-use Rattle.scan_spec.specs.Units.{role_at, IsLevel, OpensItems, IsGenerateOpener, Closes, IsSingle, Items, IsPlainEnd, IsFirstSemicolon, IsOwner, IsEndPart, Element, IsElement, last_of}
+use Rattle.base.specs.declared.design.Role.{Role}
+use Rattle.base.specs.declared.design.Role.TheVariants.{Is, Semicolon}
+use Rattle.vhdl_spec.specs.Units.{role_at, IsLevel, OpensItems, IsGenerateOpener, Closes, IsSingle, Items, IsPlainEnd, IsFirstSemicolon, IsOwner, IsEndPart, Element, IsElement, last_of}
 use Rattle.vhdl_units.specs.Marks.{IsMark}
 use Rattle.vhdl_units.specs.declared.class.Class.{Class}
 use Rattle.vhdl_units.specs.declared.class.Class.TheVariants.{Single, Items as OpensPlain, Region, Close}

@@ -1,13 +1,13 @@
 -- What begins at a token of a file.
 use Rattle.std.specs.Prelude.{◌≡◌, ◌++◌, ℕ, List, Result, Ok, Err}
-use Rattle.vr_base.specs.declared.lexical.Token.{Token}
-use Rattle.vr_base.specs.declared.design.Unit.{Unit as DesignUnit}
-use Rattle.vr_base.specs.declared.design.UnitFault.{UnitFault}
-use Rattle.vr_base.specs.declared.design.UnitFault.TheVariants.{NotUnit, NotEnded}
-use Rattle.vr_base.specs.declared.memory.OrMemory.{OrMemory}
-use Rattle.vr_base.specs.declared.memory.OrMemory.TheVariants.{NoMemory, Fault}
-use Rattle.vr_base.specs.declared.design.Role.{Role}
-use Rattle.scan_spec.specs.Units.{Begins, Element, item, plain, owned, IsElement, roles_of, token_at, last_of, lead_after, unit_of}
+use Rattle.base.specs.declared.lexical.Token.{Token}
+use Rattle.base.specs.declared.design.Unit.{Unit as DesignUnit}
+use Rattle.base.specs.declared.design.UnitFault.{UnitFault}
+use Rattle.base.specs.declared.design.UnitFault.TheVariants.{NotUnit, NotEnded}
+use Rattle.base.specs.declared.memory.OrMemory.{OrMemory}
+use Rattle.base.specs.declared.memory.OrMemory.TheVariants.{NoMemory, Fault}
+use Rattle.base.specs.declared.design.Role.{Role}
+use Rattle.vhdl_spec.specs.Units.{Begins, Element, item, plain, owned, IsElement, roles_of, token_at, last_of, lead_after, unit_of}
 use Rattle.vhdl_units.specs.declared.file.Next.{Next}
 use Rattle.vhdl_units.specs.declared.stands.Standing.{Standing}
 use Rattle.vhdl_units.specs.declared.stands.Standing.TheVariants.{Item, Plain, Owned, NoUnit, Unended}

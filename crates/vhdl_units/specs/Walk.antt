@@ -1,7 +1,7 @@
 -- What the walk through a unit keeps.
 use Rattle.std.specs.Prelude.{◌≡◌, ℕ, ◌≤◌, Bool, true, false, List, [], ◌∷◌, ◌++◌, length, count_by, slice_range}
-use Rattle.vr_base.specs.declared.design.Role.{Role}
-use Rattle.scan_spec.specs.Units.{begins_generate, is_opening, is_closing}
+use Rattle.base.specs.declared.design.Role.{Role}
+use Rattle.vhdl_spec.specs.Units.{begins_generate, is_opening, is_closing}
 use Rattle.vhdl_units.specs.declared.level.Counts.{Counts}
 use Rattle.vhdl_units.specs.declared.class.Class.{Class}
 use Rattle.vhdl_units.specs.declared.class.Known.{Known}

@@ -1,14 +1,14 @@
 //! What a token within a unit does.
 
 ghost use Rattle.std.specs.Prelude.{◌≡◌, ◌≤◌, ◌<◌, ◌+◌, ◌↔◌, Bool, IsTrue, length};
-ghost use Rattle.scan_spec.specs.Units.{IsNotAfter, MayOpen, BeginsPackage, HasBody, IsPackageOpener, IsSubprogramOpener, IsGenerateOpener, Closes, IsLevel, begins_generate, ends_inner, role_at};
+ghost use Rattle.vhdl_spec.specs.Units.{IsNotAfter, MayOpen, BeginsPackage, HasBody, IsPackageOpener, IsSubprogramOpener, IsGenerateOpener, Closes, IsLevel, begins_generate, ends_inner, role_at};
 ghost use Rattle.vhdl_units.specs.Walk.{AreCounts, IsKnown};
 ghost use Rattle.vhdl_units.specs.Marks.{AreMarks, IsSubprogramWord};
 ghost use Rattle.vhdl_units.specs.Parts.{IsClass, IsNextMark};
 
 use crate::ends::{begins_at, role_at};
 use crate::level::{Counts, counts_at};
-use vr_base::Role;
+use base::Role;
 
 /// The class of a token within a unit.
 #[derive(Clone, Copy)]

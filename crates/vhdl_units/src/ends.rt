@@ -1,10 +1,10 @@
 //! Small walks over roles.
 
 ghost use Rattle.std.specs.Prelude.{◌≡◌, ◌≤◌, ◌<◌, ◌+◌, Bool, MatchOption, length};
-ghost use Rattle.scan_spec.specs.Units.{role_at, beginning_at, next_begins, begins_generate};
+ghost use Rattle.vhdl_spec.specs.Units.{role_at, beginning_at, next_begins, begins_generate};
 ghost use Rattle.vhdl_units.specs.Parts.{IsSemicolonFrom, IsOwnerFrom};
 
-use vr_base::{Beginning, Role, UnitKind};
+use base::{Beginning, Role, UnitKind};
 
 /// The role of a token, and past the end that of one that the grammar doesn't name.
 #[inline(always)]

@@ -1,9 +1,9 @@
 //! The design units of a whole file.
 
 ghost use Rattle.std.specs.Prelude.{◌≡◌, ◌<◌, ◌≤◌, ◌++◌, List, length, IfOk};
-ghost use Rattle.vr_base.specs.declared.lexical.Token.{Token};
-ghost use Rattle.vr_base.specs.declared.design.UnitFault.{UnitFault};
-ghost use Rattle.scan_spec.specs.Units.{AreTokensOf, Element, HasUnitFault, IsOutline, Outlines, roles_of, units_of};
+ghost use Rattle.base.specs.declared.lexical.Token.{Token};
+ghost use Rattle.base.specs.declared.design.UnitFault.{UnitFault};
+ghost use Rattle.vhdl_spec.specs.Units.{AreTokensOf, Element, HasUnitFault, IsOutline, Outlines, roles_of, units_of};
 ghost use Rattle.vhdl_units.specs.Lies.{AllLieIn};
 ghost use Rattle.vhdl_units.specs.Standing.{IsStanding, IsAdded, GivesUnits, GivesUnitFault};
 
@@ -12,10 +12,8 @@ use crate::marks::marks_of;
 use crate::stands::{Standing, stands_at};
 use crate::texts::{owned_unit, plain_unit};
 use crate::view::roles_of;
+use base::{Items, OrMemory, Role, RoleList, TEXT_LIMIT, Token, Tokens, Unit, UnitFault, UnitList};
 use std::alloc::Global;
-use vr_base::{
-    Items, OrMemory, Role, RoleList, TEXT_LIMIT, Token, Tokens, Unit, UnitFault, UnitList,
-};
 
 /// Where an element ends, and where the context items of the next unit begin.
 #[derive(Clone, Copy)]

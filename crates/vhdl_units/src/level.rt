@@ -4,7 +4,7 @@ ghost use Rattle.std.specs.Prelude.{◌<◌, ◌≤◌, ◌+◌, length};
 ghost use Rattle.vhdl_units.specs.Walk.{AreCounts};
 
 use crate::ends::role_at;
-use vr_base::Role;
+use base::Role;
 
 /// How many parentheses were opened and closed since a unit's start.
 #[derive(Clone, Copy)]

@@ -1,13 +1,13 @@
 //! For each subprogram's word of a file the next `is` or `;` of its own depth of parentheses.
 
 ghost use Rattle.std.specs.Prelude.{◌≡◌, ◌≤◌, ◌+◌, IfOk, count_by, length};
-ghost use Rattle.scan_spec.specs.Units.{is_opening};
+ghost use Rattle.vhdl_spec.specs.Units.{is_opening};
 ghost use Rattle.std.specs.List.{list_any};
 ghost use Rattle.vhdl_units.specs.Marks.{AreMarks, AreNearest, is_subprogram_word};
 
 use crate::ends::role_at;
+use base::{NoMemory, Role, TEXT_LIMIT};
 use std::alloc::Global;
-use vr_base::{NoMemory, Role, TEXT_LIMIT};
 
 /// The number of opening parentheses.
 fn openings(roles: &[Role]) -> usize

@@ -1,7 +1,7 @@
 //! The walk through the items of a unit, with the regions that are open on the heap.
 
 ghost use Rattle.std.specs.Prelude.{◌≡◌, ◌≤◌, ◌<◌, ◌+◌, length, IfOk};
-ghost use Rattle.scan_spec.specs.Units.{begins_generate, role_at};
+ghost use Rattle.vhdl_spec.specs.Units.{begins_generate, role_at};
 ghost use Rattle.vhdl_units.specs.Parts.{IsCloseFrom, IsEndFrom};
 ghost use Rattle.vhdl_units.specs.Marks.{AreMarks};
 ghost use Rattle.vhdl_units.specs.Walk.{IsStep};
@@ -9,8 +9,8 @@ ghost use Rattle.vhdl_units.specs.Walk.{IsStep};
 use crate::class::{Class, Known, class_at};
 use crate::ends::first_semicolon;
 use crate::level::Counts;
+use base::{NoMemory, Role};
 use std::alloc::Global;
-use vr_base::{NoMemory, Role};
 
 /// The regions that are open: the outer ones, and whether the innermost is that of a generate statement.
 #[derive(Drop)]

@@ -1,12 +1,12 @@
 //! The roles of the tokens of a text.
 
 ghost use Rattle.std.specs.Prelude.{◌≡◌, IfOk};
-ghost use Rattle.scan_spec.specs.Units.{roles_of};
+ghost use Rattle.vhdl_spec.specs.Units.{roles_of};
 ghost use Rattle.vhdl_units.specs.Lies.{AllLieIn};
 
+use base::{NoMemory, Role, Token};
 use std::alloc::Global;
 use vhdl_lex::role_of;
-use vr_base::{NoMemory, Role, Token};
 
 /// The roles of tokens of the text, in order.
 pub fn token_roles(alloc: Global, text: &[u8], tokens: &[Token]) -> Result<Vec<Role>, NoMemory>

@@ -1,15 +1,15 @@
 //! What begins at a token of a file: a context item or a unit, as far as it goes.
 
 ghost use Rattle.std.specs.Prelude.{◌≡◌, ◌<◌, length, IfOk};
-ghost use Rattle.scan_spec.specs.Units.{begins_generate, beginning_at};
-ghost use Rattle.vr_base.specs.declared.design.Beginning.TheVariants as begin;
+ghost use Rattle.vhdl_spec.specs.Units.{begins_generate, beginning_at};
+ghost use Rattle.base.specs.declared.design.Beginning.TheVariants as begin;
 ghost use Rattle.vhdl_units.specs.Marks.{AreMarks};
 ghost use Rattle.vhdl_units.specs.Standing.{IsStanding};
 
 use crate::ends::{beginning_at, begins_at, first_semicolon, owner_from};
 use crate::regions::unit_end;
+use base::{Beginning, NoMemory, Role, UnitKind};
 use std::alloc::Global;
-use vr_base::{Beginning, NoMemory, Role, UnitKind};
 
 /// What begins at a token, with its last token.
 #[derive(Clone, Copy)]

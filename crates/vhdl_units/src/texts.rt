@@ -1,15 +1,15 @@
 //! The names of units, and units with them.
 
 ghost use Rattle.std.specs.Prelude.{◌≡◌, ◌↔◌, IsTrue, ◌+◌, ◌*◌, ◌<◌, ◌≤◌, [], ◌∷◌, length, IfOk};
-ghost use Rattle.vr_base.specs.declared.lexical.Token.{Token};
-ghost use Rattle.scan_spec.specs.Words.{lower_case};
-ghost use Rattle.scan_spec.specs.Units.{name_of, name_token, unit_of, plain, owned, token_at};
+ghost use Rattle.base.specs.declared.lexical.Token.{Token};
+ghost use Rattle.vhdl_spec.specs.Words.{lower_case};
+ghost use Rattle.vhdl_spec.specs.Units.{name_of, name_token, unit_of, plain, owned, token_at};
 ghost use Rattle.vhdl_lex.specs.Pieces.{LiesIn};
 ghost use Rattle.vhdl_units.specs.Lies.{AllLieIn};
 ghost use Rattle.vhdl_units.specs.Names.{token_name};
 
+use base::{MaybeText, NoMemory, TEXT_LIMIT, Text, Token, TokenKind, Unit, UnitKind};
 use std::alloc::Global;
-use vr_base::{MaybeText, NoMemory, TEXT_LIMIT, Text, Token, TokenKind, Unit, UnitKind};
 
 /// The name that a token is: a word in lower case, an extended identifier as written.
 pub fn token_name(alloc: Global, text: &[u8], tokens: &[Token], at: usize) -> Result<Text, NoMemory>

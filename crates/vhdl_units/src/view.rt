@@ -1,13 +1,13 @@
 //! What readers of a file's tokens ask: the role of each token, and the name of one.
 
 ghost use Rattle.std.specs.Prelude.{◌≡◌, ◌<◌, ◌↔◌, IsTrue, IfOk, length};
-ghost use Rattle.scan_spec.specs.Units.{AreTokensOf, name_of, roles_of, token_at};
+ghost use Rattle.vhdl_spec.specs.Units.{AreTokensOf, name_of, roles_of, token_at};
 ghost use Rattle.vhdl_lex.specs.Pieces.{LiesIn};
 
 use crate::roles::token_roles;
 use crate::texts::{name_of_token, token_at, token_has_name, token_name};
+use base::{Items, NoMemory, RoleList, Text, Token, Tokens};
 use std::alloc::Global;
-use vr_base::{Items, NoMemory, RoleList, Text, Token, Tokens};
 
 /// The roles of a text's tokens, in order: one byte a token, made once for all who read the file.
 pub fn roles_of(alloc: Global, text: &[u8], tokens: &Tokens) -> Result<RoleList, NoMemory>

@@ -1,15 +1,14 @@
 //! The line that says why an object over the system failed.
 
-use child_procs::ChildProcs;
-use fault_causes::{Cause, cause_line};
-use file_disk::FileDisk;
-use file_reports::FileReports;
-use file_tree::FileTree;
-use outcomes::Which;
+use base_outcomes::Which;
 use std::alloc::Global;
 use std::io::Stderr;
-use std_streams::{StdSink, StdSource};
-use told_procs::ToldProcs;
+use system_causes::{Cause, cause_line};
+use system_children::ChildProcs;
+use system_disk::FileDisk;
+use system_files::{FileTree, StdSink, StdSource};
+use system_progress::ToldProcs;
+use system_reports::FileReports;
 
 /// Children of the system, of which a terminal is told.
 pub type Children = ToldProcs<ChildProcs<HostRuntime>, Stderr>;

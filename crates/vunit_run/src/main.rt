@@ -6,18 +6,17 @@ mod places;
 
 use crate::causes::{Outside, fault_cause};
 use crate::places::refusal_place;
-use child_procs::ChildProcs;
-use file_disk::{FileDisk, STORE_NAMES};
-use file_reports::{FileReports, Spared};
-use file_tree::{FileTree, OUTPUT_FOLDER};
-use outcomes::{Outcome, Which};
-use run_report::status_of;
+use base::{NoMemory, Text, TextList};
+use base_outcomes::{Outcome, Which};
+use report_run::status_of;
 use std::env;
 use std::io::{ErrorKind, IsTerminal, Stderr, Write};
 use std::process::ExitCode;
-use std_streams::{StdSink, StdSource};
-use told_procs::ToldProcs;
-use vr_base::{NoMemory, Text, TextList};
+use system_children::ChildProcs;
+use system_disk::{FileDisk, STORE_NAMES};
+use system_files::{FileTree, OUTPUT_FOLDER, StdSink, StdSource};
+use system_progress::ToldProcs;
+use system_reports::{FileReports, Spared};
 use vunit_top::run_vunit;
 
 /// The store, which no report may take the place of.

@@ -1,13 +1,13 @@
 //! The line that says where in a file a refusal is, for editors.
 
-use fault_causes::{Place, place_line, place_of};
-use limited_reading::read_file;
-use outcomes::Refusal;
-use run_report::refusal_text;
+use base::{LexFault, ProjectFault, TEXT_LIMIT, UnitFault};
+use base_outcomes::Refusal;
+use outside::ReadEnd;
+use report_run::refusal_text;
 use std::alloc::Global;
 use std::fs;
-use vr_base::{LexFault, ProjectFault, TEXT_LIMIT, UnitFault};
-use vr_outside::ReadEnd;
+use system_causes::{Place, place_line, place_of};
+use system_files::read_file;
 
 /// The bytes that one read takes at most.
 const CHUNK: usize = 65536;

@@ -2,34 +2,34 @@
 use Rattle.std.proofs.Common.{◌≡◌, ◌≤◌, ◌+◌, ◌-◌, ◌^◌, min, ℕ, Bool, false, List, [], ◌++◌, Option, Some, None, Result, refl, sym, ap, subst, ◌∙◌, arith, inl, inr}
 use Rattle.std.specs.Prelude.{◌⊎◌, IfSome}
 use Rattle.std.proofs.lemmas.Option.{none-some}
-use Rattle.vr_base.specs.declared.child.Request.{Request}
-use Rattle.vr_base.specs.declared.child.Exit.{Exit}
-use Rattle.vr_base.specs.declared.child.Event.{Event}
-use Rattle.vr_base.specs.declared.child.MaybeText.TheVariants.{Given, Nothing}
-use Rattle.outcomes.specs.declared.outcome.Outcome.{Outcome}
-use Rattle.outcomes.specs.declared.outcome.Outcome.TheVariants as outcome
-use Rattle.outcomes.specs.declared.outcome.Which.TheVariants as which
-use Rattle.vr_outside.specs.Disks.{Moments, AreSound}
+use Rattle.base.specs.declared.child.Request.{Request}
+use Rattle.base.specs.declared.child.Exit.{Exit}
+use Rattle.base.specs.declared.child.Event.{Event}
+use Rattle.base.specs.declared.child.MaybeText.TheVariants.{Given, Nothing}
+use Rattle.base_outcomes.specs.declared.outcome.Outcome.{Outcome}
+use Rattle.base_outcomes.specs.declared.outcome.Outcome.TheVariants as outcome
+use Rattle.base_outcomes.specs.declared.outcome.Which.TheVariants as which
+use Rattle.outside.specs.Disks.{Moments, AreSound}
 use Rattle.run_spec.specs.ChildJournal.{EachAfter, since}
 use Rattle.run_spec.specs.JournalParts.{compile_part, test_part, is_given}
-use Rattle.history_spec.specs.Histories.{Order, work_over}
-use Rattle.compile_loop.specs.declared.faults.BuildFault.TheVariants as fault
-use Rattle.disk_runs.proofs.OverStore.{no_test_since, since_itself}
+use Rattle.run_histories.specs.Histories.{Order, work_over}
+use Rattle.build_loop.specs.declared.faults.BuildFault.TheVariants as fault
+use Rattle.run_build.proofs.OverStore.{no_test_since, since_itself}
 use Rattle.test_journal.specs.TestJournal.{LawfulTests}
-use Rattle.tested_runs.specs.Tested.{setting_after}
-use Rattle.tested_histories.specs.Histories.{HasTested}
-use Rattle.tested_histories.specs.Rights.{AreRightTests, clean_setting}
-use Rattle.tested_histories.proofs.TestedRights.{lawful_right, no_tests}
+use Rattle.run_tested.specs.Tested.{setting_after}
+use Rattle.run_tested_laws.specs.Histories.{HasTested}
+use Rattle.run_tested_laws.specs.Rights.{AreRightTests, clean_setting}
+use Rattle.run_tested_laws.proofs.TestedRights.{lawful_right, no_tests}
 use Rattle.vunit_top.specs.Store.{records_in_image}
-use Rattle.run_report.specs.Outcomes.{build_outcome}
-use Rattle.scan_spec.specs.Scans.{Finding}
+use Rattle.report_run.specs.Outcomes.{build_outcome}
+use Rattle.vhdl_spec.specs.Scans.{Finding}
 use Rattle.project_reading.specs.Reading.{SourceReading}
 use Rattle.vunit_top.specs.declared.words.Job.{Job}
 use Rattle.vunit_top.specs.Acts.{Object, Disk, Children, Out, Reports, Seen, seen, run_between, marks_between, said_between, tests_since, Acts, RunsTests}
 use Rattle.vunit_top.specs.Ends.{Writes, WritesReport}
 use Rattle.project_reading.specs.declared.wish.Wish.{Wish}
 use Rattle.vunit_top.specs.Reading.{Reading, Testing, Exports, Builds, Runs, full_reading}
-use Rattle.disk_runs.specs.Building.{has_risen}
+use Rattle.run_build.specs.Building.{has_risen}
 use Rattle.vunit_top.specs.Runs.{RunsAs}
 use Rattle.vunit_top.specs.Said.{Said, Says, SaysRun, IsSaid, HasEnded, Counts, Causes, IsAccounted, order_of, report_path_of, plan_in, plain_said, plain_run, build_said}
 use Rattle.vunit_top.proofs.Tops.{some_said}

@@ -1,13 +1,13 @@
 -- What a run did that generates a project.
 use Rattle.std.proofs.Common.{ℕ, List, Err, refl}
-use Rattle.vr_base.specs.declared.child.Request.{Request}
-use Rattle.vr_base.specs.declared.child.Exit.{Exit}
-use Rattle.vr_base.specs.declared.child.Event.{Event}
-use Rattle.outcomes.specs.declared.outcome.Outcome.TheVariants as outcome
+use Rattle.base.specs.declared.child.Request.{Request}
+use Rattle.base.specs.declared.child.Exit.{Exit}
+use Rattle.base.specs.declared.child.Event.{Event}
+use Rattle.base_outcomes.specs.declared.outcome.Outcome.TheVariants as outcome
 use Rattle.run_spec.specs.ChildJournal.{since}
-use Rattle.compile_loop.specs.declared.faults.BuildFault.TheVariants as fault
-use Rattle.disk_runs.proofs.OverStore.{since_itself}
-use Rattle.scan_spec.specs.Scans.{Finding}
+use Rattle.build_loop.specs.declared.faults.BuildFault.TheVariants as fault
+use Rattle.run_build.proofs.OverStore.{since_itself}
+use Rattle.vhdl_spec.specs.Scans.{Finding}
 use Rattle.generated_runs.specs.declared.options.GenerateOptions.{GenerateOptions}
 use Rattle.generated_runs.specs.Sources.{first_reading, second_reading}
 use Rattle.generated_runs.proofs.Parts.{all_fault}

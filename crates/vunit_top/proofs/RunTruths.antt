@@ -3,43 +3,43 @@ use Rattle.std.proofs.Common.{◌≡◌, ℕ, ◌<◌, Bool, true, false, List, 
 use Rattle.std.specs.Prelude.{is_some, unwrap_or}
 use Rattle.std.specs.List.{AllByRecursion, list_any}
 use Rattle.std.proofs.lemmas.Bool.{cases_Bool, cond-true, false≢true}
-use Rattle.vr_base.specs.declared.graph.Entry.{Entry}
-use Rattle.vr_base.specs.declared.child.Request.{Request}
-use Rattle.vr_base.specs.declared.child.Exit.{Exit}
-use Rattle.vr_base.specs.declared.child.Event.{Event}
+use Rattle.base.specs.declared.graph.Entry.{Entry}
+use Rattle.base.specs.declared.child.Request.{Request}
+use Rattle.base.specs.declared.child.Exit.{Exit}
+use Rattle.base.specs.declared.child.Event.{Event}
 use Rattle.run_spec.specs.declared.marks.Mark.{Mark}
-use Rattle.outcomes.specs.declared.outcome.Refusal.TheVariants as refusal
-use Rattle.outcomes.specs.declared.outcome.Outcome.{Outcome}
-use Rattle.outcomes.specs.declared.outcome.Outcome.TheVariants as outcome
-use Rattle.vr_base.specs.Graphs.{IsGraph}
-use Rattle.vr_outside.specs.Disks.{DiskState, EachImage, Moments, IsSound, AreSound, added_since}
-use Rattle.vr_outside.specs.Commits.{last_state}
-use Rattle.vr_outside.proofs.MomentLaws.{last_is}
-use Rattle.vr_outside.proofs.PhaseLaws.{nothing_added}
+use Rattle.base_outcomes.specs.declared.outcome.Refusal.TheVariants as refusal
+use Rattle.base_outcomes.specs.declared.outcome.Outcome.{Outcome}
+use Rattle.base_outcomes.specs.declared.outcome.Outcome.TheVariants as outcome
+use Rattle.base.specs.Graphs.{IsGraph}
+use Rattle.outside.specs.Disks.{DiskState, EachImage, Moments, IsSound, AreSound, added_since}
+use Rattle.outside.specs.Commits.{last_state}
+use Rattle.outside.proofs.MomentLaws.{last_is}
+use Rattle.outside.proofs.PhaseLaws.{nothing_added}
 use Rattle.run_spec.specs.Moves.{LawfulMoves, GreedyMoves, next_start, first_from}
 use Rattle.run_spec.specs.ChildJournal.{Work, AreRequested, EachAfter, moves_after, after_all, Lawful, Answered, IsWhole, artefact_after, since}
 use Rattle.run_spec.specs.Commits.{commits, Waits}
 use Rattle.run_spec.specs.JournalParts.{compile_part}
-use Rattle.vr_outside.specs.Phases.{HasPhases}
+use Rattle.outside.specs.Phases.{HasPhases}
 use Rattle.run_spec.specs.Faithful.{IsFaithfulDisk}
-use Rattle.history_spec.specs.Histories.{Order, World, ProgramRun, empty_image, IsReadable, IsIdleRun, RunStep, work_over}
+use Rattle.run_histories.specs.Histories.{Order, World, ProgramRun, empty_image, IsReadable, IsIdleRun, RunStep, work_over}
 use Rattle.run_spec.specs.Marks.{marks_of, is_refused, refused_files}
 use Rattle.run_spec.proofs.Parts.{build_parts}
-use Rattle.clean_laws.proofs.JournalSettled.{all_started, all_steady, all_files_made}
-use Rattle.history_laws.specs.Rights.{IsRightStep}
-use Rattle.history_laws.proofs.RightRuns.{run_right}
-use Rattle.compile_loop.specs.declared.faults.BuildFault.{BuildFault}
-use Rattle.compile_loop.specs.declared.faults.BuildFault.TheVariants as fault
-use Rattle.run_report.specs.Outcomes.{build_outcome}
-use Rattle.scan_spec.specs.Scans.{Finding}
+use Rattle.run_laws.proofs.JournalSettled.{all_started, all_steady, all_files_made}
+use Rattle.run_laws.specs.Rights.{IsRightStep}
+use Rattle.run_laws.proofs.RightRuns.{run_right}
+use Rattle.build_loop.specs.declared.faults.BuildFault.{BuildFault}
+use Rattle.build_loop.specs.declared.faults.BuildFault.TheVariants as fault
+use Rattle.report_run.specs.Outcomes.{build_outcome}
+use Rattle.vhdl_spec.specs.Scans.{Finding}
 use Rattle.vunit_top.specs.Store.{records_in_image}
-use Rattle.disk_runs.specs.Orders.{IsDurablyRecorded}
-use Rattle.request_store.proofs.RequestsAdded.{none_in_empty}
+use Rattle.run_build.specs.Orders.{IsDurablyRecorded}
+use Rattle.store_requests.proofs.RequestsAdded.{none_in_empty}
 use Rattle.vunit_top.specs.Reading.{Reading, Builds}
 use Rattle.vunit_top.specs.Said.{IsSaid, HasEnded, HasBuilt, no_order, order_of, order_in}
-use Rattle.disk_runs.specs.Building.{BuildsOver}
+use Rattle.run_build.specs.Building.{BuildsOver}
 use Rattle.vunit_top.specs.Runs.{world_of, run_of, RunsAs}
-use Rattle.disk_runs.proofs.OverStore.{since_itself}
+use Rattle.run_build.proofs.OverStore.{since_itself}
 
 sound_last : (past : List DiskState) (now : DiskState) → AllByRecursion IsSound (past ++ now ∷ []) → IsSound now
 sound_last [] now sound = sound.0

@@ -3,42 +3,42 @@ use Rattle.std.proofs.Common.{◌≡◌, ℕ, Bool, true, false, List, [], ◌�
 use Rattle.std.specs.Prelude.{if◌then◌else◌, IfOk}
 use Rattle.std.specs.List.{list_all, list_any}
 use Rattle.std.proofs.lemmas.Bool.{cond-true, cond-false, false≢true}
-use Rattle.vr_base.specs.declared.child.MaybeText.{MaybeText}
-use Rattle.vr_base.specs.declared.child.MaybeText.TheVariants.{Given, Nothing}
-use Rattle.vr_base.specs.declared.graph.Entry.{Entry}
-use Rattle.vr_base.specs.declared.child.Request.{Request}
-use Rattle.vr_base.specs.declared.child.Exit.{Exit}
-use Rattle.vr_base.specs.declared.child.Event.{Event}
+use Rattle.base.specs.declared.child.MaybeText.{MaybeText}
+use Rattle.base.specs.declared.child.MaybeText.TheVariants.{Given, Nothing}
+use Rattle.base.specs.declared.graph.Entry.{Entry}
+use Rattle.base.specs.declared.child.Request.{Request}
+use Rattle.base.specs.declared.child.Exit.{Exit}
+use Rattle.base.specs.declared.child.Event.{Event}
 use Rattle.run_spec.specs.declared.marks.Mark.{Mark}
 use Rattle.run_spec.specs.declared.marks.Mark.TheVariants as mark
-use Rattle.outcomes.specs.declared.outcome.Outcome.{Outcome}
-use Rattle.outcomes.specs.declared.outcome.Outcome.TheVariants as outcome
-use Rattle.vr_outside.specs.Disks.{Moments, AreSound, added_since}
+use Rattle.base_outcomes.specs.declared.outcome.Outcome.{Outcome}
+use Rattle.base_outcomes.specs.declared.outcome.Outcome.TheVariants as outcome
+use Rattle.outside.specs.Disks.{Moments, AreSound, added_since}
 use Rattle.run_spec.specs.ChildJournal.{Work, since}
 use Rattle.run_spec.specs.JournalParts.{compile_part, test_part}
 use Rattle.run_spec.specs.Faithful.{IsFaithfulDisk}
 use Rattle.run_spec.specs.Marks.{marks_of, is_refused}
 use Rattle.run_spec.proofs.Parts.{build_parts}
-use Rattle.history_spec.specs.Histories.{ProgramRun, work_over}
-use Rattle.vr_outside.specs.Disks.{DiskState}
-use Rattle.compile_loop.specs.Faults.{Explains, FaultCounts, NoneFell}
-use Rattle.compile_loop.specs.Ran.{is_made}
-use Rattle.compile_loop.specs.declared.faults.BuildFault.{BuildFault}
-use Rattle.compile_loop.specs.declared.faults.BuildFault.TheVariants as fault
-use Rattle.scan_spec.specs.Scans.{Finding}
+use Rattle.run_histories.specs.Histories.{ProgramRun, work_over}
+use Rattle.outside.specs.Disks.{DiskState}
+use Rattle.build_loop.specs.Faults.{Explains, FaultCounts, NoneFell}
+use Rattle.build_loop.specs.Ran.{is_made}
+use Rattle.build_loop.specs.declared.faults.BuildFault.{BuildFault}
+use Rattle.build_loop.specs.declared.faults.BuildFault.TheVariants as fault
+use Rattle.vhdl_spec.specs.Scans.{Finding}
 use Rattle.test_spec.specs.declared.runs.TestRun.{TestRun}
 use Rattle.test_spec.specs.declared.ends.TestEnd.{TestEnd}
 use Rattle.test_spec.specs.declared.ends.RunEnd.{RunEnd}
 use Rattle.test_journal.specs.TestJournal.{TestSetting, IsWholeTests}
 use Rattle.test_loop.specs.Results.{test_ends}
-use Rattle.tested_runs.specs.declared.testing.Tested.{Tested}
-use Rattle.tested_runs.specs.Tested.{SaysTests, TestsOver, setting_after}
-use Rattle.tested_histories.specs.Histories.{HasTested}
-use Rattle.tested_histories.specs.Rights.{AreRightTests}
-use Rattle.tested_histories.proofs.TestedRights.{tests_right}
-use Rattle.tested_report.specs.declared.said.RunSaid.{RunSaid}
-use Rattle.tested_report.specs.declared.said.TestWords.{TestWords}
-use Rattle.tested_report.specs.Said.{run_said}
+use Rattle.run_tested.specs.declared.testing.Tested.{Tested}
+use Rattle.run_tested.specs.Tested.{SaysTests, TestsOver, setting_after}
+use Rattle.run_tested_laws.specs.Histories.{HasTested}
+use Rattle.run_tested_laws.specs.Rights.{AreRightTests}
+use Rattle.run_tested_laws.proofs.TestedRights.{tests_right}
+use Rattle.report_tested.specs.declared.said.RunSaid.{RunSaid}
+use Rattle.report_tested.specs.declared.said.TestWords.{TestWords}
+use Rattle.report_tested.specs.Said.{run_said}
 use Rattle.vunit_top.specs.Store.{records_in_image}
 use Rattle.vunit_top.specs.Acts.{Object, Disk, Children, Out, Reports, Seen, RunsTests, marks_between, setting_between, tests_since, said_between}
 use Rattle.vunit_top.specs.Ends.{WritesReport}

@@ -3,22 +3,22 @@ use Rattle.std.proofs.Common.{◌≡◌, ℕ, Bool, leb, List, [], ◌∷◌, �
 use Rattle.std.specs.Prelude.{if◌then◌else◌, codes}
 use Rattle.std.proofs.Math.Dec.{ltb}
 use Rattle.std.proofs.lemmas.Bool.{cases_Bool, cond-true, cond-false, lt-ltb, le-ltb, false≢true}
-use Rattle.outcomes.specs.declared.outcome.Outcome.TheVariants as outcome
-use Rattle.outcomes.specs.declared.outcome.Limit.TheVariants as limits
-use Rattle.vr_base.specs.declared.limits.TheConstants.{FILE_LIMIT, SLOT_LIMIT}
-use Rattle.vr_base.specs.declared.child.Exit.{Exit}
-use Rattle.bench_codec.specs.Reading.{bench_at}
+use Rattle.base_outcomes.specs.declared.outcome.Outcome.TheVariants as outcome
+use Rattle.base_outcomes.specs.declared.outcome.Limit.TheVariants as limits
+use Rattle.base.specs.declared.limits.TheConstants.{FILE_LIMIT, SLOT_LIMIT}
+use Rattle.base.specs.declared.child.Exit.{Exit}
+use Rattle.child_bench_codec.specs.Reading.{bench_at}
 use Rattle.child_benches.specs.Benches.{simulation}
-use Rattle.vr_outside.specs.declared.streams.TakeEnd.TheVariants.{Got, TooLong}
-use Rattle.vr_outside.specs.Streams.{take_end}
-use Rattle.run_report.specs.Texts.{bad_request}
+use Rattle.outside.specs.declared.streams.TakeEnd.TheVariants.{Got, TooLong}
+use Rattle.outside.specs.Streams.{take_end}
+use Rattle.report_run.specs.Texts.{bad_request}
 use Rattle.project_reading.specs.Reading.{SourceReading}
-use Rattle.command_line.specs.declared.setting.Setting.{Setting}
-use Rattle.command_line.specs.declared.setting.WordsFault.TheVariants as words
-use Rattle.command_line.specs.Words.{setting_of, ReadsWords}
+use Rattle.run_command_line.specs.declared.setting.Setting.{Setting}
+use Rattle.run_command_line.specs.declared.setting.WordsFault.TheVariants as words
+use Rattle.run_command_line.specs.Words.{setting_of, ReadsWords}
 use Rattle.vunit_top.specs.declared.words.Job.{Job}
 use Rattle.generated_runs.specs.declared.options.GenerateOptions.{GenerateOptions}
-use Rattle.history_spec.specs.Histories.{Order}
+use Rattle.run_histories.specs.Histories.{Order}
 use Rattle.std.proofs.lemmas.Option.{none-some}
 use Rattle.project_reading.specs.declared.wish.Wish.{Wish}
 use Rattle.vunit_top.specs.Reading.{Reading, Testing, Bad, Child, Compiler, Simulator, Over, Builds, Runs, Exports, Generates, begins_as_compiler, begins_as_simulator, job_of, generate_job, generate_options_of, generates, may_test, setting_job, maybe_job, words_job, full_reading}

@@ -1,33 +1,33 @@
 -- What a run did with its objects and said, by what words and sources say is to be done: one record, which each call hands on.
 use Rattle.std.specs.Prelude.{◌≡◌, ℕ, true, if◌then◌else◌, List, [], ◌++◌, Option, Some, None}
 use Rattle.std.specs.List.{list_all}
-use Rattle.vr_base.specs.declared.child.Request.{Request}
-use Rattle.vr_base.specs.declared.child.Exit.{Exit}
-use Rattle.vr_base.specs.declared.child.Event.{Event}
-use Rattle.vr_base.specs.declared.child.MaybeText.TheVariants.{Nothing}
+use Rattle.base.specs.declared.child.Request.{Request}
+use Rattle.base.specs.declared.child.Exit.{Exit}
+use Rattle.base.specs.declared.child.Event.{Event}
+use Rattle.base.specs.declared.child.MaybeText.TheVariants.{Nothing}
 use Rattle.run_spec.specs.declared.marks.Mark.{Mark}
-use Rattle.outcomes.specs.declared.outcome.Outcome.{Outcome}
-use Rattle.vr_outside.specs.Disks.{Moments, added_since}
+use Rattle.base_outcomes.specs.declared.outcome.Outcome.{Outcome}
+use Rattle.outside.specs.Disks.{Moments, added_since}
 use Rattle.run_spec.specs.ChildJournal.{since}
-use Rattle.history_spec.specs.Histories.{Order, ProgramRun, work_over}
+use Rattle.run_histories.specs.Histories.{Order, ProgramRun, work_over}
 use Rattle.run_spec.specs.JournalParts.{compile_part, test_part}
 use Rattle.run_spec.specs.Faithful.{IsFaithfulDisk}
 use Rattle.run_spec.specs.Marks.{marks_of}
-use Rattle.run_report.specs.Outcomes.{build_outcome}
-use Rattle.compile_loop.specs.Ran.{is_made}
+use Rattle.report_run.specs.Outcomes.{build_outcome}
+use Rattle.build_loop.specs.Ran.{is_made}
 use Rattle.test_spec.specs.declared.ends.TestEnd.{TestEnd}
 use Rattle.test_journal.specs.TestJournal.{TestSetting, IsWholeTests}
 use Rattle.test_loop.specs.Results.{test_ends}
-use Rattle.tested_runs.specs.Tested.{setting_after}
-use Rattle.tested_histories.specs.Histories.{HasTested}
-use Rattle.tested_histories.specs.Rights.{AreRightTests}
-use Rattle.tested_report.specs.declared.said.RunSaid.{RunSaid}
-use Rattle.tested_report.specs.Said.{run_said}
-use Rattle.scan_spec.specs.Scans.{Finding}
+use Rattle.run_tested.specs.Tested.{setting_after}
+use Rattle.run_tested_laws.specs.Histories.{HasTested}
+use Rattle.run_tested_laws.specs.Rights.{AreRightTests}
+use Rattle.report_tested.specs.declared.said.RunSaid.{RunSaid}
+use Rattle.report_tested.specs.Said.{run_said}
+use Rattle.vhdl_spec.specs.Scans.{Finding}
 use Rattle.vunit_top.specs.Store.{records_in_image}
 use Rattle.vunit_top.specs.Ends.{Writes, WritesReport}
 use Rattle.vunit_top.specs.Reading.{Reading, Testing, Exports, Builds, Runs}
-use Rattle.disk_runs.specs.Building.{has_risen}
+use Rattle.run_build.specs.Building.{has_risen}
 use Rattle.vunit_top.specs.Runs.{RunsAs, run_of}
 use Rattle.vunit_top.specs.Said.{Said, Says, SaysRun, IsSaid, HasEnded, order_of, report_path_of, plan_in, plain_said, plain_run, build_said}
 

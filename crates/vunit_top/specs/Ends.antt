@@ -1,13 +1,13 @@
 -- What the parts of a run put and answer.
 use Rattle.std.specs.Prelude.{◌≡◌, ℕ, List, Option, Some, None, Err}
-use Rattle.outcomes.specs.declared.outcome.Which.TheVariants as which
-use Rattle.outcomes.specs.declared.outcome.Outcome.{Outcome}
-use Rattle.outcomes.specs.declared.outcome.Outcome.TheVariants as outcome
-use Rattle.vr_outside.specs.Counts.{Rose}
-use Rattle.vr_base.specs.declared.child.MaybeText.{MaybeText}
-use Rattle.vr_base.specs.declared.child.MaybeText.TheVariants.{Given, Nothing}
+use Rattle.base_outcomes.specs.declared.outcome.Which.TheVariants as which
+use Rattle.base_outcomes.specs.declared.outcome.Outcome.{Outcome}
+use Rattle.base_outcomes.specs.declared.outcome.Outcome.TheVariants as outcome
+use Rattle.outside.specs.Counts.{Rose}
+use Rattle.base.specs.declared.child.MaybeText.{MaybeText}
+use Rattle.base.specs.declared.child.MaybeText.TheVariants.{Given, Nothing}
 use Rattle.vunit_top.specs.Said.{Results}
-use Rattle.report_files.specs.Reports.{HasWritten, IsSameBut}
+use Rattle.outside.specs.Reports.{HasWritten, IsSameBut}
 use Rattle.project_reading.specs.declared.stops.ReadStop.{ReadStop}
 use Rattle.project_reading.specs.Sources.{ReadCounts}
 

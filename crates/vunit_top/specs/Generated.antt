@@ -1,11 +1,11 @@
 -- What was done and said where a project was generated.
 use Rattle.std.specs.Prelude.{◌≡◌, ℕ, List, Result, Ok, Err}
-use Rattle.vr_base.specs.declared.child.Request.{Request}
-use Rattle.vr_base.specs.declared.child.Exit.{Exit}
-use Rattle.vr_base.specs.declared.child.Event.{Event}
-use Rattle.outcomes.specs.declared.outcome.Outcome.{Outcome}
-use Rattle.compile_loop.specs.declared.faults.BuildFault.{BuildFault}
-use Rattle.scan_spec.specs.Scans.{Finding}
+use Rattle.base.specs.declared.child.Request.{Request}
+use Rattle.base.specs.declared.child.Exit.{Exit}
+use Rattle.base.specs.declared.child.Event.{Event}
+use Rattle.base_outcomes.specs.declared.outcome.Outcome.{Outcome}
+use Rattle.build_loop.specs.declared.faults.BuildFault.{BuildFault}
+use Rattle.vhdl_spec.specs.Scans.{Finding}
 use Rattle.generated_runs.specs.declared.options.GenerateOptions.{GenerateOptions}
 use Rattle.generated_runs.specs.declared.options.GeneratedSaid.{GeneratedSaid}
 use Rattle.generated_runs.specs.Sources.{first_reading, second_reading}

@@ -1,34 +1,34 @@
 -- What words and sources say is to be done: a function of both.
 use Rattle.std.specs.Prelude.{ℕ, ◌≤◌, nat_lt, Bool, true, false, ◌||◌, if◌then◌else◌, List, [], ◌∷◌, codes, Option, Some, None, Result, Ok, Err}
 use Rattle.std.specs.Str.{bytes_eq}
-use Rattle.vr_base.specs.declared.graph.Entry.{Entry}
-use Rattle.outcomes.specs.declared.outcome.Refusal.{Refusal}
-use Rattle.outcomes.specs.declared.outcome.Limit.{Limit}
-use Rattle.outcomes.specs.declared.outcome.Limit.TheVariants as limit
+use Rattle.base.specs.declared.graph.Entry.{Entry}
+use Rattle.base_outcomes.specs.declared.outcome.Refusal.{Refusal}
+use Rattle.base_outcomes.specs.declared.outcome.Limit.{Limit}
+use Rattle.base_outcomes.specs.declared.outcome.Limit.TheVariants as limit
 use Rattle.vhdl_benches.specs.declared.bench.Bench.{Bench}
-use Rattle.vr_base.specs.declared.child.MaybeText.{MaybeText}
-use Rattle.vr_base.specs.declared.child.MaybeText.TheVariants.{Given, Nothing}
-use Rattle.vr_base.specs.declared.limits.TheConstants.{FILE_LIMIT, SLOT_LIMIT}
-use Rattle.history_spec.specs.Histories.{Sources, Order}
+use Rattle.base.specs.declared.child.MaybeText.{MaybeText}
+use Rattle.base.specs.declared.child.MaybeText.TheVariants.{Given, Nothing}
+use Rattle.base.specs.declared.limits.TheConstants.{FILE_LIMIT, SLOT_LIMIT}
+use Rattle.run_histories.specs.Histories.{Sources, Order}
 use Rattle.run_spec.specs.JournalParts.{is_given}
-use Rattle.run_report.specs.Texts.{warning_text}
-use Rattle.test_report.specs.Export.{export_text}
-use Rattle.scan_spec.specs.Scans.{Finding}
-use Rattle.command_line.specs.declared.setting.Setting.{Setting}
-use Rattle.command_line.specs.Words.{setting_of}
+use Rattle.report_run.specs.Texts.{warning_text}
+use Rattle.report_lists.specs.Export.{export_text}
+use Rattle.vhdl_spec.specs.Scans.{Finding}
+use Rattle.run_command_line.specs.declared.setting.Setting.{Setting}
+use Rattle.run_command_line.specs.Words.{setting_of}
 use Rattle.project_reading.specs.Reading.{SourceReading, project_reading}
 use Rattle.project_reading.specs.Reading as sources
 pub use Rattle.project_reading.specs.Wishes.{chosen}
 use Rattle.project_reading.specs.declared.wish.Extent.{Extent}
 use Rattle.project_reading.specs.declared.wish.Extent.TheVariants.{Graph, Tests, Needed}
 use Rattle.project_reading.specs.declared.wish.Wish.{Wish}
-use Rattle.disk_runs.specs.declared.building.BuildOptions.{BuildOptions}
-use Rattle.disk_runs.specs.Orders.{order_by}
+use Rattle.run_build.specs.declared.building.BuildOptions.{BuildOptions}
+use Rattle.run_build.specs.Orders.{order_by}
 use Rattle.project_reading.specs.declared.linking.ReadProject.{ReadProject}
 use Rattle.test_spec.specs.declared.runs.TestRun.{TestRun}
 use Rattle.test_spec.specs.Runs.{test_runs}
 use Rattle.test_journal.specs.TestJournal.{TestPlan}
-use Rattle.tested_report.specs.declared.said.TestWords.{TestWords}
+use Rattle.report_tested.specs.declared.said.TestWords.{TestWords}
 use Rattle.generated_runs.specs.declared.options.GenerateOptions.{GenerateOptions}
 use Rattle.vunit_top.specs.declared.words.RunOptions.{RunOptions}
 use Rattle.vunit_top.specs.declared.words.Job.{Job}

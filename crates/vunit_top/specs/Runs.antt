@@ -1,23 +1,23 @@
 -- What a run of the program did: a step of a history, and what follows of it.
 use Rattle.std.specs.Prelude.{◌≡◌, ◌↔◌, ℕ, ◌<◌, Bool, true, List, length, Some, is_some, Contains}
-use Rattle.vr_base.specs.declared.child.Request.{Request}
-use Rattle.vr_base.specs.declared.child.Exit.{Exit}
-use Rattle.vr_base.specs.declared.child.Event.{Event}
-use Rattle.outcomes.specs.declared.outcome.Outcome.{Outcome}
-use Rattle.vr_outside.specs.Disks.{DiskState, EachImage}
-use Rattle.vr_outside.specs.Commits.{last_state}
+use Rattle.base.specs.declared.child.Request.{Request}
+use Rattle.base.specs.declared.child.Exit.{Exit}
+use Rattle.base.specs.declared.child.Event.{Event}
+use Rattle.base_outcomes.specs.declared.outcome.Outcome.{Outcome}
+use Rattle.outside.specs.Disks.{DiskState, EachImage}
+use Rattle.outside.specs.Commits.{last_state}
 use Rattle.run_spec.specs.ChildJournal.{Work, IsWhole, book_of, artefact_after}
 use Rattle.run_spec.specs.Settled.{request_unless}
 use Rattle.run_spec.specs.Commits.{commits}
 use Rattle.run_spec.specs.Faithful.{IsFaithfulDisk}
-use Rattle.history_spec.specs.Histories.{World, ProgramRun, RunStep, work_over}
+use Rattle.run_histories.specs.Histories.{World, ProgramRun, RunStep, work_over}
 use Rattle.run_spec.specs.JournalParts.{compile_part}
 use Rattle.run_spec.specs.Marks.{marks_of, steady_marks, NoRefusalHalts}
-use Rattle.history_laws.specs.Rights.{IsRightStep}
-use Rattle.scan_spec.specs.Scans.{Finding}
-use Rattle.tested_histories.specs.Histories.{TestedWorld}
+use Rattle.run_laws.specs.Rights.{IsRightStep}
+use Rattle.vhdl_spec.specs.Scans.{Finding}
+use Rattle.run_tested_laws.specs.Histories.{TestedWorld}
 use Rattle.vunit_top.specs.Store.{records_in_image}
-use Rattle.disk_runs.specs.Orders.{IsDurablyRecorded}
+use Rattle.run_build.specs.Orders.{IsDurablyRecorded}
 use Rattle.vunit_top.specs.Reading.{Reading, reading}
 use Rattle.vunit_top.specs.Said.{HasEnded, HasBuilt, order_of, order_in, plan_in}
 

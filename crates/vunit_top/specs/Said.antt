@@ -1,26 +1,26 @@
 -- What a run answers and puts, and what each of its answers comes of.
 use Rattle.std.specs.Prelude.{◌≡◌, ℕ, ◌≤◌, nat_le, false, if◌then◌else◌, List, [], ◌++◌, length, Option, Some, None, unwrap_or}
-use Rattle.vr_base.specs.declared.graph.Entry.{Entry}
+use Rattle.base.specs.declared.graph.Entry.{Entry}
 use Rattle.run_spec.specs.declared.marks.Mark.{Mark}
-use Rattle.outcomes.specs.declared.outcome.Which.TheVariants as which
-use Rattle.outcomes.specs.declared.outcome.Outcome.{Outcome}
-use Rattle.outcomes.specs.declared.outcome.Outcome.TheVariants as outcome
-use Rattle.vr_outside.specs.Counts.{Rose}
-use Rattle.compile_loop.specs.declared.faults.BuildFault.{BuildFault}
-use Rattle.compile_loop.specs.declared.faults.BuildFault.TheVariants as fault
-use Rattle.vr_outside.specs.Streams.{AddsPrefix}
-use Rattle.history_spec.specs.Histories.{Order}
-use Rattle.run_report.specs.Outcomes.{build_outcome}
-use Rattle.run_report.specs.Texts.{shown_bytes, build_text, refusal_text, limit_text, usage_text, bad_request, files_list}
-use Rattle.test_report.specs.Listing.{tests_list}
-use Rattle.vr_base.specs.declared.child.MaybeText.{MaybeText}
-use Rattle.vr_base.specs.declared.child.MaybeText.TheVariants.{Given, Nothing}
-use Rattle.vr_base.specs.declared.child.Exit.{Exit}
+use Rattle.base_outcomes.specs.declared.outcome.Which.TheVariants as which
+use Rattle.base_outcomes.specs.declared.outcome.Outcome.{Outcome}
+use Rattle.base_outcomes.specs.declared.outcome.Outcome.TheVariants as outcome
+use Rattle.outside.specs.Counts.{Rose}
+use Rattle.build_loop.specs.declared.faults.BuildFault.{BuildFault}
+use Rattle.build_loop.specs.declared.faults.BuildFault.TheVariants as fault
+use Rattle.outside.specs.Streams.{AddsPrefix}
+use Rattle.run_histories.specs.Histories.{Order}
+use Rattle.report_run.specs.Outcomes.{build_outcome}
+use Rattle.report_run.specs.Texts.{shown_bytes, build_text, refusal_text, limit_text, usage_text, bad_request, files_list}
+use Rattle.report_lists.specs.Listing.{tests_list}
+use Rattle.base.specs.declared.child.MaybeText.{MaybeText}
+use Rattle.base.specs.declared.child.MaybeText.TheVariants.{Given, Nothing}
+use Rattle.base.specs.declared.child.Exit.{Exit}
 use Rattle.test_spec.specs.declared.jobs.BenchJob.{BenchJob}
 use Rattle.test_journal.specs.TestJournal.{TestPlan}
-use Rattle.bench_codec.specs.Reading.{bench_at}
+use Rattle.child_bench_codec.specs.Reading.{bench_at}
 use Rattle.child_benches.specs.Benches.{simulation}
-use Rattle.tested_report.specs.declared.said.RunSaid.{RunSaid}
+use Rattle.report_tested.specs.declared.said.RunSaid.{RunSaid}
 use Rattle.vunit_top.specs.Reading.{Reading, Bad, Stops, Over, Lists, ListsTests, Exports, Builds, Runs}
 
 -- an answer, and the text that is put with it

@@ -1,25 +1,24 @@
 //! The program as a child of another run of it.
 
 ghost use Rattle.std.specs.Prelude.{◌≡◌, ◌≤◌, ◌⊎◌, ℕ, List, [], Option, None, Some};
-ghost use Rattle.bench_codec.specs.Reading.{bench_at};
+ghost use Rattle.child_bench_codec.specs.Reading.{bench_at};
 ghost use Rattle.child_benches.specs.Benches.{bench_answer, simulation};
 ghost use Rattle.child_lines.specs.Ends.{bad_request};
 ghost use Rattle.child_tools.specs.Answers.{analysis};
-ghost use Rattle.report_files.specs.Reports.{HasWritten};
-ghost use Rattle.scan_spec.specs.Scans.{Finding, IsScanner};
+ghost use Rattle.outside.specs.Reports.{HasWritten};
+ghost use Rattle.vhdl_spec.specs.Scans.{Finding, IsScanner};
 ghost use Rattle.vunit_top.specs.Ends.{OutCauses, WritesFirst, WritesResults};
 ghost use Rattle.vunit_top.specs.Said.{Results, Says, IsAccounted, child_results, child_said, exit_said, fault_counts, left_results};
 
 use crate::ends::say;
+use base::{Exit, MaybeText, Text};
+use base_outcomes::{Outcome, Which};
 use child_benches::{bench_job, run_job};
 use child_lines::bad_request;
 use child_tools::analyse;
-use outcomes::{Outcome, Which};
-use report_files::{ReportFault, Reports};
+use outside::{ReportFault, Reports, Sink, SinkFault, Source, SourceFault, TakeEnd};
 use std::alloc::Global;
 use test_spec::BenchJob;
-use vr_base::{Exit, MaybeText, Text};
-use vr_outside::{Sink, SinkFault, Source, SourceFault, TakeEnd};
 
 /// The most bytes that a child takes.
 const INPUT_BYTES: u64 = 2147483648;

@@ -1,21 +1,20 @@
 //! What a run puts, and what it then answers.
 
 ghost use Rattle.std.specs.Prelude.{◌≡◌, ◌≤◌, ◌++◌, ℕ, List, [], length, IfOk};
-ghost use Rattle.run_report.specs.Outcomes.{build_outcome};
+ghost use Rattle.report_run.specs.Outcomes.{build_outcome};
 ghost use Rattle.vunit_top.specs.Said.{Says, IsSaid, build_said};
-ghost use Rattle.run_report.specs.Texts.{shown_bytes, build_text, refusal_text, limit_text, files_list, usage_text};
-ghost use Rattle.test_report.specs.Listing.{tests_list};
+ghost use Rattle.report_run.specs.Texts.{shown_bytes, build_text, refusal_text, limit_text, files_list, usage_text};
+ghost use Rattle.report_lists.specs.Listing.{tests_list};
 ghost use Rattle.vunit_top.specs.Ends.{OutCauses, ReportCauses, Writes};
 
-use outcomes::{Limit, Outcome, Refusal, Which};
-use report_files::{ReportFault, Reports};
-use run_report::{build_outcome, build_text, limit_text, list_files, refusal_text};
+use base::{Graph, NoMemory, Text};
+use base_outcomes::{Limit, Outcome, Refusal, Which};
+use outside::{ReportFault, Reports, Sink, SinkFault};
+use report_lists::list_tests;
+use report_run::{build_outcome, build_text, limit_text, list_files, refusal_text};
 use run_spec::MarkList;
 use std::alloc::Global;
-use test_report::list_tests;
 use vhdl_benches::Tests;
-use vr_base::{Graph, NoMemory, Text};
-use vr_outside::{Sink, SinkFault};
 
 /// What is put where the words aren't a command line of the program.
 static USAGE: [u8; 141] =
@@ -38,7 +37,7 @@ pub fn say<O: Sink>(text: &[u8], answer: Outcome, out: &mut O) -> Outcome
 }
 
 /// Puts the usage text.
-#[tactic(auto, unfolding(run_report::specs::Texts::usage_text))]
+#[tactic(auto, unfolding(report_run::specs::Texts::usage_text))]
 pub fn say_usage<O: Sink>(out: &mut O) -> Outcome
     ensures said { O.tells →
         Says result (record { outcome = Outcome.BadWords; text = usage_text })

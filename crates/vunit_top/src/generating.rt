@@ -2,8 +2,8 @@
 
 ghost use Rattle.std.specs.Prelude.{◌≡◌, ◌≤◌, ◌<◌, ◌++◌, [], ℕ, List, Err, MatchOption, false};
 ghost use Rattle.run_spec.specs.ChildJournal.{since};
-ghost use Rattle.compile_loop.specs.declared.faults.BuildFault.TheVariants as fault;
-ghost use Rattle.scan_spec.specs.Scans.{Finding, IsScanner};
+ghost use Rattle.build_loop.specs.declared.faults.BuildFault.TheVariants as fault;
+ghost use Rattle.vhdl_spec.specs.Scans.{Finding, IsScanner};
 ghost use Rattle.vunit_top.specs.Generated.{GeneratesAs};
 ghost use Rattle.vunit_top.specs.Reading.{Generates, generates, setting_job};
 ghost use Rattle.generated_runs.specs.Said.{IsAnswer};
@@ -11,12 +11,12 @@ ghost use Rattle.vunit_top.specs.Said.{IsAccounted, IsSaid, Says, fault_counts, 
 
 use crate::ends::say;
 use crate::tests::fault_outcome;
-use command_line::Setting;
+use base::{FILE_LIMIT, SLOT_LIMIT};
+use base_outcomes::{Outcome, Which};
 use generated_runs::{GenerateOptions, GeneratedSaid, run_generated};
-use outcomes::{Outcome, Which};
+use outside::{Procs, Sink};
+use run_command_line::Setting;
 use std::alloc::Global;
-use vr_base::{FILE_LIMIT, SLOT_LIMIT};
-use vr_outside::{Procs, Sink};
 
 /// How a setting says that a project is to be generated, if it does and no limit is passed.
 pub fn generated_by(setting: &Setting) -> Option<GenerateOptions>

@@ -1,18 +1,18 @@
 //! A run: a build, then the tests of what was built, and what is said of both.
 
 ghost use Rattle.std.specs.Prelude.{◌≡◌, ◌≤◌, ◌++◌, [], ℕ, List, All, length, true, false, IfOk};
-ghost use Rattle.vr_outside.specs.Disks.{added_since};
+ghost use Rattle.outside.specs.Disks.{added_since};
 ghost use Rattle.run_spec.specs.ChildJournal.{since};
 ghost use Rattle.run_spec.specs.JournalParts.{is_given};
-ghost use Rattle.run_report.specs.Texts.{warning_text};
-ghost use Rattle.scan_spec.specs.Scans.{Finding};
-ghost use Rattle.compile_loop.specs.Faults.{Explains, FaultCounts, NoneFell};
-ghost use Rattle.disk_runs.specs.Building.{has_risen};
-ghost use Rattle.disk_runs.specs.Orders.{order_by};
+ghost use Rattle.report_run.specs.Texts.{warning_text};
+ghost use Rattle.vhdl_spec.specs.Scans.{Finding};
+ghost use Rattle.build_loop.specs.Faults.{Explains, FaultCounts, NoneFell};
+ghost use Rattle.run_build.specs.Building.{has_risen};
+ghost use Rattle.run_build.specs.Orders.{order_by};
 ghost use Rattle.project_reading.specs.Sources.{IsReadProject};
 ghost use Rattle.test_journal.specs.TestJournal.{TestPlan};
 ghost use Rattle.test_spec.specs.Runs.{FitsRun, test_runs};
-ghost use Rattle.tested_report.specs.Said.{run_said};
+ghost use Rattle.report_tested.specs.Said.{run_said};
 ghost use Rattle.vunit_top.specs.Acts.{RunsTests, of_each, seen};
 ghost use Rattle.vunit_top.specs.Ends.{ReportCauses, WritesLast, WritesReport};
 ghost use Rattle.vunit_top.specs.Reading.{Runs, chosen, testing_with, testing_of};
@@ -20,19 +20,18 @@ ghost use Rattle.vunit_top.specs.Runs.{RunsAs, run_of};
 ghost use Rattle.vunit_top.specs.Said.{IsAccounted, IsSaid, Said, SaysRun, fault_counts, fault_outcome, plain_run};
 
 use crate::words::RunOptions;
-use compile_loop::BuildFault;
-use outcomes::{Outcome, Which};
-use planned_tests::planned_runs;
+use base::{CASE_LIMIT, Graph, MaybeText, NoMemory, SLOT_LIMIT, Text};
+use base_outcomes::{Outcome, Which};
+use build_loop::BuildFault;
+use outside::{Disk, Procs, ReportFault, Reports, Sink, SinkFault};
 use project_reading::{ReadProject, Wish};
-use report_files::{ReportFault, Reports};
-use request_store::RequestStore;
-use run_report::warning_text;
+use report_run::warning_text;
+use report_tested::{RunSaid, TestWords, said_of_run};
+use run_tested::{Tested, test_over};
 use std::alloc::Global;
+use store_requests::RequestStore;
+use test_plan::planned_runs;
 use test_spec::TestRunList;
-use tested_report::{RunSaid, TestWords, said_of_run};
-use tested_runs::{Tested, test_over};
-use vr_base::{CASE_LIMIT, Graph, MaybeText, NoMemory, SLOT_LIMIT, Text};
-use vr_outside::{Disk, Procs, Sink, SinkFault};
 
 /// The answer of a run after a fault of its build or of its tests.
 pub fn fault_outcome(fault: BuildFault) -> Outcome

@@ -1,31 +1,31 @@
 //! The top call: reads words and sources, does what they say, and puts what became of it.
 
 ghost use Rattle.std.specs.Prelude.{◌≡◌, ◌≤◌, ◌⊎◌, ◌++◌, [], ℕ, List, codes, Option, Some, None, Ok, Err, true, false, IfOk};
-ghost use Rattle.vr_outside.specs.Disks.{added_since};
+ghost use Rattle.outside.specs.Disks.{added_since};
 ghost use Rattle.run_spec.specs.ChildJournal.{since};
-ghost use Rattle.history_spec.specs.Histories.{Order, work_over};
+ghost use Rattle.run_histories.specs.Histories.{Order, work_over};
 ghost use Rattle.run_spec.specs.JournalParts.{compile_part, test_part};
 ghost use Rattle.run_spec.specs.Marks.{marks_of};
-ghost use Rattle.run_report.specs.Outcomes.{build_outcome};
-ghost use Rattle.run_report.specs.Texts.{warning_text};
-ghost use Rattle.scan_spec.specs.Scans.{Finding, IsScanner};
+ghost use Rattle.report_run.specs.Outcomes.{build_outcome};
+ghost use Rattle.report_run.specs.Texts.{warning_text};
+ghost use Rattle.vhdl_spec.specs.Scans.{Finding, IsScanner};
 ghost use Rattle.project_reading.specs.Asked.{AsksFirst, project_paths};
 ghost use Rattle.project_reading.specs.Reading.{SourceReading, Found, project_reading};
 ghost use Rattle.project_reading.specs.Sources.{IsReadProject, LeadsTo};
-ghost use Rattle.vr_base.specs.declared.child.MaybeText.{MaybeText};
-ghost use Rattle.vr_base.specs.declared.child.MaybeText.TheVariants.{Nothing};
+ghost use Rattle.base.specs.declared.child.MaybeText.{MaybeText};
+ghost use Rattle.base.specs.declared.child.MaybeText.TheVariants.{Nothing};
 ghost use Rattle.child_tools.specs.Answers.{analysis};
 ghost use Rattle.child_benches.specs.Benches.{simulation};
-ghost use Rattle.test_report.specs.Listing.{tests_list};
-ghost use Rattle.test_report.specs.Export.{export_text};
+ghost use Rattle.report_lists.specs.Listing.{tests_list};
+ghost use Rattle.report_lists.specs.Export.{export_text};
 ghost use Rattle.vunit_top.specs.Store.{records_in_image};
 ghost use Rattle.vunit_top.specs.Acts.{Acts, RunsTests, of_each, seen};
 ghost use Rattle.generated_runs.specs.declared.options.GenerateOptions.{GenerateOptions};
 ghost use Rattle.vunit_top.specs.Generated.{GeneratesAs};
 ghost use Rattle.vunit_top.specs.Ends.{StopCounts, OutCauses, ReportCauses, Writes, WritesReport, WritesResults};
-ghost use Rattle.disk_runs.specs.Orders.{order_by};
+ghost use Rattle.run_build.specs.Orders.{order_by};
 ghost use Rattle.vunit_top.specs.Reading.{Reading, Testing, Builds, Exports, Runs, HasSlots, reading, full_reading, job_reading, setting_job, words_job, begins_as_child, begins_as_compiler, begins_as_simulator, chosen, is_build, is_run, may_test, may_write, generates, Generates, wish_of};
-ghost use Rattle.disk_runs.specs.Building.{has_risen};
+ghost use Rattle.run_build.specs.Building.{has_risen};
 ghost use Rattle.vunit_top.specs.Runs.{RunsAs, run_of};
 ghost use Rattle.vunit_top.specs.Said.{Said, Says, SaysRun, IsSaid, HasEnded, Causes, IsAccounted, fault_counts, report_path_of, order_of, plan_in, plain_said, build_said, child_said, child_results};
 
@@ -36,18 +36,17 @@ use crate::ends::{
 use crate::generating::{generated_by, say_generated};
 use crate::tests::test_project;
 use crate::words::{Job, begins_with, job_of, wish_of};
-use command_line::{Setting, WordsFault, read_words};
-use compile_loop::BuildFault;
-use disk_runs::{BuildOptions, build_over};
-use outcomes::{Limit, Outcome, Refusal, Which};
+use base::{FILE_LIMIT, Graph, NoMemory, SLOT_LIMIT, Text, TextList};
+use base_outcomes::{Limit, Outcome, Refusal, Which};
+use build_loop::BuildFault;
+use outside::{Disk, Procs, Reports, Sink, Source, Tree};
 use project_reading::{ReadProject, ReadStop, chosen, read_project};
-use report_files::Reports;
-use request_store::RequestStore;
-use run_report::warning_text;
+use report_lists::export_json;
+use report_run::warning_text;
+use run_build::{BuildOptions, build_over};
+use run_command_line::{Setting, WordsFault, read_words};
 use std::alloc::Global;
-use test_report::export_json;
-use vr_base::{FILE_LIMIT, Graph, NoMemory, SLOT_LIMIT, Text, TextList};
-use vr_outside::{Disk, Procs, Sink, Source, Tree};
+use store_requests::RequestStore;
 
 /// Builds a graph over the records of a disk, and puts warnings and what became of its files.
 fn build_graph<D: Disk, P: Procs, O: Sink>(

@@ -5,11 +5,11 @@ ghost use Rattle.std.specs.Str.{bytes_eq};
 ghost use Rattle.run_spec.specs.JournalParts.{is_given};
 ghost use Rattle.vunit_top.specs.Reading.{HasSlots, begins_with, extent_of, job_of, wish_of};
 
-use command_line::Setting;
-use disk_runs::BuildOptions;
+use base::{MaybeText, SLOT_LIMIT, Text, TextList};
 use project_reading::{Extent, Wish};
-use tested_report::TestWords;
-use vr_base::{MaybeText, SLOT_LIMIT, Text, TextList};
+use report_tested::TestWords;
+use run_build::BuildOptions;
+use run_command_line::Setting;
 
 /// How files are built and their tests are run.
 #[derive(Drop)]

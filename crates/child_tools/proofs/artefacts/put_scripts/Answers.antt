@@ -1,7 +1,7 @@
 -- The comment here is in the text.
 use Rattle.std.proofs.Common.{◌≡◌, ◌≤◌, ◌<◌, List, length, sym, ap, subst}
 use Rattle.std.specs.Prelude.{slice_index_or}
-use Rattle.vr_base.specs.declared.lexical.Span.{Span}
+use Rattle.base.specs.declared.lexical.Span.{Span}
 use Rattle.child_tools.proofs.Comments.{comment_at, comments_lie}
 use Rattle.child_tools.proofs.artefacts.put_scripts.Goals as goal
 

@@ -1,6 +1,6 @@
 -- Of the units that are left the same one is the first that is missing.
 use Rattle.std.proofs.Common.{◌≡◌, List, drop}
-use Rattle.vr_base.specs.declared.graph.BuiltFile.{BuiltFile}
+use Rattle.base.specs.declared.graph.BuiltFile.{BuiltFile}
 use Rattle.child_tools.specs.Exports.{first_missing}
 use Rattle.child_tools.specs.Marks.{KnowsLibraries, KnowsUnits}
 use Rattle.child_tools.proofs.exports.first_of.Given as goal

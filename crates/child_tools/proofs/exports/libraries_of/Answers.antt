@@ -1,8 +1,8 @@
 -- The library of one file more is there.
 use Rattle.std.proofs.Common.{◌≡◌, ℕ, true, cond, Some, List, take, sym, subst}
 use Rattle.std.proofs.lemmas.List.{take_all}
-use Rattle.vr_base.specs.declared.graph.BuiltFile.{BuiltFile}
-use Rattle.key_index.specs.Maps.{get}
+use Rattle.base.specs.declared.graph.BuiltFile.{BuiltFile}
+use Rattle.base_key_index.specs.Maps.{get}
 use Rattle.child_tools.specs.Marks.{KnowsLibraries}
 use Rattle.child_tools.specs.NameOrder.{is_same_unit}
 use Rattle.child_tools.specs.declared.names.UnitName.{UnitName}

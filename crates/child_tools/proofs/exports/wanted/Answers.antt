@@ -1,6 +1,6 @@
 -- One unit more is wanted.
 use Rattle.std.proofs.Common.{◌≡◌, false, cond, Some, List, take, sym, subst}
-use Rattle.key_index.specs.Maps.{get}
+use Rattle.base_key_index.specs.Maps.{get}
 use Rattle.child_tools.specs.NameOrder.{is_same_unit}
 use Rattle.child_tools.specs.declared.names.UnitName.{UnitName}
 use Rattle.child_tools.proofs.MissingLemmas.{AreWanted, next_take, wanted_more}

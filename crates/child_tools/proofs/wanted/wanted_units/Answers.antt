@@ -1,6 +1,6 @@
 -- One unit more.
 use Rattle.std.proofs.Common.{arith}
-use Rattle.scan_spec.specs.References.{refs_of}
+use Rattle.vhdl_spec.specs.References.{refs_of}
 use Rattle.child_tools.specs.Exports.{strict_units}
 use Rattle.child_tools.proofs.WantedLemmas.{few_units, joined_more}
 use Rattle.child_tools.proofs.wanted.wanted_units.Goals as goal

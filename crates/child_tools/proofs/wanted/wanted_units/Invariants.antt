@@ -1,7 +1,7 @@
 -- Those of the units up to the number.
 use Rattle.std.proofs.Common.{◌≡◌, take}
 use Rattle.std.specs.List.{flat_map}
-use Rattle.scan_spec.specs.References.{refs_of}
+use Rattle.vhdl_spec.specs.References.{refs_of}
 use Rattle.child_tools.specs.Exports.{strict_units}
 use Rattle.child_tools.proofs.wanted.wanted_units.Given as goal
 

@@ -1,7 +1,7 @@
 -- One package more.
 use Rattle.std.proofs.Common.{◌≡◌, ◌+◌, ◌++◌, ◌∷◌, [], List, sym, ap, ◌∙◌}
 use Rattle.std.proofs.lemmas.List.{append-nil, append_assoc}
-use Rattle.vr_base.specs.declared.file.NamedText.{NamedText}
+use Rattle.base.specs.declared.file.NamedText.{NamedText}
 use Rattle.generated_project.specs.Files.{package_file, packages}
 use Rattle.generated_project.proofs.Packages.{packages-none, packages-more}
 use Rattle.generated_project.proofs.files.push_packages.Goals as goal

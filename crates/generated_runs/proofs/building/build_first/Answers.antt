@@ -1,8 +1,8 @@
 -- The first build, from what it did over its disk.
-use Rattle.disk_runs.specs.Building.{has_risen}
-use Rattle.compile_loop.specs.Faults.{FaultCounts}
-use Rattle.vr_memory.specs.Disks.{moments_of}
-use Rattle.vr_memory.specs.DiskLaws.{now_sound}
+use Rattle.run_build.specs.Building.{has_risen}
+use Rattle.build_loop.specs.Faults.{FaultCounts}
+use Rattle.memory_outside.specs.Disks.{moments_of}
+use Rattle.memory_outside.specs.DiskLaws.{now_sound}
 use Rattle.run_spec.specs.ChildJournal.{since}
 use Rattle.generated_runs.proofs.Builds.{first_ended, first_faulted}
 use Rattle.generated_runs.proofs.building.build_first.Goals as goal

@@ -3,9 +3,9 @@ use Rattle.std.proofs.Common.{◌≡◌, ℕ, Err, sym, subst}
 use Rattle.project_reading.specs.Reading.{SourceReading, Found}
 use Rattle.project_reading.specs.Sources.{LeadsTo}
 use Rattle.project_reading.specs.declared.wish.Extent.TheVariants.{Tests}
-use Rattle.compile_loop.specs.declared.faults.BuildFault.TheVariants as fault
+use Rattle.build_loop.specs.declared.faults.BuildFault.TheVariants as fault
 use Rattle.run_spec.specs.ChildJournal.{since}
-use Rattle.disk_runs.proofs.OverStore.{since_itself}
+use Rattle.run_build.proofs.OverStore.{since_itself}
 use Rattle.generated_project.specs.Files.{generated_files}
 use Rattle.generated_runs.specs.Sources.{files_reading, second_reading, wish_for}
 use Rattle.generated_runs.specs.Ran.{RanEdited}

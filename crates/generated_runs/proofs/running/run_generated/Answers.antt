@@ -1,9 +1,9 @@
 -- From the first sources on, where they give nothing to build.
 use Rattle.std.proofs.Common.{Err, []}
 use Rattle.project_reading.specs.Sources.{LeadsTo}
-use Rattle.compile_loop.specs.declared.faults.BuildFault.TheVariants as fault
+use Rattle.build_loop.specs.declared.faults.BuildFault.TheVariants as fault
 use Rattle.run_spec.specs.ChildJournal.{since}
-use Rattle.disk_runs.proofs.OverStore.{since_itself}
+use Rattle.run_build.proofs.OverStore.{since_itself}
 use Rattle.generated_runs.specs.Sources.{first_reading, second_reading}
 use Rattle.generated_runs.proofs.Parts.{all_fault, all_stop}
 use Rattle.generated_runs.proofs.running.run_generated.Goals as goal

@@ -2,12 +2,12 @@
 use Rattle.std.proofs.Common.{ℕ, Err, Ok, sym, ap, subst, ◌∙◌}
 use Rattle.std.specs.Prelude.{count_by}
 use Rattle.std.specs.List.{list_all}
-use Rattle.vr_base.specs.declared.child.Request.{Request}
-use Rattle.vr_base.specs.declared.child.Exit.{Exit}
-use Rattle.compile_loop.specs.Faults.{FaultCounts, Explains, fault_of}
-use Rattle.compile_loop.specs.Ran.{is_made}
-use Rattle.compile_loop.specs.declared.faults.BuildFault.TheVariants as fault
-use Rattle.vr_memory.specs.Disks.{moments_of}
+use Rattle.base.specs.declared.child.Request.{Request}
+use Rattle.base.specs.declared.child.Exit.{Exit}
+use Rattle.build_loop.specs.Faults.{FaultCounts, Explains, fault_of}
+use Rattle.build_loop.specs.Ran.{is_made}
+use Rattle.build_loop.specs.declared.faults.BuildFault.TheVariants as fault
+use Rattle.memory_outside.specs.Disks.{moments_of}
 use Rattle.run_spec.specs.Marks.{is_compiled}
 use Rattle.run_spec.specs.ChildJournal.{since}
 use Rattle.generated_runs.specs.Sources.{first_records, second_reading}

@@ -1,8 +1,8 @@
 -- Out of memory before anything was started.
 use Rattle.project_reading.specs.Reading.{Found}
-use Rattle.compile_loop.specs.declared.faults.BuildFault.TheVariants as fault
+use Rattle.build_loop.specs.declared.faults.BuildFault.TheVariants as fault
 use Rattle.run_spec.specs.ChildJournal.{since}
-use Rattle.disk_runs.proofs.OverStore.{since_itself}
+use Rattle.run_build.proofs.OverStore.{since_itself}
 use Rattle.generated_runs.proofs.Parts.{edited_fault}
 use Rattle.generated_runs.proofs.running.test_read.Goals as goal
 

@@ -1,6 +1,6 @@
 -- What is read of the tree is what the generated files say.
 use Rattle.std.proofs.Common.{List, Err, subst}
-use Rattle.vr_base.specs.declared.file.NamedText.{NamedText}
+use Rattle.base.specs.declared.file.NamedText.{NamedText}
 use Rattle.project_reading.specs.Sources.{LeadsTo}
 use Rattle.generated_project.specs.Files.{generated_files}
 use Rattle.generated_runs.specs.Sources.{files_reading}

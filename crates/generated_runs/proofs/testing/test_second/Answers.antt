@@ -1,12 +1,12 @@
 -- The second build and its tests, from what they did over their disk.
 use Rattle.std.proofs.Common.{List, Ok, Err, subst, false}
-use Rattle.disk_runs.specs.Building.{has_risen}
-use Rattle.compile_loop.specs.Faults.{FaultCounts}
-use Rattle.vr_memory.specs.Disks.{moments_of}
+use Rattle.run_build.specs.Building.{has_risen}
+use Rattle.build_loop.specs.Faults.{FaultCounts}
+use Rattle.memory_outside.specs.Disks.{moments_of}
 use Rattle.run_spec.specs.ChildJournal.{since}
 use Rattle.test_spec.specs.declared.runs.TestRun.{TestRun}
-use Rattle.tested_runs.specs.Tested.{TestsOver}
-use Rattle.request_store.specs.Stored.{requests_in}
+use Rattle.run_tested.specs.Tested.{TestsOver}
+use Rattle.store_requests.specs.Stored.{requests_in}
 use Rattle.generated_runs.specs.Sources.{second_order}
 use Rattle.generated_runs.proofs.Tests.{tested_ended, tested_faulted, over_records}
 use Rattle.generated_runs.proofs.testing.test_second.Goals as goal

@@ -1,6 +1,6 @@
 -- What the loop of `first_of` keeps: no report so far is of the path.
 use Rattle.std.proofs.Common.{◌≡◌, drop}
-use Rattle.vr_memory.specs.Trees.{file_at}
+use Rattle.memory_outside.specs.Trees.{file_at}
 use Rattle.memory_reports.proofs.reports.first_of.Given as goal
 
 abbrev pub invariant-loop-report : goal.invariant-loop-report

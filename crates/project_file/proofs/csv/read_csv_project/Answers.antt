@@ -1,7 +1,7 @@
 -- What remains to be proved of `read_csv_project`.
 use Rattle.std.proofs.Common.{subst, sym}
 use Rattle.std.specs.Str.Lines.{lines}
-use Rattle.vr_base.specs.Projects.{IsProject}
+use Rattle.base.specs.Projects.{IsProject}
 use Rattle.project_file.proofs.CsvProject.{files_are_names, listed_is_project, no_names}
 use Rattle.project_file.proofs.csv.read_csv_project.Goals as goal
 

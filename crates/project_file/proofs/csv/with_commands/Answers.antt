@@ -1,7 +1,7 @@
 -- What remains to be proved of `with_commands`.
 use Rattle.std.proofs.Common.{◌++◌, ◌∷◌, [], List, ℕ, sym, ap, ◌∙◌}
 use Rattle.std.proofs.lemmas.List.{map_push}
-use Rattle.vr_base.specs.declared.project.ProjectFile.{ProjectFile}
+use Rattle.base.specs.declared.project.ProjectFile.{ProjectFile}
 use Rattle.project_file.specs.Csv.{listed_file}
 use Rattle.project_file.proofs.csv.with_commands.Goals as goal
 

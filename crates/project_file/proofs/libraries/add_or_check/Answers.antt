@@ -1,7 +1,7 @@
 -- What remains to be proved of `add_or_check`.
 use Rattle.std.proofs.Common.{Ok, Option, List, subst, sym}
 use Rattle.toml.specs.View.{table_view}
-use Rattle.vr_base.specs.declared.project.ProjectFile.{ProjectFile}
+use Rattle.base.specs.declared.project.ProjectFile.{ProjectFile}
 use Rattle.project_file.specs.Csv.{then_read}
 use Rattle.project_file.specs.Steps.{ReadsStep}
 use Rattle.project_file.specs.Toml.{library_files}

@@ -1,7 +1,7 @@
 -- What the loop of `files_of` keeps: what is said of the other tables after the files so far is what is said of all.
 use Rattle.std.proofs.Common.{◌≡◌, ◌≤◌, [], Ok, take, drop, map, length}
 use Rattle.toml.specs.View.{table_view}
-use Rattle.vr_base.specs.declared.file.FileName.{FileName}
+use Rattle.base.specs.declared.file.FileName.{FileName}
 use Rattle.project_file.specs.Csv.{then_read}
 use Rattle.project_file.specs.Toml.{files_of}
 use Rattle.project_file.specs.Libraries.{alone, libraries_of}

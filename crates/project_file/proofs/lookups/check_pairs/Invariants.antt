@@ -1,7 +1,7 @@
 -- What the loop of `check_pairs` keeps: what is said of the other dependencies is said of all.
 use Rattle.std.proofs.Common.{◌≡◌, List, [], ℕ, Ok, drop, map}
 use Rattle.toml.specs.View.{table_view}
-use Rattle.vr_base.specs.declared.project.ProjectFile.{ProjectFile}
+use Rattle.base.specs.declared.project.ProjectFile.{ProjectFile}
 use Rattle.project_file.specs.Toml.{files_of, pairs_of}
 use Rattle.project_file.specs.Few.{faults_of, AreLibraries}
 use Rattle.project_file.proofs.lookups.check_pairs.Given as goal

@@ -7,7 +7,7 @@ use Rattle.std.specs.declared.alloc.Global.{Global}
 use Rattle.std.proofs.lemmas.Option.{slice_get_within}
 use Rattle.toml.specs.declared.value.Value.{Value}
 use Rattle.toml.specs.View.{table_view}
-use Rattle.vr_base.specs.declared.file.FileName.{FileName}
+use Rattle.base.specs.declared.file.FileName.{FileName}
 use Rattle.project_file.proofs.FewFiles.{found_is, absent_is}
 use Rattle.project_file.proofs.lookups.has_file.Goals as goal
 

@@ -2,7 +2,7 @@
 use Rattle.std.proofs.Common.{◌≡◌, subst, Some}
 use Rattle.std.specs.Prelude.{Contains, slice_get}
 use Rattle.toml.specs.View.{table_view}
-use Rattle.vr_base.specs.declared.file.FileName.{FileName}
+use Rattle.base.specs.declared.file.FileName.{FileName}
 use Rattle.project_file.proofs.FewFiles.{has_named, has_unnamed}
 use Rattle.project_file.proofs.lookups.has_path.Goals as goal
 

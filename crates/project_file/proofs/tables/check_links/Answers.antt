@@ -7,7 +7,7 @@ use Rattle.std.specs.declared.alloc.Global.{Global}
 use Rattle.toml.specs.Data.{Members}
 use Rattle.toml.specs.declared.value.Value.{Value}
 use Rattle.toml.specs.View.{table_view}
-use Rattle.vr_base.specs.declared.project.ProjectFault.{ProjectFault}
+use Rattle.base.specs.declared.project.ProjectFault.{ProjectFault}
 use Rattle.project_file.specs.Csv.{then_read}
 use Rattle.project_file.specs.Toml.{pairs_of}
 use Rattle.project_file.specs.Few.{faults_of, checked_links}

@@ -2,8 +2,8 @@ use Rattle.std.proofs.Common.{◌≡◌, ℕ, List, [], ◌∷◌, ◌++◌, Non
 use Rattle.std.specs.Prelude.{slice_get}
 use Rattle.std.proofs.lemmas.List.{append-nil}
 use Rattle.std.proofs.lemmas.Option.{slice_get_past}
-use Rattle.vr_base.specs.declared.file.FileName.{FileName}
-use Rattle.vr_base.specs.declared.project.ProjectFile.{ProjectFile}
+use Rattle.base.specs.declared.file.FileName.{FileName}
+use Rattle.base.specs.declared.project.ProjectFile.{ProjectFile}
 use Rattle.project_reading.specs.Reading.{names_at}
 use Rattle.project_reading.proofs.linking.add_name.Goals as goal
 

@@ -1,5 +1,5 @@
 use Rattle.std.proofs.Common.{◌≡◌, ℕ, List, Result, Ok, subst}
-use Rattle.vr_base.specs.declared.project.ProjectFile.{ProjectFile}
+use Rattle.base.specs.declared.project.ProjectFile.{ProjectFile}
 use Rattle.order_spec.specs.BuildOrder.{file_order}
 use Rattle.project_reading.specs.Reading.{SourceReading, order_or, order_reading}
 use Rattle.project_reading.proofs.Steps.{goes_on}

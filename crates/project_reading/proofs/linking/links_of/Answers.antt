@@ -1,4 +1,4 @@
-use Rattle.scan_spec.specs.Dependencies.{link_units}
+use Rattle.vhdl_spec.specs.Dependencies.{link_units}
 use Rattle.project_reading.proofs.LinkLemmas.{edges_for_each}
 use Rattle.project_reading.proofs.linking.links_of.Goals as goal
 

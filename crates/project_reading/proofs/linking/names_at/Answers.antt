@@ -2,8 +2,8 @@ use Rattle.std.proofs.Common.{◌≡◌, ℕ, List, [], ◌∷◌, ◌++◌, get
 use Rattle.std.specs.Prelude.{option_map, slice_get}
 use Rattle.std.proofs.lemmas.List.{take_more}
 use Rattle.std.proofs.lemmas.List.Elements.{filter_map-append}
-use Rattle.vr_base.specs.declared.file.FileName.{FileName}
-use Rattle.vr_base.specs.declared.project.ProjectFile.{ProjectFile}
+use Rattle.base.specs.declared.file.FileName.{FileName}
+use Rattle.base.specs.declared.project.ProjectFile.{ProjectFile}
 use Rattle.project_reading.specs.Reading.{names_at}
 use Rattle.project_reading.proofs.linking.names_at.Goals as goal
 

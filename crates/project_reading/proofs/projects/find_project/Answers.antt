@@ -1,10 +1,10 @@
 use Rattle.std.proofs.Common.{◌≡◌, ◌∙◌, List, [], ◌∷◌, ◌++◌, ℕ, sym, ap, subst}
 use Rattle.std.proofs.lemmas.Result.{err_from_is_err_and}
 use Rattle.std.specs.Prelude.{codes}
-use Rattle.vr_base.specs.declared.limits.TheConstants.{TEXT_LIMIT}
-use Rattle.vr_outside.specs.declared.tree.ReadEnd.{ReadEnd}
-use Rattle.vr_outside.specs.declared.tree.ReadEnd.TheVariants.{Got, Absent}
-use Rattle.vr_outside.specs.Trees.{read_end}
+use Rattle.base.specs.declared.limits.TheConstants.{TEXT_LIMIT}
+use Rattle.outside.specs.declared.tree.ReadEnd.{ReadEnd}
+use Rattle.outside.specs.declared.tree.ReadEnd.TheVariants.{Got, Absent}
+use Rattle.outside.specs.Trees.{read_end}
 use Rattle.project_reading.specs.Asked.{other_paths, AsksFirst, AsksInOrder}
 use Rattle.project_reading.proofs.Asks.{first_of_more, then_in_order, asks_no_more}
 use Rattle.project_reading.proofs.projects.find_project.Goals as goal

@@ -1,6 +1,6 @@
 use Rattle.std.proofs.Common.{◌≡◌, ℕ, List, Result, Ok, Err, subst}
 use Rattle.std.proofs.lemmas.Result.{err_from_is_err_and}
-use Rattle.vr_base.specs.declared.project.ProjectFile.{ProjectFile}
+use Rattle.base.specs.declared.project.ProjectFile.{ProjectFile}
 use Rattle.project_reading.specs.Reading.{SourceReading, texts_of, texts_reading}
 use Rattle.project_reading.specs.Sources.{Gives}
 use Rattle.project_reading.proofs.Steps.{stops_there, goes_on}

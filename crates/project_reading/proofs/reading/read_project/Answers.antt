@@ -1,6 +1,6 @@
 use Rattle.std.proofs.Common.{ℕ, List, Option, Result, sym, subst}
 use Rattle.std.proofs.lemmas.Result.{err_from_is_err_and}
-use Rattle.vr_base.specs.declared.project.Project.{Project}
+use Rattle.base.specs.declared.project.Project.{Project}
 use Rattle.project_reading.specs.Reading.{SourceReading, project_in, sources_reading, project_reading}
 use Rattle.project_reading.specs.Sources.{LeadsTo}
 use Rattle.project_reading.specs.Asked.{project_file_paths, maybe_paths, project_paths, AsksFirst, AsksInOrder}

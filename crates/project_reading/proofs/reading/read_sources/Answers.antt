@@ -1,8 +1,8 @@
 use Rattle.std.proofs.Common.{◌≡◌, Bool, true, length, sym, subst, arith}
 use Rattle.std.specs.Prelude.{nat_le, if◌then◌else◌}
 use Rattle.std.proofs.lemmas.Bool.{le-leb}
-use Rattle.outcomes.specs.declared.outcome.Limit.TheVariants as limit
-use Rattle.vr_base.specs.declared.limits.TheConstants.{FILE_LIMIT}
+use Rattle.base_outcomes.specs.declared.outcome.Limit.TheVariants as limit
+use Rattle.base.specs.declared.limits.TheConstants.{FILE_LIMIT}
 use Rattle.project_reading.specs.Reading.{Over, files_reading}
 use Rattle.project_reading.specs.Sources.{LeadsTo}
 use Rattle.project_reading.proofs.reading.read_sources.Goals as goal

@@ -1,8 +1,8 @@
 use Rattle.std.proofs.Common.{◌≡◌, List, ℕ, Err, subst}
 use Rattle.std.proofs.lemmas.Result.{err_from_is_err_and}
-use Rattle.vr_base.specs.declared.design.Scan.{Scan}
-use Rattle.vr_base.specs.declared.project.ProjectFile.{ProjectFile}
-use Rattle.file_outlines.specs.declared.outlines.Outlines.{Outlines}
+use Rattle.base.specs.declared.design.Scan.{Scan}
+use Rattle.base.specs.declared.project.ProjectFile.{ProjectFile}
+use Rattle.vhdl_outlines.specs.declared.outlines.Outlines.{Outlines}
 use Rattle.project_reading.specs.Reading.{scans_of, scanned_reading}
 use Rattle.project_reading.specs.Scanning.{AreScanned}
 use Rattle.project_reading.specs.Sources.{Gives}

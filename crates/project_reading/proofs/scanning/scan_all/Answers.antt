@@ -1,9 +1,9 @@
 -- One file more is scanned, or is the first that has a fault.
 use Rattle.std.proofs.Common.{ℕ, List, Err, get_or, subst, sym}
 use Rattle.std.proofs.lemmas.Result.{err_from_is_err_and}
-use Rattle.vr_base.specs.declared.project.ProjectFile.{ProjectFile}
-use Rattle.scan_spec.specs.Scans.{IsScanOf}
-use Rattle.file_outlines.specs.Outlines.{HasAdded}
+use Rattle.base.specs.declared.project.ProjectFile.{ProjectFile}
+use Rattle.vhdl_spec.specs.Scans.{IsScanOf}
+use Rattle.vhdl_outlines.specs.Outlines.{HasAdded}
 use Rattle.project_reading.specs.Scanning.{GivesScan}
 use Rattle.project_reading.proofs.ScanLemmas.{AreFirst, all_first, no_scan_then, none_first, one_more}
 use Rattle.project_reading.proofs.scanning.scan_all.Goals as goal

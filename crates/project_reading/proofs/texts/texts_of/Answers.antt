@@ -1,11 +1,11 @@
 use Rattle.std.proofs.Common.{◌≡◌, ◌+◌, ◌∙◌, Option, List, [], ◌∷◌, ℕ, Err, length, ◌≤◌, ap, subst, sym, arith}
 use Rattle.std.specs.Prelude.{All, sum_by}
 use Rattle.std.proofs.lemmas.List.Elements.{All-push}
-use Rattle.vr_base.specs.declared.limits.TheConstants.{TEXT_LIMIT}
+use Rattle.base.specs.declared.limits.TheConstants.{TEXT_LIMIT}
 use Rattle.std.proofs.lemmas.List.{length_push}
 use Rattle.std.proofs.lemmas.List.Sums.{sum_by_push}
 use Rattle.std.proofs.lemmas.Result.{err_from_is_err_and}
-use Rattle.vr_outside.specs.Trees.{read_end}
+use Rattle.outside.specs.Trees.{read_end}
 use Rattle.project_reading.specs.Reading.{text_of}
 use Rattle.project_reading.specs.Sources.{Gives}
 use Rattle.project_reading.proofs.TextLemmas.{text_then, no_text_then, all_texts}

@@ -1,6 +1,6 @@
 use Rattle.std.proofs.Common.{◌≡◌, ◌≤◌, ◌++◌, length, take, drop}
 use Rattle.std.specs.Prelude.{All, sum_by}
-use Rattle.vr_base.specs.declared.limits.TheConstants.{GRAPH_TEXT_LIMIT, TEXT_LIMIT}
+use Rattle.base.specs.declared.limits.TheConstants.{GRAPH_TEXT_LIMIT, TEXT_LIMIT}
 use Rattle.project_reading.specs.Reading.{texts_of}
 use Rattle.project_reading.specs.Asked.{file_paths}
 use Rattle.project_reading.proofs.Afters.{after}

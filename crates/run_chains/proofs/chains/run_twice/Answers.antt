@@ -1,8 +1,8 @@
 use Rattle.std.proofs.Common.{List, ◌++◌, sym, ap, ◌∙◌}
-use Rattle.vr_base.specs.declared.child.Event.{Event}
-use Rattle.vr_outside.specs.Disks.{added_since}
+use Rattle.base.specs.declared.child.Event.{Event}
+use Rattle.outside.specs.Disks.{added_since}
 use Rattle.run_spec.specs.ChildJournal.{since}
-use Rattle.disk_runs.specs.Building.{has_risen}
+use Rattle.run_build.specs.Building.{has_risen}
 use Rattle.vunit_top.proofs.RunTruths.{readable_now}
 use Rattle.run_chains.specs.Chains.{Deeds}
 use Rattle.run_chains.proofs.ChainTruths.{ran_twice}

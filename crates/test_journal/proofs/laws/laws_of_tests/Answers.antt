@@ -1,6 +1,6 @@
 -- The laws of journals of tests.
 use Rattle.std.proofs.Common.{arith, sym, ap, ◌∙◌, List, length, ℕ}
-use Rattle.vr_base.specs.PresentGraph.{below}
+use Rattle.base.specs.PresentGraph.{below}
 use Rattle.test_journal.proofs.InOrder.{has_order, length_below}
 use Rattle.test_journal.proofs.laws.laws_of_tests.Goals as goal
 

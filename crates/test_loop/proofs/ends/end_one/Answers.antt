@@ -1,12 +1,12 @@
 -- Answers to the goals of `end_one`.
 use Rattle.std.proofs.Common.{◌++◌, [], ◌∷◌, List, ℕ, Result, Err, sym, ap, subst, ◌∙◌}
 use Rattle.std.proofs.lemmas.List.{append_assoc}
-use Rattle.vr_base.specs.declared.child.Event.{Event}
-use Rattle.vr_base.specs.declared.child.Event.TheVariants as event
-use Rattle.vr_outside.specs.Children.{end_event}
-use Rattle.vr_outside.specs.declared.procs.Ended.{Ended}
-use Rattle.vr_outside.specs.declared.procs.WaitFault.{WaitFault}
-use Rattle.vr_outside.specs.Counts.{ChildCounts}
+use Rattle.base.specs.declared.child.Event.{Event}
+use Rattle.base.specs.declared.child.Event.TheVariants as event
+use Rattle.outside.specs.Children.{end_event}
+use Rattle.outside.specs.declared.procs.Ended.{Ended}
+use Rattle.outside.specs.declared.procs.WaitFault.{WaitFault}
+use Rattle.outside.specs.Counts.{ChildCounts}
 use Rattle.test_loop.specs.Faults.{TestsCountBy}
 use Rattle.test_loop.proofs.FreshTickets.{fresh_ended, fresh_lost}
 use Rattle.test_loop.proofs.Answering.{answers_ended, answers_lost}

@@ -1,10 +1,10 @@
 -- Answers to the goals of `lose_by`.
 use Rattle.std.proofs.Common.{◌++◌, [], ◌∷◌, Option, Err, sym, subst}
 use Rattle.std.specs.Prelude.{is_some}
-use Rattle.vr_outside.specs.declared.procs.WaitFault.{WaitFault}
-use Rattle.vr_outside.specs.declared.procs.Ended.{Ended}
-use Rattle.vr_outside.specs.Children.{end_event}
-use Rattle.vr_outside.specs.Counts.{ChildCounts}
+use Rattle.outside.specs.declared.procs.WaitFault.{WaitFault}
+use Rattle.outside.specs.declared.procs.Ended.{Ended}
+use Rattle.outside.specs.Children.{end_event}
+use Rattle.outside.specs.Counts.{ChildCounts}
 use Rattle.test_loop.specs.declared.faults.TestRunFault.{TestRunFault}
 use Rattle.test_loop.specs.Faults.{TestsCountBy}
 use Rattle.test_loop.specs.UnderWay.{AreUnderWay}

@@ -3,8 +3,8 @@ use Rattle.std.proofs.Common.{◌≡◌, ◌++◌, [], List, ℕ, Option, Some, 
 use Rattle.std.specs.List.{flat_map, cons_option}
 use Rattle.std.proofs.lemmas.List.{append-nil}
 use Rattle.std.proofs.lemmas.Result.{on_ok_weaker}
-use Rattle.vr_base.specs.declared.graph.BuiltFile.{BuiltFile}
-use Rattle.vr_base.specs.Jobs.{built_bytes}
+use Rattle.base.specs.declared.graph.BuiltFile.{BuiltFile}
+use Rattle.base.specs.Jobs.{built_bytes}
 use Rattle.test_loop.specs.Requests.{lent_at}
 use Rattle.test_loop.proofs.Lent.{lent_of}
 use Rattle.test_loop.proofs.requests.add_lent.Goals as goal

@@ -3,10 +3,10 @@ use Rattle.std.proofs.Common.{◌≡◌, ◌+◌, ◌++◌, [], ◌∷◌, List,
 use Rattle.std.specs.List.{filter_map, flat_map}
 use Rattle.std.proofs.lemmas.Grind.{flat_map-append}
 use Rattle.std.proofs.lemmas.List.{length-append}
-use Rattle.vr_base.specs.declared.graph.BuiltFile.{BuiltFile}
-use Rattle.vr_base.specs.Jobs.{built_bytes}
-use Rattle.vr_base.specs.PresentGraph.{below}
-use Rattle.vr_base.proofs.Below.{below-zero}
+use Rattle.base.specs.declared.graph.BuiltFile.{BuiltFile}
+use Rattle.base.specs.Jobs.{built_bytes}
+use Rattle.base.specs.PresentGraph.{below}
+use Rattle.base.proofs.Below.{below-zero}
 use Rattle.test_loop.specs.Requests.{lent_at}
 use Rattle.test_loop.proofs.Lent.{lent_more, lent_one}
 use Rattle.test_loop.proofs.requests.built_of.Goals as goal

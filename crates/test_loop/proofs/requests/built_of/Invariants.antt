@@ -1,8 +1,8 @@
 -- What holds at each turn of the loop of `built_of`: the files so far are written.
 use Rattle.std.proofs.Common.{◌≡◌, length}
 use Rattle.std.specs.List.{filter_map, flat_map}
-use Rattle.vr_base.specs.Jobs.{built_bytes}
-use Rattle.vr_base.specs.PresentGraph.{below}
+use Rattle.base.specs.Jobs.{built_bytes}
+use Rattle.base.specs.PresentGraph.{below}
 use Rattle.test_loop.specs.Requests.{lent_at}
 use Rattle.test_loop.proofs.requests.built_of.Given as goal
 

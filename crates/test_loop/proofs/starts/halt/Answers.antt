@@ -1,8 +1,8 @@
 -- Answers to the goals of `halt`.
 use Rattle.std.proofs.Common.{Option, sym, ap, subst, ◌∙◌}
 use Rattle.std.specs.Prelude.{is_some}
-use Rattle.child_steps.specs.Steps.{halted_if}
-use Rattle.child_steps.proofs.Halting.{halts_now}
+use Rattle.run_steps.specs.Steps.{halted_if}
+use Rattle.run_steps.proofs.Halting.{halts_now}
 use Rattle.test_row.specs.Rows.{IsRowOf}
 use Rattle.test_loop.specs.declared.faults.TestRunFault.{TestRunFault}
 use Rattle.test_loop.proofs.starts.halt.Goals as goal

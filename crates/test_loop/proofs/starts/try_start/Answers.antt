@@ -1,7 +1,7 @@
 -- Answers to the goals of `try_start`.
 use Rattle.std.proofs.Common.{[], ◌∷◌, ◌++◌, ap, ◌∙◌}
-use Rattle.vr_base.specs.declared.child.Event.TheVariants.{Started}
-use Rattle.vr_base.specs.declared.child.Request.{Request}
+use Rattle.base.specs.declared.child.Event.TheVariants.{Started}
+use Rattle.base.specs.declared.child.Request.{Request}
 use Rattle.test_loop.proofs.starts.try_start.Goals as goal
 
 pub returns-in-Ok-clause-journal : goal.returns-in-Ok-clause-journal

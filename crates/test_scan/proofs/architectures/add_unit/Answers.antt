@@ -1,9 +1,9 @@
 -- An architecture is added, and another unit changes nothing.
 use Rattle.std.proofs.Common.{◌≡◌, ◌∙◌, List, ℕ, Option, ap, sym}
-use Rattle.key_index.specs.Maps.{get}
-use Rattle.vr_base.specs.declared.design.Unit.{Unit as DesignUnit}
-use Rattle.scan_spec.specs.Dependencies.{is_architecture_kind}
-use Rattle.scan_spec.specs.References.{owner_name}
+use Rattle.base_key_index.specs.Maps.{get}
+use Rattle.base.specs.declared.design.Unit.{Unit as DesignUnit}
+use Rattle.vhdl_spec.specs.Dependencies.{is_architecture_kind}
+use Rattle.vhdl_spec.specs.References.{owner_name}
 use Rattle.test_scan.specs.Architectures.{one_more}
 use Rattle.test_scan.specs.Benches.{design_unit, unit_library}
 use Rattle.test_scan.specs.Entities.{is_same_entity}

@@ -1,7 +1,7 @@
 -- One unit more.
 use Rattle.std.proofs.Common.{List, sym, subst, take}
 use Rattle.std.proofs.lemmas.List.{take_all, take_more}
-use Rattle.vr_base.specs.declared.refs.UnitId.{UnitId}
+use Rattle.base.specs.declared.refs.UnitId.{UnitId}
 use Rattle.test_scan.specs.Architectures.{HoldsArchitectures}
 use Rattle.test_scan.specs.Files.{scanned}
 use Rattle.test_scan.proofs.architectures.index_of.Goals as goal

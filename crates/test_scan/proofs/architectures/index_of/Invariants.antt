@@ -1,6 +1,6 @@
 -- So far the architectures among the units up to the index.
 use Rattle.std.proofs.Common.{List, take}
-use Rattle.vr_base.specs.declared.design.Scan.{Scan}
+use Rattle.base.specs.declared.design.Scan.{Scan}
 use Rattle.test_scan.specs.Architectures.{AreFoundInFiles, HoldsArchitectures}
 use Rattle.test_scan.specs.Files.{AreScannedAs, scanned}
 use Rattle.test_scan.proofs.architectures.index_of.Given as goal

@@ -1,9 +1,9 @@
 -- The one architecture that is found is that of the bench.
 use Rattle.std.proofs.Common.{◌≡◌, ◌∙◌, List, ℕ, Some, ap, sym}
 use Rattle.std.specs.Prelude.{Ok}
-use Rattle.key_index.specs.Maps.{get}
+use Rattle.base_key_index.specs.Maps.{get}
 use Rattle.vhdl_benches.specs.declared.bench.Bench.{Bench}
-use Rattle.vr_base.specs.declared.design.Unit.{Unit as DesignUnit}
+use Rattle.base.specs.declared.design.Unit.{Unit as DesignUnit}
 use Rattle.test_scan.specs.Architectures.{first_of_some}
 use Rattle.test_scan.specs.Benches.{architectures_of, design_unit, unit_library, unit_numbers}
 use Rattle.test_scan.specs.Entities.{is_same_entity}

@@ -2,11 +2,11 @@
 use Rattle.std.proofs.Common.{◌≡◌, ◌∙◌, ℕ, Bool, List, [], length, map, refl, sym, ap}
 use Rattle.std.specs.Prelude.{◌==◌}
 use Rattle.std.proofs.lemmas.Bool.{cond-true}
-use Rattle.scan_spec.specs.Dependencies.{is_architecture_kind}
+use Rattle.vhdl_spec.specs.Dependencies.{is_architecture_kind}
 use Rattle.vhdl_benches.specs.declared.bench.Bench.{Bench}
 use Rattle.vhdl_benches.specs.declared.bench.TestCase.{TestCase}
-use Rattle.vr_base.specs.declared.design.Unit.{Unit as DesignUnit}
-use Rattle.vr_base.specs.declared.lexical.Token.{Token}
+use Rattle.base.specs.declared.design.Unit.{Unit as DesignUnit}
+use Rattle.base.specs.declared.lexical.Token.{Token}
 use Rattle.vhdl_runs.specs.Calls.{cases_or, run_strings, string_case, whole_case}
 use Rattle.vhdl_runs.specs.Runs.{unit_runs}
 use Rattle.vhdl_runs.specs.declared.runs.UnitRuns.{UnitRuns}

@@ -4,8 +4,8 @@ use Rattle.std.specs.Prelude.{slice_index_or}
 use Rattle.std.proofs.lemmas.Option.{get_or_from_slice_get, slice_get_within}
 use Rattle.vhdl_runs.specs.Runs.{UnitRunsLieIn}
 use Rattle.vhdl_runs.specs.declared.runs.UnitRuns.{UnitRuns}
-use Rattle.file_outlines.specs.Outlines.{OutlineLiesIn}
-use Rattle.file_outlines.specs.declared.outlines.FileOutline.{FileOutline}
+use Rattle.vhdl_outlines.specs.Outlines.{OutlineLiesIn}
+use Rattle.vhdl_outlines.specs.declared.outlines.FileOutline.{FileOutline}
 use Rattle.test_scan.specs.Files.{no_outline, no_runs}
 use Rattle.test_scan.proofs.Located.{found_is}
 use Rattle.test_scan.proofs.files.find.Goals as goal

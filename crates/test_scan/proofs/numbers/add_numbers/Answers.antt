@@ -1,8 +1,8 @@
 -- One number more.
 use Rattle.std.proofs.Common.{◌≡◌, ◌++◌, ◌∷◌, [], List, append_assoc, append-nil, sym, ◌∙◌, ap}
-use Rattle.vr_base.specs.declared.refs.UnitId.{UnitId}
+use Rattle.base.specs.declared.refs.UnitId.{UnitId}
 use Rattle.test_scan.specs.Benches.{unit_number}
-use Rattle.vr_base.specs.PresentGraph.{below}
+use Rattle.base.specs.PresentGraph.{below}
 use Rattle.std.proofs.Common.{map}
 use Rattle.test_scan.proofs.Numbering.{no_numbers, numbers_more}
 use Rattle.test_scan.proofs.numbers.add_numbers.Goals as goal

@@ -1,6 +1,6 @@
 -- So far those below the number.
 use Rattle.std.proofs.Common.{◌≡◌, ◌++◌, map}
-use Rattle.vr_base.specs.PresentGraph.{below}
+use Rattle.base.specs.PresentGraph.{below}
 use Rattle.test_scan.specs.Benches.{unit_number}
 use Rattle.test_scan.proofs.numbers.add_numbers.Given as goal
 

@@ -1,6 +1,6 @@
 -- So far those of the units up to the index.
 use Rattle.std.proofs.Common.{◌≡◌, List, filter, take}
-use Rattle.vr_base.specs.declared.design.Scan.{Scan}
+use Rattle.base.specs.declared.design.Scan.{Scan}
 use Rattle.test_scan.specs.Benches.{is_bench}
 use Rattle.test_scan.specs.Files.{AreInFiles, AreNamed, AreScannedAs, scanned}
 use Rattle.test_scan.proofs.numbers.bench_numbers.Given as goal

@@ -1,6 +1,6 @@
 -- A bench is the unit whose token is kept.
 use Rattle.std.proofs.Common.{◌≡◌, ◌∙◌, Bool, true, false, cond, Some, None, is_some, refl, ap}
-use Rattle.vr_base.specs.declared.lexical.Token.{Token}
+use Rattle.base.specs.declared.lexical.Token.{Token}
 use Rattle.vhdl_runs.specs.declared.runs.UnitRuns.{UnitRuns}
 use Rattle.test_scan.proofs.numbers.is_bench.Goals as goal
 

@@ -4,12 +4,12 @@ use Rattle.std.specs.Prelude.{slice_get, slice_index_or, get_or}
 use Rattle.std.specs.List.{flat_map}
 use Rattle.std.proofs.lemmas.List.Elements.{All-append, All-nil}
 use Rattle.std.proofs.lemmas.Option.{get_or_from_slice_get, slice_get-get_or, slice_get_within}
-use Rattle.vr_base.specs.PresentGraph.{below}
-use Rattle.vr_base.specs.declared.design.Scan.{Scan}
-use Rattle.vr_base.specs.declared.limits.TheConstants.{TEXT_LIMIT}
-use Rattle.vr_base.specs.declared.refs.UnitId.{UnitId}
-use Rattle.file_outlines.specs.declared.outlines.FileOutline.{FileOutline}
-use Rattle.file_outlines.proofs.OutlineLemmas.{got_file}
+use Rattle.base.specs.PresentGraph.{below}
+use Rattle.base.specs.declared.design.Scan.{Scan}
+use Rattle.base.specs.declared.limits.TheConstants.{TEXT_LIMIT}
+use Rattle.base.specs.declared.refs.UnitId.{UnitId}
+use Rattle.vhdl_outlines.specs.declared.outlines.FileOutline.{FileOutline}
+use Rattle.vhdl_outlines.proofs.OutlineLemmas.{got_file}
 use Rattle.test_scan.specs.Benches.{file_units, no_scan, unit_number}
 use Rattle.test_scan.specs.Files.{AreFiles, AreInFiles, AreScannedAs, IsInFiles, no_outline}
 use Rattle.test_scan.specs.declared.files.Files.{Files}

@@ -1,8 +1,8 @@
 -- So far those of the files up to the position.
 use Rattle.std.proofs.Common.{◌≡◌, List}
 use Rattle.std.specs.List.{flat_map}
-use Rattle.vr_base.specs.PresentGraph.{below}
-use Rattle.vr_base.specs.declared.design.Scan.{Scan}
+use Rattle.base.specs.PresentGraph.{below}
+use Rattle.base.specs.declared.design.Scan.{Scan}
 use Rattle.test_scan.specs.Benches.{file_units}
 use Rattle.test_scan.specs.Files.{AreInFiles, AreScannedAs}
 use Rattle.test_scan.proofs.numbers.unit_numbers.Given as goal

@@ -6,7 +6,7 @@ use Rattle.std.proofs.lemmas.List.{map_more, take_all}
 use Rattle.std.proofs.lemmas.Result.{err_from_is_err_and}
 use Rattle.vhdl_benches.specs.declared.bench.Bench.{Bench}
 use Rattle.vhdl_benches.specs.declared.bench.TestFault.{TestFault}
-use Rattle.vr_base.specs.declared.refs.UnitId.{UnitId}
+use Rattle.base.specs.declared.refs.UnitId.{UnitId}
 use Rattle.test_scan.specs.Benches.{bench_at, found_bench, names_of_found}
 use Rattle.test_scan.specs.Files.{scanned}
 use Rattle.test_scan.specs.Paths.{HoldsFullNames}

@@ -1,6 +1,6 @@
 -- So far the benches of the entities up to the index, without a fault.
 use Rattle.std.proofs.Common.{List}
-use Rattle.vr_base.specs.declared.design.Scan.{Scan}
+use Rattle.base.specs.declared.design.Scan.{Scan}
 use Rattle.test_scan.specs.Architectures.{HoldsArchitectures}
 use Rattle.test_scan.specs.Benches.{unit_numbers}
 use Rattle.test_scan.specs.Files.{AreScannedAs, scanned}

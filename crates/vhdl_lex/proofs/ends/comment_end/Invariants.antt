@@ -1,6 +1,6 @@
 -- No end of the comment so far.
 use Rattle.std.proofs.Common.{length, ◌-◌, ◌+◌, ◌≤◌, ◌<◌, ℕ}
-use Rattle.scan_spec.specs.Tokens.{EndsComment}
+use Rattle.vhdl_spec.specs.Tokens.{EndsComment}
 use Rattle.vhdl_lex.proofs.ends.comment_end.Given as goal
 
 abbrev pub invariant-loop-close : goal.invariant-loop-close

@@ -1,6 +1,6 @@
 -- Blanks so far.
 use Rattle.std.proofs.Common.{length, ◌-◌, ◌≤◌}
-use Rattle.scan_spec.specs.Tokens.{EachByte, is_blank}
+use Rattle.vhdl_spec.specs.Tokens.{EachByte, is_blank}
 use Rattle.vhdl_lex.proofs.ends.gap_end.Given as goal
 
 abbrev pub invariant-loop-end : goal.invariant-loop-end

@@ -1,6 +1,6 @@
 -- No line end so far.
 use Rattle.std.proofs.Common.{length, ◌-◌, ◌≤◌, not}
-use Rattle.scan_spec.specs.Tokens.{EachByte, is_line_end}
+use Rattle.vhdl_spec.specs.Tokens.{EachByte, is_line_end}
 use Rattle.vhdl_lex.proofs.ends.line_end.Given as goal
 
 abbrev pub invariant-loop-end : goal.invariant-loop-end

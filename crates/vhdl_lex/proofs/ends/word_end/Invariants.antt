@@ -1,6 +1,6 @@
 -- Bytes of a word so far.
 use Rattle.std.proofs.Common.{length, ◌-◌, ◌≤◌}
-use Rattle.scan_spec.specs.Tokens.{EachByte, is_word_byte}
+use Rattle.vhdl_spec.specs.Tokens.{EachByte, is_word_byte}
 use Rattle.vhdl_lex.proofs.ends.word_end.Given as goal
 
 abbrev pub invariant-loop-end : goal.invariant-loop-end

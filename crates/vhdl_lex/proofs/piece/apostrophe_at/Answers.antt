@@ -1,9 +1,9 @@
 -- An apostrophe is a character literal or a tick.
 use Rattle.std.proofs.Common.{◌≡◌, ◌+◌, slice_index, sym, ◌∙◌, arith, ◌==◌}
 use Rattle.std.proofs.lemmas.List.{get_or_past}
-use Rattle.scan_spec.specs.Tokens.{is_tick_at, row_at}
-use Rattle.scan_spec.specs.Tokens.{token}
-use Rattle.vr_base.specs.declared.lexical.TokenKind.TheVariants.{Tick}
+use Rattle.vhdl_spec.specs.Tokens.{is_tick_at, row_at}
+use Rattle.vhdl_spec.specs.Tokens.{token}
+use Rattle.base.specs.declared.lexical.TokenKind.TheVariants.{Tick}
 use Rattle.vhdl_lex.proofs.piece.apostrophe_at.Goals as goal
 use Rattle.vhdl_lex.proofs.piece.apostrophe_at.Goals.{else-at-text-via-then-at-text+then-text-at-eq39+else-not-is_tick_at, else-at-text-via-then-at-text+else-text-at-eq39, else-at-text-via-else-at-text}
 use Rattle.vhdl_lex.proofs.Rows.{char_row, tick_row, lone_row}

@@ -1,7 +1,7 @@
 -- A dash is a line comment or a delimiter.
 use Rattle.std.proofs.Common.{◌≢◌, ◌+◌, slice_index, arith, ◌==◌}
 use Rattle.std.proofs.lemmas.List.{get_or_past}
-use Rattle.scan_spec.specs.Tokens.{is_tick_at}
+use Rattle.vhdl_spec.specs.Tokens.{is_tick_at}
 use Rattle.vhdl_lex.proofs.piece.dash_at.Goals as goal
 use Rattle.vhdl_lex.proofs.piece.dash_at.Goals.{else-at-text-via-then-at-text+else-text-at-eq45, else-at-text-via-else-at-text}
 use Rattle.vhdl_lex.proofs.Rows.{line_comment_row, dash_row}

@@ -2,10 +2,10 @@
 use Rattle.std.proofs.Common.{◌≡◌, ◌≢◌, ℕ, ◌+◌, ◌<◌, ◌≤◌, List, length, slice_index, sym, ◌∙◌, ap, subst, arith, ◌==◌}
 use Rattle.std.proofs.lemmas.List.{get_or_past}
 use Rattle.std.proofs.lemmas.Bool.Decides.{nat_tests}
-use Rattle.scan_spec.specs.Tokens.{is_tick_at, row_at}
+use Rattle.vhdl_spec.specs.Tokens.{is_tick_at, row_at}
 use Rattle.vhdl_lex.specs.Pieces.{Skips}
-use Rattle.scan_spec.specs.Tokens.{token}
-use Rattle.vr_base.specs.declared.lexical.TokenKind.TheVariants.{High}
+use Rattle.vhdl_spec.specs.Tokens.{token}
+use Rattle.base.specs.declared.lexical.TokenKind.TheVariants.{High}
 use Rattle.vhdl_lex.proofs.piece.high_at.Goals as goal
 use Rattle.std.proofs.lemmas.Bool.{eq-eqb}
 use Rattle.vhdl_lex.proofs.piece.high_at.Goals.{else-at-eq0-via-then-at-eq0+then-text-ge3+then-text+then-text-2+else-text-3, else-at-eq0-via-then-at-eq0+then-text-ge3+then-text+else-text-2, else-at-eq0-via-then-at-eq0+then-text-ge3+else-text, else-at-eq0-via-then-at-eq0+else-text-ge3, else-at-eq0-via-else-at-eq0}

@@ -1,7 +1,7 @@
 -- A letter begins a word, and a plain delimiter is one whatever is around it.
 use Rattle.std.proofs.Common.{◌≡◌, ◌+◌, ◌||◌, ◌==◌, Bool, true, slice_index, sym, ◌∙◌, ap}
 use Rattle.std.specs.Char.{is_ascii_alphabetic, is_ascii_digit}
-use Rattle.scan_spec.specs.Tokens.{is_tick_at, is_word_byte}
+use Rattle.vhdl_spec.specs.Tokens.{is_tick_at, is_word_byte}
 use Rattle.vhdl_lex.specs.Pieces.{is_plain, last_of}
 use Rattle.vhdl_lex.proofs.Longest.{symbol_longest, word_longest}
 use Rattle.vhdl_lex.proofs.Rows.{letter_row, plain_row}

@@ -1,10 +1,10 @@
 -- Each byte leads to the row of its piece.
 use Rattle.std.proofs.Common.{◌≡◌, ℕ, ◌+◌, ◌≤◌, slice_index, true, inl, inr, arith, ◌==◌}
 use Rattle.std.proofs.lemmas.Bool.Decides.{nat_tests}
-use Rattle.scan_spec.specs.Tokens.{is_tick_at, is_word_byte, is_number_byte, row_at}
+use Rattle.vhdl_spec.specs.Tokens.{is_tick_at, is_word_byte, is_number_byte, row_at}
 use Rattle.std.proofs.Common.{◌⊎◌}
-use Rattle.scan_spec.specs.Tokens.{token, blank}
-use Rattle.vr_base.specs.declared.lexical.TokenKind.TheVariants.{Symbol}
+use Rattle.vhdl_spec.specs.Tokens.{token, blank}
+use Rattle.base.specs.declared.lexical.TokenKind.TheVariants.{Symbol}
 use Rattle.vhdl_lex.proofs.piece.piece_at.Goals as goal
 use Rattle.vhdl_lex.proofs.piece.piece_at.Goals.{in_default-via-then-this-lt65+then-this-lt9, in_default-via-then-this-lt65+else-this-lt9+else-this-lt14+then-this-lt47, in_default-via-then-this-lt65+else-this-lt9+else-this-lt14+else-this-lt47+else-this-lt58, in_default-via-else-this-lt65+else-this-lt91+then-this-lt96, in_default-via-else-this-lt65+else-this-lt91+else-this-lt96+else-this-lt123+then-this-lt128, then-this-lt91, else-this-lt91+else-this-lt96+then-this-lt123, in-32-1, in_default+then-this-lt65+else-this-lt9+then-this-lt14}
 use Rattle.vhdl_lex.proofs.Rows.{word_row, number_row, blank_row, space_row, directive_row, low_symbol_row, mark_symbol_row, middle_symbol_row, bracket_symbol_row, high_symbol_row}

@@ -1,9 +1,9 @@
 -- A quotation mark is a string or a fault.
 use Rattle.std.proofs.Common.{◌+◌, slice_index, Some, None, refl, ◌==◌}
-use Rattle.scan_spec.specs.Tokens.{is_tick_at}
+use Rattle.vhdl_spec.specs.Tokens.{is_tick_at}
 use Rattle.vhdl_lex.specs.Ends.{IsMarkedEnd}
 use Rattle.vhdl_lex.proofs.piece.quote_at.Goals as goal
-use Rattle.scan_spec.proofs.Exists.{marked_some}
+use Rattle.vhdl_spec.proofs.Exists.{marked_some}
 use Rattle.vhdl_lex.proofs.Rows.{string_row}
 use Rattle.vhdl_lex.proofs.Longest.{string_longest}
 

@@ -1,7 +1,7 @@
 -- A slash is a block comment, a delimiter or a fault.
 use Rattle.std.proofs.Common.{◌≢◌, ◌+◌, slice_index, None, refl, arith, ◌==◌}
 use Rattle.std.proofs.lemmas.List.{get_or_past}
-use Rattle.scan_spec.specs.Tokens.{is_tick_at}
+use Rattle.vhdl_spec.specs.Tokens.{is_tick_at}
 use Rattle.vhdl_lex.specs.Ends.{IsCommentEnd}
 use Rattle.vhdl_lex.proofs.piece.slash_at.Goals as goal
 use Rattle.vhdl_lex.proofs.piece.slash_at.Goals.{else-at-text-via-then-at-text+else-text-at-eq42, else-at-text-via-else-at-text}

@@ -2,7 +2,7 @@
 use Rattle.std.proofs.Common.{◌≡◌, ◌↔◌, IsTrue, List, ℕ, ◌+◌, ◌-◌, ◌<◌, ◌≤◌, length, slice_index, sym, ◌∙◌, ap, subst, arith}
 use Rattle.std.proofs.lemmas.Bool.{eqb-true}
 use Rattle.std.proofs.lemmas.List.{nil_from_length}
-use Rattle.scan_spec.specs.Words.{is_reserved, lower_case}
+use Rattle.vhdl_spec.specs.Words.{is_reserved, lower_case}
 use Rattle.vhdl_lex.specs.Places.{place_of}
 use Rattle.vhdl_lex.specs.declared.reserved.TheConstants.{NUMBERS}
 use Rattle.vhdl_lex.proofs.WordTable.{lower_is, number_within, number_is, decides, none_there, empty_is_not, place_small}

@@ -1,8 +1,8 @@
 -- The role of a word is that of its number among the reserved words.
 use Rattle.std.proofs.Common.{◌≡◌, ◌≢◌, ◌-◌, ℕ, List, zero, suc, slice_index_or, refl, sym, ◌∙◌, ap, subst, arith}
-use Rattle.scan_spec.specs.Words.{lower_case}
-use Rattle.scan_spec.specs.Units.{word_role}
-use Rattle.vr_base.specs.declared.design.Role.TheVariants.{Library}
+use Rattle.vhdl_spec.specs.Words.{lower_case}
+use Rattle.vhdl_spec.specs.Units.{word_role}
+use Rattle.base.specs.declared.design.Role.TheVariants.{Library}
 use Rattle.vhdl_lex.specs.Places.{IsNumberOf}
 use Rattle.vhdl_lex.specs.declared.roles.TheConstants.{ROLES}
 use Rattle.vhdl_lex.proofs.WordRoles.{role_of_number, role_of_other}

@@ -1,9 +1,9 @@
 -- A gap, and then each piece that is found, is read.
 use Rattle.std.proofs.Common.{List, sym, ◌∙◌, ap, subst, arith}
-use Rattle.vr_base.specs.declared.lexical.Token.{Token}
-use Rattle.vr_base.specs.declared.lexical.Span.{Span}
-use Rattle.scan_spec.specs.Tokens.{line_comment, token}
-use Rattle.scan_spec.specs.Units.{roles_of}
+use Rattle.base.specs.declared.lexical.Token.{Token}
+use Rattle.base.specs.declared.lexical.Span.{Span}
+use Rattle.vhdl_spec.specs.Tokens.{line_comment, token}
+use Rattle.vhdl_spec.specs.Units.{roles_of}
 use Rattle.vhdl_lex.specs.declared.piece.Found.TheVariants.{Unclosed}
 use Rattle.vhdl_lex.specs.Pieces.{IsFound, IsPieceEnd, Skips, last_of}
 use Rattle.vhdl_lex.specs.Reading.{Read}

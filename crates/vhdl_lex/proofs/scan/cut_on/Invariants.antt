@@ -1,6 +1,6 @@
 -- The pieces that were read so far.
 use Rattle.std.proofs.Common.{◌≡◌, not, eqb, true, length, ◌-◌, ◌≤◌}
-use Rattle.scan_spec.specs.Units.{roles_of}
+use Rattle.vhdl_spec.specs.Units.{roles_of}
 use Rattle.vhdl_lex.specs.Reading.{Read}
 use Rattle.vhdl_lex.proofs.scan.cut_on.Given as goal
 

@@ -2,7 +2,7 @@
 use Rattle.std.proofs.Common.{ℕ, leb, cond, bit_and, refl}
 use Rattle.std.proofs.lemmas.Simd.{zip2_splat, length-chunk}
 use lib.Lanes.{chunk}
-use Rattle.scan_spec.specs.Tokens.{is_word_byte}
+use Rattle.vhdl_spec.specs.Tokens.{is_word_byte}
 use Rattle.vhdl_lex.proofs.Lanes.{joined, splat_is, by_lanes}
 use Rattle.vhdl_lex.proofs.stops.word_mask.Goals as goal
 

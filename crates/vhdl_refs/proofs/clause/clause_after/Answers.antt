@@ -1,7 +1,7 @@
 -- What each token does to the clause.
 use Rattle.std.proofs.Common.{◌+◌, Bool, not, ◌&&◌, ◌||◌, false, true, refl, sym, ◌∙◌, ap, subst}
-use Rattle.vr_base.specs.declared.design.Role.TheVariants.{Library, Use, Context, Is, Semicolon}
-use Rattle.scan_spec.specs.References.{is_context_word}
+use Rattle.base.specs.declared.design.Role.TheVariants.{Library, Use, Context, Is, Semicolon}
+use Rattle.vhdl_spec.specs.References.{is_context_word}
 use Rattle.vhdl_refs.specs.Clauses.{IsClauseAt}
 use Rattle.vhdl_refs.specs.declared.clause.Clause.{Clause}
 use Rattle.vhdl_refs.proofs.ClauseSteps.{clause_goes_on, clause_ends, not_semicolon, not_end, not_listing, not_use, not_context, not_library}

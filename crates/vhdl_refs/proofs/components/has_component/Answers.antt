@@ -1,7 +1,7 @@
 -- One token more.
 use Rattle.std.proofs.Common.{◌∙◌, ap, arith}
 use Rattle.std.proofs.lemmas.List.{get_or_default}
-use Rattle.vr_base.specs.declared.design.Role.TheVariants.{Library, Other}
+use Rattle.base.specs.declared.design.Role.TheVariants.{Library, Other}
 use Rattle.vhdl_refs.specs.Components.{is_component_word}
 use Rattle.vhdl_refs.proofs.ComponentSteps.{free_more}
 use Rattle.vhdl_refs.proofs.components.has_component.Goals as goal

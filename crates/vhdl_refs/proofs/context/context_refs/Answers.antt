@@ -1,11 +1,11 @@
 -- The references at the places are those of the unit.
 use Rattle.std.proofs.Common.{◌≡◌, ◌∙◌, ◌++◌, List, Some, map, ap, sym}
 use Rattle.std.specs.Option.{option_map}
-use Rattle.vr_base.specs.declared.design.Role.{Role}
-use Rattle.vr_base.specs.declared.design.Unit.{Unit as DesignUnit}
-use Rattle.vr_base.specs.declared.refs.Ref.{Ref}
-use Rattle.scan_spec.specs.Units.{roles_of}
-use Rattle.scan_spec.specs.References.{context_end, context_refs, is_context_ref, places, ref_at}
+use Rattle.base.specs.declared.design.Role.{Role}
+use Rattle.base.specs.declared.design.Unit.{Unit as DesignUnit}
+use Rattle.base.specs.declared.refs.Ref.{Ref}
+use Rattle.vhdl_spec.specs.Units.{roles_of}
+use Rattle.vhdl_spec.specs.References.{context_end, context_refs, is_context_ref, places, ref_at}
 use Rattle.vhdl_refs.specs.declared.places.RefPlace.{RefPlace}
 use Rattle.vhdl_refs.specs.Places.{context_places}
 use Rattle.vhdl_refs.proofs.PlaceSteps.{made_at}

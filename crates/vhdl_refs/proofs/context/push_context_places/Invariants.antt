@@ -1,6 +1,6 @@
 -- The places so far, and the clause here.
 use Rattle.std.proofs.Common.{◌≡◌, ◌++◌, map}
-use Rattle.scan_spec.specs.References.{is_context_ref, places}
+use Rattle.vhdl_spec.specs.References.{is_context_ref, places}
 use Rattle.vhdl_refs.specs.Clauses.{IsClauseAt}
 use Rattle.vhdl_refs.specs.Places.{AreRefPlaces, ref_place}
 use Rattle.vhdl_refs.proofs.context.push_context_places.Given as goal

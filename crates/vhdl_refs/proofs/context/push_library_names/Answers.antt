@@ -1,8 +1,8 @@
 -- One token more.
 use Rattle.std.proofs.Common.{◌≡◌, ◌++◌, ◌∷◌, [], List, cond, ◌∙◌, ap}
-use Rattle.vr_base.specs.declared.design.Role.{Role}
-use Rattle.scan_spec.specs.Units.{name_of, roles_of}
-use Rattle.scan_spec.specs.References.{is_library_name}
+use Rattle.base.specs.declared.design.Role.{Role}
+use Rattle.vhdl_spec.specs.Units.{name_of, roles_of}
+use Rattle.vhdl_spec.specs.References.{is_library_name}
 use Rattle.vhdl_refs.proofs.PlaceSteps.{walk_more}
 use Rattle.vhdl_refs.proofs.context.push_library_names.Goals as goal
 

@@ -1,7 +1,7 @@
 -- The names so far, and the clause here.
 use Rattle.std.proofs.Common.{◌≡◌, ◌++◌, map}
-use Rattle.scan_spec.specs.References.{is_library_name, places}
-use Rattle.scan_spec.specs.Units.{name_of, roles_of}
+use Rattle.vhdl_spec.specs.References.{is_library_name, places}
+use Rattle.vhdl_spec.specs.Units.{name_of, roles_of}
 use Rattle.vhdl_refs.specs.Clauses.{IsClauseAt}
 use Rattle.vhdl_refs.proofs.context.push_library_names.Given as goal
 

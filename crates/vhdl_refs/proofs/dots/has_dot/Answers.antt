@@ -1,8 +1,8 @@
 -- One token more.
 use Rattle.std.proofs.Common.{◌∙◌, ap, arith}
 use Rattle.std.proofs.lemmas.List.{get_or_default}
-use Rattle.vr_base.specs.declared.design.Role.TheVariants.{Library, Other}
-use Rattle.scan_spec.specs.References.{is_dot}
+use Rattle.base.specs.declared.design.Role.TheVariants.{Library, Other}
+use Rattle.vhdl_spec.specs.References.{is_dot}
 use Rattle.vhdl_refs.proofs.DotSteps.{dotless_more}
 use Rattle.vhdl_refs.proofs.dots.has_dot.Goals as goal
 

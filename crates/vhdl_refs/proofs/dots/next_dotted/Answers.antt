@@ -1,6 +1,6 @@
 -- One token more.
 use Rattle.std.proofs.Common.{◌∙◌, ap, sym}
-use Rattle.scan_spec.specs.References.{is_dot}
+use Rattle.vhdl_spec.specs.References.{is_dot}
 use Rattle.vhdl_refs.proofs.DotSteps.{passed_one}
 use Rattle.vhdl_refs.proofs.dots.next_dotted.Goals as goal
 

@@ -1,11 +1,11 @@
 -- The structural one, and those at the places.
 use Rattle.std.proofs.Common.{◌≡◌, ◌∙◌, ◌++◌, ℕ, Some, List, map, sym, ap}
 use Rattle.std.specs.Option.{option_map}
-use Rattle.vr_base.specs.declared.design.Role.{Role}
-use Rattle.vr_base.specs.declared.design.Unit.{Unit as DesignUnit}
-use Rattle.vr_base.specs.declared.refs.Ref.{Ref}
-use Rattle.scan_spec.specs.References.{named_refs, ref_at, refs_of, structural_by}
-use Rattle.scan_spec.specs.Units.{roles_of}
+use Rattle.base.specs.declared.design.Role.{Role}
+use Rattle.base.specs.declared.design.Unit.{Unit as DesignUnit}
+use Rattle.base.specs.declared.refs.Ref.{Ref}
+use Rattle.vhdl_spec.specs.References.{named_refs, ref_at, refs_of, structural_by}
+use Rattle.vhdl_spec.specs.Units.{roles_of}
 use Rattle.vhdl_refs.specs.declared.places.RefPlace.{RefPlace}
 use Rattle.vhdl_refs.specs.Places.{refs_between}
 use Rattle.vhdl_refs.proofs.PlaceSteps.{refs_at_places}

@@ -1,7 +1,7 @@
 -- The references at the places up to the index.
 use Rattle.std.proofs.Common.{◌≡◌, map, take}
 use Rattle.std.specs.List.{All}
-use Rattle.scan_spec.specs.References.{ref_at}
+use Rattle.vhdl_spec.specs.References.{ref_at}
 use Rattle.vhdl_refs.specs.Mentions.{NamedLiesIn, named_ref}
 use Rattle.vhdl_refs.proofs.mentions.named_all.Given as goal
 

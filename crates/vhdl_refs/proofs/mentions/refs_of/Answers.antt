@@ -1,9 +1,9 @@
 -- The references at the places are those of the unit.
 use Rattle.std.proofs.Common.{◌≡◌, ◌∙◌, ◌++◌, ℕ, List, map, ap}
 use Rattle.std.proofs.lemmas.Result.{IfOk-weaker}
-use Rattle.vr_base.specs.declared.design.Role.{Role}
-use Rattle.scan_spec.specs.Units.{roles_of}
-use Rattle.scan_spec.specs.References.{ref_at}
+use Rattle.base.specs.declared.design.Role.{Role}
+use Rattle.vhdl_spec.specs.Units.{roles_of}
+use Rattle.vhdl_spec.specs.References.{ref_at}
 use Rattle.vhdl_refs.specs.declared.places.RefPlace.{RefPlace}
 use Rattle.vhdl_refs.specs.Places.{refs_between}
 use Rattle.vhdl_refs.proofs.PlaceSteps.{refs_at_places}

@@ -1,7 +1,7 @@
 -- The tokens at the places up to the index.
 use Rattle.std.proofs.Common.{◌≡◌, map, take}
 use Rattle.std.specs.List.{All}
-use Rattle.scan_spec.specs.Units.{name_of}
+use Rattle.vhdl_spec.specs.Units.{name_of}
 use Rattle.vhdl_lex.specs.Pieces.{LiesIn}
 use Rattle.vhdl_units.specs.Names.{token_name}
 use Rattle.vhdl_refs.proofs.mentions.tokens_at.Given as goal

@@ -1,6 +1,6 @@
 -- One place more, and no reference up to the next dot.
 use Rattle.std.proofs.Common.{◌++◌, ◌+◌, List, map, refl, ◌∙◌, ap, sym, arith}
-use Rattle.scan_spec.specs.References.{is_reference}
+use Rattle.vhdl_spec.specs.References.{is_reference}
 use Rattle.vhdl_refs.specs.declared.places.RefPlace.{RefPlace}
 use Rattle.vhdl_refs.specs.Places.{ref_place}
 use Rattle.vhdl_refs.proofs.DotSteps.{none_so_far, skip_references}

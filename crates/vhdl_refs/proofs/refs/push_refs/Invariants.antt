@@ -1,6 +1,6 @@
 -- The references at the places up to the index.
 use Rattle.std.proofs.Common.{◌≡◌, ◌++◌, map, take}
-use Rattle.scan_spec.specs.References.{ref_at}
+use Rattle.vhdl_spec.specs.References.{ref_at}
 use Rattle.vhdl_refs.proofs.refs.push_refs.Given as goal
 
 abbrev pub invariant-loop-place : goal.invariant-loop-place

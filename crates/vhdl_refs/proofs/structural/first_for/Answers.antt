@@ -1,7 +1,7 @@
 -- The first `for` is the one here, where there was none before.
 use Rattle.std.proofs.Common.{ℕ, ap, sym, ◌∙◌}
-use Rattle.scan_spec.specs.Units.{role_at}
-use Rattle.scan_spec.specs.References.{is_for}
+use Rattle.vhdl_spec.specs.Units.{role_at}
+use Rattle.vhdl_spec.specs.References.{is_for}
 use Rattle.vhdl_refs.proofs.PlaceSteps.{first_none, first_not_yet, first_here}
 use Rattle.vhdl_refs.proofs.structural.first_for.Goals as goal
 

@@ -1,6 +1,6 @@
 -- None so far.
 use Rattle.std.proofs.Common.{◌≡◌, None}
-use Rattle.scan_spec.specs.References.{first_for}
+use Rattle.vhdl_spec.specs.References.{first_for}
 use Rattle.vhdl_refs.proofs.structural.first_for.Given as goal
 
 abbrev pub invariant-loop-at : goal.invariant-loop-at

@@ -1,6 +1,6 @@
 -- The unit is where its scan says.
 use Rattle.std.proofs.Common.{List, length, sym, ap, subst, arith}
-use Rattle.vr_base.specs.declared.design.Role.{Role}
+use Rattle.base.specs.declared.design.Role.{Role}
 use Rattle.vhdl_refs.specs.Clauses.{IsClauseAt}
 use Rattle.vhdl_refs.specs.declared.clause.Clause.{Clause}
 use Rattle.vhdl_refs.proofs.ClauseSteps.{clause_begins}

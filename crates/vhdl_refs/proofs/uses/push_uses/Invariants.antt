@@ -1,7 +1,7 @@
 -- The places so far, and how far clauses were followed.
 use Rattle.std.proofs.Common.{◌≡◌, ◌++◌, ◌-◌, ◌<◌, ◌≤◌, length}
 use Rattle.std.specs.List.{All}
-use Rattle.scan_spec.specs.References.{is_use_of_all, places}
+use Rattle.vhdl_spec.specs.References.{is_use_of_all, places}
 use Rattle.vhdl_refs.specs.Clauses.{HasReached}
 use Rattle.vhdl_refs.proofs.uses.push_uses.Given as goal
 

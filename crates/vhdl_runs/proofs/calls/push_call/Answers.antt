@@ -2,7 +2,7 @@
 use Rattle.std.proofs.Common.{sym, ◌∙◌, ap, subst}
 use Rattle.std.specs.List.{All}
 use Rattle.std.proofs.lemmas.List.Elements.{All-push}
-use Rattle.vr_base.specs.declared.lexical.Token.{Token}
+use Rattle.base.specs.declared.lexical.Token.{Token}
 use Rattle.vhdl_runs.specs.Calls.{is_string}
 use Rattle.vhdl_runs.specs.Runs.{IsStringIn}
 use Rattle.vhdl_runs.proofs.Calling.{call_string}

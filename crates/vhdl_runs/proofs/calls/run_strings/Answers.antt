@@ -1,8 +1,8 @@
 -- One token more, and no call up to the next at which one may be.
 use Rattle.std.proofs.Common.{[], ◌+◌, ℕ, map, sym, ◌∙◌, ap, subst, arith}
 use Rattle.std.specs.List.{All}
-use Rattle.vr_base.specs.declared.lexical.Token.{Token}
-use Rattle.scan_spec.specs.Units.{token_at}
+use Rattle.base.specs.declared.lexical.Token.{Token}
+use Rattle.vhdl_spec.specs.Units.{token_at}
 use Rattle.vhdl_runs.specs.Calls.{is_run_call}
 use Rattle.vhdl_runs.specs.Runs.{IsStringIn}
 use Rattle.vhdl_runs.proofs.FirstPlaces.{places_none, walk_more}

@@ -2,10 +2,10 @@
 use Rattle.std.proofs.Common.{◌≡◌, List, true, ◌∙◌, ap, sym, subst}
 use Rattle.std.specs.Prelude.{slice_index_or}
 use Rattle.std.proofs.lemmas.List.{get_or_default}
-use Rattle.vr_base.specs.declared.lexical.Token.{Token}
-use Rattle.vr_base.specs.declared.lexical.TokenKind.TheVariants.{Word, High}
-use Rattle.scan_spec.specs.Units.{token_at}
-use Rattle.scan_spec.proofs.Lying.{tokens_lie}
+use Rattle.base.specs.declared.lexical.Token.{Token}
+use Rattle.base.specs.declared.lexical.TokenKind.TheVariants.{Word, High}
+use Rattle.vhdl_spec.specs.Units.{token_at}
+use Rattle.vhdl_spec.proofs.Lying.{tokens_lie}
 use Rattle.vhdl_runs.specs.Calls.{is_string}
 use Rattle.vhdl_runs.specs.Runs.{IsStringIn}
 use Rattle.vhdl_runs.proofs.Pieces.{strings_long}

@@ -1,6 +1,6 @@
 -- One token more is counted.
 use Rattle.std.proofs.Common.{◌<◌, ◌∙◌, length, ap, sym, arith}
-use Rattle.scan_spec.specs.Units.{is_opening, is_closing}
+use Rattle.vhdl_spec.specs.Units.{is_opening, is_closing}
 use Rattle.vhdl_runs.specs.Calls.{is_level_after}
 use Rattle.vhdl_runs.proofs.Counted.{counted, level_is, level_not}
 use Rattle.vhdl_runs.proofs.FirstPlaces.{first_here, first_not_yet}

@@ -1,7 +1,7 @@
 -- None so far, and how many parentheses were opened and closed.
 use Rattle.std.proofs.Common.{◌≡◌, ◌≤◌, ◌-◌, None, slice_range}
 use Rattle.std.specs.List.{count_by}
-use Rattle.scan_spec.specs.Units.{is_opening, is_closing}
+use Rattle.vhdl_spec.specs.Units.{is_opening, is_closing}
 use Rattle.vhdl_runs.specs.Calls.{closing_of}
 use Rattle.vhdl_runs.proofs.runner.closing_of.Given as goal
 

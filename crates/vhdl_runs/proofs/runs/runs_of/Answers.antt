@@ -4,7 +4,7 @@ use Rattle.std.specs.List.{All}
 use Rattle.std.proofs.lemmas.List.{map_more}
 use Rattle.std.proofs.lemmas.List.Elements.{All-push}
 use Rattle.std.proofs.lemmas.Option.{get_or_from_slice_get, slice_get_within}
-use Rattle.vr_base.specs.declared.design.Unit.{Unit as DesignUnit}
+use Rattle.base.specs.declared.design.Unit.{Unit as DesignUnit}
 use Rattle.vhdl_runs.specs.declared.runs.UnitRuns.{UnitRuns}
 use Rattle.vhdl_runs.specs.Runs.{UnitRunsLieIn, unit_runs}
 use Rattle.vhdl_runs.proofs.runs.runs_of.Goals as goal

@@ -1,7 +1,7 @@
 -- The unit is where its scan says.
 use Rattle.std.proofs.Common.{◌≡◌, length, ap, ◌∙◌, arith}
 use Rattle.std.proofs.lemmas.List.{length-map}
-use Rattle.scan_spec.specs.Units.{role_of}
+use Rattle.vhdl_spec.specs.Units.{role_of}
 use Rattle.vhdl_runs.proofs.Placing.{placed}
 use Rattle.vhdl_runs.proofs.units.unit_at.Goals as goal
 

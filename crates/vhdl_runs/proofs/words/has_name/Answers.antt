@@ -1,5 +1,5 @@
 -- Two tests of one name.
-use Rattle.scan_spec.specs.Units.{name_of}
+use Rattle.vhdl_spec.specs.Units.{name_of}
 use Rattle.vhdl_runs.proofs.Calling.{same_test}
 use Rattle.vhdl_runs.proofs.words.has_name.Goals as goal
 

@@ -1,6 +1,6 @@
 -- What is passed over from the right changes nothing.
 use Rattle.std.proofs.Common.{◌≡◌, ◌≤◌}
-use Rattle.scan_spec.specs.Units.{begins_generate}
+use Rattle.vhdl_spec.specs.Units.{begins_generate}
 use Rattle.vhdl_units.proofs.ends.begins_at.Given as goal
 
 abbrev pub invariant-loop-at : goal.invariant-loop-at

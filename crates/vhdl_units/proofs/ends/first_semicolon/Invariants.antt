@@ -1,7 +1,7 @@
 -- No semicolon so far.
 use Rattle.std.proofs.Common.{◌≢◌, ℕ, ◌-◌, ◌<◌, ◌≤◌, length}
-use Rattle.vr_base.specs.declared.design.Role.TheVariants.{Semicolon}
-use Rattle.scan_spec.specs.Units.{role_at}
+use Rattle.base.specs.declared.design.Role.TheVariants.{Semicolon}
+use Rattle.vhdl_spec.specs.Units.{role_at}
 use Rattle.vhdl_units.proofs.ends.first_semicolon.Given as goal
 
 abbrev pub invariant-loop-at : goal.invariant-loop-at

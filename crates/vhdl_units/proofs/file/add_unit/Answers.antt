@@ -1,6 +1,6 @@
 -- What is at the token is added.
 use Rattle.std.proofs.Common.{refl, subst}
-use Rattle.scan_spec.specs.Units.{roles_of}
+use Rattle.vhdl_spec.specs.Units.{roles_of}
 use Rattle.vhdl_units.specs.Standing.{IsStanding}
 use Rattle.vhdl_units.proofs.Adding.{plain_places, owned_places, item_added, plain_added, owned_added}
 use Rattle.vhdl_units.proofs.file.add_unit.Goals as goal

@@ -1,8 +1,8 @@
 -- What outlining gives is exact, since a file has one outline or one fault.
 use Rattle.std.proofs.Common.{List, length, sym, ap, subst, arith}
-use Rattle.vr_base.specs.declared.lexical.Token.{Token}
-use Rattle.scan_spec.specs.Units.{Outlines}
-use Rattle.scan_spec.proofs.Lying.{Lie, tokens_lie, tokens_few}
+use Rattle.base.specs.declared.lexical.Token.{Token}
+use Rattle.vhdl_spec.specs.Units.{Outlines}
+use Rattle.vhdl_spec.proofs.Lying.{Lie, tokens_lie, tokens_few}
 use Rattle.vhdl_units.proofs.Exact.{gives_units, gives_unit_fault}
 use Rattle.vhdl_units.proofs.file.outline_by_roles.Goals as goal
 

@@ -1,7 +1,7 @@
 -- Each element that is at a token is one more element of the file.
 use Rattle.std.proofs.Common.{◌+◌, List, length, ◌∙◌, ap, arith}
-use Rattle.vr_base.specs.declared.design.Role.{Role}
-use Rattle.scan_spec.specs.Units.{begins_generate}
+use Rattle.base.specs.declared.design.Role.{Role}
+use Rattle.vhdl_spec.specs.Units.{begins_generate}
 use Rattle.vhdl_units.proofs.Adding.{roles_len, next_place, outlined_more}
 use Rattle.vhdl_units.proofs.file.read.Goals as goal
 

@@ -1,6 +1,6 @@
 -- The elements that were read so far.
 use Rattle.std.proofs.Common.{◌≡◌, length, ◌-◌}
-use Rattle.scan_spec.specs.Units.{roles_of}
+use Rattle.vhdl_spec.specs.Units.{roles_of}
 use Rattle.vhdl_units.proofs.Adding.{Outlined}
 use Rattle.vhdl_units.proofs.file.read.Given as goal
 

@@ -1,6 +1,6 @@
 -- One token more from the right.
 use Rattle.std.proofs.Common.{◌≡◌, ◌+◌, ◌-◌, ◌<◌, ℕ, List, sym, ◌∙◌, subst, arith}
-use Rattle.vr_base.specs.declared.design.Role.{Role}
+use Rattle.base.specs.declared.design.Role.{Role}
 use Rattle.vhdl_units.specs.Marks.{AreMarks, IsMark, IsSubprogramWord}
 use Rattle.vhdl_units.proofs.MarkTable.{Filled, filled_end, level_some, level_within, fill_opening, fill_closing, fill_mark, fill_word, fill_other}
 use Rattle.vhdl_units.proofs.marks.fill.Goals as goal

@@ -1,6 +1,6 @@
 -- The opening parentheses so far.
 use Rattle.std.proofs.Common.{◌≡◌, ◌≤◌, count_by, take}
-use Rattle.scan_spec.specs.Units.{is_opening}
+use Rattle.vhdl_spec.specs.Units.{is_opening}
 use Rattle.vhdl_units.proofs.marks.openings.Given as goal
 
 abbrev pub invariant-loop-role : goal.invariant-loop-role

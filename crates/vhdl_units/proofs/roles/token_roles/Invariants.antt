@@ -1,6 +1,6 @@
 -- The roles so far.
 use Rattle.std.proofs.Common.{◌≡◌, map, take}
-use Rattle.scan_spec.specs.Units.{role_of}
+use Rattle.vhdl_spec.specs.Units.{role_of}
 use Rattle.vhdl_units.proofs.roles.token_roles.Given as goal
 
 abbrev pub invariant-loop-token : goal.invariant-loop-token

@@ -1,6 +1,6 @@
 -- Tokens of a cut are in the text.
 use Rattle.std.proofs.Common.{length, sym, subst}
-use Rattle.scan_spec.proofs.Lying.{Lie, tokens_lie}
+use Rattle.vhdl_spec.proofs.Lying.{Lie, tokens_lie}
 use Rattle.vhdl_units.proofs.view.token_of.Goals as goal
 
 pub token_at-requires-clause-lie : goal.token_at-requires-clause-lie

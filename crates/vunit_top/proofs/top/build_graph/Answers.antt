@@ -1,5 +1,5 @@
 use Rattle.std.proofs.Common.{refl, sym}
-use Rattle.disk_runs.specs.Orders.{order_by}
+use Rattle.run_build.specs.Orders.{order_by}
 use Rattle.vunit_top.proofs.RunTruths.{faulted_over, ended_over, marked_over}
 use Rattle.vunit_top.proofs.top.build_graph.Goals as goal
 

@@ -1,8 +1,8 @@
 use Rattle.std.proofs.Common.{sym}
-use Rattle.run_report.specs.Texts.{warning_text}
-use Rattle.disk_runs.specs.Orders.{order_by}
+use Rattle.report_run.specs.Texts.{warning_text}
+use Rattle.run_build.specs.Orders.{order_by}
 use Rattle.vunit_top.specs.Reading.{Builds}
-use Rattle.disk_runs.proofs.OverStore.{no_test_since}
+use Rattle.run_build.proofs.OverStore.{no_test_since}
 use Rattle.vunit_top.proofs.RunTruths.{runs_idle}
 use Rattle.vunit_top.proofs.top.build_project.Goals as goal
 

@@ -1,11 +1,11 @@
 -- What a run did with the sources, by its job.
 use Rattle.std.proofs.Common.{◌≡◌, refl}
-use Rattle.run_report.specs.Texts.{warning_text}
-use Rattle.test_report.specs.Export.{export_text}
-use Rattle.disk_runs.specs.Orders.{order_by}
+use Rattle.report_run.specs.Texts.{warning_text}
+use Rattle.report_lists.specs.Export.{export_text}
+use Rattle.run_build.specs.Orders.{order_by}
 use Rattle.vunit_top.specs.Acts.{of_each, seen}
 use Rattle.vunit_top.specs.Reading.{Lists, ListsTests, chosen, testing_of}
-use Rattle.disk_runs.proofs.OverStore.{no_test_since}
+use Rattle.run_build.proofs.OverStore.{no_test_since}
 use Rattle.vunit_top.proofs.ActTruths.{acts_said, acts_export, acts_built, acts_tested}
 use Rattle.vunit_top.proofs.top.run_job.Goals as goal
 

@@ -1,11 +1,11 @@
 -- What a run did, by its setting.
 use Rattle.std.proofs.Common.{◌≡◌, Ok, Err, refl}
-use Rattle.vr_base.specs.declared.limits.TheConstants.{FILE_LIMIT, SLOT_LIMIT}
-use Rattle.outcomes.specs.declared.outcome.Limit.TheVariants as limits
+use Rattle.base.specs.declared.limits.TheConstants.{FILE_LIMIT, SLOT_LIMIT}
+use Rattle.base_outcomes.specs.declared.outcome.Limit.TheVariants as limits
 use Rattle.project_reading.specs.Reading.{project_reading}
 use Rattle.vunit_top.specs.Acts.{of_each}
 use Rattle.vunit_top.specs.Reading.{Over, setting_job}
-use Rattle.disk_runs.proofs.OverStore.{no_test_since}
+use Rattle.run_build.proofs.OverStore.{no_test_since}
 use Rattle.vunit_top.proofs.Tops.{over_slots, known_job, over_if_plain}
 use Rattle.vunit_top.proofs.ActTruths.{acts_said, acts_by}
 use Rattle.vunit_top.proofs.top.run_setting.Goals as goal

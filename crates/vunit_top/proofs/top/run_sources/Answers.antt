@@ -5,7 +5,7 @@ use Rattle.project_reading.specs.Sources.{LeadsTo}
 use Rattle.project_reading.specs.declared.wish.Wish.{Wish}
 use Rattle.vunit_top.specs.Acts.{of_each}
 use Rattle.vunit_top.specs.Reading.{job_reading, wish_of}
-use Rattle.disk_runs.proofs.OverStore.{no_test_since}
+use Rattle.run_build.proofs.OverStore.{no_test_since}
 use Rattle.vunit_top.proofs.ActTruths.{acts_idle, no_early}
 use Rattle.vunit_top.proofs.top.run_sources.Goals as goal
 

@@ -1,13 +1,13 @@
 use Rattle.std.proofs.Common.{Err, refl, sym, ap, subst, ◌∙◌}
-use Rattle.command_line.specs.declared.setting.WordsFault.{WordsFault}
-use Rattle.command_line.specs.Words.{setting_of, ReadsWords}
+use Rattle.run_command_line.specs.declared.setting.WordsFault.{WordsFault}
+use Rattle.run_command_line.specs.Words.{setting_of, ReadsWords}
 use Rattle.project_reading.specs.Reading.{project_reading}
 use Rattle.vunit_top.specs.Acts.{of_each}
 use Rattle.generated_runs.specs.declared.options.GenerateOptions.{GenerateOptions}
 use Rattle.run_spec.specs.ChildJournal.{since}
 use Rattle.vunit_top.specs.Generated.{GeneratesAs}
 use Rattle.vunit_top.specs.Reading.{Bad, Child, Compiler, Simulator, generates, may_test, setting_job, words_job, reading}
-use Rattle.disk_runs.proofs.OverStore.{no_test_since}
+use Rattle.run_build.proofs.OverStore.{no_test_since}
 use Rattle.vunit_top.proofs.Tops.{nothing_by, child_job, bench_job, setting_read, bad_read, not_plain, not_untested, no_job, no_text, no_plain_text, no_build, no_run, no_export, no_generated, same_options}
 use Rattle.vunit_top.proofs.ActTruths.{acts_by, none_run, no_early}
 use Rattle.vunit_top.proofs.RunTruths.{runs_idle}

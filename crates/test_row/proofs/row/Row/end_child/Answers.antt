@@ -1,9 +1,9 @@
 -- What remains to be proved of `end_child`.
 use Rattle.std.proofs.Common.{sym, ap, subst, ◌∙◌, Some, List, map}
 use Rattle.run_spec.specs.Moves.{position_of, without_child}
-use Rattle.child_steps.specs.Steps.{running_child}
-use Rattle.child_steps.specs.declared.child.Child.{Child}
-use Rattle.child_steps.proofs.ChildLists.{IsFirst, first_position, first_without, first_ticket}
+use Rattle.run_steps.specs.Steps.{running_child}
+use Rattle.run_steps.specs.declared.child.Child.{Child}
+use Rattle.run_steps.proofs.ChildLists.{IsFirst, first_position, first_without, first_ticket}
 use Rattle.test_row.specs.Rows.{tickets_of}
 use Rattle.test_row.proofs.row.Row.end_child.Goals as goal
 

@@ -1,7 +1,7 @@
 -- What remains to be proved of `ended`.
 use Rattle.std.proofs.Common.{subst}
-use Rattle.child_steps.specs.Steps.{without_ticket}
-use Rattle.child_steps.proofs.PlainSteps.{ends_as, lawful_end}
+use Rattle.run_steps.specs.Steps.{without_ticket}
+use Rattle.run_steps.proofs.PlainSteps.{ends_as, lawful_end}
 use Rattle.test_row.specs.Rows.{IsRowOf}
 use Rattle.test_row.proofs.RowSteps.{greedy_end}
 use Rattle.test_row.proofs.row.Row.ended.Goals as goal

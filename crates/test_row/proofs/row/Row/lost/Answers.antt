@@ -1,7 +1,7 @@
 -- What remains to be proved of `lost`.
 use Rattle.run_spec.specs.Moves.{after_move}
-use Rattle.child_steps.specs.Steps.{without_ticket}
-use Rattle.child_steps.proofs.PlainSteps.{lawful_end}
+use Rattle.run_steps.specs.Steps.{without_ticket}
+use Rattle.run_steps.proofs.PlainSteps.{lawful_end}
 use Rattle.test_row.proofs.RowSteps.{greedy_end}
 use Rattle.test_row.proofs.row.Row.lost.Goals as goal
 

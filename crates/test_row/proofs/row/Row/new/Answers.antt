@@ -1,7 +1,7 @@
 -- What remains to be proved of `new`.
 use Rattle.std.proofs.Common.{refl, sym, ap, map}
-use Rattle.vr_base.specs.PresentGraph.{below}
-use Rattle.child_steps.specs.Steps.{running_child}
+use Rattle.base.specs.PresentGraph.{below}
+use Rattle.run_steps.specs.Steps.{running_child}
 use Rattle.test_row.proofs.RowSteps.{unmade_first}
 use Rattle.test_row.proofs.row.Row.new.Goals as goal
 

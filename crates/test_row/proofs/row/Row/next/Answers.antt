@@ -1,7 +1,7 @@
 -- What remains to be proved of `next`.
 use Rattle.std.proofs.Common.{arith, sym, ◌∙◌}
 use Rattle.std.proofs.lemmas.List.{length-map}
-use Rattle.child_steps.proofs.ChildLists.{no_children}
+use Rattle.run_steps.proofs.ChildLists.{no_children}
 use Rattle.test_row.specs.Rows.{run_count, tickets_of}
 use Rattle.test_row.proofs.RowSteps.{next_in_step, next_waits, next_ends, start_is, finished_is}
 use Rattle.test_row.proofs.row.Row.next.Goals as goal

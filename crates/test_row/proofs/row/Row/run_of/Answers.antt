@@ -2,8 +2,8 @@
 use Rattle.std.proofs.Common.{sym, ap, subst, ◌∙◌, Some, List}
 use Rattle.std.proofs.lemmas.List.{get_or_default}
 use Rattle.run_spec.specs.Moves.{position_of}
-use Rattle.child_steps.specs.declared.child.Child.{Child}
-use Rattle.child_steps.proofs.ChildLists.{IsFirst, first_position}
+use Rattle.run_steps.specs.declared.child.Child.{Child}
+use Rattle.run_steps.proofs.ChildLists.{IsFirst, first_position}
 use Rattle.test_row.proofs.row.Row.run_of.Goals as goal
 
 pub returns-clause-position : goal.returns-clause-position

@@ -3,7 +3,7 @@ use Rattle.std.proofs.Common.{arith, refl, sym, ap, subst, ◌∙◌, ◌<◌, �
 use Rattle.std.specs.Prelude.{All}
 use Rattle.std.proofs.lemmas.List.{length-append}
 use Rattle.std.proofs.lemmas.List.Elements.{All-push}
-use Rattle.child_steps.specs.declared.child.Child.{Child}
+use Rattle.run_steps.specs.declared.child.Child.{Child}
 use Rattle.test_row.specs.Rows.{to_come}
 use Rattle.test_row.proofs.RowSteps.{start_is, in_step_started, lawful_start}
 use Rattle.test_row.proofs.row.Row.started.Goals as goal

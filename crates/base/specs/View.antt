@@ -1,0 +1,29 @@
+-- The view of a file: the file with all files that it depends on, as a graph of their own.
+use Rattle.std.specs.Prelude.{◌≡◌, ℕ, ◌+◌, ◌<◌, List, [], ◌∷◌, ◌++◌, ◌==◌, length, map, Contains, slice_get, slice_index_or}
+use Rattle.std.specs.List.{filter_map, position_or_len}
+use Rattle.std.specs.Option.{option_map_or}
+use Rattle.base.specs.declared.graph.Entry.{Entry}
+
+-- where the files of a view are in the graph: those that the file depends on, and the file itself
+unfoldable pub viewed : List Entry → ℕ → List ℕ
+viewed graph at = option_map_or (λ entry. entry.deps ++ at ∷ []) (slice_get graph at) []
+
+-- the new number of a file: its place among the positions
+abbrev pub place_in : List ℕ → ℕ → ℕ
+place_in positions position = position_or_len (λ other. other == position) positions
+
+-- a file whose dependencies have their new numbers
+abbrev pub renumbered : List ℕ → Entry → Entry
+renumbered positions entry = record { name = entry.name; command = entry.command; text = entry.text; deps = map (place_in positions) entry.deps }
+
+-- the files at these positions, in order
+unfoldable pub part : List Entry → List ℕ → List Entry
+part graph positions = map (renumbered positions) (filter_map (slice_get graph) positions)
+
+abbrev pub view : List Entry → ℕ → List Entry
+view graph at = part graph (viewed graph at)
+
+-- at least one file, of which the last depends on all others
+pub record IsView (view : List Entry) : Type 0 where
+  pub some : 0 < length view
+  pub whole : (last place : ℕ) (other : Entry) → last + 1 ≡ length view → place < last → Contains (slice_index_or view last other).deps place

@@ -1,0 +1,340 @@
+-- A build from before its first event to its end.
+use Rattle.std.proofs.Common.{◌≡◌, ℕ, ◌<◌, Bool, true, false, List, [], ◌++◌, length, get_or, map, inl, inr, Option, Some, None, refl, sym, ap, subst, ◌∙◌, arith}
+use Rattle.std.specs.Prelude.{slice_get, is_some}
+use Rattle.std.specs.Bool.{OnTrue, OnFalse}
+use Rattle.std.specs.Option.{option_map}
+use Rattle.std.specs.List.{filter_map, list_all}
+use Rattle.std.proofs.lemmas.Bool.{cases_Bool, cond-true, cond-false, false≢true, OnTrue_from}
+use Rattle.std.proofs.lemmas.List.{append-nil, length-map}
+use Rattle.std.proofs.lemmas.Option.{same_Some, slice_get_within, slice_get-get_or, slice_get-map, get_or_from_slice_get}
+use Rattle.std.proofs.lemmas.List.Elements.{All-nil}
+use Rattle.base.specs.declared.file.FileName.{FileName}
+use Rattle.base.specs.declared.graph.Entry.{Entry}
+use Rattle.base.specs.declared.child.Request.{Request}
+use Rattle.base.specs.declared.child.Exit.{Exit}
+use Rattle.base.specs.declared.child.Event.{Event}
+use Rattle.run_spec.specs.declared.marks.Mark.{Mark}
+use Rattle.base.specs.declared.graph.BuiltFile.{BuiltFile}
+use Rattle.base.specs.Graphs.{IsGraph}
+use Rattle.base.specs.PresentGraph.{below}
+use Rattle.base.proofs.Below.{length-below, get_or-below}
+use Rattle.outside.specs.Records.{IsRecorded}
+use Rattle.run_laws.proofs.CleanPlaces.{filter_map-same}
+use Rattle.outside.specs.Records.{Record}
+use Rattle.outside.specs.Children.{started_with}
+use Rattle.outside.specs.Disks.{Image, Moments, IsDurable, reads_of}
+use Rattle.outside.specs.Commits.{CommitsFirst}
+use Rattle.outside.proofs.CommitLaws.{commits_nothing}
+use Rattle.run_spec.specs.Moves.{Core, empty_core, is_taken, is_made_so_far, LawfulMoves, GreedyMoves, IsFinished}
+use Rattle.run_spec.specs.ChildJournal.{Work, Run, End, artefact_so_far, job_of, core_of, after_all, book_of, moves_after, AreRequested, EachAfter, Lawful, exit_at, artefact_after, files_below, built_file}
+use Rattle.run_spec.specs.Marks.{mark_of, mark_at, marks_of}
+use Rattle.run_spec.specs.Commits.{record_at, commits}
+use Rattle.run_spec.proofs.Waiting.{waits_none}
+use Rattle.build_slots.specs.declared.slots.Slots.{Slots}
+use Rattle.build_slots.specs.Machines.{IsMachineOf, is_checked, is_stopped_in}
+use Rattle.build_loop.specs.Marks.{waiting_mark, known_mark, known_marks}
+use Rattle.build_loop.specs.declared.faults.BuildFault.{BuildFault}
+use Rattle.build_loop.specs.declared.faults.BuildFault.TheVariants.{NoMemory}
+use Rattle.build_loop.specs.Commits.{Acknowledges, HoldsFirst}
+use Rattle.build_loop.specs.Faults.{is_all_committed, FaultCounts, CountsBy}
+use Rattle.build_loop.specs.UnderWay.{Origin, BuildState, with_machine, Told, work_from, IsUnderWay, IsJournalled, GoesOn, Goes}
+use Rattle.run_steps.specs.Steps.{halted_if}
+use Rattle.build_loop.specs.Requests.{lent_at}
+use Rattle.build_loop.specs.Ran.{BuildObjects, BuildRan, is_made, built_by, whole_of}
+use Rattle.build_loop.proofs.Acknowledging.{knows_all}
+use Rattle.run_steps.proofs.Halting.{halted_not}
+use Rattle.build_loop.proofs.Lent.{some_there, item_at, All-from_test, knows_made, made_recorded, lent_same}
+use Rattle.build_loop.proofs.RecordsThen.{records_at_first}
+use Rattle.build_loop.proofs.UnderWayThen.{all_while, marks_over}
+
+zero_committed : (all : Bool) → OnTrue all (◌≡◌ {A = ℕ} 0 0)
+zero_committed true = refl
+zero_committed false = tt
+
+pub on_false : {A : Type 0} (b : Bool) → A → OnFalse b A
+on_false true a = tt
+on_false false a = a
+
+-- nothing has happened yet
+pub first_under_way : (graph : List Entry) (from : Origin) (machine : Slots) (marks : List Mark) (broken : Bool) → IsGraph graph → IsMachineOf machine (job_of (work_from graph from)) empty_core → is_stopped_in machine ≡ false → marks ≡ known_marks (work_from graph from) [] machine →
+    broken ≡ false → IsUnderWay graph from [] 0 (record { machine = machine; marks = marks; noted = None; latest_of = from.latest_of; broken = broken })
+unfolding after_all moves_after LawfulMoves GreedyMoves AreRequested
+first_under_way graph from machine marks broken is step on marked usable = record {
+  is_graph = is;
+  moves = tt;
+  requests = tt;
+  greedy = λ n. tt;
+  none_lost = λ n. refl;
+  usable = λ n. usable;
+  in_step = step;
+  halts = on;
+  marked = marked;
+  recorded = records_at_first (work_from graph from) from.latest_of;
+  committed = record {
+    few = omega arith;
+    whole = zero_committed (is_all_committed None broken);
+    waits = waits_none (work_from graph from) 0;
+    latest = λ name. refl;
+  };
+  comes_first = tt;
+}
+
+pub first_journal : (answer : Request → Exit) (s : Work) (journal : List Event) → IsJournalled answer s [] journal journal
+unfolding after_all EachAfter
+first_journal answer s journal = record {
+  follows = sym (append-nil journal);
+  tickets = tt;
+  answered = tt;
+  started = All-nil (λ (run : Run). started_with run.ticket [] ≡ Some run.request);
+  started_since = All-nil (λ (run : Run). started_with run.ticket journal ≡ Some run.request);
+}
+
+-- nothing is committed where each image is what reads give
+pub holds_nothing : (broken : Bool) (more : List Record) (records_of : Image → List Record) (moments : Moments) → broken ≡ false → IsDurable moments.now → HoldsFirst 0 broken more records_of moments moments
+holds_nothing broken more records_of moments usable durable = record {
+  reads = on_false broken (sym (append-nil (records_of (reads_of moments.now))));
+  images = subst (λ (b : Bool). CommitsFirst 0 b (records_of (reads_of moments.now)) more records_of moments moments) (sym usable)
+      (commits_nothing (records_of (reads_of moments.now)) more records_of moments (λ image is. ap records_of (durable image is)));
+}
+
+pub no_commits : (s : Work) → commits s [] ≡ []
+unfolding after_all
+no_commits s = refl
+
+-- what was done before the first event: nothing
+pub ran_nothing : (tells told : Type 0) (answer : Request → Exit) (records_of : Image → List Record) (s : Work) (objects : BuildObjects) (broken : Bool) (Says : List Event → Type 0) →
+    broken ≡ false → (told → IsDurable objects.moments.now) → BuildRan tells told answer records_of s objects objects (record { ended = false; fault = Some NoMemory; broken = broken }) Says
+unfolding after_all moves_after LawfulMoves AreRequested EachAfter
+ran_nothing tells told answer records_of s objects broken Says usable durable = record {
+  events = [];
+  journal = λ t. sym (append-nil objects.journal);
+  moves = tt;
+  requests = tt;
+  greedy = tt;
+  finished = tt;
+  none_lost = tt;
+  lawful = λ t. record { moves = tt; requests = tt; tickets = tt };
+  answered = λ t. tt;
+  whole = λ t. tt;
+  says = tt;
+  acknowledged = 0;
+  committed = record { few = omega arith; whole = tt; waits = waits_none s 0; latest = λ name. refl };
+  comes_first = tt;
+  recorded = tt;
+  images = λ t. holds_nothing broken (commits s []) records_of objects.moments usable (durable t);
+}
+
+module _ (tells told : Type 0) (answer : Request → Exit) (records_of : Image → List Record) (graph : List Entry) (from : Origin) (state : BuildState) (now : Told)
+    (goes : Goes tells told answer records_of graph from state now) where
+  abbrev s : Work
+  s = work_from graph from
+
+  abbrev at_first : BuildObjects
+  at_first = record { latest_of = from.latest_of; journal = from.journal; moments = from.moments }
+
+  abbrev at_last : BuildObjects
+  at_last = record { latest_of = state.latest_of; journal = now.journal; moments = now.moments }
+
+  -- the latest records of the files that are made
+  knows_files : is_all_committed state.noted state.broken ≡ true → (position : ℕ) (entry : Entry) (artefact : List ℕ) → slice_get graph position ≡ Some entry → artefact_after s goes.events position ≡ Some artefact →
+      state.latest_of entry.name ≡ Some (record_at graph position (files_below s (book_of s goes.events).ends position) artefact)
+  knows_files on position entry artefact at is =
+      knows_made graph from.latest_of from.slots from.keep_going (book_of s goes.events) state.latest_of goes.under_way.is_graph goes.under_way.recorded (knows_all s goes.events (is_all_committed state.noted state.broken) from.latest_of state.latest_of goes.acknowledged goes.under_way.committed on) position entry artefact at is
+
+  lawful_of : tells → Lawful s goes.events
+  lawful_of t = record { moves = goes.under_way.moves; requests = goes.under_way.requests; tickets = (goes.journal t).tickets }
+
+  -- a fault has ended it
+  ran_halted : (Says : List Event → Type 0) → BuildRan tells told answer records_of s at_first at_last (record { ended = false; fault = state.noted; broken = state.broken }) Says
+  ran_halted Says = record {
+    events = goes.events;
+    journal = λ t. (goes.journal t).follows;
+    moves = goes.under_way.moves;
+    requests = goes.under_way.requests;
+    greedy = tt;
+    finished = tt;
+    none_lost = tt;
+    lawful = lawful_of;
+    answered = λ t. (goes.journal t).answered;
+    whole = λ t. tt;
+    says = tt;
+    acknowledged = goes.acknowledged;
+    committed = goes.under_way.committed;
+    comes_first = goes.under_way.comes_first;
+    recorded = OnTrue_from (is_all_committed state.noted state.broken) _ knows_files;
+    images = goes.images;
+  }
+
+  pub ran_fault : (fault : BuildFault) → state.noted ≡ Some fault → (Says : List Event → Type 0) →
+      BuildRan tells told answer records_of s at_first at_last (record { ended = false; fault = Some fault; broken = state.broken }) Says
+  ran_fault fault is Says =
+      subst (λ (o : Option BuildFault). BuildRan tells told answer records_of s at_first at_last (record { ended = false; fault = o; broken = state.broken }) Says) is (ran_halted Says)
+
+  -- it has ended by itself
+  pub ran_done : state.noted ≡ None → IsFinished (job_of s) (halted_if (is_some state.noted) (core_of (book_of s goes.events))) → ((at : ℕ) → at < length graph → is_checked state.machine at ≡ false → (is_taken (core_of (book_of s goes.events)) at ≡ false) × (is_made_so_far (job_of s) (core_of (book_of s goes.events)) at ≡ false))
+      → (said : List Mark) → said ≡ state.marks →
+      BuildRan tells told answer records_of s at_first at_last (record { ended = true; fault = None; broken = state.broken }) (λ events. said ≡ marks_of s events)
+  ran_done none finished idle said same =
+      let core : Core = core_of (book_of s goes.events) in
+      let over : IsFinished (job_of s) core = subst (IsFinished (job_of s)) (ap (λ (o : Option BuildFault). halted_if (is_some o) core) none ∙ halted_not core) finished in
+      let still : is_all_committed state.noted state.broken ≡ is_all_committed None state.broken = ap (λ (o : Option BuildFault). is_all_committed o state.broken) none in
+      record {
+        events = goes.events;
+        journal = λ t. (goes.journal t).follows;
+        moves = goes.under_way.moves;
+        requests = goes.under_way.requests;
+        greedy = goes.under_way.greedy none;
+        finished = over;
+        none_lost = goes.under_way.none_lost none;
+        lawful = lawful_of;
+        answered = λ t. (goes.journal t).answered;
+        whole = λ t. record { lawful = lawful_of t; greedy = goes.under_way.greedy none; finished = over; none_lost = goes.under_way.none_lost none };
+        says = same ∙ marks_over graph from goes.events goes.acknowledged state goes.under_way idle;
+        acknowledged = goes.acknowledged;
+        committed = subst (λ (all : Bool). Acknowledges s goes.events all from.latest_of state.latest_of goes.acknowledged) still goes.under_way.committed;
+        comes_first = tt;
+        recorded = OnTrue_from (is_all_committed None state.broken) _ (λ on. knows_files (still ∙ on));
+        images = goes.images;
+      }
+
+-- no fault was counted yet
+pub counts_at_first : (broken : Bool) (first : FaultCounts) → broken ≡ false → CountsBy None broken first first
+counts_at_first broken first usable = record {
+  none_fell = record { starts = omega arith; losses = omega arith; disks = omega arith };
+  explains = refl;
+  start_first = tt;
+  breaks = λ b. absurd (false≢true (sym usable ∙ b));
+}
+
+-- a file that is fresh or compiled has an artefact
+marked_has : (keep_going : Bool) (exit : Option Exit) (artefact : Option (List ℕ)) → is_made (mark_of keep_going exit artefact) ≡ true → is_some artefact ≡ true
+marked_has keep_going exit (Some artefact) made = refl
+marked_has keep_going (Some exit) None made = absurd (false≢true made)
+marked_has true None None made = absurd (false≢true made)
+marked_has false None None made = absurd (false≢true made)
+
+-- the mark of a file among marks of all files
+mark_of_list : (marks : ℕ → Mark) (count position : ℕ) (mark : Mark) → slice_get (map marks (below count)) position ≡ Some mark → (position < count) × (marks position ≡ mark)
+mark_of_list marks count position mark at =
+    let inside : position < count = subst (λ (n : ℕ). position < n) (length-map (below count) marks ∙ length-below count) (slice_get_within (map marks (below count)) position mark at) in
+    let here : slice_get (below count) position ≡ Some position =
+    slice_get-get_or (below count) position 0 (subst (λ (n : ℕ). position < n) (sym (length-below count)) inside) ∙ ap (λ (p : ℕ). Some p) (get_or-below count position 0 inside) in
+    (inside, same_Some (marks position) mark (sym (slice_get-map marks (below count) position ∙ ap (option_map marks) here) ∙ at))
+
+-- the mark of a file, and its artefact where it is made
+mark_is : (s : Work) (events : List Event) (position : ℕ) (mark : Mark) → slice_get (marks_of s events) position ≡ Some mark → is_made mark ≡ true → (position < length s.graph) × (is_some (artefact_after s events position) ≡ true)
+mark_is s events position mark at made =
+    let there = mark_of_list (mark_at s (book_of s events).ends) (length s.graph) position mark at in
+    (there.0, marked_has s.keep_going (exit_at (book_of s events).ends position) (artefact_after s events position) (ap is_made there.1 ∙ made))
+
+waits_unmade : (keep_going : Bool) → is_made (waiting_mark keep_going) ≡ false
+waits_unmade true = refl
+waits_unmade false = refl
+
+-- a file that is known to be fresh or compiled has an artefact
+known_has : (s : Work) (ends : List End) (machine : Slots) (position : ℕ) → is_made (known_mark s ends machine position) ≡ true → is_some (artefact_so_far s ends position) ≡ true
+known_has s ends machine position made = elim (cases_Bool (is_checked machine position)) [
+  | inl old ↦
+      marked_has s.keep_going (exit_at ends position) (artefact_so_far s ends position)
+      (ap is_made (sym (cond-true (is_checked machine position) (mark_at s ends position) (waiting_mark s.keep_going) old)) ∙ made)
+  | inr new ↦
+      absurd
+      (false≢true (sym (waits_unmade s.keep_going) ∙ ap is_made (sym (cond-false (is_checked machine position) (mark_at s ends position) (waiting_mark s.keep_going) new)) ∙ made))
+]
+
+-- each file that is fresh or compiled has a record of what is asked of it
+pub marks_recorded : (graph : List Entry) (from : Origin) (events : List Event) (acknowledged : ℕ) (state : BuildState) → IsUnderWay graph from events acknowledged state → state.noted ≡ None →
+    (position : ℕ) (mark : Mark) → slice_get state.marks position ≡ Some mark → is_made mark ≡ true → IsRecorded state.latest_of graph position
+marks_recorded graph from events acknowledged state is none position mark at made =
+    let s : Work = work_from graph from in
+    let on : is_all_committed state.noted state.broken ≡ true = all_while state.noted state.broken none is.usable in
+    let ends : List End = (book_of s events).ends in
+    let there = mark_of_list (known_mark s ends state.machine) (length graph) position mark (ap (λ (l : List Mark). slice_get l position) (sym is.marked) ∙ at) in
+    made_recorded graph from.latest_of from.slots from.keep_going (book_of s events) state.latest_of is.is_graph is.recorded (knows_all s events (is_all_committed state.noted state.broken) from.latest_of state.latest_of acknowledged is.committed on) position there.0
+    (known_has s ends state.machine position (ap is_made there.1 ∙ made))
+
+module _ (tells told : Type 0) (answer : Request → Exit) (records_of : Image → List Record) (s : Work) (old new : BuildObjects) where
+  -- what a build says is of what it did, where it has ended by itself
+  pub ran_says : (fault : Option BuildFault) (broken : Bool) (Says Other : List Event → Type 0) → (ran : BuildRan tells told answer records_of s old new (record { ended = true; fault = fault; broken = broken }) Says) → Other ran.events →
+      BuildRan tells told answer records_of s old new (record { ended = true; fault = fault; broken = broken }) Other
+  ran_says fault broken Says Other ran says = record {
+    events = ran.events;
+    journal = ran.journal;
+    moves = ran.moves;
+    requests = ran.requests;
+    greedy = ran.greedy;
+    finished = ran.finished;
+    none_lost = ran.none_lost;
+    lawful = ran.lawful;
+    answered = ran.answered;
+    whole = ran.whole;
+    says = says;
+    acknowledged = ran.acknowledged;
+    committed = ran.committed;
+    comes_first = ran.comes_first;
+    recorded = ran.recorded;
+    images = ran.images;
+  }
+
+  -- it has ended by itself, but then something was out of memory
+  pub ran_in_vain : (fault : Option BuildFault) (broken : Bool) (Says Other : List Event → Type 0) → BuildRan tells told answer records_of s old new (record { ended = true; fault = fault; broken = broken }) Says →
+      BuildRan tells told answer records_of s old new (record { ended = false; fault = Some NoMemory; broken = broken }) Other
+  ran_in_vain fault broken Says Other ran = record {
+    events = ran.events;
+    journal = ran.journal;
+    moves = ran.moves;
+    requests = ran.requests;
+    greedy = tt;
+    finished = tt;
+    none_lost = tt;
+    lawful = ran.lawful;
+    answered = ran.answered;
+    whole = λ t. tt;
+    says = tt;
+    acknowledged = ran.acknowledged;
+    committed = record { few = ran.committed.few; whole = tt; waits = ran.committed.waits; latest = ran.committed.latest };
+    comes_first = tt;
+    recorded = tt;
+    images = ran.images;
+  }
+
+-- all files with their artefacts are what the store lends
+pub whole_is : (s : Work) (events : List Event) (latest_of : FileName → Option Record) (marks : List Mark) (whole : Option (List BuiltFile)) → marks ≡ marks_of s events →
+    ((position : ℕ) (entry : Entry) (artefact : List ℕ) → slice_get s.graph position ≡ Some entry → artefact_after s events position ≡ Some artefact → latest_of entry.name ≡ Some (record_at s.graph position (files_below s (book_of s events).ends position) artefact)) →
+    (list_all is_made marks ≡ true → whole ≡ Some (filter_map (lent_at latest_of s.graph) (below (length s.graph)))) → (list_all is_made marks ≡ false → whole ≡ None) → whole ≡ whole_of s events
+whole_is s events latest_of marks whole marked knows all none =
+    elim (cases_Bool (list_all is_made marks)) [
+      | inl made ↦
+          let made_all : list_all is_made (marks_of s events) ≡ true = ap (list_all is_made) (sym marked) ∙ made in
+          all made
+          ∙ ap (λ (files : List BuiltFile). Some files)
+          (filter_map-same (lent_at latest_of s.graph) (λ position. built_file (slice_get s.graph position) (artefact_after s events position)) (below (length s.graph)) 0 (λ k lt. each made_all k (subst (λ (n : ℕ). k < n) (length-below (length s.graph)) lt)))
+          ∙ sym (cond-true (list_all is_made (marks_of s events)) (Some (built_by s events)) None made_all)
+      | inr left ↦ none left ∙ sym (cond-false (list_all is_made (marks_of s events)) (Some (built_by s events)) None (ap (list_all is_made) (sym marked) ∙ left))
+    ] where
+      each : list_all is_made (marks_of s events) ≡ true → (k : ℕ) → k < length s.graph → lent_at latest_of s.graph (get_or (below (length s.graph)) k 0) ≡ built_file (slice_get s.graph (get_or (below (length s.graph)) k 0)) (artefact_after s events (get_or (below (length s.graph)) k 0))
+      each made_all k lt =
+          let position : get_or (below (length s.graph)) k 0 ≡ k = get_or-below (length s.graph) k 0 lt in
+          let count : length (marks_of s events) ≡ length s.graph = length-map (below (length s.graph)) (mark_at s (book_of s events).ends) ∙ length-below (length s.graph) in
+          let mark = item_at (marks_of s events) k (omega (arith, lt, count)) in
+          let is : is_made mark.0 ≡ true = ap is_made (sym (get_or_from_slice_get (marks_of s events) k mark.0 mark.0 mark.1)) ∙ All-from_test is_made (marks_of s events) made_all k mark.0 (omega (arith, lt, count)) in
+          let there = mark_is s events k mark.0 mark.1 is in
+          let entry = item_at s.graph k lt in
+          let artefact = some_there (artefact_after s events k) there.1 in
+          subst (λ (p : ℕ). lent_at latest_of s.graph p ≡ built_file (slice_get s.graph p) (artefact_after s events p)) (sym position)
+          (sym (lent_same s.graph latest_of (artefact_after s events) k entry.0 artefact.0 (files_below s (book_of s events).ends k) entry.1 artefact.1 (knows k entry.0 artefact.0 entry.1 artefact.1)))
+
+-- after a start, or where it failed
+pub goes_on : (tells told : Type 0) (answer answers : Request → Exit) (records_of : Image → List Record) (graph : List Entry) (from : Origin) (state : BuildState) (now : Told) (machine : Slots) (noted : Option BuildFault) (journal : List Event) → answers ≡ answer →
+    (goes : Goes tells told answer records_of graph from state now) →
+    ((tells → IsJournalled answers (work_from graph from) goes.events from.journal now.journal) → GoesOn tells answers graph from goes.events goes.acknowledged (with_machine machine noted state) journal) →
+    Goes tells told answer records_of graph from (with_machine machine noted state) (record { journal = journal; moments = now.moments })
+goes_on tells told answer answers records_of graph from state now machine noted journal same goes then =
+    let on = then (λ t. subst (λ (a : Request → Exit). IsJournalled a (work_from graph from) goes.events from.journal now.journal) (sym same) (goes.journal t)) in
+    record {
+      events = goes.events ++ on.more;
+      acknowledged = goes.acknowledged;
+      under_way = on.under_way;
+      journal = λ t. subst (λ (a : Request → Exit). IsJournalled a (work_from graph from) (goes.events ++ on.more) from.journal journal) same (on.journal t);
+      images = λ t. subst (λ (more : List Record). HoldsFirst goes.acknowledged state.broken more records_of from.moments now.moments) (sym on.same) (goes.images t);
+    }

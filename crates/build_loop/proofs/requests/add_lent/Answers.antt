@@ -1,0 +1,21 @@
+-- Answers to the goals of `add_lent`.
+use Rattle.std.proofs.Common.{◌≡◌, ◌++◌, [], List, ℕ, Option, Some, sym, ap, ◌∙◌}
+use Rattle.std.specs.List.{flat_map, cons_option}
+use Rattle.std.proofs.lemmas.List.{append-nil}
+use Rattle.std.proofs.lemmas.Result.{on_ok_weaker}
+use Rattle.base.specs.declared.graph.BuiltFile.{BuiltFile}
+use Rattle.base.specs.Jobs.{built_bytes}
+use Rattle.child_job_codec.specs.Written.{Written}
+use Rattle.build_loop.specs.Requests.{lent_at}
+use Rattle.build_loop.proofs.Lent.{lent_of}
+use Rattle.build_loop.proofs.requests.add_lent.Goals as goal
+
+pub returns-clause-input : goal.returns-clause-input
+returns-clause-input g c =
+    let file : BuiltFile = record { name = c.get-entry.result.now.name; artefact = c.in-Some.artefact.now } in
+    let lent : lent_at (g.K.Records.latest_of c.args.store.now) c.args.graph.now c.args.dep ≡ Some file = lent_of _ c.args.graph.now c.args.dep c.get-entry.result.now c.in-Some.artefact.now c.get-entry.ensures.entry (c.in-Some.ensures.bytes c.get-entry.result.now c.get-entry.ensures.entry) in
+    on_ok_weaker c.add.result
+    (λ is.
+    ap (λ (w : Written). w.input) is
+    ∙ ap (λ (l : List ℕ). c.args.writer.now.input ++ l) (sym (append-nil (built_bytes file)) ∙ sym (ap (λ (o : Option BuiltFile). flat_map built_bytes (cons_option o [])) lent)))
+    c.add.ensures

@@ -1,0 +1,94 @@
+//! The way of an artefact into the store.
+
+ghost use Rattle.std.specs.Prelude.{◌≡◌, ◌<◌, ◌≤◌, ◌∷◌, [], false, true, map, take, List, length, slice_get, All, Some};
+ghost use Rattle.std.specs.Bool.{OnFalse};
+ghost use Rattle.std.specs.Result.{is_ok};
+ghost use Rattle.base.specs.declared.file.FileName.{FileName};
+ghost use Rattle.base.specs.declared.graph.Entry.{Entry};
+ghost use Rattle.base.specs.Graphs.{IsGraph};
+ghost use Rattle.outside.specs.Records.{HasLatest, deps_at, latest_built};
+ghost use Rattle.outside.specs.Commits.{one_if};
+ghost use Rattle.run_spec.specs.Commits.{record_at};
+ghost use Rattle.build_loop.specs.Commits.{latest_after, HoldsFirst};
+ghost use Rattle.build_loop.specs.Faults.{CountsCommit, is_disk_failed};
+
+use crate::faults::BuildFault;
+use base::{ARTEFACT_LIMIT, DiskFailed, FILE_LIMIT, Graph, NoMemory, Text};
+use outside::{Disk, Records};
+use std::alloc::Global;
+
+/// Commits a record that is ready.
+fn commit_ready<K: Records, D: Disk>(
+    store: &mut K,
+    disk: &mut D,
+    prepared: K::Prepared,
+    seats: &mut K::Seats,
+) -> Result<(), BuildFault>
+    requires usable { K.broken store.old ≡ false }
+    requires ready { K.is_ready store.old prepared }
+    requires seated { (graph : List Entry) × K.is_seated store.old graph seats.old
+        × (K.position_of prepared < length graph) }
+    requires in_step { D.tells → K.in_step store.old (D.moments disk.old).now }
+    ensures latest { (name : FileName) → K.latest_of store.new name ≡
+        latest_after (take (one_if (is_ok result)) (K.record_of store.old prepared ∷ []))
+        (K.latest_of store.old) name }
+    ensures images { D.tells →
+        HoldsFirst (one_if (is_ok result)) (K.broken store.new)
+        (K.record_of store.old prepared ∷ []) K.records_of (D.moments disk.old)
+        (D.moments disk.new) }
+    ensures in_step { D.tells →
+        OnFalse (K.broken store.new) (K.in_step store.new (D.moments disk.new).now) }
+    ensures seats { (graph : List Entry) (entry : Entry) → IsGraph graph →
+        K.is_seated store.old graph seats.old →
+        slice_get graph (K.position_of prepared) ≡ Some entry →
+        entry.name ≡ (K.record_of store.old prepared).asked.name →
+        K.is_seated store.new graph seats.new }
+    ensures broken { K.broken store.new ≡ is_disk_failed result }
+    ensures cause { CountsCommit result (D.failed_disk_calls disk.old)
+        (D.failed_disk_calls disk.new) }
+{
+    match store.commit(disk, prepared, seats) {
+        Ok(()) => Ok(()),
+        Err(DiskFailed) => Err(BuildFault::DiskFailed),
+    }
+}
+
+/// Commits what a compiler gave for the file at a position.
+pub(crate) fn commit_made<K: Records, D: Disk>(
+    alloc: Global,
+    graph: &Graph,
+    at: u32,
+    artefact: &Text,
+    store: &mut K,
+    seats: &mut K::Seats,
+    disk: &mut D,
+) -> Result<(), BuildFault>
+    requires position { at < length graph.now }
+    requires seated { K.is_seated store.old graph.now seats.old }
+    requires artefact { length artefact.now ≤ ARTEFACT_LIMIT }
+    requires built { All (HasLatest (K.latest_of store.old) graph.now) (deps_at graph.now at) }
+    requires usable { K.broken store.old ≡ false }
+    requires in_step { D.tells → K.in_step store.old (D.moments disk.old).now }
+    ensures latest { let built = map (latest_built (K.latest_of store.old) graph.now)
+        (deps_at graph.now at) in
+        (name : FileName) → K.latest_of store.new name ≡
+        latest_after (take (one_if (is_ok result)) (record_at graph.now at built artefact.now ∷ []))
+        (K.latest_of store.old) name }
+    ensures images { let built = map (latest_built (K.latest_of store.old) graph.now)
+        (deps_at graph.now at) in
+        D.tells → HoldsFirst (one_if (is_ok result)) (K.broken store.new)
+        (record_at graph.now at built artefact.now ∷ []) K.records_of
+        (D.moments disk.old) (D.moments disk.new) }
+    ensures in_step { D.tells →
+        OnFalse (K.broken store.new) (K.in_step store.new (D.moments disk.new).now) }
+    ensures seated { K.is_seated store.new graph.now seats.new }
+    ensures broken { K.broken store.new ≡ is_disk_failed result }
+    ensures cause { CountsCommit result (D.failed_disk_calls disk.old)
+        (D.failed_disk_calls disk.new) }
+{
+    prove!(graph.len() <= FILE_LIMIT as u64);
+    match store.prepare(alloc, seats, graph, at, artefact) {
+        Ok(prepared) => commit_ready(store, disk, prepared, seats),
+        Err(NoMemory) => Err(BuildFault::NoMemory),
+    }
+}

@@ -1,0 +1,243 @@
+//! The end of one child.
+
+ghost use Rattle.std.specs.Prelude.{◌≡◌, ◌<◌, ◌≤◌, ◌++◌, ◌∷◌, [], false, ℕ, Bool, List, Option, Err, IsTrue, length, Contains};
+ghost use Rattle.std.specs.Bool.{OnFalse};
+ghost use Rattle.base.specs.declared.file.FileName.{FileName};
+ghost use Rattle.base.specs.declared.graph.Entry.{Entry};
+ghost use Rattle.base.specs.declared.child.Event.{Event};
+ghost use Rattle.base.specs.declared.child.Event.TheVariants as event;
+ghost use Rattle.run_spec.specs.declared.marks.Mark.{Mark};
+ghost use Rattle.outside.specs.Records.{Record};
+ghost use Rattle.outside.specs.Children.{FitsExit, without, ended_ticket, end_event};
+ghost use Rattle.outside.specs.Counts.{ChildCounts};
+ghost use Rattle.run_spec.specs.Moves.{Job, Core, is_running};
+ghost use Rattle.outside.specs.Disks.{Moments};
+ghost use Rattle.run_steps.specs.declared.step.Step.TheVariants.{Wait};
+ghost use Rattle.build_slots.specs.declared.step.BuildStep.TheVariants.{Run};
+ghost use Rattle.build_slots.specs.Machines.{IsMachineOf, next_of, tickets_of, files_of, to_come};
+ghost use Rattle.run_spec.specs.Commits.{commits};
+ghost use Rattle.build_loop.specs.Commits.{HoldsFirst};
+ghost use Rattle.build_loop.specs.Faults.{FaultCounts, CountsBy, noted_with, is_of_disk};
+ghost use Rattle.build_loop.specs.UnderWay.{Origin, BuildState, with_machine, work_from, IsUnderWay, IsGoing, TakesEnd, Goes};
+
+use crate::commits::commit_made;
+use crate::faults::BuildFault;
+use crate::notes::{is_committing, note};
+use crate::starts::halt;
+use base::{Exit, Graph};
+use build_slots::Slots;
+use outside::{Disk, Ended, Procs, Records, WaitFault};
+use run_spec::Mark;
+use std::alloc::Global;
+
+/// The end of a child is lost: nothing more is started.
+fn lose(slots: &mut Slots, noted: &mut Option<BuildFault>, ticket: u64, fault: BuildFault)
+    requires runs { Contains (tickets_of slots.old) ticket }
+    requires kind { is_of_disk fault ≡ false }
+    ensures noted { noted.new ≡ Some (noted_with noted.old fault) }
+    ensures files { files_of slots.new ≡ files_of slots.old }
+    ensures tickets { tickets_of slots.new ≡ without ticket (tickets_of slots.old) }
+    ensures nearer { to_come slots.new < to_come slots.old }
+    ensures goes { (graph : List Entry) (from : Origin) (events : List Event) (acknowledged : ℕ)
+        (state : BuildState) →
+        IsUnderWay graph from events acknowledged (with_machine slots.old noted.old state) →
+        IsUnderWay graph from (events ++ event.Gone ticket ∷ []) acknowledged
+        (with_machine slots.new noted.new state) }
+{
+    let _at = slots.lost(ticket);
+    note(noted, fault);
+}
+
+/// A wait gave no exit: its child is lost.
+fn lose_by(slots: &mut Slots, noted: &mut Option<BuildFault>, fault: WaitFault)
+    requires { Contains (tickets_of slots.old) (ended_ticket (Err fault)) }
+    ensures files { files_of slots.new ≡ files_of slots.old }
+    ensures tickets { tickets_of slots.new ≡ without (ended_ticket (Err fault))
+        (tickets_of slots.old) }
+    ensures nearer { to_come slots.new < to_come slots.old }
+    ensures goes { (graph : List Entry) (from : Origin) (events : List Event) (acknowledged : ℕ)
+        (state : BuildState) →
+        IsUnderWay graph from events acknowledged (with_machine slots.old noted.old state) →
+        IsUnderWay graph from (events ++ end_event (Err fault) ∷ []) acknowledged
+        (with_machine slots.new noted.new state) }
+    ensures counts { (first now : FaultCounts) (losses : ℕ) (broken : Bool) →
+        ChildCounts {T = Ended} (Err fault) now.losses losses →
+        CountsBy noted.old broken first now →
+        CountsBy noted.new broken first (record {
+          starts = now.starts;
+          losses = losses;
+          disks = now.disks;
+        }) }
+{
+    match fault {
+        WaitFault::NoMemory { ticket } => lose(slots, noted, ticket, BuildFault::NoMemory),
+        WaitFault::Lost { ticket } => lose(slots, noted, ticket, BuildFault::ChildLost),
+    }
+}
+
+/// Takes the exit of a child: the mark of its file, and where its code is 0 the artefact, which is committed before
+/// anything else is done. Where the store is broken, or something was out of memory, it isn't committed.
+fn take_exit<K: Records, D: Disk>(
+    alloc: Global,
+    graph: &Graph,
+    ticket: u64,
+    exit: Exit,
+    slots: &mut Slots,
+    marks: &mut Vec<Mark>,
+    noted: &mut Option<BuildFault>,
+    store: &mut K,
+    seats: &mut K::Seats,
+    disk: &mut D,
+)
+    requires seated { K.is_seated store.old graph.now seats.old }
+    requires runs { Contains (tickets_of slots.old) ticket }
+    requires step { next_of slots.old ≡ Run Wait }
+    requires size { FitsExit exit }
+    requires files { files_of slots.old ≡ length graph.now }
+    requires going { IsGoing graph.now
+        (record {
+          machine = slots.old;
+          marks = marks.old.items;
+          noted = noted.old;
+          latest_of = K.latest_of store.old;
+          broken = K.broken store.old;
+        }) }
+    requires in_step { D.tells →
+        OnFalse (K.broken store.old) (K.in_step store.old (D.moments disk.old).now) }
+    ensures files { files_of slots.new ≡ files_of slots.old }
+    ensures tickets { tickets_of slots.new ≡ without ticket (tickets_of slots.old) }
+    ensures nearer { to_come slots.new < to_come slots.old }
+    ensures in_step { D.tells →
+        OnFalse (K.broken store.new) (K.in_step store.new (D.moments disk.new).now) }
+    ensures seated { K.is_seated store.new graph.now seats.new }
+    ensures runs { (job : Job) (core : Core) → IsMachineOf slots.old job core →
+        IsTrue (is_running core ticket) }
+    ensures goes { (from : Origin) (events : List Event) (acknowledged : ℕ) →
+        let before : BuildState = record {
+          machine = slots.old;
+          marks = marks.old.items;
+          noted = noted.old;
+          latest_of = K.latest_of store.old;
+          broken = K.broken store.old;
+        } in
+        let after : BuildState = record {
+          machine = slots.new;
+          marks = marks.new.items;
+          noted = noted.new;
+          latest_of = K.latest_of store.new;
+          broken = K.broken store.new;
+        } in
+        IsUnderWay graph.now from events acknowledged before →
+        (D.tells → HoldsFirst acknowledged before.broken
+        (commits (work_from graph.now from) events) K.records_of from.moments
+        (D.moments disk.old)) →
+        TakesEnd D.tells K.records_of graph.now from (events ++ event.Ended ticket exit ∷ []) after
+        (D.moments disk.new) }
+    ensures counts { (first : FaultCounts) (starts losses : ℕ) →
+        CountsBy noted.old (K.broken store.old) first (record {
+          starts = starts;
+          losses = losses;
+          disks = D.failed_disk_calls disk.old;
+        }) →
+        CountsBy noted.new (K.broken store.new) first (record {
+          starts = starts;
+          losses = losses;
+          disks = D.failed_disk_calls disk.new;
+        }) }
+{
+    let Exit {
+        code,
+        output,
+        results: _,
+    } = exit;
+    let at = slots.ended(ticket, code == 0);
+    if code != 0 {
+        marks[at as usize] = Mark::Refused { code, output };
+        return;
+    }
+    marks[at as usize] = Mark::Compiled;
+    if !is_committing(*noted, store.is_broken()) {
+        return;
+    }
+    match commit_made(alloc, graph, at, &output, store, seats, disk) {
+        Ok(()) => {}
+        Err(fault) => halt(slots, noted, fault),
+    }
+}
+
+/// Waits for the end of a child, and takes it.
+pub(crate) fn end_one<K: Records, D: Disk, P: Procs>(
+    alloc: Global,
+    graph: &Graph,
+    slots: &mut Slots,
+    marks: &mut Vec<Mark>,
+    noted: &mut Option<BuildFault>,
+    store: &mut K,
+    seats: &mut K::Seats,
+    disk: &mut D,
+    procs: &mut P,
+)
+    requires seated { K.is_seated store.old graph.now seats.old }
+    requires running { P.running procs.old ≡ tickets_of slots.old }
+    requires some { 0 < length (tickets_of slots.old) }
+    requires step { next_of slots.old ≡ Run Wait }
+    requires files { files_of slots.old ≡ length graph.now }
+    requires going { IsGoing graph.now
+        (record {
+          machine = slots.old;
+          marks = marks.old.items;
+          noted = noted.old;
+          latest_of = K.latest_of store.old;
+          broken = K.broken store.old;
+        }) }
+    requires in_step { D.tells →
+        OnFalse (K.broken store.old) (K.in_step store.old (D.moments disk.old).now) }
+    ensures running { P.running procs.new ≡ tickets_of slots.new }
+    ensures same { P.answer procs.new ≡ P.answer procs.old }
+    ensures files { files_of slots.new ≡ files_of slots.old }
+    ensures nearer { to_come slots.new < to_come slots.old }
+    ensures in_step { D.tells →
+        OnFalse (K.broken store.new) (K.in_step store.new (D.moments disk.new).now) }
+    ensures seated { K.is_seated store.new graph.now seats.new }
+    ensures goes { (from : Origin) →
+        let before : BuildState = record {
+          machine = slots.old;
+          marks = marks.old.items;
+          noted = noted.old;
+          latest_of = K.latest_of store.old;
+          broken = K.broken store.old;
+        } in
+        let after : BuildState = record {
+          machine = slots.new;
+          marks = marks.new.items;
+          noted = noted.new;
+          latest_of = K.latest_of store.new;
+          broken = K.broken store.new;
+        } in
+        Goes P.tells D.tells (P.answer procs.old) K.records_of graph.now from before
+        (record { journal = P.journal procs.old; moments = D.moments disk.old }) →
+        Goes P.tells D.tells (P.answer procs.old) K.records_of graph.now from after
+        (record { journal = P.journal procs.new; moments = D.moments disk.new }) }
+    ensures counts { (first : FaultCounts) →
+        CountsBy noted.old (K.broken store.old) first
+        (record {
+          starts = P.failed_starts procs.old;
+          losses = P.lost_children procs.old;
+          disks = D.failed_disk_calls disk.old;
+        }) →
+        CountsBy noted.new (K.broken store.new) first
+        (record {
+          starts = P.failed_starts procs.new;
+          losses = P.lost_children procs.new;
+          disks = D.failed_disk_calls disk.new;
+        }) }
+{
+    match procs.wait_any(alloc) {
+        Ok(Ended { ticket, exit }) => {
+            take_exit(
+                alloc, graph, ticket, exit, slots, marks, noted, store, seats, disk,
+            )
+        }
+        Err(fault) => lose_by(slots, noted, fault),
+    }
+}

@@ -1,0 +1,16 @@
+-- What remains to be proved of `lost`.
+use Rattle.run_spec.specs.Moves.{after_move}
+use Rattle.run_steps.specs.Steps.{without_ticket}
+use Rattle.run_steps.proofs.PlainSteps.{lawful_end}
+use Rattle.build_slots.proofs.MachineSteps.{greedy_end}
+use Rattle.build_slots.proofs.slots.Slots.lost.Goals as goal
+
+pub returns-clause-greedy : goal.returns-clause-greedy
+returns-clause-greedy c job core step waits = greedy_end c.args.self.now job core step waits
+
+pub returns-clause-in_step : goal.returns-clause-in_step
+unfolding after_move
+returns-clause-in_step c job core step = c.stop.ensures.in_step job (without_ticket c.args.ticket core) (c.end_child-at.ensures.in_step job core step)
+
+pub returns-clause-lawful : goal.returns-clause-lawful
+returns-clause-lawful c job core step = lawful_end core c.args.ticket c.end_child-at.result (c.end_child-at.ensures.position job core step)

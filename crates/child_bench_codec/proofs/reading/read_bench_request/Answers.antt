@@ -1,0 +1,13 @@
+use Rattle.std.proofs.lemmas.Result.{IfOk-weaker}
+use Rattle.std.proofs.Common.{arith}
+use Rattle.child_bench_codec.proofs.BenchFields.{is_bench_job, is_given, is_that}
+use Rattle.child_bench_codec.proofs.reading.read_bench_request.Goals as goal
+
+pub returns-clause-found : goal.returns-clause-found
+returns-clause-found c = IfOk-weaker c.job_of.result _ _ (λ given read. is_bench_job c.args.bytes.now given (λ i. omega (arith, c.type_inv.bytes i)) read) c.job_of.ensures
+
+pub returns-clause-some : goal.returns-clause-some
+returns-clause-some c = λ job is e. IfOk-weaker c.job_of.result _ _ (λ given read. is_given c.args.bytes.now given read job is e) c.job_of.ensures
+
+pub returns-clause-only : goal.returns-clause-only
+returns-clause-only c = λ job is e. IfOk-weaker c.job_of.result _ _ (λ given read. is_that c.args.bytes.now given read job is e) c.job_of.ensures

@@ -1,0 +1,30 @@
+-- A request of a simulator while it is written: its words, its input so far, and its results path.
+use Rattle.std.specs.Prelude.{ℕ, List, ◌++◌, codes}
+use Rattle.base.specs.declared.graph.BuiltFile.{BuiltFile}
+use Rattle.base.specs.Bytes.{number_bytes, text_bytes}
+use Rattle.base.specs.Jobs.{built_bytes}
+use Rattle.test_spec.specs.declared.runs.TestRun.{TestRun}
+use Rattle.test_spec.specs.Runs.{results_path}
+use Rattle.test_spec.specs.Configuration.{configuration, doubled, is_comma}
+use Rattle.test_spec.specs.BenchJobs.{texts_bytes}
+
+-- a name of a case after a comma, and with each comma in it doubled
+abbrev pub next_case : List ℕ → List ℕ
+next_case name = codes "," ++ doubled is_comma name
+
+pub record WrittenRun : Type 0 where
+  pub command : List (List ℕ)
+  pub input : List ℕ
+  pub results : List ℕ
+
+-- the input up to the number of the files that were built
+unfoldable pub begun_run_input : TestRun → ℕ → List ℕ
+begun_run_input run count =
+    codes "VRB1" ++ (text_bytes run.library ++ (text_bytes run.bench ++ (text_bytes run.architecture ++ (texts_bytes run.cases ++ (text_bytes (configuration run) ++ (text_bytes (results_path run) ++ number_bytes count))))))
+
+abbrev pub begun_run : TestRun → List (List ℕ) → ℕ → WrittenRun
+begun_run run simulator count = record { command = simulator; input = begun_run_input run count; results = results_path run }
+
+-- one more file that was built
+abbrev pub with_built : WrittenRun → BuiltFile → WrittenRun
+with_built written file = record { command = written.command; input = written.input ++ built_bytes file; results = written.results }

@@ -1,0 +1,185 @@
+//! Writing what a simulator is asked.
+
+ghost use Rattle.std.specs.Prelude.{◌≡◌, ◌≤◌, ◌<◌, ◌^◌, ◌++◌, [], All, length, map, List, ℕ, IfOk, OnOk};
+ghost use Rattle.base.specs.Names.{FitsName};
+ghost use Rattle.base.specs.Graphs.{IsBuiltFile};
+ghost use Rattle.base.specs.Jobs.{built_bytes};
+ghost use Rattle.test_spec.specs.Runs.{FitsRun};
+ghost use Rattle.test_spec.specs.BenchJobs.{bench_request, texts_bytes};
+ghost use Rattle.child_bench_codec.specs.Written.{begun_run, with_built};
+
+use crate::configuring::runner_cfg;
+use crate::paths::results_path;
+use base::{ARTEFACT_LIMIT, Built, FileName, MaybeText, NoMemory, Request, Text, TextList};
+use base_bytes::ByteWriter;
+use std::alloc::Global;
+use std::marker::Model;
+use test_spec::TestRun;
+
+/// The bytes of files that were built, as they stand in a request, while they are added. Contracts see them.
+#[derive(Drop)]
+pub struct BuiltWriter {
+    out: ByteWriter,
+}
+
+impl Model for BuiltWriter {
+    ghost use Rattle.std.specs.Prelude.{List, ℕ};
+
+    ghost Value = { List ℕ };
+
+    ghost view = { λ a. a.out };
+}
+
+impl BuiltWriter {
+    /// No file is added yet.
+    pub fn new(alloc: Global) -> BuiltWriter
+        ensures { result ≡ [] }
+    {
+        BuiltWriter {
+            out: ByteWriter::new(alloc),
+        }
+    }
+
+    /// Adds a file that was built, with its artefact of at most 262,144 bytes, which is copied once.
+    #[tactic(auto, unfolding(base::specs::Jobs::built_bytes))]
+    pub fn add(&mut self, name: &FileName, artefact: &[u8]) -> Result<(), NoMemory>
+        requires name { FitsName name.now }
+        requires artefact { length artefact.now ≤ ARTEFACT_LIMIT }
+        ensures { OnOk result (self.new
+            ≡ self.old ++ built_bytes (record { name = name.now; artefact = artefact.now })) }
+    {
+        self.out.name(name)?;
+        self.out.text(artefact)?;
+        Ok(())
+    }
+
+    /// The bytes of all files that were added.
+    pub fn finish(self) -> Text
+        ensures { result ≡ self }
+    {
+        let BuiltWriter { out } = self;
+        out.into_text()
+    }
+}
+
+/// What a simulator is to be started with, while the files that were built are added. Contracts see the words, the
+/// input so far, and the results path.
+#[derive(Drop)]
+pub struct BenchWriter {
+    command: TextList,
+    out: ByteWriter,
+    results: Text,
+}
+
+impl Model for BenchWriter {
+    ghost use Rattle.child_bench_codec.specs.Written.{WrittenRun};
+
+    ghost Value = { WrittenRun };
+
+    ghost view = { λ a. record { command = a.command; input = a.out; results = a.results } };
+}
+
+/// Writes texts, after their number.
+#[tactic(auto, unfolding(test_spec::specs::BenchJobs::texts_bytes))]
+fn put_texts(out: &mut ByteWriter, texts: &[Text]) -> Result<(), NoMemory>
+    requires count { length texts.now < 2 ^ 32 }
+    requires short { All (λ text. length text < 2 ^ 32) texts.now }
+    ensures { OnOk result (out.new ≡ out.old ++ texts_bytes texts.now) }
+{
+    out.u32(texts.len() as u32)?;
+    for text in texts {
+        out.text(text.bytes())?;
+    }
+    Ok(())
+}
+
+impl BenchWriter {
+    /// Begins with a run, the words of its simulator, and the number of the files that were built.
+    #[tactic(auto, unfolding(crate::specs::Written::begun_run_input))]
+    pub fn new(
+        alloc: Global,
+        run: &TestRun,
+        simulator: &TextList,
+        count: u32,
+    ) -> Result<BenchWriter, NoMemory>
+        requires { FitsRun run.now }
+        ensures { IfOk result (λ writer. writer ≡ begun_run run.now simulator.now count) }
+    {
+        let configuration = runner_cfg(alloc, run)?;
+        let results = results_path(alloc, run)?;
+        let mut out = ByteWriter::new(alloc);
+        out.plain(b"VRB1")?;
+        out.text(run.library.bytes())?;
+        out.text(run.bench.bytes())?;
+        out.text(run.architecture.bytes())?;
+        put_texts(&mut out, run.cases.as_slice())?;
+        out.text(configuration.bytes())?;
+        out.text(results.bytes())?;
+        out.u32(count)?;
+        Ok(BenchWriter {
+            command: simulator.copy(alloc)?,
+            out,
+            results,
+        })
+    }
+
+    /// Adds a file that was built, with its artefact of at most 262,144 bytes, which is copied once.
+    #[tactic(auto, unfolding(base::specs::Jobs::built_bytes))]
+    pub fn add(&mut self, name: &FileName, artefact: &[u8]) -> Result<(), NoMemory>
+        requires name { FitsName name.now }
+        requires artefact { length artefact.now ≤ ARTEFACT_LIMIT }
+        ensures { OnOk result
+            (self.new ≡ with_built self.old (record { name = name.now; artefact = artefact.now })) }
+    {
+        self.out.name(name)?;
+        self.out.text(artefact)?;
+        Ok(())
+    }
+
+    /// Adds the bytes of files that were built, all at once.
+    pub fn add_all(&mut self, built: &[u8]) -> Result<(), NoMemory>
+        ensures words { OnOk result (self.new.command ≡ self.old.command) }
+        ensures results { OnOk result (self.new.results ≡ self.old.results) }
+        ensures input { OnOk result (self.new.input ≡ self.old.input ++ built.now) }
+    {
+        self.out.plain(built)?;
+        Ok(())
+    }
+
+    /// The request. Its path for results is that of the run.
+    pub fn finish(self) -> Request
+        ensures words { result.command ≡ self.command }
+        ensures input { result.input ≡ self.input }
+        ensures results { result.results ≡ MaybeText.Given self.results }
+    {
+        let BenchWriter {
+            command,
+            out,
+            results,
+        } = self;
+        Request {
+            command,
+            input: out.into_text(),
+            results: MaybeText::Given(results),
+        }
+    }
+}
+
+/// What a simulator is started with for a run over the files that were built, in compile order.
+pub fn bench_request(
+    alloc: Global,
+    run: &TestRun,
+    simulator: &TextList,
+    built: &Built,
+) -> Result<Request, NoMemory>
+    requires { FitsRun run.now }
+    ensures { IfOk result
+        (λ request. request ≡ bench_request run.now simulator.now built.now) }
+{
+    let files = built.as_slice();
+    let mut writer = BenchWriter::new(alloc, run, simulator, files.len() as u32)?;
+    for file in files {
+        writer.add(&file.name, file.artefact.bytes())?;
+    }
+    Ok(writer.finish())
+}

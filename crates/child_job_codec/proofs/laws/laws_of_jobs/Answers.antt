@@ -1,0 +1,11 @@
+use Rattle.child_job_codec.proofs.Jobs.{job_takes, job_again, same_job}
+use Rattle.child_job_codec.proofs.laws.laws_of_jobs.Goals as goal
+
+pub returns-clause-takes : goal.returns-clause-takes
+returns-clause-takes c = job_takes
+
+pub returns-clause-again : goal.returns-clause-again
+returns-clause-again c = job_again
+
+pub returns-clause-same : goal.returns-clause-same
+returns-clause-same c = same_job

@@ -1,0 +1,91 @@
+//! Writing what a compiler is asked.
+
+ghost use Rattle.std.specs.Prelude.{◌≡◌, ◌≤◌, ◌++◌, length, IfOk, OnOk};
+ghost use Rattle.base.specs.Names.{FitsName};
+ghost use Rattle.base.specs.Graphs.{IsBuiltFile};
+ghost use Rattle.base.specs.Jobs.{built_bytes, compile_request};
+ghost use Rattle.child_job_codec.specs.Written.{begun, with_file};
+
+use base::{
+    ARTEFACT_LIMIT, Built, Entry, FileName, MaybeText, NoMemory, Request, TEXT_LIMIT, TextList,
+};
+use base_bytes::ByteWriter;
+use std::alloc::Global;
+use std::marker::Model;
+
+/// What a compiler is to be started with, while the files that its file depends on are added. Contracts see the words
+/// and the input so far.
+#[derive(Drop)]
+pub struct RequestWriter {
+    command: TextList,
+    out: ByteWriter,
+}
+
+impl Model for RequestWriter {
+    ghost use Rattle.child_job_codec.specs.Written.{Written};
+
+    ghost Value = { Written };
+
+    ghost view = { λ a. record { command = a.command; input = a.out } };
+}
+
+impl RequestWriter {
+    /// Begins with a file, its text, and the number of the files that it depends on.
+    #[tactic(auto, unfolding(crate::specs::Written::begun_input))]
+    pub fn new(alloc: Global, entry: &Entry, count: u32) -> Result<RequestWriter, NoMemory>
+        requires name { FitsName entry.now.name }
+        requires text { length entry.now.text ≤ TEXT_LIMIT }
+        ensures { IfOk result (λ writer. writer ≡ begun entry.now count) }
+    {
+        let mut out = ByteWriter::new(alloc);
+        out.plain(b"VRC1")?;
+        out.name(&entry.name)?;
+        out.text(entry.text.bytes())?;
+        out.u32(count)?;
+        Ok(RequestWriter {
+            command: entry.command.copy(alloc)?,
+            out,
+        })
+    }
+
+    /// Adds a file that it depends on, with its artefact of at most 262,144 bytes, which is copied once.
+    #[tactic(auto, unfolding(base::specs::Jobs::built_bytes))]
+    pub fn add(&mut self, name: &FileName, artefact: &[u8]) -> Result<(), NoMemory>
+        requires name { FitsName name.now }
+        requires artefact { length artefact.now ≤ ARTEFACT_LIMIT }
+        ensures { OnOk result
+            (self.new ≡ with_file self.old (record { name = name.now; artefact = artefact.now })) }
+    {
+        self.out.name(name)?;
+        self.out.text(artefact)?;
+        Ok(())
+    }
+
+    /// The request. It has no path for results.
+    pub fn finish(self) -> Request
+        ensures words { result.command ≡ self.command }
+        ensures input { result.input ≡ self.input }
+        ensures results { result.results ≡ MaybeText.Nothing }
+    {
+        let RequestWriter { command, out } = self;
+        Request {
+            command,
+            input: out.into_text(),
+            results: MaybeText::Nothing,
+        }
+    }
+}
+
+/// What a compiler is started with for a file over the files that it depends on, in compile order.
+pub fn compile_request(alloc: Global, entry: &Entry, deps: &Built) -> Result<Request, NoMemory>
+    requires name { FitsName entry.now.name }
+    requires text { length entry.now.text ≤ TEXT_LIMIT }
+    ensures { IfOk result (λ request. request ≡ compile_request entry.now deps.now) }
+{
+    let files = deps.as_slice();
+    let mut writer = RequestWriter::new(alloc, entry, files.len() as u32)?;
+    for file in files {
+        writer.add(&file.name, file.artefact.bytes())?;
+    }
+    Ok(writer.finish())
+}

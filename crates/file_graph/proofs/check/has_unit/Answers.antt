@@ -1,9 +1,0 @@
--- By the place of the name.
-use Rattle.std.proofs.Common.{◌∙◌, Option, ap}
-use Rattle.std.specs.Option.{is_some}
-use Rattle.file_graph.specs.declared.index.Place.{Place}
-use Rattle.file_graph.proofs.RowLemmas.{any_named}
-use Rattle.file_graph.proofs.check.has_unit.Goals as goal
-
-pub returns : goal.returns
-returns c units holds = c.is_some.ensures ∙ (ap (λ (o : Option Place). is_some o) (c.requires ∙ holds c.args._key.now) ∙ any_named units c.args._key.now)

@@ -1,9 +1,0 @@
--- So far the files up to the position are linked.
-use Rattle.std.proofs.Common.{List}
-use Rattle.vr_base.specs.declared.design.Scan.{Scan}
-use Rattle.file_outlines.specs.Outlines.{AreOutlinesOf}
-use Rattle.file_graph.proofs.FileLemmas.{AreLinked}
-use Rattle.file_graph.proofs.linking.link_files.Given as goal
-
-abbrev pub invariant-loop-file : goal.invariant-loop-file
-invariant-loop-file l = (scans : List Scan) → AreOutlinesOf l.texts scans l.outlines → AreLinked l.project l.texts scans l.file l.edges l.warnings

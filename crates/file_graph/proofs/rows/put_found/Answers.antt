@@ -1,7 +1,0 @@
--- The place of the name is that of the one unit of this name.
-use Rattle.std.proofs.Common.{◌∙◌}
-use Rattle.file_graph.proofs.RowLemmas.{added_same, put_at}
-use Rattle.file_graph.proofs.rows.put_found.Goals as goal
-
-pub returns : goal.returns
-returns c files units is = added_same _ _ c.args.row.now c.put_place.new.row c.put_place.ensures (λ at. put_at units c.args._key.now c.args.place at is.distinct (c.requires.place ∙ is.holds c.args._key.now))

@@ -1,3 +1,0 @@
--- The lemmas.
-mod Paths
-mod Places

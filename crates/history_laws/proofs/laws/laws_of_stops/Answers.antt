@@ -1,9 +1,0 @@
--- Answers to the goals of `laws_of_stops`.
-use Rattle.history_laws.proofs.Moments.{left_by_kill, left_by_power}
-use Rattle.history_laws.proofs.laws.laws_of_stops.Goals as goal
-
-pub returns-clause-kill : goal.returns-clause-kill
-returns-clause-kill c = left_by_kill
-
-pub returns-clause-power : goal.returns-clause-power
-returns-clause-power c = left_by_power

@@ -1,6 +1,0 @@
--- What is left in the place of a file that is taken.
-use Rattle.std.specs.Prelude.{[]}
-use Rattle.vr_base.specs.declared.graph.Entry.{Entry}
-
-abbrev pub no_entry : Entry
-no_entry = record { name = record { library = []; path = [] }; command = []; text = []; deps = [] }

@@ -1,7 +1,0 @@
--- So far the links up to the index are looked at.
-use Rattle.std.proofs.Common.{take}
-use Rattle.name_scope.specs.Links.{HasLooked}
-use Rattle.name_scope.proofs.look.look_up_to.Given as goal
-
-abbrev pub invariant-loop-link : goal.invariant-loop-link
-invariant-loop-link l = HasLooked (take l.link-index l.links) l.rows l.initial.row l.row l.grown

@@ -1,7 +1,0 @@
--- So far those up to the index are there.
-use Rattle.std.proofs.Common.{take}
-use Rattle.name_scope.specs.Names.{HasAll, keys_of}
-use Rattle.name_scope.proofs.names.add_all.Given as goal
-
-abbrev pub invariant-loop-name : goal.invariant-loop-name
-invariant-loop-name l = HasAll (take l.name-index l.more) (keys_of l.initial.names) (keys_of l.names)

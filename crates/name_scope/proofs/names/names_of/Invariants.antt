@@ -1,8 +1,0 @@
--- So far those of the units up to the index are there.
-use Rattle.std.proofs.Common.{take, [], ◌++◌}
-use Rattle.std.specs.List.{flat_map}
-use Rattle.name_scope.specs.Names.{HasAll, implicit, keys_of}
-use Rattle.name_scope.proofs.names.names_of.Given as goal
-
-abbrev pub invariant-loop-unit : goal.invariant-loop-unit
-invariant-loop-unit l = HasAll (implicit ++ flat_map (λ unit. unit.names) (take l.unit-index l.units)) [] (keys_of l.names)

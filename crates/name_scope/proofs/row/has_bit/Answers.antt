@@ -1,7 +1,0 @@
--- The bit is read from the word.
-use Rattle.std.proofs.Common.{refl}
-use Rattle.std.proofs.lemmas.Nat.Bits.{shr_and_one}
-use Rattle.name_scope.proofs.row.has_bit.Goals as goal
-
-pub returns : goal.returns
-returns c = rw (shr_and_one c.args.word c.args.bit) refl

@@ -1,7 +1,0 @@
--- So far the place is a reader of the links up to the index.
-use Rattle.std.proofs.Common.{take}
-use Rattle.name_scope.specs.Work.{HaveReader}
-use Rattle.name_scope.proofs.work.add_reader.Given as goal
-
-abbrev pub invariant-loop-link : goal.invariant-loop-link
-invariant-loop-link l = HaveReader l.at (take l.link-index l.links) l.initial.readers.items l.readers.items

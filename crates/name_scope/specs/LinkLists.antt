@@ -1,9 +1,0 @@
--- The links of a list, however they are kept.
-use Rattle.std.specs.Prelude.{List}
-use Rattle.name_scope.specs.declared.links.Link.{Link}
-use Rattle.name_scope.specs.declared.links.Linked.{Linked}
-use Rattle.name_scope.specs.declared.links.Linked.TheVariants.{One, Many}
-
-unfoldable pub links_of : Linked → List Link
-links_of (One link) = link
-links_of (Many links) = links.items

@@ -1,5 +1,0 @@
--- The lemmas.
-pub mod Places
-pub mod Filling
-pub mod Listed
-pub mod Fitted

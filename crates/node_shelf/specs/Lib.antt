@@ -1,4 +1,0 @@
--- The definitions of this crate.
-pub mod Places
-pub mod Drafts
-pub mod Taking

@@ -1,0 +1,10 @@
+-- The definitions.
+pub mod Reports
+pub mod Counts
+pub mod Trees
+pub mod Children
+pub mod Streams
+pub mod Disks
+pub mod Records
+pub mod Commits
+pub mod Phases

@@ -1,0 +1,9 @@
+//! Counts of faults.
+ghost use Rattle.outside.specs.Counts.{Counted};
+
+/// A count of faults with one more fault. It stays at the last number.
+pub fn counted(count: u64) -> u64
+    ensures { Counted count result }
+{
+    count.saturating_add(1)
+}

@@ -1,0 +1,71 @@
+//! A tree of files: what it lists, what it gives, and what it was asked for.
+ghost use Rattle.std.specs.Prelude.{◌≡◌, ℕ, List, Option, IfOk};
+ghost use Rattle.outside.specs.Counts.{TreeCounts};
+ghost use Rattle.outside.specs.Trees.{IsListing, IsListOf, names_end, read_end, FitsReadLimit, Asks};
+
+use base::{Text, TextList};
+use std::alloc::Global;
+
+/// A listing of a tree, or that it would have more names than were asked for.
+#[derive(Drop)]
+pub enum NamesEnd {
+    Got(TextList),
+    TooMany,
+}
+
+/// The bytes of a file, or why there are none.
+#[derive(Drop)]
+pub enum ReadEnd {
+    Got(Text),
+    Absent,
+    /// The file has more bytes than were asked for.
+    TooLong,
+}
+
+#[derive(Clone, Copy, Debug, PartialEq, Eq)]
+pub enum TreeFault {
+    NoMemory,
+    Failed,
+}
+
+/// A tree of files, which no call changes.
+pub trait Tree {
+    /// Whether the tree tells what it holds.
+    ghost tells: { Type 0 };
+
+    /// The bytes of the file of a path, if there is one.
+    ghost file: { Self → List ℕ → Option (List ℕ) };
+
+    /// The paths that are listed, strictly rising by bytes. A path below `vunit_out`, one with a component that
+    /// begins with a dot and one of over 1,024 bytes isn't listed and doesn't count.
+    ghost listed: { Self → List (List ℕ) };
+
+    /// The paths that `read` was asked for so far, in order. Every object tells them.
+    ghost asked: { Self → List (List ℕ) };
+
+    /// How often the tree has failed.
+    ghost failed_reads: { Self → ℕ };
+
+    /// The paths that are listed, or `TooMany` exactly where there are more than `limit`.
+    fn names(&mut self, alloc: Global, limit: u64) -> Result<NamesEnd, TreeFault>
+        ensures form { IfOk result (IsListing limit) }
+        ensures names { tells → IfOk result (λ end. end ≡ names_end (listed self.old) limit) }
+        ensures same { file self.new ≡ file self.old }
+        ensures same_list { listed self.new ≡ listed self.old }
+        ensures asked { asked self.new ≡ asked self.old }
+        ensures cause { TreeCounts result (failed_reads self.old) (failed_reads self.new) };
+
+    /// The bytes of a file, `Absent` exactly where the tree has none of that path, or `TooLong` exactly where it has
+    /// more than `limit` bytes.
+    fn read(&mut self, alloc: Global, path: &Text, limit: u64) -> Result<ReadEnd, TreeFault>
+        ensures size { IfOk result (FitsReadLimit limit) }
+        ensures bytes { tells →
+            IfOk result (λ end. end ≡ read_end (file self.old path.now) limit) }
+        ensures same { file self.new ≡ file self.old }
+        ensures same_list { listed self.new ≡ listed self.old }
+        ensures asked { Asks result path.now (asked self.old) (asked self.new) }
+        ensures cause { TreeCounts result (failed_reads self.old) (failed_reads self.new) };
+
+    /// What is listed are the paths that have a file and the form of a listed path.
+    ghost lists: { (tree : Self) → IsListOf (file tree) (listed tree) };
+}

@@ -1,9 +1,0 @@
--- What the loop of `closure_row` keeps: the rows of the dependencies so far are joined.
-use Rattle.std.proofs.Common.{◌≡◌, ℕ, ◌==◌, ◌||◌, get_or, take}
-use Rattle.std.specs.List.{list_any}
-use Rattle.position_set.specs.Positions.{has}
-use Rattle.present_graph.specs.Rows.{row_has}
-use Rattle.present_graph.proofs.closures.closure_row.Given as goal
-
-abbrev pub invariant-loop-dep : goal.invariant-loop-dep
-invariant-loop-dep l = (at : ℕ) → has l.row at ≡ list_any (λ dep. (get_or l.places dep 0 == at) || row_has l.rows (get_or l.places dep 0) at) (take l.dep-index l.deps)

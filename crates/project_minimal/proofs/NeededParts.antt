@@ -1,0 +1,158 @@
+-- The files that tests need depend on each other alone.
+use Rattle.std.proofs.Common.{◌≡◌, ℕ, zero, suc, ◌+◌, ◌<◌, ◌==◌, Bool, true, false, cond, ◌||◌, Option, Some, None, List, [], ◌∷◌, length, get_or, inl, inr, refl, sym, ap, subst, ◌∙◌, arith}
+use Rattle.std.specs.Prelude.{All, Contains, filter, slice_index}
+use Rattle.std.specs.List.{list_any}
+use Rattle.std.specs.List.Sorted.{IsStrictlyIncreasing}
+use Rattle.std.proofs.lemmas.Bool.{eq-eqb, eqb-true, lt-ltb}
+use Rattle.std.proofs.lemmas.List.Elements.{All-filter, filter_passes}
+use Rattle.std.proofs.lemmas.List.Kept.{IsStrictlyIncreasing-filter}
+use Rattle.base.specs.declared.design.Scan.{Scan}
+use Rattle.base.specs.declared.graph.Entry.{Entry}
+use Rattle.base.specs.declared.project.Project.{Project}
+use Rattle.base.specs.Projects.{IsProject}
+use Rattle.base.specs.PresentGraph.{below, listed}
+use Rattle.base.proofs.Below.{length-below, get_or-below}
+use Rattle.vhdl_benches.specs.declared.bench.Bench.{Bench}
+use Rattle.order_spec.specs.BuildOrder.{AreEdges, IsBuildOrder, deps_in}
+use Rattle.order_spec.specs.LinkedGraph.{FitTexts, closure_of, linked, reaches, reaches_within}
+use Rattle.order_spec.proofs.Finds.{in_below}
+use Rattle.vhdl_spec.proofs.SomeTests.{or_cases, or_first, some_of}
+use Rattle.project_graph.proofs.LinkedGraphs.{get_or-linked, length-linked}
+use Rattle.project_views.specs.Parts.{IsPart}
+use Rattle.project_views.proofs.ListedGraph.{get_or-listed_from, length-listed_from}
+use Rattle.vhdl_minimal_set.specs.MinimalSet.{NeedSources, is_needed, needed_places, needs, said_of, uses, wants_of, units_at}
+use Rattle.vhdl_minimal_set.proofs.Least.{is_needy, some_passes}
+
+below_rises : (n : ℕ) → IsStrictlyIncreasing (below n)
+below_rises n k lt =
+    let a : k < n = omega (arith, length-below n) in
+    let b : k + 1 < n = omega (arith, length-below n) in
+    rw (get_or-below n k 0 a, get_or-below n (k + 1) 0 b) (omega arith)
+
+below_all : (n : ℕ) → All (λ k. k < n) (below n)
+below_all n k d lt = let a : k < n = omega (arith, length-below n) in rw (get_or-below n k d a) a
+
+in_filter : (p : ℕ → Bool) (xs : List ℕ) (x : ℕ) → Contains xs x → p x ≡ true → Contains (filter p xs) x
+in_filter p [] x (k, within, is) told = absurd (omega arith)
+in_filter p (first ∷ xs) x (zero, within, is) told = rw (ap p is ∙ told) (zero, omega arith, is)
+in_filter p (first ∷ xs) x (suc k, within, is) told = elim (p first) as (λ b. Contains (cond b (first ∷ filter p xs) (filter p xs)) x) [ true ↦ let rest = in_filter p xs x (k, omega arith, is) told in (suc rest.0, omega (arith, rest.1), rest.2) | false ↦ in_filter p xs x (k, omega arith, is) told ]
+
+module _ (said : NeedSources) (tests : List Bench) (order : List ℕ) where
+  abbrev place_needed : ℕ → Bool
+  place_needed place = is_needed said tests (slice_index order place)
+
+  places_rise : IsStrictlyIncreasing (needed_places said tests order)
+  places_rise = IsStrictlyIncreasing-filter place_needed (below (length order)) (below_rises (length order))
+
+  places_within : All (λ place. place < length order) (needed_places said tests order)
+  places_within = All-filter place_needed (λ place. place < length order) (below (length order)) (below_all (length order))
+
+  places_needed : All (λ place. place_needed place ≡ true) (needed_places said tests order)
+  places_needed = filter_passes place_needed (below (length order))
+
+  place_there : (place : ℕ) → place < length order → place_needed place ≡ true → Contains (needed_places said tests order) place
+  place_there place low needed = in_filter place_needed (below (length order)) place (in_below (length order) place low) needed
+
+-- what a file uses it needs
+used_needed : (said : NeedSources) (user used : ℕ) → uses said.edges user used ≡ true → needs said user used ≡ true
+unfolding needs
+used_needed said user used is = or_first (uses said.edges user used) (list_any (λ unit. wants_of said unit used) (units_at said user)) is
+
+-- ## Linked projects
+
+module _ (said : NeedSources) (tests : List Bench) (edges : List (List ℕ)) (order : List ℕ) (is_edges : said.edges ≡ Some edges) (as_many : length edges ≡ length said.files) (are : AreEdges edges) (is : IsBuildOrder edges order) where
+  dep_used : (user dep : ℕ) → Contains (deps_in edges user) dep → uses said.edges user dep ≡ true
+  dep_used user dep there = ap (λ (e : Option (List (List ℕ))). uses e user dep) is_edges ∙ some_passes (λ other. other == dep) (deps_in edges user) dep there (eq-eqb dep dep refl)
+
+  dep_within : (user dep : ℕ) → Contains (deps_in edges user) dep → dep < length said.files
+  dep_within user dep (k, low, at) = omega (arith, are.within user k dep low, at, as_many)
+
+  -- what a needed file depends on, directly or not, is needed
+  needed_on : (steps file other : ℕ) → file < length said.files → is_needed said tests file ≡ true → reaches_within edges steps file other ≡ true → is_needed said tests other ≡ true
+  unfolding reaches_within
+  needed_on zero file other low needed reached = let never : ⊥ = cc in absurd never
+  needed_on (suc steps) file other low needed reached =
+      let found = some_of (λ dep. dep == other || reaches_within edges steps dep other) (deps_in edges file) reached in
+      let within : found.0 < length said.files = dep_within file found.0 found.1 in
+      let next : is_needed said tests found.0 ≡ true = (is_needy said tests).grown file found.0 low within needed (used_needed said file found.0 (dep_used file found.0 found.1)) in
+      elim (or_cases (found.0 == other) (reaches_within edges steps found.0 other) found.2) [
+        | inl same ↦ subst (λ (k : ℕ). is_needed said tests k ≡ true) (eqb-true found.0 other same) next
+        | inr more ↦ needed_on steps found.0 other within next more
+      ]
+
+  file_low : (place : ℕ) → place < length order → get_or order place 0 < length said.files
+  file_low place low = omega (arith, is.within place 0 low, as_many)
+
+module _ (project : Project) (texts : List (List ℕ)) (scans : List Scan) (tests : List Bench) (edges : List (List ℕ)) (order : List ℕ) (proper : IsProject project) (fit : FitTexts project.files texts) (are : AreEdges edges) (as_many : length edges ≡ length project.files) (is : IsBuildOrder edges order) where
+  abbrev said : NeedSources
+  said = said_of project texts scans (Some edges)
+
+  abbrev kept : List ℕ
+  kept = needed_places said tests order
+
+  -- what a needed file has in its closure is needed
+  closed_place : (place at : ℕ) → place < length order → place_needed said tests order place ≡ true → at < length order → reaches edges (get_or order place 0) (get_or order at 0) ≡ true → Contains kept at
+  closed_place place at low needed within reached =
+      place_there said tests order at within (needed_on said tests edges order refl as_many are is (length edges) (get_or order place 0) (get_or order at 0) (file_low said tests edges order refl as_many are is place low) needed reached)
+
+  closed_entry : (place : ℕ) (other : Entry) → place < length order → place_needed said tests order place ≡ true → All (Contains kept) (get_or (linked project.files texts edges order) place other).deps
+  closed_entry place other low needed =
+      subst (λ (e : Entry). All (Contains kept) e.deps) (sym (get_or-linked project texts edges order proper fit are as_many is place other low))
+      (λ k d within.
+      closed_place place (get_or (closure_of edges order (get_or order place 0)) k d) low needed
+      (All-filter (λ position. reaches edges (get_or order place 0) (get_or order position 0)) (λ at. at < length order) (below (length order)) (below_all (length order)) k d within)
+      (filter_passes (λ position. reaches edges (get_or order place 0) (get_or order position 0)) (below (length order)) k d within))
+
+  pub linked_part : IsPart (linked project.files texts edges order) kept
+  linked_part = record {
+    rising = places_rise said tests order;
+    within = λ k d low. let within = places_within said tests order k d low in omega (arith, within, length-linked project texts edges order proper fit are as_many is);
+    closed = λ k d low other. closed_entry (get_or kept k d) other (places_within said tests order k d low) (places_needed said tests order k d low);
+  }
+
+  pub linked_part_of : (graph : List Entry) (places : List ℕ) → graph ≡ linked project.files texts edges order → places ≡ kept → IsPart graph places
+  linked_part_of graph places all some = subst (λ (g : List Entry). IsPart g places) (sym all) (subst (IsPart (linked project.files texts edges order)) (sym some) linked_part)
+
+-- ## Listed projects
+
+module _ (project : Project) (texts : List (List ℕ)) (scans : List Scan) (tests : List Bench) (each : length texts ≡ length project.files) where
+  abbrev listed_said : NeedSources
+  listed_said = said_of project texts scans None
+
+  abbrev files : List ℕ
+  files = below (length project.files)
+
+  abbrev listed_kept : List ℕ
+  listed_kept = needed_places listed_said tests files
+
+  at_place : (place : ℕ) → place < length files → get_or files place 0 ≡ place
+  at_place place low = get_or-below (length project.files) place 0 (omega (arith, low, length-below (length project.files)))
+
+  earlier_needed : (place at : ℕ) → place < length files → place_needed listed_said tests files place ≡ true → at < place → Contains listed_kept at
+  earlier_needed place at low needed before =
+      let most : length files ≡ length project.files = length-below (length project.files) in
+      let here : is_needed listed_said tests place ≡ true = sym (ap (is_needed listed_said tests) (at_place place low)) ∙ needed in
+      let there : is_needed listed_said tests at ≡ true = (is_needy listed_said tests).grown place at (omega (arith, low, most)) (omega (arith, low, most, before)) here (used_needed listed_said place at (lt-ltb at place before)) in
+      place_there listed_said tests files at (omega (arith, low, before)) (ap (is_needed listed_said tests) (at_place at (omega (arith, low, before))) ∙ there)
+
+  entry_deps : (place : ℕ) (other : Entry) → place < length files → (get_or (listed project.files texts) place other).deps ≡ below place
+  entry_deps place other low =
+      let most : length files ≡ length project.files = length-below (length project.files) in
+      let zero_plus : 0 + place ≡ place = omega arith in
+      ap (λ (e : Entry). e.deps) (get_or-listed_from 0 project.files texts place other (record { name = other.name; command = other.command }) [] (omega (arith, each)) (omega (arith, each, low, most))) ∙ ap below zero_plus
+
+  pub listed_part : IsPart (listed project.files texts) listed_kept
+  listed_part = record {
+    rising = places_rise listed_said tests files;
+    within = λ k d low. let within = places_within listed_said tests files k d low in omega (arith, within, length-below (length project.files), length-listed_from 0 project.files texts (omega (arith, each)), each);
+    closed = λ k d low other.
+        let place : ℕ = get_or listed_kept k d in
+        let within : place < length files = places_within listed_said tests files k d low in
+        subst (λ (deps : List ℕ). All (Contains listed_kept) deps) (sym (entry_deps place other within))
+        (λ j c m. let before : j < place = omega (arith, m, length-below place) in
+        let is : get_or (below place) j c ≡ j = get_or-below place j c before in
+        subst (Contains listed_kept) (sym is) (earlier_needed place j within (places_needed listed_said tests files k d low) before));
+  }
+
+  pub listed_part_of : (graph : List Entry) (places : List ℕ) → graph ≡ listed project.files texts → places ≡ listed_kept → IsPart graph places
+  listed_part_of graph places all some = subst (λ (g : List Entry). IsPart g places) (sym all) (subst (IsPart (listed project.files texts)) (sym some) listed_part)

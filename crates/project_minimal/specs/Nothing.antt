@@ -1,0 +1,6 @@
+-- What is left in the place of a file that is taken.
+use Rattle.std.specs.Prelude.{[]}
+use Rattle.base.specs.declared.graph.Entry.{Entry}
+
+abbrev pub no_entry : Entry
+no_entry = record { name = record { library = []; path = [] }; command = []; text = []; deps = [] }

@@ -1,0 +1,14 @@
+-- The status that the program ends with.
+use Rattle.std.specs.Prelude.{ℕ, min}
+use Rattle.base_outcomes.specs.declared.outcome.Outcome.{Outcome}
+use Rattle.base_outcomes.specs.declared.outcome.Outcome.TheVariants.{Done, TestsFailed, Refused, BadWords, OutsideFault, NoMemory, OverLimit, Child}
+
+abbrev pub status : Outcome → ℕ
+status Done = 0
+status TestsFailed = 1
+status (Refused refusal) = 1
+status BadWords = 2
+status (OutsideFault which) = 3
+status NoMemory = 4
+status (OverLimit limit) = 5
+status (Child code) = min code 255

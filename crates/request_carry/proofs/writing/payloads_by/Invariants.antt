@@ -1,6 +1,0 @@
-use Rattle.request_shelf.specs.Placed.{placed_shelf}
-use Rattle.request_carry.proofs.Spelled.{IsWritten}
-use Rattle.request_carry.proofs.writing.payloads_by.Given as goal
-
-abbrev pub invariant-loop-step : goal.invariant-loop-step
-invariant-loop-step l = IsWritten (placed_shelf l.held.payloads l.shelf) l.plan.products.numbers l.plan.steps.items l.payloads l.step-index

@@ -1,5 +1,0 @@
-use Rattle.request_tests.proofs.Fitting.{deps_built}
-use Rattle.request_tests.proofs.holdings.prepared.Goals as goal
-
-pub prepare-requires-clause-built : goal.prepare-requires-clause-built
-prepare-requires-clause-built c = deps_built _ _ _ (c.fits.ensures.0 c.if-not-fits.false)

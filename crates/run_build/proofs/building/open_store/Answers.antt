@@ -1,0 +1,15 @@
+use Rattle.std.proofs.lemmas.Result.{IfOk-weaker}
+use Rattle.run_build.proofs.OverStore.{opens_store, empties_store}
+use Rattle.run_build.proofs.building.open_store.Goals as goal
+
+pub returns-then-clean-clause-opens : goal.returns-then-clean-clause-opens
+returns-then-clean-clause-opens g c = λ tells.
+    rw c.if-clean.true
+    (empties_store _ g.K.Records.records_of (g.D.Disk.moments c.args.disk.now) (g.D.Disk.moments c.emptied.new.disk) c.emptied.result
+    (c.emptied.ensures.opens tells) (c.emptied.ensures.none tells) (IfOk-weaker c.emptied.result _ _ (λ store in_step. g.met.K.Records.durable _ _ in_step) (c.emptied.ensures.in_step tells)))
+
+pub returns-clause-opens : goal.returns-clause-opens
+returns-clause-opens g c = λ tells.
+    rw c.if-clean.false
+    (opens_store _ g.K.Records.records_of (g.D.Disk.moments c.args.disk.now) (g.D.Disk.moments c.from_disk.new.disk) c.from_disk.result
+    (c.from_disk.ensures.any_moment tells).follows (c.from_disk.ensures.opens tells) (c.from_disk.ensures.records tells) (IfOk-weaker c.from_disk.result _ _ (λ store in_step. g.met.K.Records.durable _ _ in_step) (c.from_disk.ensures.in_step tells)))

@@ -1,0 +1,189 @@
+//! A build over the records of a disk.
+
+ghost use Rattle.std.specs.Prelude.{◌≡◌, ◌<◌, ◌≤◌, ◌++◌, [], ℕ, Some, true, false, length, slice_get, IfOk, OnOk};
+ghost use Rattle.std.specs.List.{filter_map, list_all};
+ghost use Rattle.base.specs.PresentGraph.{below};
+ghost use Rattle.outside.specs.Counts.{StoreCounts};
+ghost use Rattle.outside.specs.Records.{IsRecorded};
+ghost use Rattle.run_spec.specs.declared.marks.Mark.{Mark};
+ghost use Rattle.run_spec.specs.ChildJournal.{since};
+ghost use Rattle.run_histories.specs.Histories.{work_over};
+ghost use Rattle.run_spec.specs.JournalParts.{test_part};
+ghost use Rattle.build_loop.specs.Ran.{built_by, is_made};
+ghost use Rattle.build_loop.specs.Requests.{lent_at};
+ghost use Rattle.build_loop.specs.Faults.{Explains, NoneFell, fault_of};
+ghost use Rattle.run_build.specs.Building.{OpensStore, BuildsOver, has_risen, marks_in};
+ghost use Rattle.run_build.specs.Orders.{order_by};
+
+use base::{FILE_LIMIT, Graph, SLOT_LIMIT};
+use build_loop::{BuildFault, build_marks};
+use outside::{Disk, Procs, Records, StoreFault};
+use run_spec::MarkList;
+use std::alloc::Global;
+
+/// How a graph is built: with so many children at once, going on after a refusal or not, and over the records that are there
+/// or over none.
+#[derive(Clone, Copy, Debug, PartialEq, Eq)]
+pub struct BuildOptions {
+    pub slots: u32,
+    pub keep_going: bool,
+    pub clean: bool,
+}
+
+/// What became of the files of a graph that was built, one mark for each file, in order; and the store that has their records.
+#[derive(Drop)]
+pub struct Kept<K> {
+    pub marks: MarkList,
+    pub store: K,
+}
+
+/// Opens the store of a disk: with what it holds, or empty.
+fn open_store<K: Records + Drop, D: Disk>(
+    alloc: Global,
+    disk: &mut D,
+    clean: bool,
+) -> Result<K, StoreFault>
+    ensures opens { D.tells →
+        OpensStore K.records_of clean result (D.moments disk.old) (D.moments disk.new) }
+    ensures in_step { D.tells → IfOk result (λ store. K.in_step store (D.moments disk.new).now) }
+    ensures usable { IfOk result (λ store. K.broken store ≡ false) }
+    ensures cause { StoreCounts result (D.failed_disk_calls disk.old)
+        (D.failed_disk_calls disk.new) }
+{
+    if clean {
+        return K::emptied(alloc, disk);
+    }
+    K::from_disk(alloc, disk)
+}
+
+/// Opens the store of a disk, builds over its records, and keeps the store, which lends the artefacts of all files that are made.
+pub fn build_kept<K: Records + Drop, D: Disk, P: Procs>(
+    alloc: Global,
+    graph: &Graph,
+    options: BuildOptions,
+    disk: &mut D,
+    procs: &mut P,
+) -> Result<Kept<K>, BuildFault>
+    requires slots { (1 ≤ options.slots) × (options.slots ≤ SLOT_LIMIT) }
+    requires idle { P.running procs.old ≡ [] }
+    ensures running { P.running procs.new ≡ [] }
+    ensures same { P.answer procs.new ≡ P.answer procs.old }
+    ensures count { IfOk result (λ kept. length kept.marks ≡ length graph.now) }
+    // Of each file that is made the store has a record of what would be asked for it now,
+    ensures recorded { IfOk result (λ kept. (position : ℕ) (mark : Mark) →
+        slice_get kept.marks position ≡ Some mark → is_made mark ≡ true →
+        IsRecorded (K.latest_of kept.store) graph.now position) }
+    // and where all are, what it lends of them are the files that were built.
+    ensures lent { D.tells → P.tells → IfOk result (λ kept.
+        list_all is_made kept.marks ≡ true →
+        filter_map (lent_at (K.latest_of kept.store) graph.now) (below (length graph.now))
+        ≡ built_by (work_over K.records_of (order_by options graph.now) (D.moments disk.old).now)
+        (since (P.journal procs.old) (P.journal procs.new))) }
+    ensures follows { P.tells →
+        (P.journal procs.new
+        ≡ P.journal procs.old ++ since (P.journal procs.old) (P.journal procs.new)) }
+    ensures no_tests { P.tells →
+        test_part (since (P.journal procs.old) (P.journal procs.new)) ≡ [] }
+    ensures told { D.tells → P.tells →
+        BuildsOver K.records_of (P.answer procs.old) (order_by options graph.now) (marks_in result)
+        (has_risen (D.failed_disk_calls disk.old) (D.failed_disk_calls disk.new))
+        (D.moments disk.old) (D.moments disk.new)
+        (since (P.journal procs.old) (P.journal procs.new)) }
+    ensures fell { NoneFell
+        (record {
+          starts = P.failed_starts procs.old;
+          losses = P.lost_children procs.old;
+          disks = D.failed_disk_calls disk.old;
+        })
+        (record {
+          starts = P.failed_starts procs.new;
+          losses = P.lost_children procs.new;
+          disks = D.failed_disk_calls disk.new;
+        }) }
+    ensures explains { Explains (fault_of result)
+        (record {
+          starts = P.failed_starts procs.old;
+          losses = P.lost_children procs.old;
+          disks = D.failed_disk_calls disk.old;
+        })
+        (record {
+          starts = P.failed_starts procs.new;
+          losses = P.lost_children procs.new;
+          disks = D.failed_disk_calls disk.new;
+        }) }
+{
+    prove!(graph.len() <= FILE_LIMIT as u64);
+    match open_store::<K, D>(alloc, disk, options.clean) {
+        Ok(mut store) => match build_marks(
+            alloc,
+            graph,
+            &mut store,
+            disk,
+            procs,
+            options.slots,
+            options.keep_going,
+        ) {
+            Ok(marks) => Ok(Kept { marks, store }),
+            Err(fault) => Err(fault),
+        },
+        Err(StoreFault::NoMemory) => Err(BuildFault::NoMemory),
+        Err(StoreFault::DiskFailed) => Err(BuildFault::DiskFailed),
+    }
+}
+
+/// Opens the store of a disk, and builds over its records.
+pub fn build_over<K: Records + Drop, D: Disk, P: Procs>(
+    alloc: Global,
+    graph: &Graph,
+    options: BuildOptions,
+    disk: &mut D,
+    procs: &mut P,
+) -> Result<MarkList, BuildFault>
+    requires slots { (1 ≤ options.slots) × (options.slots ≤ SLOT_LIMIT) }
+    requires idle { P.running procs.old ≡ [] }
+    ensures running { P.running procs.new ≡ [] }
+    ensures same { P.answer procs.new ≡ P.answer procs.old }
+    ensures count { IfOk result (λ marks. length marks ≡ length graph.now) }
+    ensures follows { P.tells →
+        (P.journal procs.new
+        ≡ P.journal procs.old ++ since (P.journal procs.old) (P.journal procs.new)) }
+    ensures no_tests { P.tells →
+        test_part (since (P.journal procs.old) (P.journal procs.new)) ≡ [] }
+    ensures told { D.tells → P.tells →
+        BuildsOver K.records_of (P.answer procs.old) (order_by options graph.now) result
+        (has_risen (D.failed_disk_calls disk.old) (D.failed_disk_calls disk.new))
+        (D.moments disk.old) (D.moments disk.new)
+        (since (P.journal procs.old) (P.journal procs.new)) }
+    ensures fell { NoneFell
+        (record {
+          starts = P.failed_starts procs.old;
+          losses = P.lost_children procs.old;
+          disks = D.failed_disk_calls disk.old;
+        })
+        (record {
+          starts = P.failed_starts procs.new;
+          losses = P.lost_children procs.new;
+          disks = D.failed_disk_calls disk.new;
+        }) }
+    ensures explains { Explains (fault_of result)
+        (record {
+          starts = P.failed_starts procs.old;
+          losses = P.lost_children procs.old;
+          disks = D.failed_disk_calls disk.old;
+        })
+        (record {
+          starts = P.failed_starts procs.new;
+          losses = P.lost_children procs.new;
+          disks = D.failed_disk_calls disk.new;
+        }) }
+{
+    match build_kept::<K, D, P>(alloc, graph, options, disk, procs) {
+        Ok(
+            Kept {
+                marks,
+                store: _store,
+            },
+        ) => Ok(marks),
+        Err(fault) => Err(fault),
+    }
+}

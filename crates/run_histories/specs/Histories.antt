@@ -1,0 +1,125 @@
+-- Histories of a project's disk: runs of the program, edits of the sources, and stops inside runs, as plain data.
+use Rattle.std.specs.Prelude.{◌≡◌, ◌⊎◌, ℕ, Bool, false, if◌then◌else◌, List, [], ◌∷◌, ◌++◌, length, Option, Some, None}
+use Rattle.std.specs.List.{AllByRecursion}
+use Rattle.base.specs.declared.file.FileName.{FileName}
+use Rattle.base.specs.declared.graph.Entry.{Entry}
+use Rattle.base.specs.declared.child.Request.{Request}
+use Rattle.base.specs.declared.child.Exit.{Exit}
+use Rattle.base.specs.declared.child.Event.{Event}
+use Rattle.base_outcomes.specs.declared.outcome.Outcome.{Outcome}
+use Rattle.base_outcomes.specs.declared.outcome.Outcome.TheVariants.{NoMemory}
+use Rattle.base.specs.Graphs.{IsGraph}
+use Rattle.outside.specs.Records.{Record}
+use Rattle.outside.specs.Disks.{DiskState, Image, IsImage, IsWithin, reads_of}
+use Rattle.outside.specs.Records.{latest}
+use Rattle.outside.specs.Commits.{last_state}
+use Rattle.outside.specs.Phases.{HasPhases}
+use Rattle.run_spec.specs.ChildJournal.{Work, Lawful, Answered}
+use Rattle.run_spec.specs.Commits.{work_of, commits, Waits}
+
+-- the files of a project folder, each path with its bytes, and the paths that the folder lists
+pub record Sources : Type 0 where
+  pub file : List ℕ → Option (List ℕ)
+  pub listed : List (List ℕ)
+
+-- what a run is to build: a graph, with so many children at once, going on after a refusal or not, over the records that
+-- are there or over none
+pub record Order : Type 0 where
+  pub graph : List Entry
+  pub slots : ℕ
+  pub keep_going : Bool
+  pub clean : Bool
+
+-- what stays the same in a history: the compiler, the records that an image holds, and the order that words and sources
+-- give, if any
+pub record World : Type 0 where
+  pub answer : Request → Exit
+  pub records_of : Image → List Record
+  pub reading : List (List ℕ) → Sources → Option Order
+
+-- a run: its words, its answer, whether its disk failed, the events of its compilers, and the moments of its disk after
+-- the one that it began at
+pub record ProgramRun : Type 0 where
+  pub words : List (List ℕ)
+  pub outcome : Outcome
+  pub disk_failed : Bool
+  pub events : List Event
+  pub later : List DiskState
+
+-- a stop of a run: the events so far, the moment of the disk that it came at, and the disk that the next run finds
+pub record Stop : Type 0 where
+  pub events : List Event
+  pub moment : DiskState
+  pub disk : DiskState
+
+-- the sources are edited; the program runs; or it runs and is stopped
+pub data HistoryStep : Type 0 where
+  Edited : Sources → HistoryStep
+  Ran : ProgramRun → HistoryStep
+  Stopped : ProgramRun → Stop → HistoryStep
+
+-- an empty disk's
+abbrev pub empty_image : Image
+empty_image = record { a = []; b = [] }
+
+-- what reads give is an image
+abbrev pub IsReadable : DiskState → Type 0
+IsReadable disk = IsImage disk (reads_of disk)
+
+-- A stop at a moment leaves a disk: each of its images is one of the moment. After a loss of power it has one image alone;
+-- after a kill of the program it is the moment itself.
+pub record IsLeft (moment disk : DiskState) : Type 0 where
+  pub within : IsWithin moment disk
+  pub readable : IsReadable disk
+
+-- a moment of a run, with those before it and after it
+pub record IsMoment (moment first : DiskState) (later : List DiskState) : Type 0 where
+  pub before : List DiskState
+  pub after : List DiskState
+  pub parts : first ∷ later ≡ before ++ moment ∷ after
+
+-- a stop comes at a moment of a run, and leaves a prefix of its events
+pub record IsStop (first : DiskState) (run : ProgramRun) (stop : Stop) : Type 0 where
+  pub rest : List Event
+  pub prefix : run.events ≡ stop.events ++ rest
+  pub moment : IsMoment stop.moment first run.later
+  pub left : IsLeft stop.moment stop.disk
+
+-- the latest record of each name that a build goes by, as reads of the disk give it; none where all is built anew
+abbrev pub latest_over : (Image → List Record) → (clean : Bool) → DiskState → FileName → Option Record
+latest_over records_of clean disk name = if clean then None else latest name (records_of (reads_of disk))
+
+-- what a build of an order works on, over the disk that it finds
+abbrev pub work_over : (Image → List Record) → Order → DiskState → Work
+work_over records_of order disk = work_of (latest_over records_of order.clean disk) order.graph order.slots order.keep_going
+
+-- A run that builds: its events are lawful and hold the compiler's answers; its moments go through the phases of a store
+-- to which its commits are added; each start comes where all commits so far are acknowledged; and all commits are, where
+-- neither the disk nor memory failed.
+pub record IsBuildRun (world : World) (order : Order) (run : ProgramRun) (first : DiskState) : Type 0 where
+  pub graph : IsGraph order.graph
+  pub lawful : Lawful (work_over world.records_of order first) run.events
+  pub answered : Answered world.answer run.events
+  pub readable : AllByRecursion IsReadable run.later
+  pub acknowledged : ℕ
+  pub phases : HasPhases world.records_of order.clean acknowledged (commits (work_over world.records_of order first) run.events) first run.later
+  pub waits : Waits (work_over world.records_of order first) acknowledged run.events
+  pub all : run.disk_failed ≡ false → (run.outcome ≡ NoMemory → ⊥) → acknowledged ≡ length (commits (work_over world.records_of order first) run.events)
+
+-- a run that starts no compiler and leaves the disk as it is
+pub record IsIdleRun (run : ProgramRun) : Type 0 where
+  pub events : run.events ≡ []
+  pub later : run.later ≡ []
+
+-- What a run does over the disk that it finds, where words and sources give an order, and where they give none. A run
+-- with an order may end before it builds, by a fault or out of memory.
+abbrev pub RunStep : World → Option Order → ProgramRun → DiskState → Type 0
+RunStep world None run first = IsIdleRun run
+RunStep world (Some order) run first = IsIdleRun run ⊎ IsBuildRun world order run first
+
+-- steps from these sources and this disk on
+unfoldable pub IsHistory : World → Sources → DiskState → List HistoryStep → Type 0
+IsHistory world sources disk [] = Unit {0}
+IsHistory world sources disk (Edited new ∷ steps) = IsHistory world new disk steps
+IsHistory world sources disk (Ran run ∷ steps) = RunStep world (world.reading run.words sources) run disk × IsHistory world sources (last_state disk run.later) steps
+IsHistory world sources disk (Stopped run stop ∷ steps) = RunStep world (world.reading run.words sources) run disk × IsStop disk run stop × IsHistory world sources stop.disk steps

@@ -1,0 +1,118 @@
+//! The laws of histories.
+
+ghost use Rattle.std.specs.Prelude.{◌≡◌, ◌⊎◌, ℕ, Bool, ◌<◌, ◌++◌, [], ◌∷◌, false, List, length, slice_get, Some};
+ghost use Rattle.std.specs.List.{AllByRecursion};
+ghost use Rattle.base.specs.declared.file.FileName.{FileName};
+ghost use Rattle.base.specs.declared.graph.Entry.{Entry};
+ghost use Rattle.base.specs.declared.child.Request.{Request};
+ghost use Rattle.base.specs.declared.child.Event.{Event};
+ghost use Rattle.base.specs.declared.child.Event.TheVariants.{Started};
+ghost use Rattle.outside.specs.Disks.{DiskState, Image, IsImage, reads_of, settled_disk};
+ghost use Rattle.outside.specs.Records.{Record, deps_at, latest};
+ghost use Rattle.outside.specs.Commits.{last_state};
+ghost use Rattle.outside.specs.Phases.{IsCommitting};
+ghost use Rattle.run_spec.specs.ChildJournal.{built_at};
+ghost use Rattle.run_spec.specs.Commits.{record_at, commits};
+ghost use Rattle.run_spec.specs.Faithful.{IsFaithfulDisk};
+ghost use Rattle.run_histories.specs.Histories.{World, Sources, Order, ProgramRun, Stop, HistoryStep, Stopped, IsHistory, RunStep, IsBuildRun, IsReadable, IsMoment, IsLeft, empty_image, work_over};
+ghost use Rattle.run_laws.specs.Rights.{AllRight};
+ghost use Rattle.run_laws.specs.Spares.{IsAcknowledged, HasFile, HasFileAsked, AllSpare};
+
+/// What holds of every history of runs, edits of the sources, and stops by a loss of power or a kill of the program, with
+/// any number of children at once.
+pub fn laws_of_histories()
+    // From a disk that holds true records alone, each run is right: whatever a stop can leave has true records alone, and
+    // each start of it asks for its file what a clean build of its sources asks for it.
+    ensures right { (world : World) (sources : Sources) (disk : DiskState)
+        (steps : List HistoryStep) → IsReadable disk →
+        IsFaithfulDisk world.answer world.records_of disk →
+        IsHistory world sources disk steps → AllRight world sources disk steps }
+    // So it is from an empty disk.
+    ensures from_empty { (world : World) (sources : Sources) (steps : List HistoryStep) →
+        world.records_of empty_image ≡ [] →
+        IsHistory world sources (settled_disk empty_image) steps →
+        AllRight world sources (settled_disk empty_image) steps }
+    // Whatever its records say, no run starts a file of which is asked what its acknowledged record has.
+    ensures spares { (world : World) (sources : Sources) (disk : DiskState)
+        (steps : List HistoryStep) (name : FileName) (kept : Record) → IsReadable disk →
+        IsAcknowledged world name kept disk →
+        IsHistory world sources disk steps → AllSpare world name kept sources disk steps }
+    // So it is after a stop, of each record that was acknowledged at its moment,
+    ensures stopped { (world : World) (sources : Sources) (disk : DiskState) (run : ProgramRun)
+        (stop : Stop) (steps : List HistoryStep) (name : FileName) (kept : Record) →
+        IsHistory world sources disk (Stopped run stop ∷ steps) →
+        IsAcknowledged world name kept stop.moment →
+        AllSpare world name kept sources stop.disk steps }
+    // or at an earlier one of its run; in a run that builds all anew, of those that reads didn't give before it.
+    ensures stopped_since { (world : World) (sources : Sources) (disk : DiskState)
+        (run : ProgramRun) (stop : Stop) (steps : List HistoryStep) (order : Order)
+        (name : FileName) (kept : Record) → IsReadable disk →
+        IsHistory world sources disk (Stopped run stop ∷ steps) →
+        world.reading run.words sources ≡ Some order →
+        HasFileAsked world order disk name kept.asked →
+        (order.clean ≡ false)
+        ⊎ (latest name (world.records_of (reads_of disk)) ≡ Some kept → ⊥) →
+        (moment : DiskState) (is : IsMoment moment disk run.later) →
+        IsAcknowledged world name kept moment → IsMoment stop.moment moment is.after →
+        AllSpare world name kept sources stop.disk steps }
+{}
+
+/// What holds within one run, whatever disk it finds.
+pub fn laws_of_runs()
+    // A record of what is asked of its file stays acknowledged from the moment on at which it is; in a run that builds all
+    // anew, one that reads didn't give before it.
+    ensures lasts { (world : World) (order : Order) (run : ProgramRun) (first : DiskState)
+        (name : FileName) (kept : Record) → IsReadable first →
+        RunStep world (Some order) run first →
+        HasFileAsked world order first name kept.asked →
+        (order.clean ≡ false)
+        ⊎ (latest name (world.records_of (reads_of first)) ≡ Some kept → ⊥) →
+        (moment : DiskState) (is : IsMoment moment first run.later) →
+        IsAcknowledged world name kept moment →
+        AllByRecursion (IsAcknowledged world name kept) (moment ∷ is.after) }
+    // In any run it does so from the first commit on.
+    ensures lasts_anew { (world : World) (order : Order) (run : ProgramRun) (first : DiskState)
+        (name : FileName) (kept : Record) (acknowledged : ℕ) (broken : Bool)
+        (committing : IsCommitting world.records_of order.clean acknowledged broken
+        (commits (work_over world.records_of order first) run.events) first run.later) →
+        IsReadable first → IsBuildRun world order run first →
+        HasFileAsked world order first name kept.asked →
+        (moment : DiskState)
+        (is : IsMoment moment (last_state first committing.opening) committing.committing) →
+        IsAcknowledged world name kept moment →
+        AllByRecursion (IsAcknowledged world name kept) (moment ∷ is.after) }
+    // Where each file has an acknowledged record of what is asked over the artefacts of all, and not all is built anew, nothing is
+    // started.
+    ensures fresh { (world : World) (order : Order) (run : ProgramRun) (first : DiskState)
+        (artefact_of : ℕ → List ℕ) → IsReadable first → RunStep world (Some order) run first →
+        order.clean ≡ false →
+        ((position : ℕ) (entry : Entry) → slice_get order.graph position ≡ Some entry →
+        IsAcknowledged world entry.name (record_at order.graph position
+        (built_at order.graph (λ p. Some (artefact_of p)) (deps_at order.graph position))
+        (artefact_of position)) first) → run.events ≡ [] }
+    // A commit is acknowledged at the end of the run where fewer come before it than are acknowledged.
+    ensures acknowledged { (world : World) (order : Order) (run : ProgramRun) (first : DiskState)
+        (build : IsBuildRun world order run first) (name : FileName) (only : Record)
+        (before after : List Record) → HasFile order name → only.asked.name ≡ name →
+        commits (work_over world.records_of order first) run.events ≡ before ++ only ∷ after →
+        length before < build.acknowledged →
+        IsAcknowledged world name only (last_state first run.later) }
+    // So is each commit of a child that ended before the last start.
+    ensures before_starts { (world : World) (order : Order) (run : ProgramRun)
+        (first : DiskState) → IsBuildRun world order run first →
+        (name : FileName) (only : Record) → HasFile order name → only.asked.name ≡ name →
+        (before rest : List Event) (ticket : ℕ) (request : Request) →
+        run.events ≡ before ++ Started ticket request ∷ rest →
+        (earlier later : List Record) →
+        commits (work_over world.records_of order first) before ≡ earlier ++ only ∷ later →
+        IsAcknowledged world name only (last_state first run.later) }
+{}
+
+/// What a stop can leave.
+pub fn laws_of_stops()
+    // A kill of the program leaves the disk as it is at that moment,
+    ensures kill { (moment : DiskState) → IsReadable moment → IsLeft moment moment }
+    // and a loss of power leaves one of the images of the moment.
+    ensures power { (moment : DiskState) (image : Image) → IsImage moment image →
+        IsLeft moment (settled_disk image) }
+{}

@@ -1,0 +1,127 @@
+//! The laws of the journals of builds, with any number of children at once, whether a build keeps going or not.
+
+ghost use Rattle.std.specs.Prelude.{◌≡◌, ◌≢◌, ◌↔◌, if◌then◌else◌, ℕ, ◌<◌, ◌++◌, [], ◌∷◌, true, false, List, length, slice_get, Some, None, is_some, All, AllPairs, Contains};
+ghost use Rattle.std.specs.List.{list_any};
+ghost use Rattle.base.specs.declared.graph.Entry.{Entry};
+ghost use Rattle.base.specs.declared.child.Request.{Request};
+ghost use Rattle.base.specs.declared.child.Exit.{Exit};
+ghost use Rattle.base.specs.declared.child.Event.{Event};
+ghost use Rattle.base.specs.declared.child.Event.TheVariants.{Started};
+ghost use Rattle.base.specs.Graphs.{IsGraph};
+ghost use Rattle.run_spec.specs.ChildJournal.{Work, Lawful, Answered, IsWhole, artefact_after, artefact_so_far, book_of, next_position};
+ghost use Rattle.run_spec.specs.Commits.{commits};
+ghost use Rattle.run_spec.specs.Faithful.{IsTrueRecord};
+ghost use Rattle.run_spec.specs.JournalParts.{compile_part, test_part};
+ghost use Rattle.base.specs.Jobs.{compile_request};
+ghost use Rattle.run_spec.specs.CleanBuild.{Made, built_below, is_free, clean_build, clean_request, RecordsClean};
+ghost use Rattle.run_spec.specs.Settled.{Blocked, settle, settled_by, artefact_settled, request_unless};
+ghost use Rattle.run_spec.specs.Marks.{marks_of, steady_marks, is_refused, NoRefusalHalts};
+
+/// What lawful journals of builds ask for and make, by what the settled build does; and where what is recorded is what a
+/// clean build makes, by that.
+pub fn laws_of_journals()
+    // All events of a lawful journal are compilers', none is a test's,
+    ensures compiles { (setting : Work) (events : List Event) →
+        Lawful setting events → compile_part events ≡ events }
+    ensures no_tests { (setting : Work) (events : List Event) →
+        Lawful setting events → test_part events ≡ [] }
+    // (where none is a test's, all are compilers')
+    ensures parts { (events : List Event) → test_part events ≡ [] → compile_part events ≡ events }
+    // and there is none where the graph has no file.
+    ensures no_file { (setting : Work) (events : List Event) →
+        setting.graph ≡ [] → Lawful setting events → events ≡ [] }
+    // Nor is there one where each file has an artefact before any child has ended.
+    ensures fresh { (setting : Work) →
+        ((position : ℕ) → position < length setting.graph →
+        artefact_so_far setting [] position ≡ None → ⊥) →
+        (events : List Event) → Lawful setting events → events ≡ [] }
+    // Each prefix of a lawful journal is lawful.
+    ensures prefix { (setting : Work) (before rest : List Event) →
+        Lawful setting (before ++ rest) → Lawful setting before }
+    // Each start asks for its file what the settled build asks for it,
+    ensures asked { (answer : Request → Exit) (setting : Work) → IsGraph setting.graph →
+        (before rest : List Event) (ticket : ℕ) (request : Request) →
+        Lawful setting (before ++ Started ticket request ∷ rest) →
+        Answered answer (before ++ Started ticket request ∷ rest) →
+        (position : ℕ)
+        × (next_position setting (book_of setting before) ≡ Some position)
+        × (request_unless answer setting.graph setting.current position ≡ Some request) }
+    // so that it asks for each file that was started,
+    ensures stale { (answer : Request → Exit) (setting : Work) → IsGraph setting.graph →
+        (events : List Event) → Lawful setting events → Answered answer events →
+        (position : ℕ) → Contains (book_of setting events).taken position → (request : Request)
+        × (request_unless answer setting.graph setting.current position ≡ Some request) }
+    // and no file is started twice.
+    ensures once { (answer : Request → Exit) (setting : Work)
+        (events : List Event) → Lawful setting events → Answered answer events →
+        AllPairs (λ position other. position ≢ other) (book_of setting events).taken }
+    // Whatever a build has by now of a file is what the settled build makes of it.
+    ensures made { (answer : Request → Exit) (setting : Work) → IsGraph setting.graph →
+        (events : List Event) → Lawful setting events → Answered answer events →
+        (position : ℕ) (artefact : List ℕ) →
+        artefact_after setting events position ≡ Some artefact →
+        artefact_settled answer setting.graph setting.current position ≡ Some artefact }
+    // Where what is recorded is what a clean build makes, each request is a clean build's,
+    ensures clean_asked { (answer : Request → Exit) (setting : Work) → IsGraph setting.graph →
+        RecordsClean answer setting.graph setting.current → (position : ℕ) (request : Request) →
+        request_unless answer setting.graph setting.current position ≡ Some request →
+        clean_request answer setting.graph position ≡ Some request }
+    // and there is one for exactly the files that a clean build doesn't block and that have no current record over what
+    // it makes below them;
+    ensures clean_exactly { (answer : Request → Exit) (setting : Work) → IsGraph setting.graph →
+        RecordsClean answer setting.graph setting.current → (position : ℕ) (entry : Entry) →
+        slice_get setting.graph position ≡ Some entry →
+        let below = built_below (clean_build answer setting.graph) entry in
+        request_unless answer setting.graph setting.current position
+        ≡ (if is_some (setting.current position below) then None
+        else clean_request answer setting.graph position) }
+    // what becomes of a file follows from what a clean build makes below it,
+    ensures clean_settled { (answer : Request → Exit) (setting : Work) → IsGraph setting.graph →
+        RecordsClean answer setting.graph setting.current → (position : ℕ) (entry : Entry) →
+        slice_get setting.graph position ≡ Some entry →
+        let clean = clean_build answer setting.graph in
+        let below = built_below clean entry in
+        settle answer setting.graph setting.current position
+        ≡ (if is_free clean entry then settled_by (setting.current position below)
+        (Some (answer (compile_request entry below))) else Blocked) }
+    // what the settled build makes of a file is what a clean build makes of it,
+    ensures clean_made { (answer : Request → Exit) (setting : Work) → IsGraph setting.graph →
+        RecordsClean answer setting.graph setting.current →
+        (position : ℕ) (entry : Entry) (artefact : List ℕ) →
+        slice_get setting.graph position ≡ Some entry →
+        artefact_settled answer setting.graph setting.current position ≡ Some artefact →
+        slice_get (clean_build answer setting.graph) position
+        ≡ Some (Made (record { name = entry.name; artefact = artefact })) }
+    // and what is committed are true records, whatever is recorded.
+    ensures commits { (answer : Request → Exit) (setting : Work) → IsGraph setting.graph →
+        (events : List Event) → Lawful setting events → Answered answer events →
+        All (IsTrueRecord answer) (commits setting events) }
+{}
+
+/// What a build that ended by itself started, made and marked, where no refusal halted it: whatever the order of ends,
+/// what the settled build says.
+pub fn laws_of_whole_builds()
+    // The started files are those that the settled build asks for,
+    ensures started { (answer : Request → Exit) (setting : Work) → IsGraph setting.graph →
+        (events : List Event) → IsWhole setting events → Answered answer events →
+        NoRefusalHalts setting events → (position : ℕ) →
+        Contains (book_of setting events).taken position ↔ ((request : Request)
+        × (request_unless answer setting.graph setting.current position ≡ Some request)) }
+    // the files that are made are those that the settled build makes, with their artefacts,
+    ensures built { (answer : Request → Exit) (setting : Work) → IsGraph setting.graph →
+        (events : List Event) → IsWhole setting events → Answered answer events →
+        NoRefusalHalts setting events → (position : ℕ) →
+        artefact_after setting events position
+        ≡ artefact_settled answer setting.graph setting.current position }
+    // and its marks are those that the settled build says.
+    ensures steady { (answer : Request → Exit) (setting : Work) → IsGraph setting.graph →
+        (events : List Event) → IsWhole setting events → Answered answer events →
+        NoRefusalHalts setting events →
+        marks_of setting events ≡ steady_marks answer setting.graph setting.current }
+    // Where no file was refused, all files are made.
+    ensures all_made { (answer : Request → Exit) (setting : Work) → IsGraph setting.graph →
+        (events : List Event) → IsWhole setting events → Answered answer events →
+        list_any is_refused (marks_of setting events) ≡ false →
+        (position : ℕ) → position < length setting.graph →
+        is_some (artefact_after setting events position) ≡ true }
+{}

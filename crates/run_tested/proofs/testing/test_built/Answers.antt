@@ -1,0 +1,16 @@
+-- Answers to the goals of `test_built`.
+use Rattle.std.proofs.Common.{◌≡◌, true, false, None, refl}
+use Rattle.std.specs.List.{list_all}
+use Rattle.build_loop.specs.Ran.{is_made}
+use Rattle.run_tested.proofs.TestsAfter.{all_recorded, none_built}
+use Rattle.run_tested.proofs.testing.test_built.Goals as goal
+
+pub returns-then-not-are_made-clause-ran : goal.returns-then-not-are_made-clause-ran
+returns-then-not-are_made-clause-ran g c =
+    let left : list_all is_made c.args.kept.marks ≡ false = cc in
+    none_built g.P.Procs.tells (g.P.Procs.answer c.args.procs.now) _ c.args.kept.marks (g.P.Procs.journal c.args.procs.now) (record { marks = c.args.kept.marks; tests = None }) refl refl left
+
+pub run_tests-requires-clause-recorded : goal.run_tests-requires-clause-recorded
+run_tests-requires-clause-recorded g c =
+    let made : list_all is_made c.args.kept.marks ≡ true = cc in
+    all_recorded c.args.kept.marks _ c.args.graph.now c.requires.count made c.requires.recorded

@@ -1,0 +1,26 @@
+-- Answers to the goals of `test_over`.
+use Rattle.std.proofs.Common.{sym, subst, ◌∙◌}
+use Rattle.base.specs.declared.child.Request.{Request}
+use Rattle.base.specs.declared.child.Exit.{Exit}
+use Rattle.test_journal.specs.TestJournal.{TestSetting}
+use Rattle.test_loop.specs.Requests.{lent_files}
+use Rattle.test_loop.specs.UnderWay.{tests_with}
+use Rattle.run_tested.specs.Tested.{RanBuilt}
+use Rattle.run_tested.proofs.TestsAfter.{same_lent, fell_both, tested_after, build_failed}
+use Rattle.run_tested.proofs.testing.test_over.Goals as goal
+
+pub returns-in-Ok-clause-told : goal.returns-in-Ok-clause-told
+returns-in-Ok-clause-told g c = λ tells runs.
+    let setting : TestSetting = tests_with c.args.runs.now c.args.simulator.now (lent_files (g.K.Records.latest_of c.in-Ok.kept.store) c.args.graph.now) c.args.options.slots c.args.fail_fast in
+    tested_after g.K.Records.records_of (g.P.Procs.answer c.args.procs.now) _ _ _ _ _ (g.P.Procs.journal c.args.procs.now) (g.P.Procs.journal c.build_kept.new.procs) (g.P.Procs.journal c.test_built.new.procs)
+    c.in-Ok.kept.marks c.test_built.result setting.built (c.in-Ok.ensures.follows runs) (c.in-Ok.ensures.told tells runs) (λ made. sym (same_lent (g.K.Records.latest_of c.in-Ok.kept.store) c.args.graph.now) ∙ c.in-Ok.ensures.lent tells runs made) g.P.Procs.tells runs
+    (subst (λ (answer : Request → Exit). RanBuilt g.P.Procs.tells answer setting c.in-Ok.kept.marks c.test_built.result (g.P.Procs.journal c.build_kept.new.procs) (g.P.Procs.journal c.test_built.new.procs))
+    c.build_kept.ensures.same c.test_built.ensures.ran)
+
+pub returns-in-Err-clause-told : goal.returns-in-Err-clause-told
+returns-in-Err-clause-told g c = λ tells runs.
+    build_failed g.K.Records.records_of (g.P.Procs.answer c.args.procs.now) _ _ _ _ _ (g.P.Procs.journal c.args.procs.now) (g.P.Procs.journal c.args.procs.now) (g.P.Procs.journal c.build_kept.new.procs)
+    c.in-Err.fault (c.in-Err.ensures.told tells runs) (c.in-Err.ensures.no_tests runs)
+
+pub returns-in-Ok-clause-fell : goal.returns-in-Ok-clause-fell
+returns-in-Ok-clause-fell g c = fell_both c.build_kept.ensures.fell (c.test_built.ensures.fell _)

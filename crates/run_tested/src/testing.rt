@@ -1,0 +1,184 @@
+//! Runs of tests over what a build left, and nothing but that.
+
+ghost use Rattle.std.specs.Prelude.{◌≡◌, ◌<◌, ◌≤◌, ◌++◌, [], ℕ, Some, true, All, length, slice_get, IfOk};
+ghost use Rattle.std.specs.List.{list_all};
+ghost use Rattle.outside.specs.Records.{IsRecorded};
+ghost use Rattle.run_spec.specs.declared.marks.Mark.{Mark};
+ghost use Rattle.run_spec.specs.ChildJournal.{since};
+ghost use Rattle.build_loop.specs.Ran.{is_made};
+ghost use Rattle.build_loop.specs.Faults.{Explains, NoneFell, fault_of};
+ghost use Rattle.run_build.specs.Building.{has_risen};
+ghost use Rattle.run_build.specs.Orders.{order_by};
+ghost use Rattle.test_spec.specs.Runs.{FitsRun};
+ghost use Rattle.test_loop.specs.Requests.{lent_files};
+ghost use Rattle.test_loop.specs.UnderWay.{tests_with};
+ghost use Rattle.run_tested.specs.Tested.{RanBuilt, TestsOver};
+
+use base::{CASE_LIMIT, Graph, SLOT_LIMIT, TextList};
+use build_loop::BuildFault;
+use outside::{Disk, Procs, Records};
+use run_build::{BuildOptions, Kept, build_kept};
+use run_spec::{Mark, MarkList};
+use std::alloc::Global;
+use test_loop::{TestRunFault, run_tests};
+use test_spec::{TestEnd, TestRunList};
+
+/// What became of the files of a graph that was built, and of the tests that followed.
+#[derive(Drop)]
+pub struct Tested {
+    /// One mark for each file, in order.
+    pub marks: MarkList,
+    /// What became of each run of tests, in order; nothing where a file isn't made, since no test is started then.
+    pub tests: Option<TestEnd>,
+}
+
+fn is_made(mark: &Mark) -> bool
+    ensures { result ≡ is_made mark.now }
+{
+    match mark {
+        Mark::Fresh => true,
+        Mark::Compiled => true,
+        Mark::Refused { code: _, output: _ } => false,
+        Mark::Skipped => false,
+        Mark::Left => false,
+    }
+}
+
+fn are_made(marks: &[Mark]) -> bool
+    ensures { result ≡ list_all is_made marks.now }
+{
+    marks.iter().all(|mark| is_made(mark))
+}
+
+/// Runs tests over the artefacts that the store of a build lends, where all files are made.
+fn test_built<K: Records + Drop, P: Procs>(
+    alloc: Global,
+    graph: &Graph,
+    kept: Kept<K>,
+    runs: &TestRunList,
+    simulator: &TextList,
+    procs: &mut P,
+    slots: u32,
+    fail_fast: bool,
+) -> Result<Tested, BuildFault>
+    requires slots { (1 ≤ slots) × (slots ≤ SLOT_LIMIT) }
+    requires idle { P.running procs.old ≡ [] }
+    requires few { length runs.now ≤ CASE_LIMIT }
+    requires fits { All FitsRun runs.now }
+    requires count { length kept.marks ≡ length graph.now }
+    requires recorded { (position : ℕ) (mark : Mark) → slice_get kept.marks position ≡ Some mark →
+        is_made mark ≡ true → IsRecorded (K.latest_of kept.store) graph.now position }
+    ensures running { P.running procs.new ≡ [] }
+    ensures same { P.answer procs.new ≡ P.answer procs.old }
+    ensures count { IfOk result (λ tested. length tested.marks ≡ length graph.now) }
+    ensures ran { let setting = tests_with runs.now simulator.now
+        (lent_files (K.latest_of kept.store) graph.now) slots fail_fast in
+        RanBuilt P.tells (P.answer procs.old) setting kept.marks result
+        (P.journal procs.old) (P.journal procs.new) }
+    ensures fell { (disks : ℕ) → NoneFell
+        (record {
+          starts = P.failed_starts procs.old;
+          losses = P.lost_children procs.old;
+          disks = disks;
+        })
+        (record {
+          starts = P.failed_starts procs.new;
+          losses = P.lost_children procs.new;
+          disks = disks;
+        }) }
+    ensures explains { (disks : ℕ) → Explains (fault_of result)
+        (record {
+          starts = P.failed_starts procs.old;
+          losses = P.lost_children procs.old;
+          disks = disks;
+        })
+        (record {
+          starts = P.failed_starts procs.new;
+          losses = P.lost_children procs.new;
+          disks = disks;
+        }) }
+{
+    let Kept { marks, store } = kept;
+    if !are_made(marks.as_slice()) {
+        return Ok(Tested { marks, tests: None });
+    }
+    match run_tests(
+        alloc, graph, &store, runs, simulator, procs, slots, fail_fast,
+    ) {
+        Ok(end) => Ok(Tested {
+            marks,
+            tests: Some(end),
+        }),
+        Err(TestRunFault::NoMemory) => Err(BuildFault::NoMemory),
+        Err(TestRunFault::StartFailed) => Err(BuildFault::StartFailed),
+        Err(TestRunFault::ChildLost) => Err(BuildFault::ChildLost),
+    }
+}
+
+/// Opens the store of a disk, builds a graph over its records as `build_over` does, and then, where all files are made,
+/// runs tests over exactly what was built: in order, each by one child of the simulator, with as many children at once
+/// as the build has. With `fail_fast` nothing more is started after the first run of which not all cases passed. After a
+/// fault nothing more is started; the first fault is answered. No child runs in the end.
+pub fn test_over<K: Records + Drop, D: Disk, P: Procs>(
+    alloc: Global,
+    graph: &Graph,
+    options: BuildOptions,
+    runs: &TestRunList,
+    simulator: &TextList,
+    fail_fast: bool,
+    disk: &mut D,
+    procs: &mut P,
+) -> Result<Tested, BuildFault>
+    requires slots { (1 ≤ options.slots) × (options.slots ≤ SLOT_LIMIT) }
+    requires idle { P.running procs.old ≡ [] }
+    requires few { length runs.now ≤ CASE_LIMIT }
+    requires fits { All FitsRun runs.now }
+    ensures running { P.running procs.new ≡ [] }
+    ensures same { P.answer procs.new ≡ P.answer procs.old }
+    ensures count { IfOk result (λ tested. length tested.marks ≡ length graph.now) }
+    ensures follows { P.tells →
+        (P.journal procs.new
+        ≡ P.journal procs.old ++ since (P.journal procs.old) (P.journal procs.new)) }
+    ensures told { D.tells → P.tells →
+        TestsOver K.records_of (P.answer procs.old) (order_by options graph.now)
+        (record { runs = runs.now; simulator = simulator.now; fail_fast = fail_fast }) result
+        (has_risen (D.failed_disk_calls disk.old) (D.failed_disk_calls disk.new))
+        (D.moments disk.old) (D.moments disk.new)
+        (since (P.journal procs.old) (P.journal procs.new)) }
+    ensures fell { NoneFell
+        (record {
+          starts = P.failed_starts procs.old;
+          losses = P.lost_children procs.old;
+          disks = D.failed_disk_calls disk.old;
+        })
+        (record {
+          starts = P.failed_starts procs.new;
+          losses = P.lost_children procs.new;
+          disks = D.failed_disk_calls disk.new;
+        }) }
+    ensures explains { Explains (fault_of result)
+        (record {
+          starts = P.failed_starts procs.old;
+          losses = P.lost_children procs.old;
+          disks = D.failed_disk_calls disk.old;
+        })
+        (record {
+          starts = P.failed_starts procs.new;
+          losses = P.lost_children procs.new;
+          disks = D.failed_disk_calls disk.new;
+        }) }
+{
+    match build_kept::<K, D, P>(alloc, graph, options, disk, procs) {
+        Ok(kept) => test_built(
+            alloc,
+            graph,
+            kept,
+            runs,
+            simulator,
+            procs,
+            options.slots,
+            fail_fast,
+        ),
+        Err(fault) => Err(fault),
+    }
+}

@@ -1,0 +1,3 @@
+-- The lemmas.
+pub mod CleanLibraries
+pub mod TestedRights

@@ -1,0 +1,4 @@
+-- The definitions.
+pub mod Libraries
+pub mod Histories
+pub mod Rights

@@ -1,6 +1,0 @@
--- Two cuts of a text are the same.
-use Rattle.scan_spec.proofs.Cut.{one_cut}
-use Rattle.scan_spec.proofs.laws.one_cut.Goals as goal
-
-pub returns : goal.returns
-returns c = one_cut

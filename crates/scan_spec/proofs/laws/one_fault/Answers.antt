@@ -1,6 +1,0 @@
--- Two faults of a text are the same.
-use Rattle.scan_spec.proofs.Cut.{one_fault}
-use Rattle.scan_spec.proofs.laws.one_fault.Goals as goal
-
-pub returns : goal.returns
-returns c = one_fault

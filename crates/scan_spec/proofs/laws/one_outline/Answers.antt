@@ -1,6 +1,0 @@
--- Two outlines of tokens are the same.
-use Rattle.scan_spec.proofs.Files.{one_outline}
-use Rattle.scan_spec.proofs.laws.one_outline.Goals as goal
-
-pub returns : goal.returns
-returns c = one_outline

@@ -1,6 +1,0 @@
--- Two faults of the grammar are the same.
-use Rattle.scan_spec.proofs.Files.{one_unit_fault}
-use Rattle.scan_spec.proofs.laws.one_unit_fault.Goals as goal
-
-pub returns : goal.returns
-returns c = one_unit_fault

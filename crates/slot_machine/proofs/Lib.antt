@@ -1,6 +1,0 @@
--- The lemmas.
-pub mod Passing
-pub mod Sets
-pub mod NextSteps
-pub mod MachineSteps
-pub mod NewMachine

@@ -1,7 +1,0 @@
--- What the loops of `earlier` keep, and why they end.
-use Rattle.std.proofs.Common.{◌≡◌}
-use Rattle.vr_base.specs.PresentGraph.{below}
-use Rattle.source_view.proofs.listed.earlier.Given as goal
-
-abbrev pub invariant-loop-dep : goal.invariant-loop-dep
-invariant-loop-dep l = l.positions ≡ below l.dep

@@ -1,0 +1,133 @@
+-- Payloads of records of requests as bytes: what bytes spell, and how a payload is spelled.
+use Rattle.std.specs.Prelude.{ℕ, ◌<◌, ◌^◌, List, [], ◌∷◌, ◌++◌, ◌==◌, length, All, Option, Some, None, if◌then◌else◌}
+use Rattle.std.specs.Int.{w64, to_le_bytes}
+use Rattle.std.specs.List.{flat_map}
+use Rattle.base.specs.declared.file.FileName.{FileName}
+use Rattle.base.specs.Bytes.{number_bytes, text_bytes}
+use Rattle.base.specs.Jobs.{name_bytes}
+use Rattle.base_bytes.specs.Reading.{◌>>=◌, number_at, text_at, counted_at}
+use Rattle.base_bytes.specs.Names.{HasNameSpelling, name_at}
+
+-- the number of this form of payloads
+abbrev pub request_form : ℕ
+request_form = 3
+
+-- a text: one that is there by its number, or a new one
+pub data TextRef : Type 0 where
+  ByNumber : (number : ℕ) → TextRef
+  InFull : (text : List ℕ) → TextRef
+
+-- a product as it is spelled: a file, and the artefact that a compiler gave for it
+pub record ProductDraft : Type 0 where
+  pub name : FileName
+  pub artefact : TextRef
+
+-- a record as it is spelled: a file, the words of its compiler, its text, the numbers of the products of all files that it
+-- depends on, in graph order, and the artefact
+pub record RequestDraft : Type 0 where
+  pub name : FileName
+  pub command : List (List ℕ)
+  pub source : TextRef
+  pub deps : List ℕ
+  pub artefact : TextRef
+
+-- a payload: a product alone, or a record
+pub data RequestPayload : Type 0 where
+  OfProduct : (draft : ProductDraft) → RequestPayload
+  OfRequest : (draft : RequestDraft) → RequestPayload
+
+-- the first byte
+abbrev pub tag_at : List ℕ → Option (ℕ × List ℕ)
+tag_at [] = None
+tag_at (tag ∷ rest) = Some (tag, rest)
+
+unfoldable pub ref_by_number_at : List ℕ → Option (TextRef × List ℕ)
+ref_by_number_at bytes = do
+  number ← number_at w64 bytes
+  Some (ByNumber number.0, number.1)
+
+unfoldable pub ref_in_full_at : List ℕ → Option (TextRef × List ℕ)
+ref_in_full_at bytes = do
+  text ← text_at bytes
+  Some (InFull text.0, text.1)
+
+-- by a tag: 0 before a number, and 1 before a text
+unfoldable pub text_ref_by : ℕ → List ℕ → Option (TextRef × List ℕ)
+text_ref_by tag bytes = if tag == 0 then ref_by_number_at bytes else (if tag == 1 then ref_in_full_at bytes else None)
+
+unfoldable pub text_ref_at : List ℕ → Option (TextRef × List ℕ)
+text_ref_at bytes = do
+  tag ← tag_at bytes
+  text_ref_by tag.0 tag.1
+
+-- what was read, where no byte follows
+abbrev pub read_whole : {X : Type 0} → X × List ℕ → Option X
+read_whole read = if length read.1 == 0 then Some read.0 else None
+
+unfoldable pub product_in : List ℕ → Option RequestPayload
+product_in bytes = do
+  name ← name_at bytes
+  artefact ← text_ref_at name.1
+  read_whole (OfProduct (record { name = name.0; artefact = artefact.0 }), artefact.1)
+
+unfoldable pub request_in : List ℕ → Option RequestPayload
+request_in bytes = do
+  name ← name_at bytes
+  command ← counted_at text_at name.1
+  source ← text_ref_at command.1
+  deps ← counted_at (number_at w64) source.1
+  artefact ← text_ref_at deps.1
+  read_whole (OfRequest (record { name = name.0; command = command.0; source = source.0; deps = deps.0; artefact = artefact.0 }), artefact.1)
+
+-- by a tag: 0 before a product, and 1 before a record
+unfoldable pub request_payload_by : ℕ → List ℕ → Option RequestPayload
+request_payload_by tag bytes = if tag == 0 then product_in bytes else (if tag == 1 then request_in bytes else None)
+
+-- what all of the bytes spell
+unfoldable pub request_payload_in : List ℕ → Option RequestPayload
+request_payload_in bytes = do
+  tag ← tag_at bytes
+  request_payload_by tag.0 tag.1
+
+unfoldable pub text_ref_bytes : TextRef → List ℕ
+text_ref_bytes (ByNumber number) = 0 ∷ to_le_bytes w64 number
+text_ref_bytes (InFull text) = 1 ∷ text_bytes text
+
+-- words, and numbers of eight bytes, after their number
+unfoldable pub command_bytes : List (List ℕ) → List ℕ
+command_bytes words = number_bytes (length words) ++ flat_map text_bytes words
+
+unfoldable pub product_numbers_bytes : List ℕ → List ℕ
+product_numbers_bytes numbers = number_bytes (length numbers) ++ flat_map (to_le_bytes w64) numbers
+
+unfoldable pub product_draft_bytes : ProductDraft → List ℕ
+product_draft_bytes draft = name_bytes draft.name ++ text_ref_bytes draft.artefact
+
+unfoldable pub request_draft_bytes : RequestDraft → List ℕ
+request_draft_bytes draft = name_bytes draft.name ++ (command_bytes draft.command ++ (text_ref_bytes draft.source ++ (product_numbers_bytes draft.deps ++ text_ref_bytes draft.artefact)))
+
+unfoldable pub request_payload_bytes : RequestPayload → List ℕ
+request_payload_bytes (OfProduct draft) = 0 ∷ product_draft_bytes draft
+request_payload_bytes (OfRequest draft) = 1 ∷ request_draft_bytes draft
+
+-- what has a spelling
+abbrev pub HasRefSpelling : TextRef → Type 0
+HasRefSpelling (ByNumber number) = number < 2 ^ 64
+HasRefSpelling (InFull text) = length text < 2 ^ 32
+
+pub record HasProductSpelling (draft : ProductDraft) : Type 0 where
+  pub name : HasNameSpelling draft.name
+  pub artefact : HasRefSpelling draft.artefact
+
+pub record HasRequestSpelling (draft : RequestDraft) : Type 0 where
+  pub name : HasNameSpelling draft.name
+  pub count : length draft.command < 2 ^ 32
+  pub words : All (λ word. length word < 2 ^ 32) draft.command
+  pub source : HasRefSpelling draft.source
+  pub few : length draft.deps < 2 ^ 32
+  pub deps : All (λ dep. dep < 2 ^ 64) draft.deps
+  pub artefact : HasRefSpelling draft.artefact
+
+abbrev pub IsSpellable : RequestPayload → Type 0
+IsSpellable (OfProduct draft) = HasProductSpelling draft
+IsSpellable (OfRequest draft) = HasRequestSpelling draft

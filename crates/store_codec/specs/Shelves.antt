@@ -1,0 +1,136 @@
+-- The texts, products and records that payloads stand for, taken up one after the other.
+use Rattle.std.specs.Prelude.{◌≡◌, ◌≢◌, ℕ, ◌<◌, ◌≤◌, nat_le, nat_lt, Bool, true, false, not, ◌&&◌, List, [], ◌∷◌, ◌++◌, length, map, slice_index_or, All, AllPairs, if◌then◌else◌}
+use Rattle.std.specs.List.{fold, list_all, list_any}
+use Rattle.std.specs.Option.{option_map_or}
+use Rattle.std.specs.Str.{bytes_eq}
+use Rattle.base.specs.Names.{FitsCommand, FitsName, is_same_name}
+use Rattle.base.specs.declared.file.FileName.{FileName}
+use Rattle.base.specs.declared.graph.BuiltFile.{BuiltFile}
+use Rattle.base.specs.declared.limits.TheConstants.{ARTEFACT_LIMIT, COMMAND_LIMIT, FILE_LIMIT, LIBRARY_LIMIT, PATH_LIMIT, TEXT_LIMIT, WORD_LIMIT}
+use Rattle.outside.specs.Records.{Asked, Record as RequestRecord}
+use Rattle.store_codec.specs.Forms.{ProductDraft, RequestDraft, RequestPayload, TextRef, request_payload_in}
+use Rattle.store_codec.specs.Forms.TextRef.{ByNumber, InFull}
+use Rattle.store_codec.specs.Forms.RequestPayload.{OfProduct, OfRequest}
+
+-- texts and products, numbered from 0, and records
+pub record RequestShelf : Type 0 where
+  pub texts : List (List ℕ)
+  pub products : List BuiltFile
+  pub records : List RequestRecord
+
+abbrev pub bare_shelf : RequestShelf
+bare_shelf = record { texts = []; products = []; records = [] }
+
+-- from low to high
+abbrev pub is_within : ℕ → ℕ → ℕ → Bool
+is_within low high n = nat_le low n && nat_le n high
+
+-- a library of 1 to 64 bytes, and a path of 1 to 1,024
+abbrev pub has_name_sizes : FileName → Bool
+has_name_sizes name = is_within 1 LIBRARY_LIMIT (length name.library) && is_within 1 PATH_LIMIT (length name.path)
+
+-- 1 to 64 words of at most 1,024 bytes each
+abbrev pub has_command_sizes : List (List ℕ) → Bool
+has_command_sizes command = is_within 1 COMMAND_LIMIT (length command) && list_all (λ word. nat_le (length word) WORD_LIMIT) command
+
+-- a number is that of a text; a new text isn't there yet
+abbrev pub is_text_ref : List (List ℕ) → TextRef → Bool
+is_text_ref texts (ByNumber number) = nat_lt number (length texts)
+is_text_ref texts (InFull text) = not (list_any (bytes_eq text) texts)
+
+-- the text that is meant
+abbrev pub told_text : List (List ℕ) → TextRef → List ℕ
+told_text texts (ByNumber number) = slice_index_or texts number []
+told_text texts (InFull text) = text
+
+-- the texts with a new one
+abbrev pub with_text : List (List ℕ) → TextRef → List (List ℕ)
+with_text texts (ByNumber number) = texts
+with_text texts (InFull text) = texts ++ text ∷ []
+
+abbrev pub is_same_built : BuiltFile → BuiltFile → Bool
+is_same_built a b = is_same_name a.name b.name && bytes_eq a.artefact b.artefact
+
+abbrev pub no_product : BuiltFile
+no_product = record { name = record { library = []; path = [] }; artefact = [] }
+
+abbrev pub product_at : List BuiltFile → ℕ → BuiltFile
+product_at products number = slice_index_or products number no_product
+
+-- the products with one that may be there already
+abbrev pub with_built : List BuiltFile → BuiltFile → List BuiltFile
+with_built products product = if list_any (is_same_built product) products then products else products ++ product ∷ []
+
+-- the product of a draft
+abbrev pub drafted_product : List (List ℕ) → ProductDraft → BuiltFile
+drafted_product texts draft = record { name = draft.name; artefact = told_text texts draft.artefact }
+
+-- a draft of a product that isn't there yet, of an artefact that is there or new
+unfoldable pub is_new_product : RequestShelf → ProductDraft → Bool
+is_new_product shelf draft =
+    has_name_sizes draft.name && (is_text_ref shelf.texts draft.artefact && (nat_le (length (told_text shelf.texts draft.artefact)) ARTEFACT_LIMIT && not (list_any (is_same_built (drafted_product shelf.texts draft)) shelf.products)))
+
+abbrev pub with_product : RequestShelf → ProductDraft → RequestShelf
+with_product shelf draft = record { texts = with_text shelf.texts draft.artefact; products = shelf.products ++ drafted_product shelf.texts draft ∷ []; records = shelf.records }
+
+-- no two of the files have one name, and none has the name handed in
+unfoldable pub are_apart : FileName → List BuiltFile → Bool
+are_apart name [] = true
+are_apart name (first ∷ rest) = not (is_same_name first.name name) && (list_all (λ other. not (is_same_name first.name other.name)) rest && are_apart name rest)
+
+-- the artefact of a draft of a record; its text counts, where that is new
+abbrev pub drafted_artefact : List (List ℕ) → RequestDraft → List ℕ
+drafted_artefact texts draft = told_text (with_text texts draft.source) draft.artefact
+
+-- A draft of a record: its texts are there or new, and so few products are there, of other files that have different names.
+unfoldable pub is_request : RequestShelf → RequestDraft → Bool
+is_request shelf draft =
+    has_name_sizes draft.name && (has_command_sizes draft.command && (is_text_ref shelf.texts draft.source && (nat_le (length (told_text shelf.texts draft.source)) TEXT_LIMIT && (is_text_ref (with_text shelf.texts draft.source) draft.artefact && (nat_le (length (drafted_artefact shelf.texts draft)) ARTEFACT_LIMIT && (nat_lt (length draft.deps) FILE_LIMIT && (list_all (λ dep. nat_lt dep (length shelf.products)) draft.deps && are_apart draft.name (map (product_at shelf.products) draft.deps))))))))
+
+-- the record of a draft
+abbrev pub drafted_record : RequestShelf → RequestDraft → RequestRecord
+drafted_record shelf draft = record { asked = record { command = draft.command; name = draft.name; text = told_text shelf.texts draft.source; below = map (product_at shelf.products) draft.deps }; artefact = drafted_artefact shelf.texts draft }
+
+-- one more record, with its texts and its product where these aren't there
+abbrev pub with_request : RequestShelf → RequestDraft → RequestShelf
+with_request shelf draft = record { texts = with_text (with_text shelf.texts draft.source) draft.artefact; products = with_built shelf.products (record { name = draft.name; artefact = drafted_artefact shelf.texts draft }); records = shelf.records ++ drafted_record shelf draft ∷ [] }
+
+unfoldable pub with_request_payload : RequestShelf → RequestPayload → RequestShelf
+with_request_payload shelf (OfProduct draft) = if is_new_product shelf draft then with_product shelf draft else shelf
+with_request_payload shelf (OfRequest draft) = if is_request shelf draft then with_request shelf draft else shelf
+
+-- bytes that spell no payload add nothing
+unfoldable pub after_request_payload : RequestShelf → List ℕ → RequestShelf
+after_request_payload shelf bytes = option_map_or (with_request_payload shelf) (request_payload_in bytes) shelf
+
+unfoldable pub request_shelf_of : List (List ℕ) → RequestShelf
+request_shelf_of payloads = fold after_request_payload bare_shelf payloads
+
+-- the records that payloads stand for, in order
+abbrev pub requests_among : List (List ℕ) → List RequestRecord
+requests_among payloads = (request_shelf_of payloads).records
+
+-- What a draft of a record has.
+pub record IsRequest (shelf : RequestShelf) (draft : RequestDraft) : Type 0 where
+  pub name : FitsName draft.name
+  pub command : FitsCommand draft.command
+  pub source : is_text_ref shelf.texts draft.source ≡ true
+  pub text_small : length (told_text shelf.texts draft.source) ≤ TEXT_LIMIT
+  pub artefact : is_text_ref (with_text shelf.texts draft.source) draft.artefact ≡ true
+  pub small : length (drafted_artefact shelf.texts draft) ≤ ARTEFACT_LIMIT
+  pub few : length draft.deps < FILE_LIMIT
+  pub there : All (λ dep. dep < length shelf.products) draft.deps
+  pub apart : AllPairs (λ a b. a.name ≢ b.name) (map (product_at shelf.products) draft.deps)
+  pub others : All (λ other. other.name ≢ draft.name) (map (product_at shelf.products) draft.deps)
+
+-- What a draft of a new product has.
+pub record IsNewProduct (shelf : RequestShelf) (draft : ProductDraft) : Type 0 where
+  pub name : FitsName draft.name
+  pub artefact : is_text_ref shelf.texts draft.artefact ≡ true
+  pub small : length (told_text shelf.texts draft.artefact) ≤ ARTEFACT_LIMIT
+  pub new : list_any (is_same_built (drafted_product shelf.texts draft)) shelf.products ≡ false
+
+-- No text occurs twice, and no product does.
+pub record AreNumberedOnce (shelf : RequestShelf) : Type 0 where
+  pub texts : AllPairs (λ a b. a ≢ b) shelf.texts
+  pub products : AllPairs (λ a b. a ≢ b) shelf.products

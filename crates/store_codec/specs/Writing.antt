@@ -1,0 +1,39 @@
+-- The parts of a payload that is written.
+use Rattle.std.specs.Prelude.{ℕ, ◌≤◌, ◌<◌, ◌^◌, List, length, Option, Some, None, IfSome}
+use Rattle.base.specs.Names.{FitsName}
+use Rattle.base.specs.declared.limits.TheConstants.{ARTEFACT_LIMIT, FILE_LIMIT, TEXT_LIMIT}
+use Rattle.store_codec.specs.declared.writing.TextPart.{TextPart}
+use Rattle.store_codec.specs.declared.writing.ProductParts.{ProductParts}
+use Rattle.store_codec.specs.declared.writing.RequestParts.{RequestParts}
+use Rattle.store_codec.specs.Forms.{ProductDraft, RequestDraft, TextRef}
+use Rattle.store_codec.specs.Forms.TextRef.{ByNumber, InFull}
+
+-- a text that has a number, or a new one
+abbrev pub ref_or : Option ℕ → List ℕ → TextRef
+ref_or (Some number) text = ByNumber number
+ref_or None text = InFull text
+
+abbrev pub part_ref : TextPart → TextRef
+part_ref part = ref_or part.known part.text.now
+
+abbrev pub product_of_parts : ProductParts → ProductDraft
+product_of_parts parts = record { name = parts.name.now; artefact = part_ref parts.artefact }
+
+-- the words are handed in apart, since the parts have their bytes
+abbrev pub request_of_parts : List (List ℕ) → RequestParts → RequestDraft
+request_of_parts command parts = record { name = parts.name.now; command = command; source = part_ref parts.source; deps = parts.deps.now; artefact = part_ref parts.artefact }
+
+-- The sizes of what is written.
+abbrev pub HasPartSizes : TextPart → Type 0
+HasPartSizes part = length part.text.now ≤ TEXT_LIMIT
+
+pub record HasProductSizes (parts : ProductParts) : Type 0 where
+  pub name : FitsName parts.name.now
+  pub artefact : HasPartSizes parts.artefact
+
+pub record HasRequestSizes (parts : RequestParts) : Type 0 where
+  pub name : FitsName parts.name.now
+  pub words : length parts.words.now ≤ 65796
+  pub source : HasPartSizes parts.source
+  pub few : length parts.deps.now < FILE_LIMIT
+  pub artefact : HasPartSizes parts.artefact

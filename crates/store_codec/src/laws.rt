@@ -1,0 +1,40 @@
+//! Laws of payloads and of what they stand for, as functions with empty bodies.
+
+ghost use Rattle.std.specs.Prelude.{◌≡◌, ◌↔◌, ℕ, List, Some, true};
+ghost use Rattle.base_bytes.specs.Reading.{AreBytes};
+ghost use Rattle.store_codec.specs.Forms.{ProductDraft, RequestDraft, RequestPayload, IsSpellable, request_payload_bytes, request_payload_in};
+ghost use Rattle.store_codec.specs.Forms.RequestPayload.{OfProduct, OfRequest};
+ghost use Rattle.store_codec.specs.Shelves.{AreNumberedOnce, IsNewProduct, IsRequest, RequestShelf, after_request_payload, is_new_product, is_request, request_shelf_of, with_product, with_request};
+
+/// What holds of the bytes of payloads, whoever writes or reads them.
+pub fn laws_of_request_payloads()
+    // What is read is spelled so,
+    ensures takes { (bytes : List ℕ) (payload : RequestPayload) → AreBytes bytes →
+        request_payload_in bytes ≡ Some payload →
+        (bytes ≡ request_payload_bytes payload) × IsSpellable payload }
+    // and what is spelled so is read.
+    ensures again { (payload : RequestPayload) → IsSpellable payload →
+        request_payload_in (request_payload_bytes payload) ≡ Some payload }
+{}
+
+/// What holds of the texts, products and records that payloads stand for.
+pub fn laws_of_request_shelves()
+    // Whatever the payloads, no text and no product has two numbers.
+    ensures once { (payloads : List (List ℕ)) → AreNumberedOnce (request_shelf_of payloads) }
+    // A draft is one of a record exactly where it has all that one has,
+    ensures request { (shelf : RequestShelf) (draft : RequestDraft) →
+        (is_request shelf draft ≡ true) ↔ IsRequest shelf draft }
+    // and one of a new product likewise.
+    ensures product { (shelf : RequestShelf) (draft : ProductDraft) →
+        (is_new_product shelf draft ≡ true) ↔ IsNewProduct shelf draft }
+    // The payload of such a record adds it, with its texts and its product where these aren't there;
+    ensures adds { (shelf : RequestShelf) (draft : RequestDraft) → IsRequest shelf draft →
+        IsSpellable (OfRequest draft) →
+        after_request_payload shelf (request_payload_bytes (OfRequest draft))
+        ≡ with_request shelf draft }
+    // that of a new product adds it, and no record.
+    ensures adds_product { (shelf : RequestShelf) (draft : ProductDraft) →
+        IsNewProduct shelf draft → IsSpellable (OfProduct draft) →
+        after_request_payload shelf (request_payload_bytes (OfProduct draft))
+        ≡ with_product shelf draft }
+{}

@@ -1,0 +1,173 @@
+-- The payload of what would be asked for a file now.
+use Rattle.std.proofs.Common.{◌≡◌, ◌≢◌, ℕ, zero, suc, ◌<◌, ◌≤◌, ◌^◌, List, [], ◌∷◌, ◌++◌, length, map, get_or, None, Some, Option, true, refl, sym, ap, subst, ◌∙◌, arith, inl, inr, length-append}
+use Rattle.std.specs.Prelude.{All, AllPairs, IfSome, slice_get}
+use Rattle.std.specs.Option.{option_map_or}
+use Rattle.std.specs.List.Sorted.{IsStrictlyIncreasing}
+use Rattle.std.proofs.lemmas.Bool.{cases_lt}
+use Rattle.std.proofs.lemmas.Bool.Decides.{nat_tests}
+use Rattle.std.proofs.lemmas.List.{get_or-map, get_or_append_left, get_or_default, length-map}
+use Rattle.std.proofs.lemmas.List.Elements.{Contains-push_cases}
+use Rattle.std.proofs.lemmas.List.Kept.{AllPairs-from_increasing}
+use Rattle.std.proofs.lemmas.Option.{get_or_from_slice_get, same_Some, slice_get-get_or, slice_get_within}
+use Rattle.base.specs.Graphs.{IsEntryAt, IsGraph}
+use Rattle.base.specs.declared.file.FileName.{FileName}
+use Rattle.base.specs.declared.graph.BuiltFile.{BuiltFile}
+use Rattle.base.specs.declared.graph.Entry.{Entry}
+use Rattle.base.specs.declared.limits.TheConstants.{ARTEFACT_LIMIT, FILE_LIMIT}
+use Rattle.outside.specs.Records.{deps_at}
+use Rattle.base_numbering.specs.Numbers.{IsPlaceOf}
+use Rattle.store_codec.specs.Forms.{HasRefSpelling, HasRequestSpelling, RequestDraft, RequestPayload, request_payload_bytes, request_payload_in}
+use Rattle.store_codec.specs.Forms.RequestPayload.{OfProduct, OfRequest}
+use Rattle.outside.specs.Records.{Record as RequestRecord, asked_of, built_of_record, latest as latest_request}
+use Rattle.store_codec.specs.Ranges.{request_in_ranges}
+use Rattle.store_codec.specs.Shelves.{IsRequest, RequestShelf, drafted_record, is_text_ref, no_product, product_at, request_shelf_of, told_text, with_text}
+use Rattle.store_codec.specs.Writing.{ref_or}
+use Rattle.store_codec.proofs.Spelling.{payload_again}
+use Rattle.store_shelf.specs.Checked.{AreTextNumbers, IsNameNumber}
+use Rattle.store_shelf.proofs.Finding.{new_is}
+use Rattle.store_holdings.specs.declared.additions.RequestAddition.{RequestAddition}
+use Rattle.store_holdings.specs.declared.asking.TextRefs.{TextRefs}
+use Rattle.store_holdings.specs.Additions.{AreDeps, AreRefs, HasAskedSizes, IsRequestOver, asked_draft, record_over}
+use Rattle.outside.specs.Records.{HasLatest, latest_built}
+use Rattle.store_holdings.proofs.Latest.{latest_named}
+
+pub is_ref : (texts : List (List ℕ)) (text : List ℕ) (known : Option ℕ) → IsPlaceOf texts text known → is_text_ref texts (ref_or known text) ≡ true
+is_ref texts text None is = new_is texts text is
+is_ref texts text (Some n) is = (let low : n < length texts = slice_get_within texts n text is in grind (arith, nat_tests, low))
+
+pub is_told : (texts : List (List ℕ)) (text : List ℕ) (known : Option ℕ) → IsPlaceOf texts text known → told_text texts (ref_or known text) ≡ text
+is_told texts text None is = refl
+is_told texts text (Some n) is = get_or_from_slice_get texts n text [] is
+
+-- the place of a text after another new one
+pub place_after : (texts : List (List ℕ)) (new text : List ℕ) (place : Option ℕ) → new ≢ text → IsPlaceOf texts text place → IsPlaceOf (texts ++ new ∷ []) text place
+place_after texts new text None other is = λ has. elim (Contains-push_cases texts new text has) [
+  | inl old ↦ is old
+  | inr same ↦ other same
+]
+place_after texts new text (Some n) other is =
+    let low : n < length texts = slice_get_within texts n text is in
+    slice_get-get_or (texts ++ new ∷ []) n [] (omega (arith, low, length-append texts (new ∷ [])))
+    ∙ ap (λ (t : List ℕ). Some t) (get_or_append_left texts (new ∷ []) [] n low ∙ get_or_from_slice_get texts n text [] is)
+
+ref_fits : (known : Option ℕ) (text : List ℕ) → IfSome known (λ (n : ℕ). n < 2 ^ 64) → length text < 2 ^ 32 → HasRefSpelling (ref_or known text)
+ref_fits None text fits small = small
+ref_fits (Some n) text fits small = fits
+
+-- what was spelled is read
+pub asked_read : (bytes : List ℕ) (entry : Entry) (source : Option ℕ) (deps : List ℕ) (known : Option ℕ) (artefact : List ℕ) → bytes ≡ request_payload_bytes (OfRequest (asked_draft entry source deps known artefact)) → HasAskedSizes entry deps artefact → IfSome source (λ (n : ℕ). n < 2 ^ 64) → IfSome known (λ (n : ℕ). n < 2 ^ 64) → ((i : ℕ) → get_or deps i 0 < 2 ^ 64) → request_payload_in bytes ≡ Some (OfRequest (asked_draft entry source deps known artefact))
+asked_read bytes entry source deps known artefact e sizes source_low known_low deps_low =
+    let spelled : HasRequestSpelling (asked_draft entry source deps known artefact) = record {
+      name = record { library = omega (arith, sizes.name.library.at_most); path = omega (arith, sizes.name.path.at_most) };
+      count = omega (arith, sizes.command.count.at_most);
+      words = λ k d l. (let fits = sizes.command.words k d l in omega (arith, fits));
+      source = ref_fits source entry.text source_low (omega (arith, sizes.text));
+      few = omega (arith, sizes.few);
+      deps = λ k d l. rw (sym (get_or_default deps k 0 d l)) (deps_low k);
+      artefact = ref_fits known artefact known_low (omega (arith, sizes.small));
+    } in
+    ap request_payload_in e ∙ payload_again (OfRequest (asked_draft entry source deps known artefact)) spelled
+
+draft_or : RequestDraft → RequestPayload → RequestDraft
+draft_or draft (OfProduct other) = draft
+draft_or draft (OfRequest other) = other
+
+pub same_draft : (bytes : List ℕ) (a b : RequestDraft) → request_payload_in bytes ≡ Some (OfRequest a) → request_payload_in bytes ≡ Some (OfRequest b) → a ≡ b
+unfolding draft_or
+same_draft bytes a b e f = ap (draft_or a) (same_Some (OfRequest a) (OfRequest b) (sym e ∙ f))
+
+module _ (positions : List ℕ) (rising : IsStrictlyIncreasing positions) where
+  pub before_later : (i j : ℕ) → i < j → j < length positions → get_or positions i 0 < get_or positions j 0
+  before_later i j a b = AllPairs-from_increasing positions rising i j 0 a b
+
+  -- a position is at least its number
+  place_le : (k : ℕ) → k < length positions → k ≤ get_or positions k 0
+  place_le zero lt = omega arith
+  place_le (suc k) lt = omega (arith, place_le k (omega arith), before_later k (suc k) (omega arith) lt)
+
+  few : (n : ℕ) → All (λ p. p < n) positions → length positions ≤ n
+  few n within = elim (cases_lt n (length positions)) [
+    | inl l ↦ absurd (omega (arith, place_le n l, within n 0 l))
+    | inr le ↦ le
+  ]
+
+module _ (shelf : RequestShelf) (graph : List Entry) (is_graph : IsGraph graph) (at : ℕ) (entry : Entry) (found : slice_get graph at ≡ Some entry) where
+  here : get_or graph at entry ≡ entry
+  here = get_or_from_slice_get graph at entry entry found
+
+  low : at < length graph
+  low = slice_get_within graph at entry found
+
+  pub before : All (λ dep. dep < at) entry.deps
+  before = subst (λ (e : Entry). All (λ dep. dep < at) e.deps) here (is_graph.each at entry low).before
+
+  pub rising : IsStrictlyIncreasing entry.deps
+  rising = subst (λ (e : Entry). IsStrictlyIncreasing e.deps) here (is_graph.each at entry low).rising
+
+  pub deps_are : deps_at graph at ≡ entry.deps
+  deps_are = ap (λ (o : Option Entry). option_map_or (λ (e : Entry). e.deps) o []) found
+
+  pub sizes : (deps artefact : List ℕ) → length deps ≡ length entry.deps → length artefact ≤ ARTEFACT_LIMIT → HasAskedSizes entry deps artefact
+  sizes deps artefact as_many small =
+      let is = subst (λ (e : Entry). IsEntryAt graph at e) here (is_graph.each at entry low) in
+      record { name = is.name; command = is.command; text = is.text; few = omega (arith, as_many, few entry.deps rising at before, low, is_graph.few); small = small }
+
+  -- the name of a file as it was built
+  built_name : (p : ℕ) (other : Entry) → HasLatest (λ name. latest_request name shelf.records) graph p → (latest_built (λ name. latest_request name shelf.records) graph p).name ≡ (get_or graph p other).name
+  built_name p other has =
+      let is : latest_built (λ name. latest_request name shelf.records) graph p ≡ built_of_record has.kept = ap (λ (o : Option Entry). option_map_or (λ (f : Entry). option_map_or built_of_record (latest_request f.name shelf.records) no_product) o no_product) has.is_entry ∙ ap (λ (o : Option RequestRecord). option_map_or built_of_record o no_product) has.is in
+      ap (λ (f : BuiltFile). f.name) is ∙ latest_named has.entry.name shelf.records has.kept has.is ∙ sym (ap (λ (e : Entry). e.name) (get_or_from_slice_get graph p has.entry other has.is_entry))
+
+  module _ (deps : List ℕ) (are : AreDeps shelf graph at deps) where
+    pub below : map (product_at shelf.products) deps ≡ map (latest_built (λ name. latest_request name shelf.records) graph) entry.deps
+    below = are.built ∙ ap (map (latest_built (λ name. latest_request name shelf.records) graph)) deps_are
+
+    latest : All (HasLatest (λ name. latest_request name shelf.records) graph) entry.deps
+    latest = subst (λ (ps : List ℕ). All (HasLatest (λ name. latest_request name shelf.records) graph) ps) deps_are are.latest
+
+    pub as_many : length deps ≡ length entry.deps
+    as_many = sym (length-map deps (product_at shelf.products)) ∙ ap length below ∙ length-map entry.deps (latest_built (λ name. latest_request name shelf.records) graph)
+
+    name_at : (k : ℕ) (d : BuiltFile) → k < length (map (product_at shelf.products) deps) → (get_or (map (product_at shelf.products) deps) k d).name ≡ (get_or graph (get_or entry.deps k 0) entry).name
+    name_at k d l =
+        let m : k < length entry.deps = omega (arith, l, as_many, length-map deps (product_at shelf.products)) in
+        ap (λ (fs : List BuiltFile). (get_or fs k d).name) below ∙ ap (λ (f : BuiltFile). f.name) (get_or-map (latest_built (λ name. latest_request name shelf.records) graph) entry.deps k 0 d m) ∙ built_name (get_or entry.deps k 0) entry (latest k 0 m)
+
+    apart : AllPairs (λ a b. a.name ≢ b.name) (map (product_at shelf.products) deps)
+    apart i j d a b e =
+        let m : j < length entry.deps = omega (arith, b, as_many, length-map deps (product_at shelf.products)) in
+        let l : get_or entry.deps j 0 < at = before j 0 m in
+        is_graph.distinct (get_or entry.deps i 0) (get_or entry.deps j 0) entry (before_later entry.deps rising i j a m) (omega (arith, l, low)) (sym (name_at i d (omega (arith, a, b))) ∙ e ∙ name_at j d b)
+
+    others : All (λ other. other.name ≢ entry.name) (map (product_at shelf.products) deps)
+    others k d l e =
+        let m : k < length entry.deps = omega (arith, l, as_many, length-map deps (product_at shelf.products)) in
+        is_graph.distinct (get_or entry.deps k 0) at entry (before k 0 m) low (sym (name_at k d l) ∙ e ∙ ap (λ (f : Entry). f.name) (sym here))
+
+    -- the file with an artefact is a record over these products
+    pub over : (artefact : List ℕ) → length artefact ≤ ARTEFACT_LIMIT → IsRequestOver shelf entry deps artefact
+    over artefact small = record { sizes = sizes deps artefact as_many small; there = are.there; apart = apart; others = others }
+
+module _ (shelf : RequestShelf) (entry : Entry) (deps artefact : List ℕ) (over : IsRequestOver shelf entry deps artefact) (refs : TextRefs) (texts : AreRefs shelf.texts entry.text artefact refs) where
+  pub request : IsRequest shelf (asked_draft entry refs.source deps refs.known artefact)
+  request = record {
+    name = over.sizes.name;
+    command = over.sizes.command;
+    source = is_ref shelf.texts entry.text refs.source texts.source;
+    text_small = rw (is_told shelf.texts entry.text refs.source texts.source) over.sizes.text;
+    artefact = is_ref (with_text shelf.texts (ref_or refs.source entry.text)) artefact refs.known texts.known;
+    small = rw (is_told (with_text shelf.texts (ref_or refs.source entry.text)) artefact refs.known texts.known) over.sizes.small;
+    few = over.sizes.few;
+    there = over.there;
+    apart = over.apart;
+    others = over.others;
+  }
+
+  record_by : List ℕ → List ℕ → RequestRecord
+  record_by text given = record { asked = record { command = entry.command; name = entry.name; text = text; below = map (product_at shelf.products) deps }; artefact = given }
+
+  pub recorded : drafted_record shelf (asked_draft entry refs.source deps refs.known artefact) ≡ record_over shelf entry deps artefact
+  unfolding record_by
+  recorded =
+      ap (λ (t : List ℕ). record_by t (told_text (with_text shelf.texts (ref_or refs.source entry.text)) (ref_or refs.known artefact))) (is_told shelf.texts entry.text refs.source texts.source)
+      ∙ ap (λ (t : List ℕ). record_by entry.text t) (is_told (with_text shelf.texts (ref_or refs.source entry.text)) artefact refs.known texts.known)

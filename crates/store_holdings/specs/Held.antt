@@ -1,0 +1,42 @@
+-- Payloads with what they stand for.
+use Rattle.std.specs.Prelude.{◌≡◌, ℕ, ◌-◌, ◌<◌, min, List, [], length, map, slice_get, slice_index_or, Option, Some, None}
+use Rattle.std.specs.Vec.{vec_len, vec_capacity}
+use Rattle.base.specs.declared.file.FileName.{FileName}
+use Rattle.base.specs.declared.graph.Entry.{Entry}
+use Rattle.outside.specs.Records.{Record as RequestRecord, latest as latest_request}
+use Rattle.store_codec.specs.Ranges.{counted_words}
+use Rattle.store_codec.specs.Shelves.{request_shelf_of}
+use Rattle.store_shelf.specs.declared.shelf.PlacedShelf.{PlacedShelf}
+use Rattle.store_shelf.specs.declared.shelf.RecordRow.{RecordRow}
+use Rattle.store_shelf.specs.Placed.{HeldList, IsShelfPlaced, nth_payload, placed_shelf, row_deps, text_room}
+use Rattle.store_holdings.specs.declared.seats.Seat.{Seat}
+use Rattle.store_holdings.specs.Seated.{seated_product}
+
+-- payloads in order, the names that are numbered, and for how many more payloads there is room
+pub record HeldState : Type 0 where
+  pub payloads : List (List ℕ)
+  pub names : List FileName
+  pub room : ℕ
+
+abbrev pub held_room : HeldList → PlacedShelf → ℕ
+held_room held shelf = min held.room (min (text_room shelf.texts - 1) (min shelf.products.room (min (vec_capacity shelf.rows - vec_len shelf.rows) shelf.latest.room)))
+
+-- A shelf is what payloads stand for.
+pub record IsHeld (payloads : List (List ℕ)) (shelf : PlacedShelf) : Type 0 where
+  pub are : IsShelfPlaced payloads shelf
+  pub is : placed_shelf payloads shelf ≡ request_shelf_of payloads
+
+-- the latest record of a name
+abbrev pub latest_held : List (List ℕ) → FileName → Option RequestRecord
+latest_held payloads name = latest_request name (request_shelf_of payloads).records
+
+-- the latest record of a name is that of a number, or there is none
+abbrev pub IsLatestRow : List RequestRecord → FileName → Option ℕ → Type 0
+IsLatestRow records name None = latest_request name records ≡ None
+IsLatestRow records name (Some number) = (number < length records) × (latest_request name records ≡ slice_get records number)
+
+-- the words, the text and the products of a record are those of a file, whose dependencies have seats
+pub record IsAskedRow (payloads texts : List (List ℕ)) (row : RecordRow) (entry : Entry) (seats : List (Option Seat)) : Type 0 where
+  pub words : counted_words (nth_payload payloads row.payload) row.words ≡ entry.command
+  pub text : slice_index_or texts row.text [] ≡ entry.text
+  pub deps : map (λ n. Some n) (row_deps payloads row) ≡ map (seated_product seats) entry.deps

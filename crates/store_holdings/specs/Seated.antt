@@ -1,0 +1,42 @@
+-- The latest records of the files of a graph, and which of them have what would be asked now.
+use Rattle.std.specs.Prelude.{◌≡◌, ℕ, ◌<◌, List, [], length, map, All, slice_get, slice_index_or, Option, Some, None}
+use Rattle.std.specs.Option.{option_map, option_map_or}
+use Rattle.base.specs.declared.file.FileName.{FileName}
+use Rattle.base.specs.declared.graph.BuiltFile.{BuiltFile}
+use Rattle.base.specs.declared.graph.Entry.{Entry}
+use Rattle.outside.specs.Records.{Record as RequestRecord, built_of_record, latest as latest_request}
+use Rattle.store_codec.specs.Shelves.{RequestShelf, no_product, product_at}
+use Rattle.store_holdings.specs.declared.seats.Seat.{Seat}
+
+-- a seat has the number of the latest record of a name, and that of its product
+pub record HasSeat (shelf : RequestShelf) (name : FileName) (seat : Seat) : Type 0 where
+  pub row : seat.row < length shelf.records
+  pub latest : latest_request name shelf.records ≡ slice_get shelf.records seat.row
+  pub product : seat.product < length shelf.products
+  pub built : (kept : RequestRecord) → slice_get shelf.records seat.row ≡ Some kept → product_at shelf.products seat.product ≡ built_of_record kept
+
+-- such a seat, or that the name has no record
+abbrev pub IsSeat : RequestShelf → FileName → Option Seat → Type 0
+IsSeat shelf name None = latest_request name shelf.records ≡ None
+IsSeat shelf name (Some seat) = HasSeat shelf name seat
+
+-- one for each file of a graph
+pub record AreSeats (shelf : RequestShelf) (graph : List Entry) (seats : List (Option Seat)) : Type 0 where
+  pub each : length seats ≡ length graph
+  pub is : (at : ℕ) (other : Entry) → at < length graph → IsSeat shelf (slice_index_or graph at other).name (slice_index_or seats at None)
+
+-- the number of the product of a position, if it has a seat
+abbrev pub seated_product : List (Option Seat) → ℕ → Option ℕ
+seated_product seats at = option_map (λ seat. seat.product) (slice_index_or seats at None)
+
+-- The product of a number is what the latest record of a name built.
+pub record HasLatestProduct (shelf : RequestShelf) (name : FileName) (product : ℕ) : Type 0 where
+  pub kept : RequestRecord
+  pub latest : latest_request name shelf.records ≡ Some kept
+  pub there : product < length shelf.products
+  pub built : product_at shelf.products product ≡ built_of_record kept
+
+-- such a number, or that the name has no record
+abbrev pub IsLatestProduct : RequestShelf → FileName → Option ℕ → Type 0
+IsLatestProduct shelf name None = latest_request name shelf.records ≡ None
+IsLatestProduct shelf name (Some product) = HasLatestProduct shelf name product

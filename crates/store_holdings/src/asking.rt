@@ -1,0 +1,164 @@
+//! The payload of what would be asked for a file now.
+
+ghost use Rattle.std.specs.Prelude.{◌≡◌, ◌≢◌, ◌<◌, ◌≤◌, ◌^◌, ◌++◌, ◌∷◌, [], ℕ, List, None, Some, length, map, All, IfOk, IfSome};
+ghost use Rattle.base_numbering.specs.Numbers.{IsPlaceOf};
+ghost use Rattle.store_codec.specs.Forms.{RequestDraft, request_payload_in};
+ghost use Rattle.store_codec.specs.Forms.RequestPayload.{OfRequest};
+ghost use Rattle.store_codec.specs.Ranges.{request_in_ranges};
+ghost use Rattle.store_codec.specs.Shelves.{with_text};
+ghost use Rattle.store_codec.specs.Writing.{ref_or};
+ghost use Rattle.store_shelf.specs.Placed.{AreTextsPlaced, placed_texts};
+ghost use Rattle.store_holdings.specs.Additions.{AreRefs, HasAskedSizes, asked_draft};
+ghost use Rattle.store_holdings.specs.Seated.{seated_product};
+
+use crate::Seats;
+use base::{Entry, Items, NoMemory, Text};
+use std::alloc::Global;
+use store_codec::{
+    PayloadRanges, RequestParts, RequestRanges, TextPart, read_request_payload, request_payload,
+    spelled_words,
+};
+use store_shelf::{HeldPayloads, PlacedTexts, TextNumbers, find_text};
+
+/// The numbers of a text and of an artefact, where they have one, and those that they will have.
+#[derive(Clone, Copy)]
+pub struct TextRefs {
+    pub source: Option<usize>,
+    pub known: Option<usize>,
+    pub numbers: TextNumbers,
+}
+
+/// The products of positions that have seats.
+pub fn seated_products(
+    alloc: Global,
+    seats: &Seats,
+    positions: &[u32],
+) -> Result<Items<usize>, NoMemory>
+    requires within { All (λ position. position < length seats.now) positions.now }
+    requires seated { All (λ position. seated_product seats.now position ≢ None) positions.now }
+    ensures { IfOk result
+        (λ numbers.
+        map (λ n. Some n) numbers ≡ map (seated_product seats.now) positions.now) }
+{
+    let mut numbers = Items::new(alloc);
+    for k in 0..positions.len() {
+        let Some(seat) = seats.get(positions[k] as usize) else {
+            unreachable!();
+        };
+        numbers.push(seat.product)?;
+    }
+    Ok(numbers)
+}
+
+/// The number of a text after a new one, if it is there.
+fn find_after_text(
+    held: &HeldPayloads,
+    texts: &PlacedTexts,
+    new: &[u8],
+    text: &[u8],
+) -> Option<usize>
+    requires { AreTextsPlaced held.now.payloads texts.now }
+    ensures { IsPlaceOf (placed_texts held.now.payloads texts.now ++ new.now ∷ []) text.now result }
+{
+    if new == text {
+        return Some(texts.places.len());
+    }
+    find_text(held, texts, text)
+}
+
+/// The number of an artefact after a text that may be new, if it is there.
+fn find_after(
+    held: &HeldPayloads,
+    texts: &PlacedTexts,
+    source: Option<usize>,
+    text: &[u8],
+    artefact: &[u8],
+) -> Option<usize>
+    requires { AreTextsPlaced held.now.payloads texts.now }
+    ensures { IsPlaceOf
+        (with_text (placed_texts held.now.payloads texts.now) (ref_or source text.now))
+        artefact.now result }
+{
+    match source {
+        Some(_number) => find_text(held, texts, artefact),
+        None => find_after_text(held, texts, text, artefact),
+    }
+}
+
+/// How many texts there are after one that may be new.
+fn count_after(texts: &PlacedTexts, source: Option<usize>) -> usize
+    ensures { (payloads : List (List ℕ)) (text : List ℕ) →
+        result ≡ length (with_text (placed_texts payloads texts.now) (ref_or source text)) }
+{
+    match source {
+        Some(_number) => texts.places.len(),
+        None => texts.places.len() + 1,
+    }
+}
+
+/// The numbers of a text and of an artefact.
+pub fn text_refs(held: &HeldPayloads, texts: &PlacedTexts, text: &[u8], artefact: &[u8]) -> TextRefs
+    requires { AreTextsPlaced held.now.payloads texts.now }
+    ensures { AreRefs (placed_texts held.now.payloads texts.now) text.now artefact.now result }
+{
+    let source = find_text(held, texts, text);
+    let known = find_after(held, texts, source, text, artefact);
+    TextRefs {
+        source,
+        known,
+        numbers: TextNumbers {
+            text: source.unwrap_or(texts.places.len()),
+            artefact: known.unwrap_or(count_after(texts, source)),
+        },
+    }
+}
+
+/// The payload of a file as a record, by the numbers of its texts, where they have one, and of the products that it depends on.
+pub fn asked_payload(
+    alloc: Global,
+    entry: &Entry,
+    refs: TextRefs,
+    deps: &[usize],
+    artefact: &[u8],
+) -> Result<Text, NoMemory>
+    requires sizes { HasAskedSizes entry.now deps.now artefact.now }
+    requires source { IfSome refs.source (λ number. number < 2 ^ 64) }
+    requires known { IfSome refs.known (λ number. number < 2 ^ 64) }
+    ensures read { IfOk result
+        (λ bytes.
+        request_payload_in bytes
+        ≡ Some
+        (OfRequest (asked_draft entry.now refs.source deps.now refs.known artefact.now))) }
+    ensures small { IfOk result (λ bytes. length bytes < 2 ^ 32) }
+{
+    let words = spelled_words(alloc, &entry.command)?;
+    let bytes = request_payload(
+        alloc,
+        RequestParts {
+            name: &entry.name,
+            words: words.bytes(),
+            source: TextPart {
+                known: refs.source,
+                text: entry.text.bytes(),
+            },
+            deps,
+            artefact: TextPart {
+                known: refs.known,
+                text: artefact,
+            },
+        },
+    )?;
+    Ok(bytes)
+}
+
+/// Where the parts of a record are in its payload.
+pub fn spelled_ranges(bytes: &[u8]) -> RequestRanges
+    requires { (draft : RequestDraft) × (request_payload_in bytes.now ≡ Some (OfRequest draft)) }
+    ensures { request_payload_in bytes.now ≡ Some (OfRequest (request_in_ranges bytes.now result)) }
+{
+    match read_request_payload(bytes) {
+        Some(PayloadRanges::OfRequest(ranges)) => ranges,
+        Some(PayloadRanges::OfProduct(_product)) => unreachable!(),
+        None => unreachable!(),
+    }
+}

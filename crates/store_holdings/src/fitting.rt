@@ -1,0 +1,67 @@
+//! Whether a record has what would be asked for a file now.
+
+ghost use Rattle.std.specs.Prelude.{◌≡◌, ◌↔◌, ◌<◌, ◌+◌, Some, length, map, All, IsTrue};
+ghost use Rattle.store_shelf.specs.Placed.{IsRecordRow, IsShelfPlaced, placed_texts};
+ghost use Rattle.store_holdings.specs.Seated.{seated_product};
+ghost use Rattle.store_holdings.specs.Held.{IsAskedRow};
+
+use crate::Seats;
+use base::Entry;
+use store_codec::{Numbers, has_words, numbers_of};
+use store_shelf::{HeldPayloads, PlacedShelf, RecordRow, text_at};
+
+/// Whether a position has a seat with this product.
+fn is_seated(seats: &Seats, at: usize, product: u64) -> bool
+    requires { at < length seats.now }
+    ensures { IsTrue result ↔ (Some product ≡ seated_product seats.now at) }
+{
+    match seats.get(at) {
+        Some(seat) => seat.product as u64 == product,
+        None => false,
+    }
+}
+
+/// Whether the products of positions have these numbers, one by one.
+fn are_seated(seats: &Seats, numbers: &Numbers<'_>, positions: &[u32]) -> bool
+    requires { All (λ position. position < length seats.now) positions.now }
+    ensures { IsTrue result
+        ↔ (map (λ n. Some n) numbers.now ≡ map (seated_product seats.now) positions.now) }
+{
+    if numbers.len() != positions.len() {
+        return false;
+    }
+    for k in 0..positions.len() {
+        if !is_seated(seats, positions[k] as usize, numbers.get(k)) {
+            return false;
+        }
+    }
+    true
+}
+
+/// Whether the words, the text and the products of a record are those of a file. It takes no memory, and a time that goes by
+/// the text and the dependencies of the file alone.
+pub fn is_asked(
+    held: &HeldPayloads,
+    shelf: &PlacedShelf,
+    row: RecordRow,
+    entry: &Entry,
+    seats: &Seats,
+) -> bool
+    requires shelf { IsShelfPlaced held.now.payloads shelf.now }
+    requires row { IsRecordRow held.now.payloads shelf.now.names.keys
+        (placed_texts held.now.payloads shelf.now.texts) shelf.now.products.keys row }
+    requires command { 0 < length entry.now.command }
+    requires deps { All (λ dep. dep < length seats.now) entry.now.deps }
+    ensures { IsTrue result
+        ↔ IsAskedRow held.now.payloads (placed_texts held.now.payloads shelf.now.texts) row
+        entry.now seats.now }
+{
+    let bytes = held.get(row.payload);
+    if !has_words(bytes, row.words, &entry.command) {
+        return false;
+    }
+    if text_at(held, &shelf.texts, row.text) != entry.text.bytes() {
+        return false;
+    }
+    are_seated(seats, &numbers_of(bytes, row.deps), entry.deps.as_slice())
+}

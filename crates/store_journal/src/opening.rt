@@ -1,0 +1,249 @@
+//! Opening a journal over whatever a disk holds.
+
+ghost use Rattle.std.specs.Prelude.{◌≡◌, ◌≢◌, ◌≤◌, ℕ, [], true, false, None, length, IfOk, IfSome, OnOk};
+ghost use Rattle.outside.specs.Counts.{StoreCounts};
+ghost use Rattle.outside.specs.Disks.{reads_of, settled_disk, image_side, AtAnyMoment, OpensWith};
+ghost use Rattle.outside.specs.declared.disk.Side.TheVariants.{A};
+ghost use Rattle.store_journal.specs.Forms.{HoldsSame, has_form};
+ghost use Rattle.store_journal.specs.Payloads.{payloads, counting, generation_of, side_bytes};
+ghost use Rattle.store_journal.specs.Journals.{IsInStep, HasPayloadsOf, IsHealthy, Rests, OpensAs, CountsAs};
+ghost use Rattle.store_journal.specs.Headers.{headers_in, IsLiveOf};
+
+use crate::layout::{Headers, Live, empty_side, live_side};
+use crate::making::make_side;
+use crate::parsing::{Found, find_payloads};
+use crate::sides::{read_first, read_headers};
+use crate::{Journal, Payloads};
+use outside::{Disk, Side, StoreFault, write_durably};
+use std::alloc::Global;
+
+/// A journal, and the payloads that its disk held.
+#[derive(Drop)]
+pub struct Opened {
+    pub journal: Journal,
+    pub payloads: Payloads,
+}
+
+impl Journal {
+    /// Opens the journal of a form on a disk, whatever the disk holds: that denotes some payloads, possibly none. It
+    /// reads how each side begins, and then the side that counts alone.
+    pub fn from_disk<D: Disk>(alloc: Global, disk: &mut D, form: u8) -> Result<Opened, StoreFault>
+        // At any moment, after a fault too, a stop can leave the payloads of an image at entry.
+        ensures any_moment { D.tells →
+            AtAnyMoment (D.moments disk.old) (D.moments disk.new)
+            (HasPayloadsOf form (D.moments disk.old).now) }
+        // Once both sides are synced, it leaves those of what reads gave at entry.
+        ensures opens { D.tells →
+            OpensWith (D.moments disk.old) (D.moments disk.new)
+            (λ image. payloads form image ≡ payloads form (reads_of (D.moments disk.old).now)) }
+        // Where a side counts and its last gate is closed, nothing is written.
+        ensures rests { D.tells →
+            IsHealthy form (reads_of (D.moments disk.old).now) →
+            Rests result (D.moments disk.old) (D.moments disk.new) }
+        ensures in_step { D.tells →
+            IfOk result (λ opened. IsInStep opened.journal (D.moments disk.new).now) }
+        ensures payloads { D.tells →
+            IfOk result
+            (λ opened. opened.payloads ≡ payloads form (reads_of (D.moments disk.old).now)) }
+        ensures held { D.tells →
+            IfOk result
+            (λ opened. payloads form (reads_of (D.moments disk.new).now) ≡ opened.payloads) }
+        // The side that counts goes on counting; where none does, it is A, of generation 1.
+        ensures counts { D.tells →
+            IfOk result
+            (λ opened. OpensAs form (reads_of (D.moments disk.old).now) opened.journal) }
+        // Where none counts, A is made without payloads, and B stays.
+        ensures fresh { D.tells →
+            counting form (reads_of (D.moments disk.old).now) ≡ None →
+            OnOk result
+            (reads_of (D.moments disk.new).now
+            ≡ record { a = side_bytes form 1 []; b = (reads_of (D.moments disk.old).now).b }) }
+        ensures form { IfOk result (λ opened. opened.journal.form ≡ form) }
+        ensures usable { IfOk result (λ opened. opened.journal.broken ≡ false) }
+        ensures cause { StoreCounts result (D.failed_disk_calls disk.old)
+            (D.failed_disk_calls disk.new) }
+    {
+        let headers = read_headers(alloc, disk, form)?;
+        open_sides(alloc, disk, form, headers)
+    }
+}
+
+/// Opens the side that counts, or makes one.
+pub(crate) fn open_sides<D: Disk>(
+    alloc: Global,
+    disk: &mut D,
+    form: u8,
+    headers: Headers,
+) -> Result<Opened, StoreFault>
+    requires settled { D.tells →
+        (D.moments disk.old).now ≡ settled_disk (reads_of (D.moments disk.old).now) }
+    requires headers { D.tells → headers ≡ headers_in form (reads_of (D.moments disk.old).now) }
+    requires a_long { IfSome headers.a (λ live. 19 ≤ live.len) }
+    requires b_long { IfSome headers.b (λ live. 19 ≤ live.len) }
+    ensures any_moment { D.tells →
+        AtAnyMoment (D.moments disk.old) (D.moments disk.new)
+        (λ image. payloads form image ≡ payloads form (reads_of (D.moments disk.old).now)) }
+    // Where the form is live, each form is live where it was, with the payloads that it had.
+    ensures holds { D.tells →
+        has_form form (reads_of (D.moments disk.old).now) ≡ true →
+        AtAnyMoment (D.moments disk.old) (D.moments disk.new)
+        (HoldsSame (reads_of (D.moments disk.old).now)) }
+    // Where it isn't, no other form becomes live.
+    ensures apart { D.tells →
+        has_form form (reads_of (D.moments disk.old).now) ≡ false →
+        (other : ℕ) → other ≢ form →
+        has_form other (reads_of (D.moments disk.old).now) ≡ false →
+        AtAnyMoment (D.moments disk.old) (D.moments disk.new)
+        (λ image. has_form other image ≡ false) }
+    ensures rests { D.tells →
+        IsHealthy form (reads_of (D.moments disk.old).now) →
+        Rests result (D.moments disk.old) (D.moments disk.new) }
+    ensures in_step { D.tells →
+        IfOk result (λ opened. IsInStep opened.journal (D.moments disk.new).now) }
+    ensures payloads { D.tells →
+        IfOk result
+        (λ opened. opened.payloads ≡ payloads form (reads_of (D.moments disk.old).now)) }
+    ensures counts { D.tells →
+        IfOk result
+        (λ opened. OpensAs form (reads_of (D.moments disk.old).now) opened.journal) }
+    ensures fresh { D.tells →
+        counting form (reads_of (D.moments disk.old).now) ≡ None →
+        OnOk result
+        (reads_of (D.moments disk.new).now
+        ≡ record { a = side_bytes form 1 []; b = (reads_of (D.moments disk.old).now).b }) }
+    ensures form { IfOk result (λ opened. opened.journal.form ≡ form) }
+    ensures usable { IfOk result (λ opened. opened.journal.broken ≡ false) }
+    ensures cause { StoreCounts result (D.failed_disk_calls disk.old)
+        (D.failed_disk_calls disk.new) }
+{
+    match live_side(headers) {
+        None => begin(alloc, disk, form),
+        Some(live) => open(alloc, disk, form, live),
+    }
+}
+
+/// Makes side A, where no side counts.
+pub(crate) fn begin<D: Disk>(alloc: Global, disk: &mut D, form: u8) -> Result<Opened, StoreFault>
+    requires settled { D.tells →
+        (D.moments disk.old).now ≡ settled_disk (reads_of (D.moments disk.old).now) }
+    requires none { D.tells → counting form (reads_of (D.moments disk.old).now) ≡ None }
+    ensures any_moment { D.tells →
+        AtAnyMoment (D.moments disk.old) (D.moments disk.new)
+        (λ image. payloads form image ≡ payloads form (reads_of (D.moments disk.old).now)) }
+    ensures apart { D.tells →
+        (other : ℕ) → other ≢ form →
+        has_form other (reads_of (D.moments disk.old).now) ≡ false →
+        AtAnyMoment (D.moments disk.old) (D.moments disk.new)
+        (λ image. has_form other image ≡ false) }
+    ensures in_step { D.tells →
+        IfOk result (λ opened. IsInStep opened.journal (D.moments disk.new).now) }
+    ensures payloads { D.tells →
+        IfOk result
+        (λ opened. opened.payloads ≡ payloads form (reads_of (D.moments disk.old).now)) }
+    ensures fresh { D.tells →
+        OnOk result
+        (reads_of (D.moments disk.new).now
+        ≡ record { a = side_bytes form 1 []; b = (reads_of (D.moments disk.old).now).b }) }
+    ensures counts { IfOk result (λ opened. CountsAs A 1 opened.journal) }
+    ensures form { IfOk result (λ opened. opened.journal.form ≡ form) }
+    ensures usable { IfOk result (λ opened. opened.journal.broken ≡ false) }
+    ensures cause { StoreCounts result (D.failed_disk_calls disk.old)
+        (D.failed_disk_calls disk.new) }
+{
+    make_side(disk, Side::A, &empty_side(form))?;
+    Ok(Opened {
+        journal: Journal::of(form, Side::A, 1, 19),
+        payloads: Payloads::new(alloc),
+    })
+}
+
+/// Reads the side that counts, into one buffer, and opens it.
+fn open<D: Disk>(alloc: Global, disk: &mut D, form: u8, live: Live) -> Result<Opened, StoreFault>
+    requires size { 19 ≤ live.len }
+    requires settled { D.tells →
+        (D.moments disk.old).now ≡ settled_disk (reads_of (D.moments disk.old).now) }
+    requires live { D.tells → IsLiveOf form (reads_of (D.moments disk.old).now) live }
+    ensures any_moment { D.tells →
+        AtAnyMoment (D.moments disk.old) (D.moments disk.new)
+        (λ image. payloads form image ≡ payloads form (reads_of (D.moments disk.old).now)) }
+    ensures holds { D.tells →
+        AtAnyMoment (D.moments disk.old) (D.moments disk.new)
+        (HoldsSame (reads_of (D.moments disk.old).now)) }
+    ensures rests { D.tells →
+        IsHealthy form (reads_of (D.moments disk.old).now) →
+        Rests result (D.moments disk.old) (D.moments disk.new) }
+    ensures in_step { D.tells →
+        IfOk result (λ opened. IsInStep opened.journal (D.moments disk.new).now) }
+    ensures payloads { D.tells →
+        IfOk result
+        (λ opened. opened.payloads ≡ payloads form (reads_of (D.moments disk.old).now)) }
+    ensures counts { IfOk result (λ opened. CountsAs live.side live.generation opened.journal) }
+    ensures form { IfOk result (λ opened. opened.journal.form ≡ form) }
+    ensures usable { IfOk result (λ opened. opened.journal.broken ≡ false) }
+    ensures cause { StoreCounts result (D.failed_disk_calls disk.old)
+        (D.failed_disk_calls disk.new) }
+{
+    let bytes = read_first(alloc, disk, live.side, live.len)?;
+    open_bytes(alloc, disk, form, live, bytes)
+}
+
+/// Opens the side that counts, of these bytes: finds its payloads, and closes the gate after them where it is open.
+fn open_bytes<D: Disk>(
+    alloc: Global,
+    disk: &mut D,
+    form: u8,
+    live: Live,
+    bytes: Vec<u8>,
+) -> Result<Opened, StoreFault>
+    requires size { 19 ≤ length bytes.items }
+    requires settled { D.tells →
+        (D.moments disk.old).now ≡ settled_disk (reads_of (D.moments disk.old).now) }
+    requires live { D.tells → IsLiveOf form (reads_of (D.moments disk.old).now) live }
+    requires bytes { D.tells →
+        image_side live.side (reads_of (D.moments disk.old).now) ≡ bytes.items }
+    ensures any_moment { D.tells →
+        AtAnyMoment (D.moments disk.old) (D.moments disk.new)
+        (λ image. payloads form image ≡ payloads form (reads_of (D.moments disk.old).now)) }
+    ensures holds { D.tells →
+        AtAnyMoment (D.moments disk.old) (D.moments disk.new)
+        (HoldsSame (reads_of (D.moments disk.old).now)) }
+    ensures rests { D.tells →
+        IsHealthy form (reads_of (D.moments disk.old).now) →
+        Rests result (D.moments disk.old) (D.moments disk.new) }
+    ensures in_step { D.tells →
+        IfOk result (λ opened. IsInStep opened.journal (D.moments disk.new).now) }
+    ensures payloads { D.tells →
+        IfOk result
+        (λ opened. opened.payloads ≡ payloads form (reads_of (D.moments disk.old).now)) }
+    ensures counts { IfOk result (λ opened. CountsAs live.side live.generation opened.journal) }
+    ensures form { IfOk result (λ opened. opened.journal.form ≡ form) }
+    ensures usable { IfOk result (λ opened. opened.journal.broken ≡ false) }
+    ensures cause { StoreCounts result (D.failed_disk_calls disk.old)
+        (D.failed_disk_calls disk.new) }
+{
+    let found = find_payloads(alloc, bytes)?;
+    if !found.is_open {
+        return Ok(as_found(form, live, found));
+    }
+    write_durably(disk, live.side, found.len as u64 - 1, &[0])?;
+    Ok(as_found(form, live, found))
+}
+
+/// The journal of the side that counts, with the payloads that it holds.
+fn as_found(form: u8, live: Live, found: Found) -> Opened
+    requires { 19 ≤ found.len }
+    ensures journal { result.journal
+        ≡ record {
+          form = form;
+          live = live.side;
+          generation = live.generation;
+          len = found.len;
+          broken = false;
+        } }
+    ensures payloads { result.payloads ≡ found.payloads }
+{
+    Opened {
+        journal: Journal::of(form, live.side, live.generation, found.len as u64),
+        payloads: found.payloads,
+    }
+}

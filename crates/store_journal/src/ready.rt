@@ -1,0 +1,146 @@
+//! A payload and a side that are ready to be written, so that writing them takes no memory.
+
+ghost use Rattle.std.specs.Prelude.{◌≡◌, ◌^◌, ◌<◌, ◌≤◌, ◌++◌, ◌∷◌, [], length, All, IfOk};
+ghost use Rattle.base.specs.Bytes.{text_bytes};
+ghost use Rattle.store_journal.specs.Payloads.{side_bytes};
+ghost use Rattle.store_journal.specs.Journals.{payload_within};
+
+use crate::Payloads;
+use crate::layout::full_side;
+use base::{NoMemory, Text};
+use std::alloc::Global;
+use std::marker::Model;
+
+/// A payload that is ready to be committed. Contracts see its bytes.
+#[derive(Drop)]
+pub struct Ready {
+    bytes: Text,
+}
+
+impl Model for Ready {
+    ghost use Rattle.std.specs.Prelude.{List, ℕ};
+    ghost use Rattle.store_journal.specs.Journals.{payload_within, IsReady};
+
+    ghost Value = { List ℕ };
+
+    ghost view = { λ a. payload_within a.bytes };
+
+    ghost invariant = { λ a. IsReady a.bytes };
+}
+
+impl Ready {
+    /// A copy of the payload, with its length first and a closed gate after, in no more memory than that.
+    pub(crate) fn new(alloc: Global, payload: &[u8]) -> Result<Ready, NoMemory>
+        requires { length payload.now < 2 ^ 32 }
+        ensures { IfOk result (λ ready. ready ≡ payload.now) }
+    {
+        let bytes = framed(alloc, payload)?;
+        Ok(Ready {
+            bytes: Text::from_vec(bytes),
+        })
+    }
+
+    /// The payload, lent from what is written.
+    pub fn payload(&self) -> &[u8]
+        ensures { result.now ≡ self.now }
+    {
+        inner(self.bytes())
+    }
+
+    /// What is written after the closed gate.
+    pub(crate) fn bytes(&self) -> &[u8]
+        ensures bytes { result.now ≡ text_bytes self.now ++ 0 ∷ [] }
+        ensures small { length self.now < 2 ^ 32 }
+    {
+        self.bytes.bytes()
+    }
+}
+
+/// A payload after its length and before a closed gate, in a buffer of just these bytes.
+#[tactic(auto, unfolding(base::specs::Bytes::text_bytes))]
+fn framed(alloc: Global, payload: &[u8]) -> Result<Vec<u8>, NoMemory>
+    requires { length payload.now < 2 ^ 32 }
+    ensures { IfOk result (λ bytes. bytes.items ≡ text_bytes payload.now ++ 0 ∷ []) }
+{
+    let length = payload.len() as u32;
+    let mut bytes = Vec::with_capacity(alloc, payload.len() + 5)?;
+    bytes.extend_from_slice(&length.to_le_bytes())?;
+    bytes.extend_from_slice(payload)?;
+    bytes.push(0)?;
+    Ok(bytes)
+}
+
+/// What is between a length of four bytes and the gate at the end.
+fn inner(bytes: &[u8]) -> &[u8]
+    requires { 5 ≤ length bytes.now }
+    ensures { result.now ≡ payload_within bytes.now }
+{
+    let end = bytes.len() - 1;
+    &bytes[4..end]
+}
+
+/// A side that is ready to take the place of the one that counts. Contracts see its content.
+#[derive(Drop)]
+pub struct ReadySide {
+    form: u8,
+    generation: u64,
+    bytes: Text,
+}
+
+impl Model for ReadySide {
+    ghost use Rattle.std.specs.Prelude.{◌∷◌};
+    ghost use Rattle.store_journal.specs.Payloads.{payloads_in};
+    ghost use Rattle.store_journal.specs.Journals.{SideContent, IsReadySide};
+
+    ghost Value = { SideContent };
+
+    ghost view = { λ a. record {
+      form = a.form;
+      generation = a.generation;
+      payloads = payloads_in (1 ∷ a.bytes);
+    } };
+
+    ghost invariant = { λ a. IsReadySide a.form a.generation a.bytes };
+}
+
+impl ReadySide {
+    /// The side of these payloads.
+    pub(crate) fn new(
+        alloc: Global,
+        form: u8,
+        generation: u64,
+        payloads: &Payloads,
+    ) -> Result<ReadySide, NoMemory>
+        ensures { IfOk result
+            (λ side.
+            side
+            ≡ record { form = form; generation = generation; payloads = payloads.now }) }
+    {
+        Ok(ReadySide {
+            form,
+            generation,
+            bytes: full_side(alloc, form, generation, payloads)?,
+        })
+    }
+
+    pub(crate) fn form(&self) -> u8
+        ensures { result ≡ self.now.form }
+    {
+        self.form
+    }
+
+    pub(crate) fn generation(&self) -> u64
+        ensures { result ≡ self.now.generation }
+    {
+        self.generation
+    }
+
+    /// The bytes of the side, but for the first, which is 1.
+    pub(crate) fn bytes(&self) -> &[u8]
+        ensures bytes { 1 ∷ result.now
+            ≡ side_bytes self.now.form self.now.generation self.now.payloads }
+        ensures small { All (λ payload. length payload < 2 ^ 32) self.now.payloads }
+    {
+        self.bytes.bytes()
+    }
+}

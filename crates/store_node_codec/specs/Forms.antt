@@ -1,0 +1,87 @@
+-- Payloads of nodes as bytes: what bytes spell, and how a payload is spelled.
+use Rattle.std.specs.Prelude.{ℕ, List, [], ◌∷◌, ◌==◌, length, Option, Some, None, if◌then◌else◌}
+use Rattle.std.specs.Int.{w64}
+use Rattle.base.specs.declared.file.FileName.{FileName}
+use Rattle.base_bytes.specs.Reading.{◌>>=◌, number_at, text_at, counted_at}
+use Rattle.base_bytes.specs.Names.{name_at}
+
+-- the text of a new node: one that is there by its number, or a new one
+pub data TextSource : Type 0 where
+  Known : (number : ℕ) → TextSource
+  New : (text : List ℕ) → TextSource
+
+-- a new node as it is spelled
+pub record Draft : Type 0 where
+  pub name : FileName
+  pub command : List (List ℕ)
+  pub source : TextSource
+  pub deps : List ℕ
+
+-- a payload: one more record of a node, a new node with its record, or a new node alone
+pub data NodePayload : Type 0 where
+  OfNode : (number : ℕ) (artefact : List ℕ) → NodePayload
+  OfDraft : (draft : Draft) (artefact : List ℕ) → NodePayload
+  DraftAlone : (draft : Draft) → NodePayload
+
+-- the first byte
+abbrev pub byte_at : List ℕ → Option (ℕ × List ℕ)
+byte_at [] = None
+byte_at (byte ∷ rest) = Some (byte, rest)
+
+unfoldable pub known_at : List ℕ → Option (TextSource × List ℕ)
+known_at bytes = do
+  number ← number_at w64 bytes
+  Some (Known number.0, number.1)
+
+unfoldable pub new_at : List ℕ → Option (TextSource × List ℕ)
+new_at bytes = do
+  text ← text_at bytes
+  Some (New text.0, text.1)
+
+-- by a tag: 0 before a number, and 1 before a text
+unfoldable pub source_by : ℕ → List ℕ → Option (TextSource × List ℕ)
+source_by tag bytes = if tag == 0 then known_at bytes else (if tag == 1 then new_at bytes else None)
+
+unfoldable pub source_at : List ℕ → Option (TextSource × List ℕ)
+source_at bytes = do
+  tag ← byte_at bytes
+  source_by tag.0 tag.1
+
+unfoldable pub draft_at : List ℕ → Option (Draft × List ℕ)
+draft_at bytes = do
+  name ← name_at bytes
+  command ← counted_at text_at name.1
+  source ← source_at command.1
+  deps ← counted_at (number_at w64) source.1
+  Some (record { name = name.0; command = command.0; source = source.0; deps = deps.0 }, deps.1)
+
+-- what was read whole
+abbrev pub at_end : {X : Type 0} → X × List ℕ → Option X
+at_end read = if length read.1 == 0 then Some read.0 else None
+
+unfoldable pub of_node_in : List ℕ → Option NodePayload
+of_node_in bytes = do
+  number ← number_at w64 bytes
+  artefact ← text_at number.1
+  at_end (OfNode number.0 artefact.0, artefact.1)
+
+unfoldable pub of_draft_in : List ℕ → Option NodePayload
+of_draft_in bytes = do
+  draft ← draft_at bytes
+  artefact ← text_at draft.1
+  at_end (OfDraft draft.0 artefact.0, artefact.1)
+
+unfoldable pub draft_alone_in : List ℕ → Option NodePayload
+draft_alone_in bytes = do
+  draft ← draft_at bytes
+  at_end (DraftAlone draft.0, draft.1)
+
+-- by a tag: 0, 1 or 2
+unfoldable pub node_payload_by : ℕ → List ℕ → Option NodePayload
+node_payload_by tag bytes = if tag == 0 then of_node_in bytes else (if tag == 1 then of_draft_in bytes else (if tag == 2 then draft_alone_in bytes else None))
+
+-- what all of the bytes spell
+unfoldable pub node_payload_in : List ℕ → Option NodePayload
+node_payload_in bytes = do
+  tag ← byte_at bytes
+  node_payload_by tag.0 tag.1

@@ -1,0 +1,12 @@
+-- The lemmas.
+pub mod Nodes
+pub mod Places
+pub mod Filling
+pub mod Listed
+pub mod Fitted
+pub mod Marked
+pub mod SameNodes
+pub mod Drafted
+pub mod Taken
+pub mod Shelved
+pub mod Grown

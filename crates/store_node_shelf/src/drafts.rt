@@ -1,0 +1,121 @@
+//! A draft of a new node as a row of the table.
+
+ghost use Rattle.std.specs.Prelude.{◌≡◌, ◌↔◌, ◌<◌, length, All, Contains, IsTrue, IfOk, IfSome, SomeIff, is_some};
+ghost use Rattle.store_node_codec.specs.Shelves.{is_source, source_number};
+ghost use Rattle.store_node_codec.specs.Spans.{draft_in, source_in};
+ghost use Rattle.store_node_shelf.specs.Places.{AreTexts, texts_in};
+ghost use Rattle.store_node_shelf.specs.Drafts.{HasMoreNames, IsDraftRow, IsNewRow, node_with};
+
+use crate::texts::find_text;
+use crate::{NodeTable, Pieces, Row, TextPlaces};
+use base::NoMemory;
+use std::alloc::Global;
+use store_node_codec::{DraftSpans, SourceSpan, bytes_of, name_of, numbers_of, words_of};
+
+/// The number of a text that is named by its number, if one has it.
+fn known_number(texts: &TextPlaces, number: u64) -> Option<usize>
+    ensures { SomeIff result (number < length texts.now.places.items) number }
+{
+    if number < texts.places.len() as u64 {
+        Some(number as usize)
+    } else {
+        None
+    }
+}
+
+/// The number that a new text will have, if it isn't there.
+fn new_number(pieces: &Pieces, texts: &TextPlaces, text: &[u8]) -> Option<usize>
+    requires { AreTexts pieces.now.payloads texts.now }
+    ensures { SomeIff result (¬ Contains (texts_in pieces.now.payloads texts.now) text.now)
+        (length texts.now.places.items) }
+{
+    match find_text(pieces, texts, text) {
+        Some(_number) => None,
+        None => Some(texts.places.len()),
+    }
+}
+
+/// The number of the text of a draft, where it is there as it says, or is new.
+fn number_of_source(
+    pieces: &Pieces,
+    texts: &TextPlaces,
+    bytes: &[u8],
+    source: SourceSpan,
+) -> Option<usize>
+    requires { AreTexts pieces.now.payloads texts.now }
+    ensures is { is_some result
+        ≡ is_source (texts_in pieces.now.payloads texts.now) (source_in bytes.now source) }
+    ensures number { IfSome result
+        (λ number.
+        number
+        ≡ source_number (texts_in pieces.now.payloads texts.now) (source_in bytes.now source)) }
+{
+    match source {
+        SourceSpan::KnownText(number) => known_number(texts, number),
+        SourceSpan::NewText(span) => new_number(pieces, texts, bytes_of(bytes, span)),
+    }
+}
+
+/// Whether all numbers are below a bound.
+fn are_below(numbers: &[usize], bound: usize) -> bool
+    ensures { IsTrue result ↔ All (λ number. number < bound) numbers.now }
+{
+    for number in numbers {
+        if *number >= bound {
+            return false;
+        }
+    }
+    true
+}
+
+/// The row of a draft whose text has a number. Its name and its command are added where they are new.
+fn row_of(
+    alloc: Global,
+    table: &mut NodeTable,
+    bytes: &[u8],
+    draft: DraftSpans,
+    text: usize,
+) -> Result<Row, NoMemory>
+    ensures row { IfOk result
+        (λ row. IsDraftRow table.new (node_with (draft_in bytes.now draft) text) row) }
+    ensures nodes { table.new.nodes ≡ table.old.nodes }
+    ensures names { HasMoreNames table.old.names table.new.names }
+{
+    let name = table.add_name(name_of(alloc, bytes, draft.library, draft.path)?)?;
+    let command = table.add_command(words_of(alloc, bytes, draft.words)?)?;
+    let deps = numbers_of(alloc, bytes, draft.deps)?;
+    Ok(Row {
+        name,
+        command,
+        text,
+        deps,
+    })
+}
+
+/// The row of a draft that is no node yet, of a text that is there or new, and whose dependencies are there.
+pub fn new_row(
+    alloc: Global,
+    table: &mut NodeTable,
+    pieces: &Pieces,
+    texts: &TextPlaces,
+    bytes: &[u8],
+    draft: DraftSpans,
+) -> Result<Option<Row>, NoMemory>
+    requires { AreTexts pieces.now.payloads texts.now }
+    ensures row { IfOk result
+        (IsNewRow (texts_in pieces.now.payloads texts.now) table.new (draft_in bytes.now draft)) }
+    ensures nodes { table.new.nodes ≡ table.old.nodes }
+    ensures names { HasMoreNames table.old.names table.new.names }
+{
+    let Some(text) = number_of_source(pieces, texts, bytes, draft.source) else {
+        return Ok(None);
+    };
+    let row = row_of(alloc, table, bytes, draft, text)?;
+    if !are_below(row.deps.as_slice(), table.len()) {
+        return Ok(None);
+    }
+    if table.node_number(&row).is_some() {
+        return Ok(None);
+    }
+    Ok(Some(row))
+}

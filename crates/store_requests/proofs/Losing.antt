@@ -1,0 +1,21 @@
+-- What is said of a run in other words, and what is never lost.
+use Rattle.std.proofs.Common.{List, [], ◌∷◌}
+use Rattle.std.specs.List.{AllByRecursion}
+use Rattle.outside.specs.Disks.{AtAnyMoment, DiskState, EachImage, Image, Moments, NeverLoses, StaysTrue, added_since}
+
+keeps_as : (Q P R : Image → Type 0) → ((image : Image) → Q image → R image → P image) → ((image : Image) → Q image → P image → R image) → (disk : DiskState) (states : List DiskState) → AllByRecursion (EachImage Q) (disk ∷ states) → StaysTrue P disk states → StaysTrue R disk states
+keeps_as Q P R to from disk [] all keeps = tt
+keeps_as Q P R to from disk (next ∷ later) all keeps =
+    ((λ each image is. from image (all.1.0 image is) (keeps.0 (λ other there. to other (all.0 other there) (each other there)) image is)), keeps_as Q P R to from next later all.1 keeps.1)
+
+-- where two things are the same of all images of a run, what is said of one is said of the other
+pub losses_as : (old new : Moments) (Q P R : Image → Type 0) → ((image : Image) → Q image → R image → P image) → ((image : Image) → Q image → P image → R image) → AtAnyMoment old new Q → NeverLoses old new P → NeverLoses old new R
+losses_as old new Q P R to from moments never = record { follows = never.follows; keeps = keeps_as Q P R to from old.now (added_since old new) moments.each never.keeps }
+
+always_keeps : (P : Image → Type 0) (disk : DiskState) (states : List DiskState) → AllByRecursion (EachImage P) states → StaysTrue P disk states
+always_keeps P disk [] all = tt
+always_keeps P disk (next ∷ later) all = ((λ each. all.0), always_keeps P next later all.1)
+
+-- what each image of each moment has is never lost
+pub always_had : (old new : Moments) (P : Image → Type 0) → AtAnyMoment old new P → NeverLoses old new P
+always_had old new P moments = record { follows = moments.follows; keeps = always_keeps P old.now (added_since old new) moments.each.1 }

@@ -1,0 +1,121 @@
+//! The records of a disk as they are, whichever form it has.
+
+ghost use Rattle.std.specs.Prelude.{◌≡◌, ◌↔◌, false, IfOk, OnOk};
+ghost use Rattle.outside.specs.Counts.{StoreCounts};
+ghost use Rattle.outside.specs.Disks.{AtAnyMoment, OpensWith, reads_of};
+ghost use Rattle.store_journal.specs.Forms.{has_form};
+ghost use Rattle.store_journal.specs.Journals.{IsHealthy, IsInStep, Rests};
+ghost use Rattle.store_journal.specs.Payloads.{payloads};
+ghost use Rattle.store_codec.specs.Carrying.{compacted_requests};
+ghost use Rattle.store_codec.specs.Shelves.{requests_among};
+ghost use Rattle.store_requests.specs.Stored.{AreAllOrLatest, AsksCarrying, HasRequestsOf, ImageAsksCarrying, IsRequestStoreInStep, kept_payloads, requests_in, store_of};
+
+use outside::{Disk, StoreFault};
+use std::alloc::Global;
+use store_holdings::RequestHoldings;
+use store_journal::{Journal, Opened, Payloads};
+use store_takeover::taken_over;
+
+/// The form of the payloads of this store.
+pub const FORM: u8 = 3;
+
+/// The form of the stores whose records are taken over.
+pub const EARLIER_FORM: u8 = 2;
+
+/// A journal, and what its payloads stand for.
+#[derive(Drop)]
+pub struct Parts {
+    pub journal: Journal,
+    pub held: RequestHoldings,
+}
+
+/// Opens the records of a disk as they are. Where a store of the earlier form counts, its records are first put in a side of
+/// their own, beside it.
+pub fn read<D: Disk>(alloc: Global, disk: &mut D) -> Result<Parts, StoreFault>
+    ensures any_moment { D.tells →
+        AtAnyMoment (D.moments disk.old) (D.moments disk.new)
+        (HasRequestsOf (D.moments disk.old).now) }
+    ensures opens { D.tells →
+        let before = requests_in (reads_of (D.moments disk.old).now) in
+        OpensWith (D.moments disk.old) (D.moments disk.new)
+        (λ image. AreAllOrLatest before (requests_in image)) }
+    ensures rests { D.tells →
+        IsHealthy 3 (reads_of (D.moments disk.old).now) →
+        Rests result (D.moments disk.old) (D.moments disk.new) }
+    ensures keeps { D.tells →
+        OnOk result
+        (kept_payloads (reads_of (D.moments disk.new).now)
+        ≡ kept_payloads (reads_of (D.moments disk.old).now)) }
+    ensures records { D.tells →
+        OnOk result
+        (requests_in (reads_of (D.moments disk.new).now)
+        ≡ requests_in (reads_of (D.moments disk.old).now)) }
+    // What is read asks for compaction exactly where the disk did.
+    ensures asks { D.tells →
+        IfOk result
+        (λ parts.
+        AsksCarrying parts.journal.generation parts.held.payloads
+        ↔ ImageAsksCarrying (reads_of (D.moments disk.old).now)) }
+    ensures in_step { D.tells →
+        IfOk result
+        (λ parts.
+        IsRequestStoreInStep (store_of parts.journal parts.held) (D.moments disk.new).now) }
+    ensures form { IfOk result (λ parts. parts.journal.form ≡ 3) }
+    ensures usable { IfOk result (λ parts. parts.journal.broken ≡ false) }
+    ensures cause { StoreCounts result (D.failed_disk_calls disk.old)
+        (D.failed_disk_calls disk.new) }
+{
+    let Opened { journal, payloads } = Journal::found_in(alloc, disk, FORM, EARLIER_FORM)?;
+    if journal.form() == FORM {
+        let held = RequestHoldings::of(alloc, payloads)?;
+        return Ok(Parts { journal, held });
+    }
+    let parts = take_over(alloc, disk, journal, payloads)?;
+    Ok(parts)
+}
+
+/// Puts the records of a store of the earlier form in a side of their own, beside it. It takes all its memory before it
+/// writes.
+fn take_over<D: Disk>(
+    alloc: Global,
+    disk: &mut D,
+    mut journal: Journal,
+    opened: Payloads,
+) -> Result<Parts, StoreFault>
+    requires usable { journal.broken ≡ false }
+    requires form { journal.form ≡ 2 }
+    requires in_step { D.tells → IsInStep journal (D.moments disk.old).now }
+    requires none { D.tells → has_form 3 (reads_of (D.moments disk.old).now) ≡ false }
+    requires payloads { D.tells → payloads 2 (reads_of (D.moments disk.old).now) ≡ opened }
+    ensures any_moment { D.tells →
+        let before = requests_in (reads_of (D.moments disk.old).now) in
+        AtAnyMoment (D.moments disk.old) (D.moments disk.new)
+        (λ image. AreAllOrLatest before (requests_in image)) }
+    ensures keeps { D.tells →
+        OnOk result
+        (kept_payloads (reads_of (D.moments disk.new).now)
+        ≡ kept_payloads (reads_of (D.moments disk.old).now)) }
+    ensures records { D.tells →
+        OnOk result
+        (requests_in (reads_of (D.moments disk.new).now)
+        ≡ requests_in (reads_of (D.moments disk.old).now)) }
+    ensures live { IfOk result
+        (λ parts.
+        parts.held.payloads ≡ compacted_requests (requests_among parts.held.payloads)) }
+    ensures in_step { D.tells →
+        IfOk result
+        (λ parts.
+        IsRequestStoreInStep (store_of parts.journal parts.held) (D.moments disk.new).now) }
+    ensures form { IfOk result (λ parts. parts.journal.form ≡ 3) }
+    ensures usable { IfOk result (λ parts. parts.journal.broken ≡ false) }
+    ensures cause { StoreCounts result (D.failed_disk_calls disk.old)
+        (D.failed_disk_calls disk.new) }
+{
+    let taken = taken_over(alloc, &journal, opened)?;
+    let side = Journal::first_side(alloc, FORM, &taken)?;
+    let held = RequestHoldings::of(alloc, taken)?;
+    match journal.change_form(disk, side) {
+        Ok(()) => Ok(Parts { journal, held }),
+        Err(_fault) => Err(StoreFault::DiskFailed),
+    }
+}

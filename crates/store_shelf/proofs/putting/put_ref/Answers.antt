@@ -1,0 +1,12 @@
+use Rattle.std.proofs.Common.{◌≡◌, true, sym, subst}
+use Rattle.store_codec.specs.Ranges.{ranged, ref_in_range}
+use Rattle.store_codec.specs.Shelves.{is_text_ref}
+use Rattle.store_shelf.specs.Placed.{nth_payload, placed_texts}
+use Rattle.store_codec.specs.declared.reading.TextRange.{TextRange}
+use Rattle.store_shelf.proofs.Finding.{is_new}
+use Rattle.store_shelf.proofs.putting.put_ref.Goals as goal
+
+pub put_text-requires-clause-new : goal.put_text-requires-clause-new
+put_text-requires-clause-new c =
+    is_new (placed_texts c.args.held.now.payloads c.args.texts.now) (ranged (nth_payload c.args.held.now.payloads c.args.at) c.in-Full.range)
+    (subst (λ (s : TextRange). is_text_ref (placed_texts c.args.held.now.payloads c.args.texts.now) (ref_in_range (nth_payload c.args.held.now.payloads c.args.at) s) ≡ true) c.in-Full.is c.requires.source)

@@ -1,0 +1,37 @@
+use Rattle.std.proofs.Common.{◌≡◌, List, [], ℕ, true≢false, sym, ap, subst, ◌∙◌}
+use Rattle.std.proofs.lemmas.Option.{get_or_from_slice_get}
+use Rattle.base.specs.declared.file.FileName.{FileName}
+use Rattle.base.specs.Names.{FitsName}
+use Rattle.store_codec.specs.Forms.{ProductDraft}
+use Rattle.store_codec.specs.Ranges.{product_in_ranges, ranged}
+use Rattle.store_codec.specs.Shelves.{RequestShelf}
+use Rattle.store_shelf.specs.Checked.{IsNameNumber}
+use Rattle.store_shelf.specs.Placed.{nth_payload, placed_shelf}
+use Rattle.store_shelf.proofs.Takes.{took_no_product}
+use Rattle.store_shelf.proofs.taking.take_product.Goals as goal
+
+pub returns-then-not-fits : goal.returns-then-not-fits
+returns-then-not-fits c =
+    let payloads = c.args.held.now.payloads in
+    let shelf : RequestShelf = placed_shelf payloads c.args.shelf.now in
+    let draft : ProductDraft = product_in_ranges (nth_payload payloads c.args.at) c.args.draft in
+    let bytes : c.get.result.now ≡ nth_payload payloads c.args.at = sym (get_or_from_slice_get payloads c.args.at c.get.result.now [] c.get.ensures) in
+    let named : c.in_ok-name.name ≡ draft.name = c.in_ok-name.ensures ∙ ap (λ (bs : List ℕ). record { library = ranged bs c.args.draft.library; path = ranged bs c.args.draft.path }) bytes in
+    record {
+      are = record { texts = c.requires.shelf.texts; rows = c.requires.shelf.rows; names_once = c.requires.shelf.names_once; latest = c.requires.shelf.latest };
+      is = took_no_product shelf draft (λ is. true≢false (sym (c.fits.ensures.1 (subst FitsName (sym named) is.name)) ∙ c.if-not-fits.true));
+    }
+
+pub take_named_product-requires-clause-name : goal.take_named_product-requires-clause-name
+take_named_product-requires-clause-name c =
+    let payloads = c.args.held.now.payloads in
+    let bytes : c.get.result.now ≡ nth_payload payloads c.args.at = sym (get_or_from_slice_get payloads c.args.at c.get.result.now [] c.get.ensures) in
+    let named = c.in_ok-name.ensures ∙ ap (λ (bs : List ℕ). record { library = ranged bs c.args.draft.library; path = ranged bs c.args.draft.path }) bytes in
+    subst (λ (n : FileName). IsNameNumber c.number_name.new.shelf.names.keys n c.in_ok-number.number) named c.in_ok-number.ensures.named
+
+pub take_named_product-requires-clause-fits : goal.take_named_product-requires-clause-fits
+take_named_product-requires-clause-fits c =
+    let payloads = c.args.held.now.payloads in
+    let bytes : c.get.result.now ≡ nth_payload payloads c.args.at = sym (get_or_from_slice_get payloads c.args.at c.get.result.now [] c.get.ensures) in
+    let named = c.in_ok-name.ensures ∙ ap (λ (bs : List ℕ). record { library = ranged bs c.args.draft.library; path = ranged bs c.args.draft.path }) bytes in
+    subst FitsName named (c.fits.ensures.0 c.if-not-fits.false)

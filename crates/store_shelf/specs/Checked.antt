@@ -1,0 +1,75 @@
+-- Drafts whose parts are looked up among what is placed.
+use Rattle.std.specs.Prelude.{◌≡◌, ◌≢◌, ℕ, ◌<◌, ◌≤◌, true, List, [], ◌∷◌, ◌++◌, if◌then◌else◌, length, map, All, AllPairs, slice_get, slice_index_or, Option, None, Some}
+use Rattle.base.specs.declared.file.FileName.{FileName}
+use Rattle.base.specs.declared.limits.TheConstants.{ARTEFACT_LIMIT, FILE_LIMIT, TEXT_LIMIT}
+use Rattle.store_codec.specs.Forms.{ProductDraft, RequestDraft, RequestPayload, TextRef}
+use Rattle.store_codec.specs.Forms.TextRef.{ByNumber, InFull}
+use Rattle.store_codec.specs.Shelves.{IsNewProduct, IsRequest, RequestShelf, drafted_artefact, is_text_ref, told_text, with_request_payload, with_text}
+use Rattle.store_shelf.specs.declared.products.ProductRow.{ProductRow}
+use Rattle.store_shelf.specs.declared.checking.TextNumbers.{TextNumbers}
+use Rattle.std.specs.List.{list_any}
+use Rattle.store_shelf.specs.ProductRows.{is_same_product_row}
+use Rattle.store_shelf.specs.declared.shelf.PlacedShelf.{PlacedShelf}
+use Rattle.store_shelf.specs.Placed.{IsShelfPlaced, no_row, placed_shelf}
+
+-- the number of a text that is there, or that a new one will have
+abbrev pub ref_number : List (List ℕ) → TextRef → ℕ
+ref_number texts (ByNumber number) = number
+ref_number texts (InFull text) = length texts
+
+-- the number of a text, where it is there or new as it says
+abbrev pub IsRefNumber : List (List ℕ) → TextRef → Option ℕ → Type 0
+IsRefNumber texts source None = ¬ (is_text_ref texts source ≡ true)
+IsRefNumber texts source (Some number) = (is_text_ref texts source ≡ true) × (number ≡ ref_number texts source)
+
+-- the texts of a draft of a record are there or new as it says, and have the sizes of a record
+pub record HasRequestTexts (texts : List (List ℕ)) (draft : RequestDraft) : Type 0 where
+  pub source : is_text_ref texts draft.source ≡ true
+  pub text_small : length (told_text texts draft.source) ≤ TEXT_LIMIT
+  pub artefact : is_text_ref (with_text texts draft.source) draft.artefact ≡ true
+  pub small : length (drafted_artefact texts draft) ≤ ARTEFACT_LIMIT
+
+-- the numbers of the texts of a draft of a record
+pub record AreTextNumbers (texts : List (List ℕ)) (draft : RequestDraft) (numbers : TextNumbers) : Type 0 where
+  pub text : numbers.text ≡ ref_number texts draft.source
+  pub artefact : numbers.artefact ≡ ref_number (with_text texts draft.source) draft.artefact
+
+abbrev pub AreRequestTexts : List (List ℕ) → RequestDraft → Option TextNumbers → Type 0
+AreRequestTexts texts draft None = ¬ HasRequestTexts texts draft
+AreRequestTexts texts draft (Some numbers) = HasRequestTexts texts draft × AreTextNumbers texts draft numbers
+
+-- a draft of a record with the numbers of its texts, or that it is none
+abbrev pub IsCheckedRequest : RequestShelf → RequestDraft → Option TextNumbers → Type 0
+IsCheckedRequest shelf draft None = ¬ IsRequest shelf draft
+IsCheckedRequest shelf draft (Some numbers) = IsRequest shelf draft × AreTextNumbers shelf.texts draft numbers
+
+-- a draft of a new product with the number of its artefact, or that it is none
+abbrev pub IsCheckedProduct : RequestShelf → ProductDraft → Option ℕ → Type 0
+IsCheckedProduct shelf draft None = ¬ IsNewProduct shelf draft
+IsCheckedProduct shelf draft (Some number) = IsNewProduct shelf draft × (number ≡ ref_number shelf.texts draft.artefact)
+
+-- the numbers of the names of products
+abbrev pub dep_names : List ProductRow → List ℕ → List ℕ
+dep_names products deps = map (λ dep. (slice_index_or products dep no_row).name) deps
+
+-- So few products are there, and no two of them, nor the file of a name, have one name.
+pub record HasRowDeps (products : List ProductRow) (name : ℕ) (deps : List ℕ) : Type 0 where
+  pub few : length deps < FILE_LIMIT
+  pub there : All (λ dep. dep < length products) deps
+  pub apart : AllPairs (λ a b. a ≢ b) (name ∷ dep_names products deps)
+
+-- a name has a number
+abbrev pub IsNameNumber : List FileName → FileName → ℕ → Type 0
+IsNameNumber names name number = slice_get names number ≡ Some name
+
+-- the number of a product among products, with it at the end where it wasn't there
+pub record PutsProduct (row : ProductRow) (number : ℕ) (old new : List ProductRow) : Type 0 where
+  pub more : List ProductRow
+  pub grown : new ≡ old ++ more
+  pub numbered : slice_get new number ≡ Some row
+  pub new_is : new ≡ (if list_any (is_same_product_row row) old then old else old ++ row ∷ [])
+
+-- A payload was taken up.
+pub record Took (payloads : List (List ℕ)) (old : RequestShelf) (new : PlacedShelf) (payload : RequestPayload) : Type 0 where
+  pub are : IsShelfPlaced payloads new
+  pub is : placed_shelf payloads new ≡ with_request_payload old payload

@@ -1,0 +1,97 @@
+-- Texts, products and records as places in payloads.
+use Rattle.std.specs.Prelude.{◌≡◌, ◌≢◌, ℕ, ◌<◌, ◌≤◌, ◌-◌, List, [], length, map, min, All, AllPairs, slice_index_or}
+use Rattle.std.specs.Vec.{vec_len, vec_capacity}
+use Rattle.base.specs.declared.file.FileName.{FileName}
+use Rattle.base.specs.declared.graph.BuiltFile.{BuiltFile}
+use Rattle.base_text_index.specs.Splits.{AreSplit}
+use Rattle.outside.specs.Records.{Record as RequestRecord}
+use Rattle.store_codec.specs.Ranges.{counted_numbers, counted_words, ranged}
+use Rattle.store_codec.specs.Shelves.{RequestShelf, product_at}
+use Rattle.store_shelf.specs.declared.products.ProductRow.{ProductRow}
+use Rattle.store_shelf.specs.declared.texts.PlacedText.{PlacedText}
+use Rattle.store_shelf.specs.declared.texts.PlacedTexts.{PlacedTexts}
+use Rattle.store_shelf.specs.declared.shelf.RecordRow.{RecordRow}
+use Rattle.store_shelf.specs.declared.shelf.PlacedShelf.{PlacedShelf}
+
+-- payloads in order, and for how many more there is room
+pub record HeldList : Type 0 where
+  pub payloads : List (List ℕ)
+  pub room : ℕ
+
+abbrev pub nth_payload : List (List ℕ) → ℕ → List ℕ
+nth_payload payloads number = slice_index_or payloads number []
+
+abbrev pub placed_text : List (List ℕ) → PlacedText → List ℕ
+placed_text payloads place = ranged (nth_payload payloads place.payload) place.range
+
+abbrev pub placed_texts : List (List ℕ) → PlacedTexts → List (List ℕ)
+placed_texts payloads texts = map (placed_text payloads) texts.places.items
+
+-- Texts are in payloads that are there, and each comes to its own number.
+pub record AreTextsPlaced (payloads : List (List ℕ)) (texts : PlacedTexts) : Type 0 where
+  pub within : All (λ place. place.payload < length payloads) texts.places.items
+  pub split : AreSplit (placed_texts payloads texts) texts.index.splits
+
+abbrev pub no_name : FileName
+no_name = record { library = []; path = [] }
+
+-- the product of a row of numbers
+abbrev pub row_product : List FileName → List (List ℕ) → ProductRow → BuiltFile
+row_product names texts row = record { name = slice_index_or names row.name no_name; artefact = slice_index_or texts row.text [] }
+
+abbrev pub row_products : List FileName → List (List ℕ) → List ProductRow → List BuiltFile
+row_products names texts rows = map (row_product names texts) rows
+
+-- the numbers of the products that a record depends on
+abbrev pub row_deps : List (List ℕ) → RecordRow → List ℕ
+row_deps payloads row = counted_numbers (nth_payload payloads row.payload) row.deps
+
+-- the record of a row, over texts and products
+abbrev pub row_record : List (List ℕ) → List FileName → List (List ℕ) → List BuiltFile → RecordRow → RequestRecord
+row_record payloads names texts products row = record { asked = record { command = counted_words (nth_payload payloads row.payload) row.words; name = slice_index_or names row.name no_name; text = slice_index_or texts row.text []; below = map (product_at products) (row_deps payloads row) }; artefact = (product_at products row.product).artefact }
+
+-- what rows of numbers stand for
+abbrev pub shelf_by : List (List ℕ) → List FileName → List (List ℕ) → List ProductRow → List RecordRow → RequestShelf
+shelf_by payloads names texts products rows = record { texts = texts; products = row_products names texts products; records = map (row_record payloads names texts (row_products names texts products)) rows }
+
+abbrev pub placed_shelf : List (List ℕ) → PlacedShelf → RequestShelf
+placed_shelf payloads shelf = shelf_by payloads shelf.names.keys (placed_texts payloads shelf.texts) shelf.products.keys shelf.rows.items
+
+abbrev pub no_row : ProductRow
+no_row = record { name = 0; text = 0 }
+
+-- the numbers of a product are those of a name and a text
+pub record IsProductRow (names : List FileName) (texts : List (List ℕ)) (row : ProductRow) : Type 0 where
+  pub name : row.name < length names
+  pub text : row.text < length texts
+
+-- the numbers of a record are those of a payload, a name, a text and products, of which its own has its name
+pub record IsRecordRow (payloads : List (List ℕ)) (names : List FileName) (texts : List (List ℕ)) (products : List ProductRow) (row : RecordRow) : Type 0 where
+  pub payload : row.payload < length payloads
+  pub name : row.name < length names
+  pub text : row.text < length texts
+  pub product : row.product < length products
+  pub own : (slice_index_or products row.product no_row).name ≡ row.name
+  pub deps : All (λ dep. dep < length products) (row_deps payloads row)
+
+-- Rows have numbers that are there.
+pub record AreRowsPlaced (payloads : List (List ℕ)) (names : List FileName) (texts : List (List ℕ)) (products : List ProductRow) (rows : List RecordRow) : Type 0 where
+  pub products_are : All (IsProductRow names texts) products
+  pub rows_are : All (IsRecordRow payloads names texts products) rows
+
+-- What is placed is in payloads that are there, and records are found by the numbers of their names.
+pub record IsShelfPlaced (payloads : List (List ℕ)) (shelf : PlacedShelf) : Type 0 where
+  pub texts : AreTextsPlaced payloads shelf.texts
+  pub rows : AreRowsPlaced payloads shelf.names.keys (placed_texts payloads shelf.texts) shelf.products.keys shelf.rows.items
+  pub names_once : AllPairs (λ a b. a ≢ b) shelf.names.keys
+  pub latest : shelf.latest.marks ≡ map (λ row. row.name) shelf.rows.items
+
+-- for how many more texts, and for how many more products and records, there is room
+abbrev pub text_room : PlacedTexts → ℕ
+text_room texts = min (vec_capacity texts.places - vec_len texts.places) texts.index.room
+
+pub record HasRowRoom (shelf : PlacedShelf) : Type 0 where
+  pub texts : 2 ≤ text_room shelf.texts
+  pub product : 0 < shelf.products.room
+  pub row : vec_len shelf.rows < vec_capacity shelf.rows
+  pub latest : 0 < shelf.latest.room

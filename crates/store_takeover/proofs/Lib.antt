@@ -1,0 +1,4 @@
+-- The lemmas.
+pub mod Following
+pub mod RowParts
+pub mod ShelfRows

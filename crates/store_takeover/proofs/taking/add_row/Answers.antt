@@ -1,0 +1,95 @@
+use Rattle.std.proofs.Common.{◌≡◌, ℕ, ◌<◌, List, [], ◌∷◌, ◌++◌, length, map, get_or, None, Some, refl, sym, ap, subst, ◌∙◌, arith}
+use Rattle.std.specs.Prelude.{OnOk, slice_get}
+use Rattle.std.specs.Option.{option_map}
+use Rattle.std.proofs.lemmas.List.{get_or-map, get_or_default}
+use Rattle.std.proofs.lemmas.Option.{get_or_from_slice_get, same_Some, slice_get-get_or, slice_get_within}
+use Rattle.base.specs.declared.graph.BuiltFile.{BuiltFile}
+use Rattle.outside.specs.Records.{Record, built_of_record, latest}
+use Rattle.store_node_codec.specs.Nodes.{Node, node_file}
+use Rattle.store_node_codec.specs.Spans.{spanned}
+use Rattle.store_node_shelf.specs.declared.records.RecordPlace.{RecordPlace}
+use Rattle.store_node_shelf.specs.declared.shelf.ShelfPlaces.{ShelfPlaces}
+use Rattle.store_node_shelf.specs.Places.{artefact_in, texts_in}
+use Rattle.store_node_shelf.specs.Rows.{node_in}
+use Rattle.store_codec.specs.Shelves.{request_shelf_of}
+use Rattle.store_holdings.specs.Additions.{IsRequestOver, record_over}
+use Rattle.store_migration.specs.ByNumber.{NodeRecord, named_by, node_request, numbered_node, unnamed_node}
+use Rattle.store_migration.specs.NodeRows.{no_record}
+use Rattle.store_takeover.specs.Taking.{IsNext, alone, node_records, record_at_place, request_at}
+use Rattle.store_takeover.proofs.RowParts.{HasParts, is_new, over_products, parts_of, there_at}
+use Rattle.store_takeover.proofs.taking.add_row.Given as given
+use Rattle.store_takeover.proofs.taking.add_row.Goals as goal
+
+found : (payloads : List (List ℕ)) (places : List RecordPlace) (number : ℕ) (place : RecordPlace) → number < length places → place ≡ get_or places number place → get_or (map (record_at_place payloads) places) number no_record ≡ record_at_place payloads place
+found payloads places number place low is = get_or-map (record_at_place payloads) places number place no_record low ∙ ap (record_at_place payloads) (sym is)
+
+node_is : (nodes : List Node) (number : ℕ) (node : Node) → slice_get nodes number ≡ Some node → numbered_node nodes number ≡ node
+node_is nodes number node is = get_or_from_slice_get nodes number node unnamed_node is
+
+-- what is known of the request that stands for the record
+parts_at : (payloads : List (List ℕ)) (shelf : ShelfPlaces) (number : ℕ) (place : RecordPlace) → number < length shelf.records.places.items → place ≡ get_or shelf.records.places.items number place → (new : Record) → request_at payloads shelf number ≡ Some new
+    → HasParts (texts_in payloads shelf.texts) shelf.table.nodes (node_records payloads shelf) (record_at_place payloads place) new
+parts_at payloads shelf number place low place_is new is =
+    let texts : List (List ℕ) = texts_in payloads shelf.texts in
+    parts_of (texts_in payloads shelf.texts) shelf.table.nodes (node_records payloads shelf) (record_at_place payloads place) new
+    (ap (node_request (texts_in payloads shelf.texts) shelf.table.nodes (node_records payloads shelf)) (sym (found payloads shelf.records.places.items number place low place_is)) ∙ is)
+
+-- its artefact
+artefact_is : (payloads : List (List ℕ)) (place : RecordPlace) (bytes payload : List ℕ) → bytes ≡ spanned payload place.artefact → slice_get payloads place.payload ≡ Some payload → bytes ≡ artefact_in payloads place
+artefact_is payloads place bytes payload is at = is ∙ ap (λ (p : List ℕ). spanned p place.artefact) (sym (get_or_from_slice_get payloads place.payload payload [] at))
+
+pub products_of-requires-clause-within : goal.products_of-requires-clause-within
+products_of-requires-clause-within c = λ k d l.
+    let nodes : List Node = c.args.shelf.now.table.nodes in
+    let node : Node = node_in c.args.shelf.now.table c.row-row.result.now in
+    let low : c.index-place.result.now.node < length c.args.shelf.now.table.nodes = slice_get_within nodes c.index-place.result.now.node node c.row-row.ensures.node in
+    let each = (c.requires.nodes.each c.index-place.result.now.node node low).before in
+    let same : get_or c.args.shelf.now.table.nodes c.index-place.result.now.node node ≡ node = get_or_from_slice_get nodes c.index-place.result.now.node node node c.row-row.ensures.node in
+    let deps : (get_or c.args.shelf.now.table.nodes c.index-place.result.now.node node).deps ≡ c.as_slice.result.now = ap (λ (n : Node). n.deps) same ∙ sym c.as_slice.ensures in
+    let below : get_or c.as_slice.result.now k d < c.index-place.result.now.node = subst (λ (ds : List ℕ). get_or ds k d < c.index-place.result.now.node) deps (each k d (omega (arith, ap length deps, l))) in
+    omega (arith, below, low)
+
+pub products_of-requires-clause-built : goal.products_of-requires-clause-built
+products_of-requires-clause-built c = λ k d l none.
+    let payloads : List (List ℕ) = c.args.pieces.now.payloads in
+    let nodes : List Node = c.args.shelf.now.table.nodes in
+    let node : Node = node_in c.args.shelf.now.table c.row-row.result.now in
+    let deps : c.as_slice.result.now ≡ (numbered_node c.args.shelf.now.table.nodes c.index-place.result.now.node).deps = c.as_slice.ensures ∙ ap (λ (n : Node). n.deps) (sym (node_is nodes c.index-place.result.now.node node c.row-row.ensures.node)) in
+    there_at (texts_in c.args.pieces.now.payloads c.args.shelf.now.texts) nodes (node_records c.args.pieces.now.payloads c.args.shelf.now) (record_at_place c.args.pieces.now.payloads c.index-place.result.now) c.requires.next.0
+    (parts_at payloads c.args.shelf.now c.args.number c.index-place.result.now c.requires.number c.index-place.ensures c.requires.next.0 c.requires.next.1) (request_shelf_of c.args.held.now.payloads).records c.requires.next.2 k (omega (arith, ap length deps, l))
+    (subst (λ (n : ℕ). latest (named_by c.args.shelf.now.table.nodes n) (request_shelf_of c.args.held.now.payloads).records ≡ None) (get_or_default c.as_slice.result.now k d 0 l ∙ ap (λ (ds : List ℕ). get_or ds k 0) deps) none)
+
+pub add-requires : goal.add-requires
+add-requires c =
+    let payloads : List (List ℕ) = c.args.pieces.now.payloads in
+    let texts : List (List ℕ) = texts_in c.args.pieces.now.payloads c.args.shelf.now.texts in
+    let nodes : List Node = c.args.shelf.now.table.nodes in
+    let node : Node = node_in c.args.shelf.now.table c.row-row.result.now in
+    let same : numbered_node c.args.shelf.now.table.nodes c.index-place.result.now.node ≡ node = node_is nodes c.index-place.result.now.node node c.row-row.ensures.node in
+    let deps : c.as_slice.result.now ≡ (numbered_node c.args.shelf.now.table.nodes c.index-place.result.now.node).deps = c.as_slice.ensures ∙ ap (λ (n : Node). n.deps) (sym same) in
+    let shelf = request_shelf_of c.args.held.now.payloads in
+    subst (λ (ns : List ℕ). IsRequestOver (request_shelf_of c.args.held.now.payloads) c.in_ok-entry.entry ns c.bytes_of-artefact.result.now) (sym c.as_slice-2.ensures)
+    (over_products texts nodes (node_records payloads c.args.shelf.now) (record_at_place payloads c.index-place.result.now) c.requires.next.0
+    (parts_at payloads c.args.shelf.now c.args.number c.index-place.result.now c.requires.number c.index-place.ensures c.requires.next.0 c.requires.next.1) shelf.records c.requires.next.2 shelf c.in_ok-deps.deps
+    (c.in_ok-deps.ensures.built ∙ ap (map (λ n. option_map built_of_record (latest (named_by nodes n) shelf.records))) deps)
+    c.in_ok-entry.entry c.bytes_of-artefact.result.now (c.in_ok-entry.ensures ∙ ap (λ (n : Node). alone (node_file texts n)) (sym same))
+    (artefact_is payloads c.index-place.result.now c.bytes_of-artefact.result.now c.get.result.now c.bytes_of-artefact.ensures c.get.ensures) c.in_ok-deps.ensures.there)
+
+pub returns : goal.returns
+returns c = λ new is.
+    let payloads : List (List ℕ) = c.args.pieces.now.payloads in
+    let texts : List (List ℕ) = texts_in c.args.pieces.now.payloads c.args.shelf.now.texts in
+    let nodes : List Node = c.args.shelf.now.table.nodes in
+    let node : Node = node_in c.args.shelf.now.table c.row-row.result.now in
+    let same : numbered_node c.args.shelf.now.table.nodes c.index-place.result.now.node ≡ node = node_is nodes c.index-place.result.now.node node c.row-row.ensures.node in
+    let deps : c.as_slice.result.now ≡ (numbered_node c.args.shelf.now.table.nodes c.index-place.result.now.node).deps = c.as_slice.ensures ∙ ap (λ (n : Node). n.deps) (sym same) in
+    let shelf = request_shelf_of c.args.held.now.payloads in
+    let own : record_over (request_shelf_of c.args.held.now.payloads) c.in_ok-entry.entry c.in_ok-deps.deps c.bytes_of-artefact.result.now ≡ c.requires.next.0 =
+    is_new texts nodes (node_records payloads c.args.shelf.now) (record_at_place payloads c.index-place.result.now) c.requires.next.0
+    (parts_at payloads c.args.shelf.now c.args.number c.index-place.result.now c.requires.number c.index-place.ensures c.requires.next.0 c.requires.next.1) shelf.records c.requires.next.2 shelf c.in_ok-deps.deps
+    (c.in_ok-deps.ensures.built ∙ ap (map (λ n. option_map built_of_record (latest (named_by nodes n) shelf.records))) deps)
+    c.in_ok-entry.entry c.bytes_of-artefact.result.now (c.in_ok-entry.ensures ∙ ap (λ (n : Node). alone (node_file texts n)) (sym same))
+    (artefact_is payloads c.index-place.result.now c.bytes_of-artefact.result.now c.get.result.now c.bytes_of-artefact.ensures c.get.ensures) c.in_ok-deps.ensures.there in
+    let made : record_over (request_shelf_of c.args.held.now.payloads) c.in_ok-entry.entry c.as_slice-2.result.now c.bytes_of-artefact.result.now ≡ new =
+    ap (λ (ns : List ℕ). record_over (request_shelf_of c.args.held.now.payloads) c.in_ok-entry.entry ns c.bytes_of-artefact.result.now) c.as_slice-2.ensures ∙ own ∙ same_Some c.requires.next.0 new (sym c.requires.next.1 ∙ is) in
+    subst (λ (r : Record). OnOk c.add.result ((request_shelf_of c.add.new.self.payloads).records ≡ (request_shelf_of c.args.held.now.payloads).records ++ r ∷ [])) made c.add.ensures

@@ -1,0 +1,258 @@
+//! One child: how it is started, and how its output, its end and its results are taken.
+
+ghost use Rattle.std.specs.Prelude.{◌≡◌, ◌≢◌, ◌<◌, ◌≤◌, length, IfOk, MatchResult, option_map, string_bytes};
+ghost use Rattle.std.specs.Str.{IsUtf8};
+ghost use Rattle.std.specs.Process.{exit_code};
+ghost use Rattle.outside.specs.Children.{FitsExit, IsShort, AnswersPath};
+ghost use Rattle.system_files.specs.Faults.{IsFailed};
+ghost use Rattle.system_children.specs.Codes.{child_code, no_answer};
+ghost use Rattle.system_children.specs.Commands.{IsProgram, IsCommandOf};
+
+use crate::printed::Printed;
+use base::{ARTEFACT_LIMIT, Exit, MaybeText, RESULTS_LIMIT, Request, Text};
+use libc::net::POLLIN;
+use libc::types::pollfd;
+use outside::ReadEnd;
+use std::alloc::Global;
+use std::fs::Files;
+use std::io::{ErrorKind, Read};
+use std::os::fd::AsRawFd;
+use std::process::{Child, ChildStdin, Command, ExitStatus, Processes, Stdio, SystemProcess};
+use std::{fs, io};
+use system_files::{IoFault, read_file};
+
+/// The code of a child that a signal ended.
+const SIGNAL_CODE: u32 = 256;
+
+/// The code of a child that ended well but printed more than is kept, and was to leave no results.
+const CUT_CODE: u32 = 257;
+
+/// The code of a child that has no answer to give, as one whose node is lost, or whose licence isn't free: `EX_TEMPFAIL`.
+const NO_ANSWER_CODE: u32 = 75;
+
+/// The first command word that denotes the program itself.
+const OWN_WORD: &[u8] = b"@self";
+
+/// A child that runs, what it has printed so far, and the path where it leaves its results, if anywhere.
+#[derive(Drop)]
+pub struct Running {
+    // its output is there until its end was read, or until it was given up
+    child: Child<SystemProcess>,
+    printed: Printed,
+    fault: Option<IoFault>,
+    results: MaybeText,
+}
+
+/// Starts a child: clears the place of its results, and starts its command. Its input is still to be written.
+pub fn start_child<R: Processes<Started = SystemProcess> + Files>(
+    runtime: &R,
+    alloc: Global,
+    own_path: &Option<String>,
+    request: &Request,
+) -> Result<(Running, Option<ChildStdin>), IoFault> {
+    clear_results(runtime, &request.results)?;
+    let results = request.results.copy(alloc)?;
+    let mut command = command_of(alloc, own_path, request.command.as_slice())?;
+    command.stdin(Stdio::piped()).stdout(Stdio::piped());
+    let mut child = match command.spawn(runtime) {
+        Ok(child) => child,
+        Err(error) => return Err(IoFault::of("start", error)),
+    };
+    let stdin = child.stdin.take();
+    Ok((
+        Running {
+            child,
+            printed: Printed::new(alloc),
+            fault: None,
+            results,
+        },
+        stdin,
+    ))
+}
+
+/// Makes the folder of a results path, and removes an old file there.
+fn clear_results(files: &impl Files, results: &MaybeText) -> Result<(), IoFault> {
+    let MaybeText::Given(path) = results else {
+        return Ok(());
+    };
+    let path = utf8(path)?;
+    if let Some((folder, _)) = path.rsplit_once('/') {
+        if let Err(error) = fs::create_dir_all(files, folder) {
+            return Err(IoFault::of("make the folder of its results", error));
+        }
+    }
+    match fs::remove_file(files, path) {
+        Ok(()) => Ok(()),
+        Err(error) if error.kind() == ErrorKind::NotFound => Ok(()),
+        Err(error) => Err(IoFault::of("remove its old results", error)),
+    }
+}
+
+fn utf8(text: &Text) -> Result<&str, IoFault>
+    ensures { MatchResult result
+        (λ same. (same.now ≡ text.now) × IsUtf8 text.now)
+        (λ fault. IsFailed fault × (¬ (IsUtf8 text.now))) }
+{
+    match str::from_utf8(text.bytes()) {
+        Ok(text) => Ok(text),
+        Err(_) => Err(IoFault::failed("start", "a word or a path isn't UTF-8")),
+    }
+}
+
+/// The command of the words. There is none for no word.
+fn command_of(alloc: Global, own_path: &Option<String>, words: &[Text]) -> Result<Command, IoFault>
+    ensures { IfOk result (IsCommandOf (option_map string_bytes own_path.now) words.now) }
+{
+    let [first, rest @ ..] = words else {
+        return Err(IoFault::failed("start", "it has no word"));
+    };
+    let mut command = Command::new(alloc, program_of(own_path, first)?)?;
+    for word in rest {
+        command.arg(utf8(word)?)?;
+    }
+    Ok(command)
+}
+
+/// The program that a first word names.
+fn program_of<'a>(own_path: &'a Option<String>, word: &'a Text) -> Result<&'a str, IoFault>
+    ensures { let own = option_map string_bytes own_path.now in
+        IfOk result (λ program. IsProgram own word.now program.now) }
+{
+    if word.bytes() != OWN_WORD {
+        return utf8(word);
+    }
+    match own_path {
+        Some(path) => Ok(path.as_str()),
+        None => Err(IoFault::failed("start", "the program's own path isn't known")),
+    }
+}
+
+impl Running {
+    /// What the system is asked of its output. A number below 0, of one that is at its end, is passed over.
+    pub fn asked(&self) -> pollfd {
+        let fd = match &self.child.stdout {
+            Some(stdout) => stdout.as_raw_fd(),
+            None => -1,
+        };
+        pollfd {
+            fd,
+            events: POLLIN,
+            revents: 0,
+        }
+    }
+
+    /// Whether its output is at its end.
+    pub fn is_at_end(&self) -> bool {
+        self.child.stdout.is_none()
+    }
+
+    /// One read of its output, which doesn't wait where the system said so. Where there is no memory for what comes, the
+    /// rest is read and not kept.
+    pub fn read_on(&mut self, buffer: &mut [u8]) {
+        let Some(stdout) = &mut self.child.stdout else {
+            return;
+        };
+        match stdout.read(buffer) {
+            Ok(0) => self.child.stdout = None,
+            Ok(count) => self.keep(&buffer[..count]),
+            Err(error) if error.kind() == ErrorKind::Interrupted => {}
+            Err(error) => self.give_up(IoFault::of("read", error)),
+        }
+    }
+
+    fn keep(&mut self, bytes: &[u8]) {
+        if self.fault.is_some() {
+            return;
+        }
+        if let Err(fault) = self.printed.add(bytes) {
+            self.fault = Some(IoFault::from(fault));
+        }
+    }
+
+    /// Closes its output, and keeps why.
+    pub fn give_up(&mut self, fault: IoFault) {
+        self.child.stdout = None;
+        self.fault = Some(fault);
+    }
+
+    /// Closes its pipes and waits for it, whatever comes of it.
+    pub fn abandon(self) {
+        let Running { mut child, .. } = self;
+        drop(child.stdout.take());
+        let _ = child.wait();
+    }
+}
+
+/// Waits for a child, and takes its results. The child is waited for whatever failed before. One that says that it has no
+/// answer is lost.
+pub fn end_child(
+    files: &impl Files,
+    buffer: &mut [u8],
+    alloc: Global,
+    running: Running,
+) -> Result<Exit, IoFault>
+    requires { 0 < length buffer.old }
+    ensures sizes { IfOk result FitsExit }
+    ensures named { IfOk result (λ exit. AnswersPath running.results exit.results) }
+    ensures answered { IfOk result (λ exit. exit.code ≢ no_answer) }
+{
+    let Running {
+        mut child,
+        printed,
+        fault,
+        results,
+    } = running;
+    drop(child.stdout.take());
+    let status = child.wait();
+    if let Some(fault) = fault {
+        return Err(fault);
+    }
+    let output = printed.into_prefix();
+    let status = match status {
+        Ok(status) => status,
+        Err(error) => return Err(IoFault::of("wait", error)),
+    };
+    let code = code_of(status, output.more, &results);
+    if code == NO_ANSWER_CODE {
+        return Err(IoFault::failed("end", "its code, 75, says that it has no answer"));
+    }
+    let results = take_results(files, buffer, alloc, results)?;
+    Ok(Exit {
+        code,
+        output: Text::from_vec(output.kept),
+        results,
+    })
+}
+
+fn code_of(status: ExitStatus, more: bool, results: &MaybeText) -> u32
+    ensures { result ≡ child_code (exit_code status) more results.now }
+{
+    let code = match status.code() {
+        Some(code) => u32::try_from(code).unwrap_or(SIGNAL_CODE),
+        None => SIGNAL_CODE,
+    };
+    match results {
+        MaybeText::Nothing if more && code == 0 => CUT_CODE,
+        _ => code,
+    }
+}
+
+/// The results that lie at the path, if there are any and they aren't too long.
+fn take_results(
+    files: &impl Files,
+    buffer: &mut [u8],
+    alloc: Global,
+    results: MaybeText,
+) -> Result<MaybeText, IoFault>
+    requires { 0 < length buffer.old }
+    ensures size { IfOk result (IsShort RESULTS_LIMIT) }
+    ensures named { IfOk result (AnswersPath results) }
+{
+    let MaybeText::Given(path) = results else {
+        return Ok(MaybeText::Nothing);
+    };
+    match read_file(files, buffer, alloc, path.bytes(), RESULTS_LIMIT as u64)? {
+        ReadEnd::Got(text) => Ok(MaybeText::Given(text)),
+        ReadEnd::Absent | ReadEnd::TooLong => Ok(MaybeText::Nothing),
+    }
+}

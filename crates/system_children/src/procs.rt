@@ -1,0 +1,370 @@
+//! The children that run, by their tickets.
+
+ghost use Rattle.std.specs.Prelude.{◌≡◌, ◌<◌, ◌++◌, ◌∷◌, [], vec_len, ◌⊎◌, length, Contains, IfOk, OnErr, MatchResult};
+ghost use Rattle.base.specs.declared.child.MaybeText.TheVariants.{Nothing};
+
+use crate::child::{Running, end_child, start_child};
+use crate::tickets::leave;
+use base::{MaybeText, NoMemory, Request, Text};
+use libc::net::{POLLHUP, POLLOUT, poll};
+use libc::types::pollfd;
+use outside::{Ended, Procs, StartFault, WaitFault, counted};
+use std::alloc::Global;
+use std::fs::Files;
+use std::io::{ErrorKind, Write};
+use std::os::fd::{AsRawFd, RawFd};
+use std::process::{ChildStdin, Processes, SystemProcess};
+use std::{env, io};
+use system_causes::Cause;
+use system_files::IoFault;
+
+/// The bytes that one read takes at most: what a pipe holds.
+const CHUNK: usize = 65_536;
+
+/// How long, in milliseconds, a child alone is waited for while its input is written, before all others are looked at too.
+const PATIENCE: i32 = 10;
+
+/// How many turns are for one child alone before all others are looked at too.
+const TURNS_ALONE: u64 = 16;
+
+/// Children of this process. It counts its failures, and tells nothing but its running tickets. A command whose first
+/// word is `@self` starts the program itself.
+#[derive(Drop)]
+pub struct ChildProcs<R: Processes<Started = SystemProcess>> {
+    runtime: R,
+    own_path: Option<String>,
+    next_ticket: u64,
+    // the running children and, apart from them, their tickets, both in order of start
+    children: Vec<Running>,
+    tickets: Vec<u64>,
+    failed_starts: u64,
+    lost_children: u64,
+    // why the first start failed that did, and what it was about where there was memory for that
+    start_cause: Option<Cause>,
+    start_title: Option<Text>,
+    // why the first child was lost that was
+    child_cause: Option<Cause>,
+    // what the system is asked, kept for its room
+    asked: Vec<pollfd>,
+    buffer: Vec<u8>,
+    ghost has_room: { 0 < vec_len buffer },
+    ghost together: { vec_len children ≡ vec_len tickets },
+}
+
+impl<R: Processes<Started = SystemProcess> + Files + AllocGlobal + Drop> ChildProcs<R> {
+    /// No child runs. Where the program's own path isn't known, only commands with `@self` fail.
+    pub fn new(alloc: Global, runtime: R) -> Result<ChildProcs<R>, NoMemory>
+        ensures { IfOk result (λ procs. procs.tickets.items ≡ []) }
+    {
+        let own_path = own_path(&runtime)?;
+        Ok(ChildProcs {
+            runtime,
+            own_path,
+            next_ticket: 0,
+            children: Vec::new(alloc),
+            tickets: Vec::new(alloc),
+            failed_starts: 0,
+            lost_children: 0,
+            start_cause: None,
+            start_title: None,
+            child_cause: None,
+            asked: Vec::new(alloc),
+            buffer: vec![in alloc; 0; CHUNK]?,
+        })
+    }
+
+    /// The tickets of the running children, in order of start.
+    pub fn running(&self) -> &[u64]
+        ensures { result.now ≡ self.now.tickets.items }
+    {
+        self.tickets.as_slice()
+    }
+
+    /// Why the first start failed that did, and what it was about: its command, and for a test where its results were to go.
+    pub fn start_cause(&self) -> Option<(&[u8], Cause)> {
+        let cause = self.start_cause?;
+        match &self.start_title {
+            Some(title) => Some((title.bytes(), cause)),
+            None => Some((b"a command", cause)),
+        }
+    }
+
+    /// Why the first child was lost that was.
+    pub fn child_cause(&self) -> Option<Cause> {
+        self.child_cause
+    }
+
+    /// Keeps why a start failed, if none did before.
+    fn note_start(&mut self, alloc: Global, request: &Request, cause: Cause)
+        ensures tickets { self.new.tickets.items ≡ self.old.tickets.items }
+        ensures starts { self.new.failed_starts ≡ self.old.failed_starts }
+        ensures children { self.new.lost_children ≡ self.old.lost_children }
+    {
+        if self.start_cause.is_none() {
+            self.start_cause = Some(cause);
+            self.start_title = match title_of(alloc, request) {
+                Ok(title) => Some(title),
+                Err(_) => None,
+            };
+        }
+    }
+
+    /// Keeps why a child was lost, if none was before.
+    fn note_loss(&mut self, cause: Cause)
+        ensures tickets { self.new.tickets.items ≡ self.old.tickets.items }
+        ensures starts { self.new.failed_starts ≡ self.old.failed_starts }
+        ensures children { self.new.lost_children ≡ self.old.lost_children }
+    {
+        if self.child_cause.is_none() {
+            self.child_cause = Some(cause);
+        }
+    }
+
+    /// A ticket that no earlier start gave and that doesn't run. There is none once all numbers were given.
+    fn fresh_ticket(&self) -> Result<u64, IoFault>
+        ensures ticket { IfOk result (λ ticket. ¬ (Contains self.now.tickets.items ticket)) }
+        ensures later { IfOk result (λ ticket. ticket < u64.MAX) }
+        ensures refused { let next = self.now.next_ticket in
+            OnErr result ((next ≡ u64.MAX) ⊎ Contains self.now.tickets.items next) }
+    {
+        let ticket = self.next_ticket;
+        if ticket == u64::MAX {
+            return Err(IoFault::failed("start", "no ticket is left"));
+        }
+        if self.tickets.contains(&ticket) {
+            return Err(IoFault::failed("start", "no ticket is left"));
+        }
+        Ok(ticket)
+    }
+
+    /// Room for one more child is made first, so that a started child is never given up for lack of memory.
+    fn start_next(&mut self, alloc: Global, request: &Request) -> Result<u64, IoFault>
+        ensures tickets { MatchResult result
+            (λ ticket.
+            (¬ (Contains self.old.tickets.items ticket))
+            × (self.new.tickets.items ≡ self.old.tickets.items ++ ticket ∷ []))
+            (λ _. self.new.tickets.items ≡ self.old.tickets.items) }
+        ensures starts { self.new.failed_starts ≡ self.old.failed_starts }
+        ensures children { self.new.lost_children ≡ self.old.lost_children }
+    {
+        let ticket = self.fresh_ticket()?;
+        self.tickets.reserve(1)?;
+        self.children.reserve(1)?;
+        let (child, stdin) = start_child(&self.runtime, alloc, &self.own_path, request)?;
+        self.tickets.push_reserved(ticket);
+        self.children.push_reserved(child);
+        match self.feed(stdin, request.input.bytes()) {
+            Ok(()) => {
+                self.next_ticket = ticket + 1;
+                Ok(ticket)
+            }
+            Err(fault) => {
+                self.tickets.pop();
+                if let Some(child) = self.children.pop() {
+                    child.abandon();
+                }
+                Err(fault)
+            }
+        }
+    }
+
+    /// Writes the whole input and closes it, and reads what children print meanwhile, so that neither waits for the
+    /// other.
+    fn feed(&mut self, stdin: Option<ChildStdin>, input: &[u8]) -> Result<(), IoFault>
+        ensures tickets { self.new.tickets.items ≡ self.old.tickets.items }
+        ensures starts { self.new.failed_starts ≡ self.old.failed_starts }
+        ensures children { self.new.lost_children ≡ self.old.lost_children }
+    {
+        let Some(mut stdin) = stdin else {
+            return Err(IoFault::failed("write", "it has no input"));
+        };
+        if os::set_nonblocking(stdin.as_raw_fd(), true) != 0 {
+            return Err(last_fault("ioctl"));
+        }
+        let mut rest = input;
+        let mut alone = 0;
+        for _ in 0..u64::MAX {
+            if rest.is_empty() {
+                return Ok(());
+            }
+            match stdin.write(rest) {
+                Ok(count) => rest = &rest[count..],
+                Err(error) if error.kind() == ErrorKind::WouldBlock => {
+                    alone = self.turn_for_last(stdin.as_raw_fd(), alone)?;
+                }
+                Err(error) if error.kind() == ErrorKind::Interrupted => {}
+                Err(error) => return Err(IoFault::of("write", error)),
+            }
+        }
+        Err(IoFault::failed("write", "it has no end"))
+    }
+
+    /// Waits until the last child takes more of its input or prints, and reads what it printed. It may wait for another
+    /// child, so where it does neither for a while, and after some turns for it alone, all children are looked at. Gives
+    /// how many turns for it alone there were since.
+    fn turn_for_last(&mut self, stdin: RawFd, alone: u64) -> Result<u64, IoFault>
+        ensures tickets { self.new.tickets.items ≡ self.old.tickets.items }
+        ensures starts { self.new.failed_starts ≡ self.old.failed_starts }
+        ensures children { self.new.lost_children ≡ self.old.lost_children }
+    {
+        if alone < TURNS_ALONE {
+            let last = self.children.len().saturating_sub(1);
+            let is_told = self.turn(last, stdin, PATIENCE)?;
+            if is_told {
+                return Ok(alone + 1);
+            }
+        }
+        let _is_told = self.turn(0, stdin, -1)?;
+        Ok(0)
+    }
+
+    /// Waits until some output of the children from a place on can be read on, or more can be written to this pipe, and
+    /// reads each output that can. Says whether there was one of these within so many milliseconds; a number below 0 is
+    /// no limit, and no pipe.
+    fn turn(&mut self, from: usize, stdin: RawFd, limit: i32) -> Result<bool, IoFault>
+        ensures tickets { self.new.tickets.items ≡ self.old.tickets.items }
+        ensures starts { self.new.failed_starts ≡ self.old.failed_starts }
+        ensures children { self.new.lost_children ≡ self.old.lost_children }
+    {
+        ask(&mut self.asked, self.children.as_slice(), from, stdin)?;
+        let told = poll(self.asked.as_mut_slice(), limit);
+        if told >= 0 {
+            let buffer = self.buffer.as_mut_slice();
+            let children = self.children.as_mut_slice();
+            read_ready(children, from, self.asked.as_slice(), buffer);
+            return Ok(told > 0);
+        }
+        if os::errno() == libc::EINTR {
+            return Ok(true);
+        }
+        Err(last_fault("poll"))
+    }
+
+    /// The place of the first child, in order of start, whose output is at its end; it waits until there is one. Where
+    /// the system can't be asked the oldest child is given up.
+    fn first_at_end(&mut self) -> usize
+        requires { 0 < length self.old.tickets.items }
+        ensures place { result < length self.new.tickets.items }
+        ensures tickets { self.new.tickets.items ≡ self.old.tickets.items }
+        ensures starts { self.new.failed_starts ≡ self.old.failed_starts }
+        ensures children { self.new.lost_children ≡ self.old.lost_children }
+    {
+        for _ in 0..u64::MAX {
+            if let Some(at) = self.children.iter().position(|child| child.is_at_end()) {
+                return at;
+            }
+            if let Err(fault) = self.turn(0, -1, -1) {
+                self.children[0].give_up(fault);
+                return 0;
+            }
+        }
+        self.children[0].give_up(IoFault::failed("poll", "it has no end"));
+        0
+    }
+}
+
+/// What the system said of its last call, which failed.
+fn last_fault(call: &'static str) -> IoFault {
+    let error = io::Error::from_raw_os_error(os::errno());
+    IoFault::Failed(Cause { call, error })
+}
+
+/// Writes down what the system is to be asked of the children from a place on, and of a pipe that is written.
+fn ask(
+    asked: &mut Vec<pollfd>,
+    children: &[Running],
+    from: usize,
+    stdin: RawFd,
+) -> Result<(), IoFault> {
+    asked.clear();
+    for child in children.iter().skip(from) {
+        asked.push(child.asked())?;
+    }
+    asked.push(pollfd {
+        fd: stdin,
+        events: POLLOUT,
+        revents: 0,
+    })?;
+    Ok(())
+}
+
+/// Reads from each child from a place on of which the system has something to tell: once, which takes all that a pipe
+/// holds, and once more where nobody can write to the pipe any longer, since then no read waits.
+fn read_ready(children: &mut [Running], from: usize, asked: &[pollfd], buffer: &mut [u8]) {
+    for (child, asked) in children.iter_mut().skip(from).zip(asked) {
+        if asked.revents != 0 {
+            child.read_on(buffer);
+        }
+        if asked.revents & POLLHUP != 0 {
+            child.read_on(buffer);
+        }
+    }
+}
+
+/// The words of a command with blanks between them, and then the path of results, if there is one.
+fn title_of(alloc: Global, request: &Request) -> Result<Text, NoMemory> {
+    let mut line = Vec::new(alloc);
+    for word in request.command.as_slice() {
+        if !line.is_empty() {
+            line.push(b' ')?;
+        }
+        line.extend_from_slice(word.bytes())?;
+    }
+    if let MaybeText::Given(path) = &request.results {
+        line.extend_from_slice(b" (")?;
+        line.extend_from_slice(path.bytes())?;
+        line.push(b')')?;
+    }
+    Ok(Text::from_vec(line))
+}
+
+fn own_path<R: Files + AllocGlobal>(runtime: &R) -> Result<Option<String>, NoMemory> {
+    match env::current_exe(runtime) {
+        Ok(path) => Ok(Some(path.into_string())),
+        Err(error) if error.kind() == ErrorKind::OutOfMemory => Err(NoMemory),
+        Err(_) => Ok(None),
+    }
+}
+
+impl<R: Processes<Started = SystemProcess> + Files + AllocGlobal + Drop> Procs for ChildProcs<R> {
+    ghost tells = { ⊥ };
+
+    ghost running = { λ a. a.tickets.items };
+
+    ghost journal = { λ _. [] };
+
+    ghost answer = { λ _ _. record { code = 0; output = []; results = Nothing } };
+
+    ghost failed_starts = { λ a. a.failed_starts };
+
+    ghost lost_children = { λ a. a.lost_children };
+
+    fn start(&mut self, alloc: Global, request: &Request) -> Result<u64, StartFault> {
+        match self.start_next(alloc, request) {
+            Ok(ticket) => Ok(ticket),
+            Err(IoFault::NoMemory) => Err(StartFault::NoMemory),
+            Err(IoFault::Failed(cause)) => {
+                self.note_start(alloc, request, cause);
+                self.failed_starts = counted(self.failed_starts);
+                Err(StartFault::Failed)
+            }
+        }
+    }
+
+    fn wait_any(&mut self, alloc: Global) -> Result<Ended, WaitFault> {
+        let at = self.first_at_end();
+        let ticket = self.tickets[at];
+        let place = leave(&mut self.tickets, ticket);
+        let running = self.children.remove(place);
+        let buffer = self.buffer.as_mut_slice();
+        match end_child(&self.runtime, buffer, alloc, running) {
+            Ok(exit) => Ok(Ended { ticket, exit }),
+            Err(IoFault::NoMemory) => Err(WaitFault::NoMemory { ticket }),
+            Err(IoFault::Failed(cause)) => {
+                self.note_loss(cause);
+                self.lost_children = counted(self.lost_children);
+                Err(WaitFault::Lost { ticket })
+            }
+        }
+    }
+}

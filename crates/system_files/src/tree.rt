@@ -1,0 +1,108 @@
+//! The tree: what it was asked for, and its failures.
+
+ghost use Rattle.std.specs.Prelude.{◌≡◌, ◌<◌, ◌++◌, [], ◌∷◌, vec_len, OnOk, OnErr};
+ghost use Rattle.system_files.specs.Untold.{no_file, lists_nothing};
+
+use crate::listing::list_names;
+use crate::{IoFault, read_file};
+use base::{NoMemory, Text, TextList};
+use outside::{NamesEnd, ReadEnd, Tree, TreeFault, counted};
+use std::alloc::Global;
+use std::fs::Files;
+use system_causes::Cause;
+
+/// The bytes that one read takes at most: most sources come in one.
+const CHUNK: usize = 65536;
+
+/// The present folder. It counts its failures, and tells what it was asked for, but nothing of what it holds.
+#[derive(Drop)]
+pub struct FileTree<R> {
+    files: R,
+    // the paths that were read or tried, in order: as long as the program runs, which asks for each path once
+    asked: TextList,
+    failures: u64,
+    // why a call failed, and the folder where that was in a listing
+    cause: Option<Cause>,
+    failed_in: Option<String>,
+    buffer: Vec<u8>,
+    ghost has_room: { 0 < vec_len buffer },
+}
+
+impl<R: Files> FileTree<R> {
+    /// The tree over a runtime. Nothing is asked for and no call of the system is made yet.
+    pub fn new(alloc: Global, files: R) -> Result<FileTree<R>, NoMemory>
+    where
+        R: Drop,
+    {
+        Ok(FileTree {
+            files,
+            asked: TextList::new(alloc),
+            failures: 0,
+            cause: None,
+            failed_in: None,
+            buffer: vec![in alloc; 0; CHUNK]?,
+        })
+    }
+
+    /// Why a call failed, and the path that it was of, if one failed.
+    pub fn cause(&self) -> Option<(&[u8], Cause)> {
+        let cause = self.cause?;
+        match (&self.failed_in, self.asked.as_slice().last()) {
+            (Some(folder), _) if folder.is_empty() => Some((b".", cause)),
+            (Some(folder), _) => Some((folder.as_bytes(), cause)),
+            (None, Some(path)) => Some((path.bytes(), cause)),
+            (None, None) => Some((b".", cause)),
+        }
+    }
+
+    /// Puts a path at the end of what was asked for.
+    fn note(&mut self, alloc: Global, path: &Text) -> Result<(), NoMemory>
+        ensures asked { OnOk result (self.new.asked ≡ self.old.asked ++ path.now ∷ []) }
+        ensures unchanged { OnErr result (self.new.asked ≡ self.old.asked) }
+        ensures failures { self.new.failures ≡ self.old.failures }
+    {
+        self.asked.push(path.copy(alloc)?)
+    }
+}
+
+impl<R: Files + AllocGlobal + Clone + Drop> Tree for FileTree<R> {
+    ghost tells = { ⊥ };
+
+    ghost file = { λ _. no_file };
+
+    ghost listed = { λ _. [] };
+
+    ghost asked = { λ a. a.asked };
+
+    ghost failed_reads = { λ a. a.failures };
+
+    ghost lists = { λ _. lists_nothing };
+
+    fn names(&mut self, alloc: Global, limit: u64) -> Result<NamesEnd, TreeFault> {
+        match list_names(&self.files, alloc, limit, &mut self.failed_in) {
+            Ok(end) => Ok(end),
+            Err(IoFault::NoMemory) => Err(TreeFault::NoMemory),
+            Err(IoFault::Failed(cause)) => {
+                self.cause = Some(cause);
+                self.failures = counted(self.failures);
+                Err(TreeFault::Failed)
+            }
+        }
+    }
+
+    fn read(&mut self, alloc: Global, path: &Text, limit: u64) -> Result<ReadEnd, TreeFault> {
+        let Ok(()) = self.note(alloc, path) else {
+            return Err(TreeFault::NoMemory);
+        };
+        let buffer = self.buffer.as_mut_slice();
+        match read_file(&self.files, buffer, alloc, path.bytes(), limit) {
+            Ok(end) => Ok(end),
+            Err(IoFault::NoMemory) => Err(TreeFault::NoMemory),
+            Err(IoFault::Failed(cause)) => {
+                self.cause = Some(cause);
+                self.failures = counted(self.failures);
+                Err(TreeFault::Failed)
+            }
+        }
+    }
+}

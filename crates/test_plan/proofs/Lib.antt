@@ -1,0 +1,5 @@
+-- The lemmas.
+mod Strings
+mod UnitNames
+mod ReadBenches
+mod Fitting

@@ -1,3 +1,0 @@
--- The definitions.
-pub mod Histories
-pub mod Rights

@@ -1,0 +1,343 @@
+//! Builds over a disk and children in memory, and what they tell.
+
+ghost use Rattle.std.specs.Prelude.{◌≡◌, [], IsTrue};
+
+use crate::plain::{NEVER, Way, pick_of};
+use crate::sets::has;
+use crate::shapes::{Project, file_at, file_of, given, graph_of, input_of, letter, word};
+use base::{
+    Built, Event, Exit, Graph, Items, MaybeText, NoMemory, Numbers, Positions, Request, Text,
+    TextList,
+};
+use build_loop::{BuildEnd, BuildFault, build, build_marks};
+use build_slots::{Need, plan};
+use memory_outside::{Answer, AnswerList, MemDisk, ScriptProcs, can_answer};
+use outside::{Records, StoreFault};
+use report_run::build_text;
+use run_spec::{Mark, MarkList};
+use std::alloc::Global;
+use std::process::Abort;
+use std::test::Fail;
+use store_requests::RequestStore;
+
+/// What a build did and answered, in letters.
+#[derive(Drop)]
+pub(super) struct Told {
+    /// `+0` is a start of file 0, `-0` its end with code 0, `!0` its refusal, `?0` its loss.
+    pub events: Vec<u8>,
+    /// One letter a mark: fresh, compiled, refused, skipped or left.
+    pub marks: Vec<u8>,
+    /// The letter and the text of each artefact of the whole, where there is one.
+    pub whole: Vec<u8>,
+    /// What is printed of the build.
+    pub text: Vec<u8>,
+    pub fault: Option<BuildFault>,
+}
+
+/// A list of the one call that is to fail, or of none.
+fn one(alloc: Global, call: u32) -> Result<Numbers, NoMemory> {
+    let mut calls = Numbers::new(alloc);
+    if call < NEVER {
+        calls.push(call as u64)?;
+    }
+    Ok(calls)
+}
+
+/// An empty disk, of which one call is to fail.
+pub(super) fn empty_disk(alloc: Global, failing: u32) -> Result<MemDisk, NoMemory> {
+    Ok(MemDisk::new(alloc, one(alloc, failing)?))
+}
+
+fn picks_of(alloc: Global, picks: u32) -> Result<Positions, NoMemory> {
+    let mut list = Positions::new(alloc);
+    for wait in 0..8u32 {
+        list.push(pick_of(picks, wait))?;
+    }
+    Ok(list)
+}
+
+fn words(alloc: Global, project: &Project, at: u8) -> Result<TextList, NoMemory> {
+    let mut words = TextList::new(alloc);
+    words.push(Text::from_slice(alloc, word(project, at))?)?;
+    Ok(words)
+}
+
+fn request(alloc: Global, project: &Project, made: &[u8; 8], at: u8) -> Result<Request, NoMemory> {
+    Ok(Request {
+        command: words(alloc, project, at)?,
+        input: Text::from_vec(input_of(alloc, project, made, at)?),
+        results: MaybeText::Nothing,
+    })
+}
+
+/// A compiler's exit: what it gives for the file, whether it is refused or not.
+fn exit(alloc: Global, project: &Project, at: u8, refused: bool) -> Result<Exit, NoMemory> {
+    Ok(Exit {
+        code: if refused { 1 } else { 0 },
+        output: Text::from_slice(alloc, &[letter(at), given(project, at)])?,
+        results: MaybeText::Nothing,
+    })
+}
+
+/// What compilers answer that are asked over files with these artefacts.
+fn answers(
+    alloc: Global,
+    project: &Project,
+    made: &[u8; 8],
+    refused: u8,
+) -> Result<AnswerList, NoMemory> {
+    let mut answers: AnswerList = Items::new(alloc);
+    for position in 0..project.shape.count {
+        let at = file_at(project, position);
+        answers.push(Answer {
+            request: request(alloc, project, made, at)?,
+            exit: exit(alloc, project, at, has(refused, at))?,
+        })?;
+    }
+    Ok(answers)
+}
+
+/// Children of a project that go a way, where files have these artefacts once they are made.
+fn script(
+    rt: &impl Abort,
+    alloc: Global,
+    project: &Project,
+    made: &[u8; 8],
+    way: &Way,
+) -> Result<ScriptProcs, NoMemory> {
+    let answers = answers(alloc, project, made, way.refused)?;
+    assert!(rt; can_answer(&answers));
+    let picks = picks_of(alloc, way.picks)?;
+    Ok(ScriptProcs::new(alloc, answers, picks, one(alloc, way.failing)?))
+}
+
+/// Whether no child runs.
+fn is_idle(procs: &ScriptProcs) -> bool
+    ensures { IsTrue result → procs.now.book.running ≡ [] }
+{
+    procs.running().is_empty()
+}
+
+/// Builds over a store that is opened over the disk. A store that can't be opened is the fault of a build.
+fn build_over(
+    rt: &impl Abort,
+    alloc: Global,
+    graph: &Graph,
+    disk: &mut MemDisk,
+    procs: &mut ScriptProcs,
+    limit: u32,
+    keep_going: bool,
+) -> Result<BuildEnd, BuildFault> {
+    let mut store = match RequestStore::from_disk(alloc, disk) {
+        Ok(store) => store,
+        Err(StoreFault::NoMemory) => return Err(BuildFault::NoMemory),
+        Err(StoreFault::DiskFailed) => return Err(BuildFault::DiskFailed),
+    };
+    assert!(rt; is_idle(procs));
+    assert!(rt; limit >= 1);
+    assert!(rt; limit <= 64);
+    build(alloc, graph, &mut store, disk, procs, limit, keep_going)
+}
+
+/// The file that a ticket was started for; 8 where it is none.
+fn started_file(events: &[Event], ticket: u64) -> u8 {
+    for event in events {
+        match event {
+            Event::Started {
+                ticket: other,
+                request,
+            } => {
+                if *other == ticket {
+                    return file_of(request.input.bytes());
+                }
+            }
+            Event::Ended { ticket: _, exit: _ } | Event::Gone { ticket: _ } => {}
+        }
+    }
+    8
+}
+
+/// An event as two letters.
+fn letters(event: &Event, events: &[Event]) -> [u8; 2] {
+    match event {
+        Event::Started { ticket: _, request } => [b'+', file_of(request.input.bytes())],
+        Event::Ended { ticket, exit } => {
+            let kind = if exit.code == 0 { b'-' } else { b'!' };
+            [kind, started_file(events, *ticket)]
+        }
+        Event::Gone { ticket } => [b'?', started_file(events, *ticket)],
+    }
+}
+
+fn tell_events(alloc: Global, events: &[Event]) -> Result<Vec<u8>, NoMemory> {
+    let mut told = Vec::new(alloc);
+    for event in events {
+        let [kind, file] = letters(event, events);
+        told.push(kind)?;
+        told.push(b'0' + file % 16)?;
+    }
+    Ok(told)
+}
+
+fn letter_of(mark: &Mark) -> u8 {
+    match mark {
+        Mark::Fresh => b'f',
+        Mark::Compiled => b'c',
+        Mark::Refused { code, output: _ } => { if *code == 1 { b'r' } else { b'x' } }
+        Mark::Skipped => b's',
+        Mark::Left => b'l',
+    }
+}
+
+fn tell_marks(alloc: Global, marks: &MarkList) -> Result<Vec<u8>, NoMemory> {
+    let mut told = Vec::new(alloc);
+    for mark in marks.as_slice() {
+        told.push(letter_of(mark))?;
+    }
+    Ok(told)
+}
+
+fn tell_whole(alloc: Global, whole: &Option<Built>) -> Result<Vec<u8>, NoMemory> {
+    let mut told = Vec::new(alloc);
+    if let Some(built) = whole {
+        for file in built.as_slice() {
+            told.extend_from_slice(file.artefact.bytes())?;
+        }
+    }
+    Ok(told)
+}
+
+/// What is printed of a build with these marks; nothing where they aren't those of the graph.
+fn tell_text(alloc: Global, graph: &Graph, marks: &MarkList) -> Result<Vec<u8>, NoMemory> {
+    if marks.len() != graph.len() {
+        return Ok(Vec::new(alloc));
+    }
+    let text = build_text(alloc, graph, marks)?;
+    Ok(Vec::from_slice(alloc, text.bytes())?)
+}
+
+fn tell(
+    alloc: Global,
+    graph: &Graph,
+    events: &[Event],
+    end: &Result<BuildEnd, BuildFault>,
+) -> Result<Told, NoMemory> {
+    let events = tell_events(alloc, events)?;
+    match end {
+        Ok(end) => Ok(Told {
+            events,
+            marks: tell_marks(alloc, &end.marks)?,
+            whole: tell_whole(alloc, &end.whole)?,
+            text: tell_text(alloc, graph, &end.marks)?,
+            fault: None,
+        }),
+        Err(fault) => Ok(Told {
+            events,
+            marks: Vec::new(alloc),
+            whole: Vec::new(alloc),
+            text: Vec::new(alloc),
+            fault: Some(*fault),
+        }),
+    }
+}
+
+/// Builds over a disk, and tells.
+fn told_over(
+    rt: &impl Abort,
+    alloc: Global,
+    graph: &Graph,
+    disk: &mut MemDisk,
+    procs: &mut ScriptProcs,
+    way: &Way,
+) -> Result<Told, NoMemory> {
+    let end = build_over(rt, alloc, graph, disk, procs, way.limit, way.keep_going);
+    tell(alloc, graph, procs.journal().as_slice(), &end)
+}
+
+/// Builds a project over a disk, where files have these artefacts once they are made.
+pub(super) fn told_build(
+    rt: &impl Abort,
+    alloc: Global,
+    project: &Project,
+    made: &[u8; 8],
+    way: &Way,
+    disk: &mut MemDisk,
+) -> Result<Told, Fail> {
+    let graph = graph_of(alloc, project)?;
+    let mut procs = script(rt, alloc, project, made, way)?;
+    Ok(told_over(rt, alloc, &graph, disk, &mut procs, way)?)
+}
+
+/// Builds over a store that is opened over the disk, for the marks alone.
+fn build_marks_over(
+    rt: &impl Abort,
+    alloc: Global,
+    graph: &Graph,
+    disk: &mut MemDisk,
+    procs: &mut ScriptProcs,
+    limit: u32,
+    keep_going: bool,
+) -> Result<MarkList, Fail> {
+    let mut store = RequestStore::from_disk(alloc, disk)?;
+    assert!(rt; is_idle(procs));
+    assert!(rt; limit >= 1);
+    assert!(rt; limit <= 64);
+    Ok(build_marks(alloc, graph, &mut store, disk, procs, limit, keep_going)?)
+}
+
+/// The marks of such a build as letters.
+fn marks_over(
+    rt: &impl Abort,
+    alloc: Global,
+    graph: &Graph,
+    disk: &mut MemDisk,
+    procs: &mut ScriptProcs,
+    way: &Way,
+) -> Result<Vec<u8>, Fail> {
+    let marks = build_marks_over(rt, alloc, graph, disk, procs, way.limit, way.keep_going)?;
+    Ok(tell_marks(alloc, &marks)?)
+}
+
+/// The marks of a build of a project over a disk, by the call that gives marks alone.
+pub(super) fn told_marks(
+    rt: &impl Abort,
+    alloc: Global,
+    project: &Project,
+    made: &[u8; 8],
+    way: &Way,
+    disk: &mut MemDisk,
+) -> Result<Vec<u8>, Fail> {
+    let graph = graph_of(alloc, project)?;
+    let mut procs = script(rt, alloc, project, made, way)?;
+    marks_over(rt, alloc, &graph, disk, &mut procs, way)
+}
+
+/// The plan over a store as letters: fresh, stale, or to be checked later.
+fn plan_letters<K: Records>(
+    alloc: Global,
+    graph: &Graph,
+    store: &mut K,
+) -> Result<Vec<u8>, NoMemory> {
+    let seats = store.seats(alloc, graph)?;
+    let needs = plan(alloc, graph, store, &seats)?;
+    let mut letters = Vec::new(alloc);
+    for need in needs.as_slice() {
+        letters.push(match need {
+            Need::Fresh => b'f',
+            Need::Stale => b's',
+            Need::Later => b'l',
+        })?;
+    }
+    Ok(letters)
+}
+
+/// The plan of a build of a project over a disk.
+pub(super) fn told_plan(
+    alloc: Global,
+    project: &Project,
+    disk: &mut MemDisk,
+) -> Result<Vec<u8>, Fail> {
+    let graph = graph_of(alloc, project)?;
+    let mut store = RequestStore::from_disk(alloc, disk)?;
+    Ok(plan_letters(alloc, &graph, &mut store)?)
+}

@@ -1,0 +1,84 @@
+-- The examples of "The outside".
+use Rattle.std.specs.Prelude.{◌≡◌, ◌-◌, ◌^◌, ◌∷◌, true, false, [], Some, Ok, Err, filter, codes}
+use Rattle.base.specs.declared.child.Event.TheVariants.{Gone}
+use Rattle.outside.specs.Children.{IsFresh, end_event, ended_ticket, started_with, without}
+use Rattle.outside.specs.Counts.{Counted}
+use Rattle.outside.specs.Disks.{IsEither, SideState, bytes_at, cut_through, cutting, is_touched, settled, synced, writing, written, written_through}
+use Rattle.outside.specs.Records.{latest, with_record}
+use Rattle.outside.specs.Streams.{Puts, take_end}
+use Rattle.outside.specs.Trees.{Asks, is_listed, names_end, read_end}
+use Rattle.outside.specs.declared.tree.ReadEnd.{ReadEnd}
+use Rattle.system_causes.specs.Places.{column_after, line_after}
+use Rattle.system_files.specs.Prefixes.{IsPrefix}
+use Rattle.tests_examples.specs.Example.{Ra, Rb, Rw, a_name, b_name, b_request, events}
+use Rattle.outside.specs.declared.procs.WaitFault.TheVariants as wait
+use Rattle.outside.specs.declared.tree.ReadEnd.TheVariants as read
+use Rattle.outside.specs.declared.tree.TreeFault.TheVariants as tree
+use Rattle.outside.specs.declared.streams.SinkFault.TheVariants as sink
+use Rattle.outside.specs.declared.tree.NamesEnd.TheVariants as names
+use Rattle.outside.specs.declared.streams.TakeEnd.TheVariants as take
+
+-- the side abcd, synced; inside a write of XYZ at 2; and after it
+abbrev abcd : SideState
+abcd = settled (codes "abcd")
+
+abbrev inside_write : SideState
+inside_write = writing 2 3 abcd
+
+abbrev after_write : SideState
+after_write = written 2 (codes "XYZ") abcd
+
+-- what children did
+pub record EndedChildren : Type 0 where
+  pub remaining : without 4 (4 ∷ 7 ∷ []) ≡ 7 ∷ []
+  pub lost : end_event (Err (wait.Lost 4)) ≡ Gone 4
+  pub ended : ended_ticket (Err (wait.Lost 4)) ≡ 4
+  pub request : started_with 8 events ≡ Some b_request
+  pub fresh : IsFresh events 9
+
+-- the sides of a disk
+pub record SidesOfDisks : Type 0 where
+  pub low : inside_write.low ≡ 4
+  pub high : inside_write.high ≡ 5
+  pub first_kept : is_touched inside_write.touched 1 ≡ false
+  pub third_touched : is_touched inside_write.touched 2 ≡ true
+  pub reads : after_write.reads ≡ codes "abXYZ"
+  pub same_images : record after_write { reads = codes "abcd" } ≡ inside_write
+  pub synced_side : synced after_write ≡ settled (codes "abXYZ")
+  pub through : written_through 2 (codes "XYZ") abcd ≡ settled (codes "abXYZ")
+  pub inside_cut_low : (cutting 1 abcd).low ≡ 1
+  pub inside_cut_high : (cutting 1 abcd).high ≡ 4
+  pub cut : cut_through 1 abcd ≡ settled (codes "a")
+  pub two_bytes : bytes_at 1 2 (codes "abcd") ≡ codes "bc"
+
+-- the latest records after a commit
+pub record LatestAfter : Type 0 where
+  pub of_a : with_record Rw (λ it. latest it (Ra ∷ Rb ∷ [])) a_name ≡ Some Rw
+  pub of_b : with_record Rw (λ it. latest it (Ra ∷ Rb ∷ [])) b_name ≡ Some Rb
+
+-- counts, what is read and taken, and places in a text
+pub record CountsAndReads : Type 0 where
+  pub counted : Counted 0 1
+  pub not_counted : Counted 0 0 → ⊥
+  pub last_count : Counted (2 ^ 64 - 1) (2 ^ 64 - 1)
+  pub too_long : read_end (Some (0 ∷ [])) 0 ≡ read.TooLong
+  pub empty : read_end (Some []) 0 ≡ read.Got []
+  pub listed_paths : filter is_listed (codes "a.vhd" ∷ codes ".git/x" ∷ codes "vunit_out/a" ∷ []) ≡ codes "a.vhd" ∷ []
+  pub all_names : names_end (codes "a" ∷ codes "b" ∷ []) 2 ≡ names.Got (codes "a" ∷ codes "b" ∷ [])
+  pub too_many : names_end (codes "a" ∷ codes "b" ∷ []) 1 ≡ names.TooMany
+  pub input_too_long : take_end (codes "abc") 2 ≡ take.TooLong
+  pub first_two : IsPrefix 2 (Some (codes "abc")) (codes "ab") true
+  pub all_three : IsPrefix 3 (Some (codes "abc")) (codes "abc") false
+  pub line : line_after (codes "ab\nc") ≡ 2
+  pub column : column_after 1 (codes "ab\nc") ≡ 2
+
+-- what was asked for, and what was put
+pub record AskedAndPut : Type 0 where
+  pub asked : Asks (Ok read.Absent) (codes "c") (codes "t" ∷ []) (codes "t" ∷ codes "c" ∷ [])
+  pub left_out : Asks {T = ReadEnd} (Err tree.Failed) (codes "d") (codes "t" ∷ codes "c" ∷ []) (codes "t" ∷ codes "c" ∷ [])
+  pub kept_in : Asks {T = ReadEnd} (Err tree.Failed) (codes "d") (codes "t" ∷ codes "c" ∷ []) (codes "t" ∷ codes "c" ∷ codes "d" ∷ [])
+  pub put_none : Puts {T = ReadEnd} (Err sink.Failed) (codes "ab") (codes "x") (codes "x")
+  pub put_one : Puts {T = ReadEnd} (Err sink.Failed) (codes "ab") (codes "x") (codes "xa")
+  pub put_both : Puts {T = ReadEnd} (Err sink.Failed) (codes "ab") (codes "x") (codes "xab")
+  pub none_or : IsEither [] [] (Ra ∷ [])
+  pub one_or : IsEither (Ra ∷ []) [] (Ra ∷ [])

@@ -1,0 +1,72 @@
+-- The examples of "What a run of the program did", and of what a run says.
+use Rattle.std.specs.Prelude.{◌≡◌, ℕ, true, false, [], Some, None, codes}
+use Rattle.base.specs.declared.child.MaybeText.TheVariants.{Given}
+use Rattle.run_histories.specs.Histories.{Order}
+use Rattle.test_spec.specs.BenchJobs.{bench_input}
+use Rattle.test_spec.specs.declared.jobs.BenchJob.{BenchJob}
+use Rattle.child_benches.specs.Benches.{simulation}
+use Rattle.run_build.specs.Building.{has_risen}
+use Rattle.vunit_top.specs.Reading.{Bad, Builds, Child, Compiler, Exports, Lists, ListsTests, Over, Stops}
+use Rattle.vunit_top.specs.Said.{Causes, Counts, CountsStand, HasEnded, Said, Says, child_results, child_said, fault_counts, order_of, plan_in, report_path_of}
+use Rattle.tests_examples.specs.Example.{files}
+use Rattle.base_outcomes.specs.declared.outcome.Outcome.TheVariants as outcome
+use Rattle.base_outcomes.specs.declared.outcome.Refusal.TheVariants as refusal
+use Rattle.base_outcomes.specs.declared.outcome.Limit.TheVariants as limit
+use Rattle.base_outcomes.specs.declared.outcome.Which.TheVariants as which
+
+abbrev order : Order
+order = record { graph = files; slots = 3; keep_going = false; clean = true }
+
+-- the order and the report that readings give
+pub record OrdersOfReadings : Type 0 where
+  pub builds : order_of (Builds order []) ≡ Some order
+  pub lists : order_of (Lists files) ≡ None
+  pub exports : order_of (Exports (codes "e.json") []) ≡ None
+  pub none_of_tests : order_of (ListsTests []) ≡ None
+  pub none_of_refusal : order_of (Stops refusal.NoProject) ≡ None
+  pub none_of_limit : order_of (Over limit.Files 4096) ≡ None
+  pub none_of_words : order_of Bad ≡ None
+  pub none_of_child : order_of (Child Compiler) ≡ None
+  pub report : report_path_of (Exports (codes "e.json") []) ≡ Given (codes "e.json")
+  pub no_plan : plan_in (Builds order []) ≡ None
+  pub risen : has_risen 0 1 ≡ true
+  pub not_risen : has_risen 0 0 ≡ false
+
+-- the bench t of lib over no files, with its results at r
+abbrev lone_bench : BenchJob
+lone_bench = record {
+  library = codes "lib";
+  bench = codes "t";
+  architecture = codes "a";
+  cases = [];
+  runner_cfg = [];
+  results = codes "r";
+  built = [];
+}
+
+pub record ChildrenSay : Type 0 where
+  pub results : child_results (bench_input lone_bench) ≡ Some (record { path = codes "r"; text = [] })
+  pub no_results : child_results (codes "x") ≡ None
+  pub said : child_said simulation [] ≡ record { outcome = outcome.Child 2; text = codes "bad request\n" }
+
+-- which answers end a run
+pub record EndedRuns : Type 0 where
+  pub done : HasEnded outcome.Done
+  pub refused : HasEnded (outcome.Refused refusal.NoProject)
+  pub out_failed : HasEnded (outcome.OutsideFault which.Out)
+  pub tree_failed : HasEnded (outcome.OutsideFault which.Tree) → ⊥
+  pub no_memory : HasEnded outcome.NoMemory → ⊥
+
+-- what is put after faults, and their causes
+abbrev passed_said : Said
+passed_said = record { outcome = outcome.Done; text = codes "Compile passed\n" }
+
+abbrev tree_counts : ℕ → Counts
+tree_counts count = fault_counts count 0 0 0 0 0 0
+
+pub record FaultsAnswered : Type 0 where
+  pub prefix_put : Says (outcome.OutsideFault which.Out) passed_said [] (codes "Comp")
+  pub nothing_put : Says (outcome.OutsideFault which.Disk) passed_said (codes "x") (codes "x")
+  pub tree_rose : Causes (outcome.OutsideFault which.Tree) (tree_counts 0) (tree_counts 1)
+  pub none_rose : Causes outcome.Done (tree_counts 1) (tree_counts 1)
+  pub none_falls : CountsStand (tree_counts 1) (tree_counts 0) → ⊥

@@ -1,0 +1,24 @@
+-- The examples of "Records, and what a stop can leave", of stores.
+use Rattle.std.specs.Prelude.{◌≡◌, ℕ, ◌∷◌, List, []}
+use Rattle.outside.specs.Disks.{Image}
+use Rattle.store_journal.specs.Payloads.{side_bytes}
+use Rattle.store_requests.specs.Stored.{kept_payloads, requests_in}
+use Rattle.tests_examples.specs.MigratedRecords.{first_node, second_node}
+use Rattle.tests_examples.specs.StoredRequests.{first, second, two_records}
+
+-- an image whose side A has these payloads of a form
+abbrev holding : ℕ → List (List ℕ) → Image
+holding form payloads = record { a = side_bytes form 1 payloads; b = [] }
+
+-- the two payloads of form 2 of the example in FORMATS.md, of generation 9, beside a side of form 3 without payloads
+abbrev beside : Image
+beside = record { a = side_bytes 2 9 (first_node ∷ second_node ∷ []); b = side_bytes 3 1 [] }
+
+pub record StoredRecords : Type 0 where
+  pub empty : requests_in (record { a = []; b = [] }) ≡ []
+  pub both : requests_in (holding 3 (first ∷ second ∷ [])) ≡ two_records
+  -- of form 2 what stands for its records, where no side is of form 3
+  pub of_views : requests_in (holding 2 (first_node ∷ second_node ∷ [])) ≡ two_records
+  pub kept : kept_payloads (holding 2 (first_node ∷ second_node ∷ [])) ≡ first ∷ second ∷ []
+  pub newer_counts : requests_in beside ≡ []
+  pub form_1 : requests_in (holding 1 (first ∷ second ∷ [])) ≡ []

@@ -1,0 +1,90 @@
+-- The examples of "Texts and products stored once".
+use Rattle.std.specs.Prelude.{◌≡◌, ℕ, ◌-◌, ◌++◌, ◌∷◌, true, false, List, [], Some, None, length, take, codes}
+use Rattle.base.specs.declared.file.FileName.{FileName}
+use Rattle.base.specs.declared.graph.BuiltFile.{BuiltFile}
+use Rattle.base.specs.declared.graph.Entry.{Entry}
+use Rattle.outside.specs.Records.{Record, latest_alone}
+use Rattle.store_codec.specs.Carrying.{carried_from, compacted_requests, none_carried}
+use Rattle.store_codec.specs.Forms.{ByNumber, InFull, OfProduct, OfRequest, RequestDraft, TextRef, request_payload_bytes, request_payload_in}
+use Rattle.store_codec.specs.Shelves.{bare_shelf, is_request, request_shelf_of, requests_among}
+use Rattle.store_carry.specs.Plans.{blocks_length}
+use Rattle.tests_examples.specs.Example.{a_file, a_name, b_name, built, command, file, recorded}
+
+-- library, path and the one command word of a file
+abbrev head : ℕ → List ℕ
+head letter = 3 ∷ 0 ∷ 0 ∷ 0 ∷ 108 ∷ 105 ∷ 98 ∷ 5 ∷ 0 ∷ 0 ∷ 0 ∷ letter ∷ 46 ∷ 118 ∷ 104 ∷ 100 ∷ 1 ∷ 0 ∷ 0 ∷ 0 ∷ 2 ∷ 0 ∷ 0 ∷ 0 ∷ 99 ∷ 99 ∷ []
+
+-- the two payloads of the example in FORMATS.md, of a.vhd with the artefact y, and of b.vhd over it with the artefact z
+abbrev pub first : List ℕ
+first = 1 ∷ head 97 ++ (1 ∷ 1 ∷ 0 ∷ 0 ∷ 0 ∷ 120 ∷ 0 ∷ 0 ∷ 0 ∷ 0 ∷ 1 ∷ 1 ∷ 0 ∷ 0 ∷ 0 ∷ 121 ∷ [])
+
+abbrev pub second : List ℕ
+second = 1 ∷ head 98 ++ (0 ∷ 0 ∷ 0 ∷ 0 ∷ 0 ∷ 0 ∷ 0 ∷ 0 ∷ 0 ∷ 1 ∷ 0 ∷ 0 ∷ 0 ∷ 0 ∷ 0 ∷ 0 ∷ 0 ∷ 0 ∷ 0 ∷ 0 ∷ 0 ∷ 1 ∷ 1 ∷ 0 ∷ 0 ∷ 0 ∷ 122 ∷ [])
+
+-- the product of a.vhd and y alone
+abbrev product : List ℕ
+product = 0 ∷ 3 ∷ 0 ∷ 0 ∷ 0 ∷ 108 ∷ 105 ∷ 98 ∷ 5 ∷ 0 ∷ 0 ∷ 0 ∷ 97 ∷ 46 ∷ 118 ∷ 104 ∷ 100 ∷ 1 ∷ 1 ∷ 0 ∷ 0 ∷ 0 ∷ 121 ∷ []
+
+-- b.vhd over product 0, with the new texts x and z
+abbrev over_product : List ℕ
+over_product = 1 ∷ head 98 ++ (1 ∷ 1 ∷ 0 ∷ 0 ∷ 0 ∷ 120 ∷ 1 ∷ 0 ∷ 0 ∷ 0 ∷ 0 ∷ 0 ∷ 0 ∷ 0 ∷ 0 ∷ 0 ∷ 0 ∷ 0 ∷ 1 ∷ 1 ∷ 0 ∷ 0 ∷ 0 ∷ 122 ∷ [])
+
+-- a.vhd with the new texts w and v
+abbrev newer : List ℕ
+newer = 1 ∷ head 97 ++ (1 ∷ 1 ∷ 0 ∷ 0 ∷ 0 ∷ 119 ∷ 0 ∷ 0 ∷ 0 ∷ 0 ∷ 1 ∷ 1 ∷ 0 ∷ 0 ∷ 0 ∷ 118 ∷ [])
+
+abbrev y_built : BuiltFile
+y_built = built a_name (codes "y")
+
+-- b with the text x too
+abbrev pub same_text : Entry
+same_text = file b_name (codes "x") (0 ∷ [])
+
+-- the records that the two payloads stand for, and one of a.vhd with the text w and the artefact v
+abbrev pub two_records : List Record
+two_records = recorded a_file [] (codes "y") ∷ recorded same_text (y_built ∷ []) (codes "z") ∷ []
+
+abbrev newer_record : Record
+newer_record = recorded (file a_name (codes "w") []) [] (codes "v")
+
+abbrev draft : FileName → TextRef → List ℕ → TextRef → RequestDraft
+draft it source deps artefact = record { name = it; command = command; source = source; deps = deps; artefact = artefact }
+
+abbrev first_draft : RequestDraft
+first_draft = draft a_name (InFull (codes "x")) [] (InFull (codes "y"))
+
+abbrev second_draft : RequestDraft
+second_draft = draft b_name (ByNumber 0) (0 ∷ []) (InFull (codes "z"))
+
+-- what payloads spell
+pub record SpelledPayloads : Type 0 where
+  pub of_first : request_payload_bytes (OfRequest first_draft) ≡ first
+  pub of_second : request_payload_bytes (OfRequest second_draft) ≡ second
+  pub of_product : request_payload_bytes (OfProduct (record { name = a_name; artefact = InFull (codes "y") })) ≡ product
+  pub read : request_payload_in second ≡ Some (OfRequest second_draft)
+  pub shorter : request_payload_in (take (length second - 1) second) ≡ None
+  pub longer : request_payload_in (second ++ 0 ∷ []) ≡ None
+
+-- the texts, products and records of payloads
+pub record ShelvedRequests : Type 0 where
+  pub texts : (request_shelf_of (first ∷ second ∷ [])).texts ≡ codes "x" ∷ codes "y" ∷ codes "z" ∷ []
+  pub products : (request_shelf_of (first ∷ second ∷ [])).products ≡ y_built ∷ built b_name (codes "z") ∷ []
+  pub both : requests_among (first ∷ second ∷ []) ≡ two_records
+  -- a payload whose texts are there already, and one over a product that isn't there, stand for nothing
+  pub repeated : requests_among (first ∷ first ∷ []) ≡ recorded a_file [] (codes "y") ∷ []
+  pub first_missing : requests_among (second ∷ []) ≡ []
+  -- a product alone is no record, and one may be over it
+  pub product_alone : requests_among (product ∷ []) ≡ []
+  pub over_alone : requests_among (product ∷ over_product ∷ []) ≡ recorded same_text (y_built ∷ []) (codes "z") ∷ []
+  pub adds_itself : is_request bare_shelf first_draft ≡ true
+  pub there_already : is_request (request_shelf_of (first ∷ [])) first_draft ≡ false
+  -- nor is a file below itself
+  pub below_itself : is_request (request_shelf_of (first ∷ [])) (draft a_name (ByNumber 0) (0 ∷ []) (ByNumber 1)) ≡ false
+
+-- what compaction keeps: the product that b.vhd is over alone, b.vhd, and the newer a.vhd
+pub record CompactedRequests : Type 0 where
+  pub all : compacted_requests two_records ≡ first ∷ second ∷ []
+  pub payloads : compacted_requests (two_records ++ newer_record ∷ []) ≡ product ∷ over_product ∷ newer ∷ []
+  pub kept : requests_among (product ∷ over_product ∷ newer ∷ []) ≡ latest_alone (two_records ++ newer_record ∷ [])
+  -- how many bytes they take, each behind its gate
+  pub count : blocks_length (carried_from none_carried (latest_alone (two_records ++ newer_record ∷ []))).payloads ≡ 132

@@ -1,0 +1,149 @@
+-- The examples of "Runs of tests".
+use Rattle.std.specs.Prelude.{◌≡◌, ℕ, ◌∷◌, Bool, true, false, List, [], Some, None, map, take, codes}
+use Rattle.base.specs.declared.child.Event.{Event}
+use Rattle.base.specs.declared.child.Event.TheVariants.{Ended, Started}
+use Rattle.base.specs.declared.child.Exit.{Exit}
+use Rattle.base.specs.declared.child.MaybeText.TheVariants.{Given}
+use Rattle.base.specs.declared.child.Request.{Request}
+use Rattle.outside.specs.Records.{latest}
+use Rattle.vhdl_benches.specs.declared.bench.Bench.{Bench}
+use Rattle.run_spec.specs.Moves.{IsLawfulMove, Starts, empty_core, start_now}
+use Rattle.run_spec.specs.declared.marks.Mark.TheVariants.{Compiled}
+use Rattle.test_select.specs.Selection.{has_cases}
+use Rattle.test_spec.specs.BenchJobs.{bench_request}
+use Rattle.test_spec.specs.Runs.{case_names}
+use Rattle.test_spec.specs.declared.ends.RunEnd.{RunEnd}
+use Rattle.test_spec.specs.declared.ends.Verdict.TheVariants.{Failed, Passed, Skipped}
+use Rattle.test_spec.specs.declared.runs.TestRun.{TestRun}
+use Rattle.run_steps.specs.Steps.{step_at}
+use Rattle.run_steps.specs.declared.step.Step.TheVariants.{Start, Wait}
+use Rattle.test_journal.specs.TestJournal.{LawfulTests, TestSetting, book_of_tests, test_job}
+use Rattle.report_verdicts.specs.Counts.{tests_outcome}
+use Rattle.report_verdicts.specs.Junit.{junit, value}
+use Rattle.report_verdicts.specs.TestTexts.{test_text}
+use Rattle.report_tested.specs.Said.{run_said}
+use Rattle.report_tested.specs.declared.said.TestWords.{TestWords}
+use Rattle.test_loop.specs.Faults.{noted_with}
+use Rattle.test_loop.specs.Requests.{lent_files}
+use Rattle.test_loop.specs.Results.{test_ends}
+use Rattle.test_loop.specs.declared.faults.TestRunFault.TheVariants.{ChildLost, NoMemory}
+use Rattle.project_reading.specs.Wishes.{chosen}
+use Rattle.run_tested_laws.specs.Libraries.{libraries}
+use Rattle.tests_examples.specs.Example.{Ra, a_built, command, compiler, exit, files}
+use Rattle.base_outcomes.specs.declared.outcome.Outcome.TheVariants as outcome
+
+-- one run that printed boom, of two cases of which one failed
+abbrev boom : RunEnd
+boom = record { names = codes "lib.t.a" ∷ codes "lib.t.b" ∷ []; verdicts = Passed ∷ Failed ∷ []; output = codes "boom" }
+
+pub record TestsSaid : Type 0 where
+  pub text : test_text false false (boom ∷ []) ≡
+      codes "boom\npass lib.t.a\nfail lib.t.b\n==== Summary\npass 1 of 2\nfail 1 of 2\nskip 0 of 2\nSome failed!\n"
+  pub quiet : test_text false true (boom ∷ []) ≡
+      codes "pass lib.t.a\nfail lib.t.b\n==== Summary\npass 1 of 2\nfail 1 of 2\nskip 0 of 2\nSome failed!\n"
+  pub failed : tests_outcome (boom ∷ []) false ≡ outcome.TestsFailed
+  pub ignored : tests_outcome (boom ∷ []) true ≡ outcome.Done
+  pub none : tests_outcome [] false ≡ outcome.Done
+  pub name_value : value (codes "a & b") ≡ codes "a &amp; b"
+  pub no_character : value (239 ∷ 191 ∷ 191 ∷ []) ≡ 239 ∷ 191 ∷ 189 ∷ []
+
+-- two runs of a bench, one at once
+abbrev run_of_case : List ℕ → TestRun
+run_of_case it = record {
+  library = codes "lib";
+  bench = codes "t";
+  architecture = codes "a";
+  cases = it ∷
+      [];
+  whole = false;
+  same_sim = false;
+  path = codes "t.vhd";
+}
+
+abbrev two_runs : Bool → TestSetting
+two_runs fail_fast = record {
+  plan = record {
+    runs = run_of_case (codes "a") ∷ run_of_case (codes "b") ∷
+        [];
+    simulator = command;
+    fail_fast = fail_fast;
+  };
+  built = a_built ∷ [];
+  slots = 1;
+}
+
+abbrev end_of_first : Exit → List Event
+end_of_first it = Started 7 (bench_request (run_of_case (codes "a")) command (a_built ∷ [])) ∷ Ended 7 it ∷ []
+
+abbrev failed_exit : Exit
+failed_exit = exit 1 []
+
+abbrev passed_exit : Exit
+passed_exit = record { code = 0; output = []; results = Given (codes "test_start:a\ntest_suite_done\n") }
+
+pub record MovesOfTests : Type 0 where
+  pub count : (test_job (two_runs false)).count ≡ 2
+  pub lawful : IsLawfulMove (test_job (two_runs false)) empty_core (Starts 0 7)
+  pub taken : (book_of_tests (two_runs false) (end_of_first failed_exit)).core.taken ≡ 0 ∷ []
+  pub ended : (book_of_tests (two_runs false) (end_of_first failed_exit)).ends ≡ record { position = 0; exit = failed_exit } ∷ []
+  pub next : start_now (test_job (two_runs false)) (book_of_tests (two_runs false) (end_of_first failed_exit)).core ≡ Some 1
+  pub last : start_now (test_job (two_runs true)) (book_of_tests (two_runs true) (end_of_first failed_exit)).core ≡ None
+  pub is_lawful : LawfulTests (two_runs false) (end_of_first failed_exit)
+  pub waits : step_at (test_job (two_runs false)) (book_of_tests (two_runs false) (take 1 (end_of_first passed_exit))).core ≡ Wait
+  pub at_first : step_at (test_job (two_runs false)) empty_core ≡ Start 0
+  pub second_step : step_at (test_job (two_runs false)) (book_of_tests (two_runs false) (end_of_first passed_exit)).core ≡ Start 1
+
+pub record EndsOfTests : Type 0 where
+  pub verdicts_of : map (λ run. run.verdicts) (test_ends (two_runs false) (end_of_first passed_exit)) ≡ (Passed ∷ []) ∷ (Skipped ∷ []) ∷ []
+  pub lent : lent_files (λ it. latest it (Ra ∷ [])) files ≡ a_built ∷ []
+
+-- a compiler that refuses b
+abbrev refusing_b : Request → Exit
+refusing_b request = compiler (exit 0 (codes "1")) (exit 1 []) request
+
+-- what a run says in the end
+abbrev words_with : Bool → TestWords
+words_with exit_0 = record { verbose = false; quiet = false; exit_0 = exit_0; report = false }
+
+pub record RunsSaid : Type 0 where
+  pub outcome_of : (run_said [] files (Compiled ∷ Compiled ∷ []) [] (words_with false) (Some (record { runs = boom ∷ [] }))).outcome ≡
+      outcome.TestsFailed
+  pub ignored : (run_said [] files (Compiled ∷ Compiled ∷ []) [] (words_with true) (Some (record { runs = boom ∷ [] }))).outcome ≡ outcome.Done
+  pub build_first : take 27 (run_said [] files (Compiled ∷ Compiled ∷ []) [] (words_with false) (Some (record { runs = boom ∷ [] }))).text ≡
+      codes "Compiling into lib: a.vhd p"
+  pub made : libraries refusing_b files ≡ a_built ∷ []
+
+-- a bench t of lib with these cases
+abbrev bench_of_cases : List (List ℕ) → Bench
+bench_of_cases its = record {
+  library = codes "lib";
+  name = codes "t";
+  architecture = codes "a";
+  file = 0;
+  cases = map (λ it. record { name = it; file = 0; at = 0; length = 0 }) its;
+  whole = false;
+  same_sim = false;
+}
+
+-- which tests patterns select, and which fault is answered
+pub record ChosenTests : Type 0 where
+  pub by_pattern : chosen (codes "*.a" ∷ []) (bench_of_cases (codes "a" ∷ codes "b" ∷ []) ∷ []) ≡ bench_of_cases (codes "a" ∷ []) ∷ []
+  pub no_case : has_cases (bench_of_cases []) ≡ false
+  pub no_memory : noted_with (Some ChildLost) NoMemory ≡ NoMemory
+
+-- the report of three cases of the example in FORMATS.md
+abbrev three_cases : TestRun
+three_cases = record {
+  library = codes "lib";
+  bench = codes "t";
+  architecture = codes "rtl";
+  cases = codes "a" ∷ codes "b" ∷ codes "c" ∷
+      [];
+  whole = false;
+  same_sim = true;
+  path = [];
+}
+
+pub record WrittenReports : Type 0 where
+  pub report : junit (three_cases ∷ []) (record { names = case_names three_cases; verdicts = Passed ∷ Failed ∷ Skipped ∷ []; output = [] } ∷ []) ≡
+      codes "<?xml version=\"1.0\" encoding=\"utf-8\"?>\n<testsuite name=\"testsuite\" tests=\"3\" failures=\"1\" skipped=\"1\" errors=\"0\">\n  <testcase classname=\"lib.t\" name=\"a\"/>\n  <testcase classname=\"lib.t\" name=\"b\">\n    <failure message=\"Failed\"/>\n  </testcase>\n  <testcase classname=\"lib.t\" name=\"c\">\n    <skipped/>\n  </testcase>\n</testsuite>\n"

@@ -1,0 +1,141 @@
+-- The examples of "Reading: what words and sources say".
+use Rattle.std.specs.Prelude.{◌≡◌, ℕ, ◌&&◌, ◌∷◌, Bool, true, false, List, [], Option, Some, None, Ok, Err, map, codes, if◌then◌else◌, bytes_eq}
+use Rattle.base.specs.Names.{FitsName}
+use Rattle.base.specs.declared.child.MaybeText.TheVariants.{Nothing}
+use Rattle.base.specs.declared.design.UnitFault.TheVariants.{NotUnit}
+use Rattle.base.specs.declared.file.FileName.{FileName}
+use Rattle.base.specs.declared.graph.Entry.{Entry}
+use Rattle.base.specs.declared.project.Project.{Project}
+use Rattle.base.specs.declared.project.ProjectFile.{ProjectFile}
+use Rattle.outside.specs.Trees.{is_listed}
+use Rattle.vhdl_spec.specs.Scans.{Clean, Finding, Grammatical}
+use Rattle.run_command_line.specs.Words.{setting_of}
+use Rattle.run_command_line.specs.declared.setting.Setting.{Setting}
+use Rattle.project_file.specs.Csv.{csv_project, listed_command, listed_project, listed_simulator}
+use Rattle.project_file.specs.Toml.{matching_names}
+use Rattle.project_reading.specs.Asked.{project_paths}
+use Rattle.project_reading.specs.Reading.{SourceReading, project_reading, scanned_reading, scans_of}
+use Rattle.project_reading.specs.declared.wish.Wish.{Wish}
+use Rattle.tests_examples.specs.Example.{a_name, b_name, name}
+use Rattle.tests_examples.specs.Samples.{scan_with, uses_p_text, uses_p_tokens, uses_p_unit, uses_q_text, uses_q_tokens, uses_q_unit}
+use Rattle.base_outcomes.specs.declared.outcome.Refusal.TheVariants as refusal
+use Rattle.project_reading.specs.Reading as sources
+use Rattle.project_reading.specs.declared.wish.Extent.TheVariants as extent
+use Rattle.base.specs.declared.project.ProjectFault.TheVariants as fault
+
+-- ## Words
+
+-- with nothing given
+abbrev pub plain : Setting
+plain = record {
+  list = false;
+  files = false;
+  compile = false;
+  minimal = false;
+  keep_compiling = false;
+  fail_fast = false;
+  clean = false;
+  xunit_xml = Nothing;
+  exit_0 = false;
+  verbose = false;
+  quiet = false;
+  num_threads = 1;
+  export_json = Nothing;
+  generate = 0;
+  patterns = codes "*" ∷ [];
+}
+
+pub record SettingsOfWords : Type 0 where
+  pub compiling : setting_of (codes "-p" ∷ codes "8" ∷ codes "-k" ∷ codes "--compile" ∷ []) ≡
+      Some (record plain { compile = true; keep_compiling = true; num_threads = 8 })
+  pub zero : setting_of (codes "-p" ∷ codes "0" ∷ []) ≡ None
+  pub twice : setting_of (codes "--compile" ∷ codes "--compile" ∷ []) ≡ None
+  pub unknown : setting_of (codes "--frob" ∷ []) ≡ None
+
+-- ## Project files
+
+pub record ListedProjects : Type 0 where
+  pub two : csv_project (codes "lib,a.vhd\nlib,b.vhd") ≡ Ok (listed_project (a_name ∷ b_name ∷ []))
+  pub bad : csv_project (codes "lib,a.vhd\nlib") ≡ Err (fault.BadLine 2)
+  pub repeated : csv_project (codes "lib,a.vhd\nLIB,a.vhd") ≡ Err (fault.DuplicateFile a_name)
+  pub of_work : csv_project (codes "Work,a.vhd") ≡ Err fault.WorkLibrary
+  pub above : csv_project (codes "lib,../a.vhd") ≡ Err (fault.BadLine 1)
+  pub blank : csv_project (codes "  ") ≡ Err (fault.BadLine 1)
+
+pub record PatternsOfFiles : Type 0 where
+  pub once : matching_names (codes "a.vhd" ∷ codes "b.vhd" ∷ []) [] (codes "*.vhd" ∷ codes "a.vhd" ∷ []) ≡ Ok (codes "a.vhd" ∷ codes "b.vhd" ∷ [])
+  pub nothing : matching_names (codes "a.vhd" ∷ codes "b.vhd" ∷ []) [] (codes "z*.vhd" ∷ []) ≡ Err (fault.NothingMatches (codes "z*.vhd"))
+
+-- ## Sources
+
+-- the folder of the example, with a.vhd or without
+abbrev pub folder : Bool → List ℕ → Option (List ℕ)
+folder has_a path =
+    if bytes_eq path (codes "vunit.csv") then Some (codes "lib,a.vhd\nlib,b.vhd")
+    else (if bytes_eq path (codes "a.vhd") && has_a then Some (codes "x") else (if bytes_eq path (codes "b.vhd") then Some (codes "y") else None))
+
+-- a scanner that finds nothing in any text, and one that finds no unit in foo
+abbrev pub finds_nothing : List ℕ → Finding
+finds_nothing text = Clean (scan_with [] [])
+
+abbrev refuses_foo : List ℕ → Finding
+refuses_foo text = if bytes_eq text (codes "foo") then Grammatical (NotUnit 0) else finds_nothing text
+
+abbrev listed_file_of : FileName → ProjectFile
+listed_file_of it = record { name = it; command = listed_command }
+
+-- all of the graph is wanted
+abbrev whole_graph : Wish
+whole_graph = record { extent = extent.Graph; patterns = [] }
+
+-- the files as the program compiles them itself
+abbrev child_file : FileName → List ℕ → List ℕ → Entry
+child_file it text deps = record { name = it; command = listed_command; text = text; deps = deps }
+
+abbrev pub child_files : List Entry
+child_files = child_file a_name (codes "x") [] ∷ child_file b_name (codes "y") (0 ∷ []) ∷ []
+
+pub record ReadSources : Type 0 where
+  pub asked : project_paths (folder true) [] ≡ codes "vunit.toml" ∷ codes "vunit.csv" ∷ codes "a.vhd" ∷ codes "b.vhd" ∷ []
+  pub found : project_reading finds_nothing (folder true) [] whole_graph ≡ sources.Found (record {
+    project = listed_project (a_name ∷ b_name ∷
+        []);
+    graph = child_files;
+    warnings = [];
+    tests = [];
+  })
+  pub absent : project_reading finds_nothing (folder false) [] whole_graph ≡ sources.Stops (refusal.AbsentFile a_name)
+  pub second_refused : scans_of refuses_foo (map listed_file_of (a_name ∷ b_name ∷ name 99 ∷ [])) (codes "x" ∷ codes "foo" ∷ codes "foo" ∷ []) ≡
+      Err (sources.Stops (refusal.Units b_name (NotUnit 0)))
+
+-- a.vhd uses a package of b.vhd, and b.vhd one of a.vhd
+abbrev cyclic : Bool → Project
+cyclic is_listed = record {
+  files = map listed_file_of (a_name ∷ b_name ∷
+      []);
+  simulator = listed_simulator;
+  external = [];
+  bodies = false;
+  depends = [];
+  listed = is_listed;
+}
+
+abbrev cyclic_reading : Bool → SourceReading
+cyclic_reading is_listed = scanned_reading whole_graph (cyclic is_listed) (uses_q_text ∷ uses_p_text ∷ []) (scan_with uses_q_tokens (uses_q_unit ∷ []) ∷
+    scan_with uses_p_tokens (uses_p_unit ∷ []) ∷ [])
+
+pub record CyclicSources : Type 0 where
+  pub linked : cyclic_reading false ≡ sources.Stops (refusal.Cycle (a_name ∷ b_name ∷ []))
+  pub in_listed_order : cyclic_reading true ≡ sources.Found (record {
+    project = cyclic true;
+    graph = child_file a_name uses_q_text [] ∷
+        child_file b_name uses_p_text (0 ∷ []) ∷ [];
+    warnings = [];
+    tests = [];
+  })
+
+-- ## Names
+
+pub record FittingNames : Type 0 where
+  pub fits : FitsName a_name
+  pub empty_path : FitsName (record { library = codes "lib"; path = [] }) → ⊥

@@ -1,0 +1,447 @@
+//! Tests of a journal over a disk in memory: its bytes, stops inside its calls, and calls that fail.
+
+ghost use Rattle.std.specs.Prelude.{◌≡◌, false, IfOk};
+ghost use Rattle.store_journal.specs.Journals.{IsInStep};
+ghost use Rattle.memory_outside.specs.Disks.{moments_of};
+
+use base::{Items, NoMemory, Numbers};
+use memory_outside::MemDisk;
+use outside::{Side, StoreFault, write_durably};
+use std::alloc::Global;
+use std::test::Fail;
+use store_journal::{Journal, Opened, Payloads};
+
+const LONG: u64 = (1 << 63) - 1;
+
+/// A side of form 1 and generation 1 without payloads.
+static EMPTY: [u8; 19] = [
+    1, b'V', b'U', b'N', b'I', b'T', b'R', b'E', b'C', 1, 1, 0, 0, 0, 0, 0, 0, 0, 0,
+];
+
+/// The same with the payload `ab`.
+static WITH_AB: [u8; 26] = [
+    1, b'V', b'U', b'N', b'I', b'T', b'R', b'E', b'C', 1, 1, 0, 0, 0, 0, 0, 0, 0, 1, 2, 0, 0, 0,
+    b'a', b'b', 0,
+];
+
+/// A side of form 1 and generation 2 with the payload `cd`.
+static WITH_CD: [u8; 26] = [
+    1, b'V', b'U', b'N', b'I', b'T', b'R', b'E', b'C', 1, 2, 0, 0, 0, 0, 0, 0, 0, 1, 2, 0, 0, 0,
+    b'c', b'd', 0,
+];
+
+/// The numbers of the disk calls: opening an empty disk takes 14, and a commit 4.
+const COMMIT: u64 = 14;
+
+const NEXT: u64 = 18;
+
+pub fn disk(alloc: Global, failing: &[u64]) -> Result<MemDisk, NoMemory> {
+    let failing: Numbers = Items::from_vec(Vec::from_slice(alloc, failing)?);
+    Ok(MemDisk::new(alloc, failing))
+}
+
+/// Whether the payloads are those of a letter: `a` is `ab` alone, `c` is `cd` alone, and `-` none.
+pub fn are(payloads: &Payloads, letter: u8) -> bool {
+    match letter {
+        b'a' => payloads.len() == 1 && payloads.get(0) == b"ab".as_slice(),
+        b'c' => payloads.len() == 1 && payloads.get(0) == b"cd".as_slice(),
+        _ => payloads.len() == 0,
+    }
+}
+
+/// Whether a disk has the payloads of a letter.
+fn holds(alloc: Global, disk: &mut MemDisk, letter: u8) -> Result<bool, StoreFault> {
+    let Opened { payloads, .. } = Journal::from_disk(alloc, disk, 1)?;
+    Ok(are(&payloads, letter))
+}
+
+/// Whether an image of a moment has the payloads of a letter.
+fn leaves_image(
+    alloc: Global,
+    disk: &MemDisk,
+    moment: u64,
+    length: u64,
+    fill: u8,
+    letter: u8,
+) -> Result<bool, StoreFault> {
+    let mut image = disk.crash(alloc, moment, length, fill)?;
+    holds(alloc, &mut image, letter)
+}
+
+/// Whether each image of a moment has the payloads of a letter: of a first one where its free bytes are 1, and of a second
+/// one where they are others.
+fn leaves(
+    alloc: Global,
+    disk: &MemDisk,
+    moment: u64,
+    ones: u8,
+    others: u8,
+) -> Result<bool, StoreFault> {
+    for fill in [1, 0, 255] {
+        let letter = if fill == 1 { ones } else { others };
+        if !leaves_image(alloc, disk, moment, 0, fill, letter)?
+            || !leaves_image(alloc, disk, moment, LONG, fill, letter)?
+        {
+            return Ok(false);
+        }
+    }
+    Ok(true)
+}
+
+/// The same of moments from the first one on, with a letter for each in either list.
+fn leaves_each(
+    alloc: Global,
+    disk: &MemDisk,
+    first: u64,
+    ones: &[u8],
+    others: &[u8],
+) -> Result<bool, StoreFault> {
+    if ones.len() != others.len() {
+        return Ok(false);
+    }
+    for i in 0..ones.len() {
+        if !leaves(
+            alloc,
+            disk,
+            first.saturating_add(i as u64),
+            ones[i],
+            others[i],
+        )? {
+            return Ok(false);
+        }
+    }
+    Ok(true)
+}
+
+/// The same of a table: a line of letters for images whose free bytes are 1, and a line for all others.
+fn leaves_all(alloc: Global, disk: &MemDisk, first: u64, table: &str) -> Result<bool, StoreFault> {
+    match table.split_once('\n') {
+        Some((ones, others)) => {
+            leaves_each(alloc, disk, first, ones.as_bytes(), others.as_bytes())
+        }
+        None => Ok(false),
+    }
+}
+
+/// A journal with the payload `ab`.
+fn with_ab(alloc: Global, disk: &mut MemDisk) -> Result<Journal, StoreFault>
+    ensures usable { IfOk result (λ journal. journal.broken ≡ false) }
+    ensures form { IfOk result (λ journal. journal.form ≡ 1) }
+    ensures in_step { IfOk result (λ journal. IsInStep journal (moments_of disk.new.log).now) }
+{
+    let Opened { mut journal, .. } = Journal::from_disk(alloc, disk, 1)?;
+    let ready = journal.prepare(alloc, b"ab")?;
+    journal.commit(disk, &ready)?;
+    Ok(journal)
+}
+
+/// Puts the payload `cd` in the place of those of a journal.
+fn replace_by_cd(alloc: Global, journal: &mut Journal, disk: &mut MemDisk) -> Result<(), StoreFault>
+    requires usable { journal.old.broken ≡ false }
+    requires form { journal.old.form ≡ 1 }
+    requires in_step { IsInStep journal.old (moments_of disk.old.log).now }
+{
+    if journal.generation() == u64::MAX {
+        return Err(StoreFault::DiskFailed);
+    }
+    let mut payloads = Payloads::new(alloc);
+    payloads.push(alloc, b"cd")?;
+    let side = journal.prepare_side(alloc, 1, &payloads)?;
+    Ok(journal.replace(disk, side)?)
+}
+
+/// A journal with the payload `cd`, which took the place of `ab`.
+fn with_cd(alloc: Global, disk: &mut MemDisk) -> Result<Journal, StoreFault> {
+    let mut journal = with_ab(alloc, disk)?;
+    replace_by_cd(alloc, &mut journal, disk)?;
+    Ok(journal)
+}
+
+/// A journal that was emptied, with `ab` before.
+fn emptied(alloc: Global, disk: &mut MemDisk) -> Result<Journal, StoreFault> {
+    with_ab(alloc, disk)?;
+    Journal::emptied(alloc, disk, 1, 1)
+}
+
+/// What is done to an empty disk: a journal is opened; `ab` is committed; then `cd` takes its place, or it is emptied.
+#[derive(Clone, Copy)]
+enum Change {
+    Opens,
+    Commits,
+    Replaces,
+    Empties,
+}
+
+/// Whether opening an empty disk finds no payload.
+fn opens(alloc: Global, disk: &mut MemDisk) -> Result<bool, StoreFault> {
+    holds(alloc, disk, b'-')
+}
+
+/// Whether a journal is of the first generation after a commit, and as long as its side.
+fn commits(alloc: Global, disk: &mut MemDisk) -> Result<bool, StoreFault> {
+    let journal = with_ab(alloc, disk)?;
+    Ok(journal.generation() == 1 && journal.length() == 26)
+}
+
+/// Makes a change, and tells whether it goes so.
+fn make(alloc: Global, disk: &mut MemDisk, change: Change) -> Result<bool, StoreFault> {
+    match change {
+        Change::Opens => opens(alloc, disk),
+        Change::Commits => commits(alloc, disk),
+        Change::Replaces => {
+            with_cd(alloc, disk)?;
+            Ok(true)
+        }
+        Change::Empties => {
+            emptied(alloc, disk)?;
+            Ok(true)
+        }
+    }
+}
+
+/// Whether the sides of a disk are those after a change.
+fn has_sides(disk: &MemDisk, change: Change) -> bool {
+    let a = disk.reads(Side::A);
+    let b = disk.reads(Side::B);
+    match change {
+        Change::Opens => a == EMPTY.as_slice() && b.is_empty(),
+        Change::Commits => a == WITH_AB.as_slice(),
+        Change::Replaces => a == WITH_AB.as_slice() && b == WITH_CD.as_slice(),
+        Change::Empties => a == EMPTY.as_slice() && b.is_empty(),
+    }
+}
+
+/// Whether a change goes so, and leaves its sides.
+fn changes(alloc: Global, disk: &mut MemDisk, change: Change) -> Result<bool, StoreFault> {
+    Ok(make(alloc, disk, change)? && has_sides(disk, change))
+}
+
+/// Whether a change leaves its sides, and a stop the payloads of a table, from a moment on.
+fn goes(alloc: Global, change: Change, first: u64, table: &str) -> Result<bool, StoreFault> {
+    let mut disk = disk(alloc, &[])?;
+    Ok(changes(alloc, &mut disk, change)? && leaves_all(alloc, &disk, first, table)?)
+}
+
+#[test]
+fn opening_makes_a_side(rt: HostRuntime) -> Result<(), Fail> {
+    assert!(rt; goes(rt.alloc(), Change::Opens, 0, "\n")?);
+    Ok(())
+}
+
+/// Whether opening leaves these sides as they are.
+fn stays_on(alloc: Global, disk: &mut MemDisk, a: &[u8], b: &[u8]) -> Result<bool, StoreFault> {
+    write_durably(disk, Side::A, 0, a)?;
+    write_durably(disk, Side::B, 0, b)?;
+    Journal::from_disk(alloc, disk, 1)?;
+    Ok(disk.reads(Side::A) == a && disk.reads(Side::B) == b)
+}
+
+fn stays(alloc: Global, a: &[u8], b: &[u8]) -> Result<bool, StoreFault> {
+    let mut disk = disk(alloc, &[])?;
+    stays_on(alloc, &mut disk, a, b)
+}
+
+#[test]
+fn opening_a_healthy_disk_writes_nothing(rt: HostRuntime) -> Result<(), Fail> {
+    assert!(rt; stays(rt.alloc(), &EMPTY, &[])?);
+    assert!(rt; stays(rt.alloc(), &[], &WITH_AB)?);
+    assert!(rt; stays(rt.alloc(), &WITH_CD, &WITH_AB)?);
+    assert!(rt; stays(rt.alloc(), &WITH_AB, &WITH_CD)?);
+    Ok(())
+}
+
+/// Whether emptying a disk of these sides leaves them so.
+fn empties_on(
+    alloc: Global,
+    disk: &mut MemDisk,
+    sides: [&[u8]; 2],
+    left: [&[u8]; 2],
+) -> Result<bool, StoreFault> {
+    write_durably(disk, Side::A, 0, sides[0])?;
+    write_durably(disk, Side::B, 0, sides[1])?;
+    Journal::emptied(alloc, disk, 1, 1)?;
+    Ok(disk.reads(Side::A) == left[0] && disk.reads(Side::B) == left[1])
+}
+
+fn empties(alloc: Global, sides: [&[u8]; 2], left: [&[u8]; 2]) -> Result<bool, StoreFault> {
+    let mut disk = disk(alloc, &[])?;
+    empties_on(alloc, &mut disk, sides, left)
+}
+
+#[test]
+fn an_emptied_disk_has_the_side_that_counted_or_a(rt: HostRuntime) -> Result<(), Fail> {
+    assert!(rt; empties(rt.alloc(), [&WITH_AB, &[]], [&EMPTY, &[]])?);
+    assert!(rt; empties(rt.alloc(), [&WITH_AB, &WITH_CD], [&[], &EMPTY])?);
+    assert!(rt; empties(rt.alloc(), [&[0; 30], &WITH_AB], [&[], &EMPTY])?);
+    assert!(rt; empties(rt.alloc(), [&[7; 30], &[9; 40]], [&EMPTY, &[]])?);
+    Ok(())
+}
+
+#[test]
+fn a_commit_writes_the_payload_and_its_gate(rt: HostRuntime) -> Result<(), Fail> {
+    assert!(rt; goes(rt.alloc(), Change::Commits, 0, "\n")?);
+    Ok(())
+}
+
+/// From the first call on: after the third call of the commit its gate may be open.
+static COMMITTING: &str = "----------------aaa\n------------------a";
+
+#[test]
+fn a_stop_inside_a_commit_leaves_its_payload_or_none(rt: HostRuntime) -> Result<(), Fail> {
+    assert!(rt; goes(rt.alloc(), Change::Commits, 0, COMMITTING)?);
+    Ok(())
+}
+
+/// Whether side A of an image of a moment begins with what was there before the commit.
+fn begins_empty(alloc: Global, disk: &MemDisk, moment: u64, length: u64) -> Result<bool, NoMemory> {
+    let image = disk.crash(alloc, moment, length, 37)?;
+    Ok(image.reads(Side::A).starts_with(&EMPTY))
+}
+
+/// The same of each image inside of the two calls of a commit before its first sync.
+fn begins_so(alloc: Global, disk: &MemDisk) -> Result<bool, NoMemory> {
+    for moment in [COMMIT, COMMIT + 1] {
+        if !begins_empty(alloc, disk, moment, 0)? || !begins_empty(alloc, disk, moment, LONG)? {
+            return Ok(false);
+        }
+    }
+    Ok(true)
+}
+
+fn stays_until_synced(alloc: Global) -> Result<bool, StoreFault> {
+    let mut disk = disk(alloc, &[])?;
+    Ok(commits(alloc, &mut disk)? && begins_so(alloc, &disk)?)
+}
+
+#[test]
+fn a_stop_before_the_first_sync_leaves_the_side_as_it_was(rt: HostRuntime) -> Result<(), Fail> {
+    assert!(rt; stays_until_synced(rt.alloc())?);
+    Ok(())
+}
+
+/// From the call after the commit on.
+static REPLACING: &str = "aaaaaaccc\naaaaaaaac";
+
+#[test]
+fn a_stop_inside_a_replacement_leaves_either_list(rt: HostRuntime) -> Result<(), Fail> {
+    assert!(rt; goes(rt.alloc(), Change::Replaces, NEXT, REPLACING)?);
+    Ok(())
+}
+
+/// From the call after the commit on: 6 calls sync both sides and read how they begin; then B is cut, A made dead, and A is
+/// made, two calls for each write or cut. While A is made dead its first byte may be any.
+static EMPTYING: &str = "aaaaaaaaaa---------\naaaaaaaa-----------";
+
+#[test]
+fn a_stop_while_a_disk_is_emptied_leaves_the_list_or_none(rt: HostRuntime) -> Result<(), Fail> {
+    assert!(rt; goes(rt.alloc(), Change::Empties, NEXT, EMPTYING)?);
+    Ok(())
+}
+
+/// Whether a change is answered by a fault of the disk.
+fn is_refused(alloc: Global, disk: &mut MemDisk, change: Change) -> bool {
+    let answer = make(alloc, disk, change);
+    matches!(answer, Err(StoreFault::DiskFailed))
+}
+
+/// Whether a call that fails is answered, and leaves what a stop inside of it can.
+fn fails(
+    alloc: Global,
+    change: Change,
+    call: u64,
+    ones: u8,
+    others: u8,
+) -> Result<bool, StoreFault> {
+    let mut disk = disk(alloc, &[call])?;
+    let is_fault = is_refused(alloc, &mut disk, change);
+    Ok(is_fault && leaves(alloc, &disk, call.saturating_add(1), ones, others)?)
+}
+
+/// The same of each call from the first one on.
+fn fails_each(
+    alloc: Global,
+    change: Change,
+    first: u64,
+    ones: &[u8],
+    others: &[u8],
+) -> Result<bool, StoreFault> {
+    if ones.len() != others.len() {
+        return Ok(false);
+    }
+    for i in 0..ones.len() {
+        if !fails(
+            alloc,
+            change,
+            first.saturating_add(i as u64),
+            ones[i],
+            others[i],
+        )? {
+            return Ok(false);
+        }
+    }
+    Ok(true)
+}
+
+/// The same of a table.
+fn fails_all(alloc: Global, change: Change, first: u64, table: &str) -> Result<bool, StoreFault> {
+    match table.split_once('\n') {
+        Some((ones, others)) => {
+            fails_each(alloc, change, first, ones.as_bytes(), others.as_bytes())
+        }
+        None => Ok(false),
+    }
+}
+
+/// From the first call on.
+static FAILING: &str = "----------------aaaaaaaacc\n------------------aaaaaaaa";
+
+#[test]
+fn each_disk_call_may_fail(rt: HostRuntime) -> Result<(), Fail> {
+    assert!(rt; fails_all(rt.alloc(), Change::Replaces, 0, FAILING)?);
+    Ok(())
+}
+
+/// From the call after the commit on.
+static FAILING_IN_EMPTYING: &str = "aaaaaaaaaa--------\naaaaaaaa----------";
+
+#[test]
+fn each_disk_call_that_empties_a_disk_may_fail(rt: HostRuntime) -> Result<(), Fail> {
+    assert!(rt; fails_all(rt.alloc(), Change::Empties, NEXT, FAILING_IN_EMPTYING)?);
+    Ok(())
+}
+
+/// Whether a disk whose side A has these bytes has the payloads of a letter.
+fn side_holds(alloc: Global, bytes: &[u8], letter: u8) -> Result<bool, StoreFault> {
+    let mut disk = disk(alloc, &[])?;
+    write_durably(&mut disk, Side::A, 0, bytes)?;
+    holds(alloc, &mut disk, letter)
+}
+
+/// The same where one of the bytes of `WITH_AB` is changed.
+fn changed_holds(alloc: Global, place: usize, byte: u8, letter: u8) -> Result<bool, StoreFault> {
+    let mut bytes = WITH_AB;
+    if place >= bytes.len() {
+        return Ok(false);
+    }
+    bytes[place] = byte;
+    side_holds(alloc, &bytes, letter)
+}
+
+/// A place, the byte there, and the payloads: a dead side, another mark, another form, a length past the end, a closed
+/// gate that is 1.
+static CHANGED: [(usize, u8, u8); 6] = [
+    (0, 2, b'-'),
+    (8, b'X', b'-'),
+    (9, 2, b'-'),
+    (18, 37, b'-'),
+    (19, 3, b'-'),
+    (25, 1, b'a'),
+];
+
+#[test]
+fn any_bytes_stand_for_some_payloads(rt: HostRuntime) -> Result<(), Fail> {
+    for row in CHANGED {
+        assert!(rt; changed_holds(rt.alloc(), row.0, row.1, row.2)?);
+    }
+    Ok(())
+}

@@ -1,0 +1,299 @@
+//! What is done to the store of a disk in memory, and what is seen of two files afterwards.
+
+ghost use Rattle.std.specs.Prelude.{◌≡◌, ◌<◌, ◌≤◌, [], ◌∷◌, false, length, All, IfOk, IsTrue, OnOk};
+ghost use Rattle.base.specs.declared.limits.TheConstants.{ARTEFACT_LIMIT};
+ghost use Rattle.outside.specs.Records.{deps_at};
+ghost use Rattle.store_codec.specs.Shelves.{request_shelf_of};
+ghost use Rattle.store_holdings.specs.Held.{latest_held};
+ghost use Rattle.outside.specs.Records.{HasLatest};
+ghost use Rattle.store_holdings.specs.Seated.{AreSeats};
+ghost use Rattle.store_requests.specs.Stored.{IsRequestStoreInStep};
+
+use base::{ARTEFACT_LIMIT, FileName, Graph, Items, NoMemory, Numbers, Text};
+use memory_outside::MemDisk;
+use outside::{Disk, Side, StoreFault, write_durably};
+use std::alloc::Global;
+use store_holdings::Seats;
+use store_record_codec::{Record, read_record};
+use store_requests::RequestStore;
+
+/// A disk of which these calls fail.
+pub(super) fn empty_disk(alloc: Global, failing: &[u64]) -> Result<MemDisk, NoMemory> {
+    let failing: Numbers = Items::from_vec(Vec::from_slice(alloc, failing)?);
+    Ok(MemDisk::new(alloc, failing))
+}
+
+/// The same, and its side A has these bytes, which takes two calls.
+pub(super) fn disk_of(alloc: Global, failing: &[u64], bytes: &[u8]) -> Result<MemDisk, StoreFault> {
+    let mut disk = empty_disk(alloc, failing)?;
+    write_durably(&mut disk, Side::A, 0, bytes)?;
+    Ok(disk)
+}
+
+/// Adds a record of a file, over seats that are of the records with it afterwards.
+fn keep<D: Disk>(
+    alloc: Global,
+    store: &mut RequestStore,
+    disk: &mut D,
+    seats: &mut Seats,
+    graph: &Graph,
+    at: u32,
+    artefact: &Text,
+) -> Result<(), StoreFault>
+    requires place { at < length graph.now }
+    requires artefact { length artefact.now ≤ ARTEFACT_LIMIT }
+    requires seats { AreSeats (request_shelf_of store.old.held.payloads) graph.now seats.old }
+    requires built { All (HasLatest (latest_held store.old.held.payloads) graph.now)
+        (deps_at graph.now at) }
+    requires usable { store.old.journal.broken ≡ false }
+    requires in_step { D.tells → IsRequestStoreInStep store.old (D.moments disk.old).now }
+    ensures seats { OnOk result
+        (AreSeats (request_shelf_of store.new.held.payloads) graph.now seats.new) }
+    ensures usable { OnOk result (store.new.journal.broken ≡ false) }
+    ensures in_step { D.tells →
+        OnOk result (IsRequestStoreInStep store.new (D.moments disk.new).now) }
+{
+    let _files = graph.len();
+    let prepared = store.prepare(alloc, seats, graph, at, artefact)?;
+    store.commit(disk, prepared, seats)?;
+    Ok(())
+}
+
+/// Adds a record of the first file of a graph, with the artefact `y`.
+fn keep_first<D: Disk>(
+    alloc: Global,
+    store: &mut RequestStore,
+    disk: &mut D,
+    seats: &mut Seats,
+    graph: &Graph,
+) -> Result<(), StoreFault>
+    requires some { 0 < length graph.now }
+    requires seats { AreSeats (request_shelf_of store.old.held.payloads) graph.now seats.old }
+    requires usable { store.old.journal.broken ≡ false }
+    requires in_step { D.tells → IsRequestStoreInStep store.old (D.moments disk.old).now }
+    ensures seats { OnOk result
+        (AreSeats (request_shelf_of store.new.held.payloads) graph.now seats.new) }
+    ensures usable { OnOk result (store.new.journal.broken ≡ false) }
+    ensures in_step { D.tells →
+        OnOk result (IsRequestStoreInStep store.new (D.moments disk.new).now) }
+{
+    if !graph.get(0).deps.is_empty() {
+        return Err(StoreFault::NoMemory);
+    }
+    let artefact = Text::from_slice(alloc, b"y")?;
+    keep(alloc, store, disk, seats, graph, 0, &artefact)
+}
+
+/// The one byte of a text, or a dot where it has none.
+pub(super) fn mark(text: &[u8]) -> u8 {
+    match text {
+        [] => b'.',
+        [byte] => *byte,
+        _ => b'?',
+    }
+}
+
+/// The artefact of the file, or `-` where it has no record.
+fn letter(store: &RequestStore, name: &FileName) -> u8 {
+    match store.artefact(name) {
+        Some(artefact) => mark(artefact),
+        None => b'-',
+    }
+}
+
+/// Both files as a record of the whole view of `b.vhd`.
+static BOTH: [u8; 83] = [
+    2, 0, 0, 0, 3, 0, 0, 0, b'l', b'i', b'b', 5, 0, 0, 0, b'a', b'.', b'v', b'h', b'd', //
+    1, 0, 0, 0, 2, 0, 0, 0, b'c', b'c', 1, 0, 0, 0, b'x', 0, 0, 0, 0, //
+    3, 0, 0, 0, b'l', b'i', b'b', 5, 0, 0, 0, b'b', b'.', b'v', b'h', b'd', //
+    1, 0, 0, 0, 2, 0, 0, 0, b'c', b'c', 1, 0, 0, 0, b'x', 1, 0, 0, 0, 0, 0, 0, 0, //
+    1, 0, 0, 0, b'z',
+];
+
+/// The graph of both files, with these texts.
+pub(super) fn both(alloc: Global, first: u8, second: u8) -> Result<Graph, StoreFault>
+    ensures { IfOk result (λ graph. 1 < length graph) }
+{
+    let mut bytes = BOTH;
+    bytes[34] = first;
+    bytes[69] = second;
+    let Some(Record { view, artefact: _ }) = read_record(alloc, &bytes)? else {
+        return Err(StoreFault::NoMemory);
+    };
+    if view.len() < 2 {
+        return Err(StoreFault::NoMemory);
+    }
+    Ok(view)
+}
+
+/// Whether some positions are the first alone.
+fn is_first(deps: &[u32]) -> bool
+    ensures { IsTrue result → deps.now ≡ 0 ∷ [] }
+{
+    match deps {
+        [0] => true,
+        _ => false,
+    }
+}
+
+/// Whether the second file of a graph depends on the first alone, which has a record of what would be asked now.
+fn may_follow(store: &RequestStore, seats: &Seats, graph: &Graph) -> bool
+    requires both { 1 < length graph.now }
+    requires seats { AreSeats (request_shelf_of store.now.held.payloads) graph.now seats.now }
+    ensures { IsTrue result →
+        All (HasLatest (latest_held store.now.held.payloads) graph.now) (deps_at graph.now 1) }
+{
+    if !store.fits(seats, graph, 0) {
+        return false;
+    }
+    let second = graph.get(1);
+    is_first(second.deps.as_slice())
+}
+
+/// Adds a record of the second file, with the artefact `z`, where the first one has one.
+fn keep_second<D: Disk>(
+    alloc: Global,
+    store: &mut RequestStore,
+    disk: &mut D,
+    seats: &mut Seats,
+    graph: &Graph,
+) -> Result<(), StoreFault>
+    requires both { 1 < length graph.now }
+    requires seats { AreSeats (request_shelf_of store.old.held.payloads) graph.now seats.old }
+    requires usable { store.old.journal.broken ≡ false }
+    requires in_step { D.tells → IsRequestStoreInStep store.old (D.moments disk.old).now }
+{
+    if !may_follow(store, seats, graph) {
+        return Err(StoreFault::NoMemory);
+    }
+    let artefact = Text::from_slice(alloc, b"z")?;
+    keep(alloc, store, disk, seats, graph, 1, &artefact)
+}
+
+/// Adds a record of the first file, and then of both where that is asked for, over the same seats.
+fn keep_some<D: Disk>(
+    alloc: Global,
+    store: &mut RequestStore,
+    disk: &mut D,
+    graph: &Graph,
+    both: bool,
+) -> Result<(), StoreFault>
+    requires both { 1 < length graph.now }
+    requires usable { store.old.journal.broken ≡ false }
+    requires in_step { D.tells → IsRequestStoreInStep store.old (D.moments disk.old).now }
+{
+    let mut seats = store.seats(alloc, graph)?;
+    keep_first(alloc, store, disk, &mut seats, graph)?;
+    if !both {
+        return Ok(());
+    }
+    keep_second(alloc, store, disk, &mut seats, graph)
+}
+
+/// What is done to the store of a disk, once it is opened.
+#[derive(Clone, Copy)]
+pub(super) enum Change {
+    Opens,
+    Commits,
+    CommitsBoth,
+    Compacts,
+    Empties,
+}
+
+fn make_change<D: Disk>(
+    alloc: Global,
+    store: &mut RequestStore,
+    disk: &mut D,
+    change: Change,
+    graph: &Graph,
+) -> Result<(), StoreFault>
+    requires both { 1 < length graph.now }
+    requires usable { store.old.journal.broken ≡ false }
+    requires in_step { D.tells → IsRequestStoreInStep store.old (D.moments disk.old).now }
+{
+    match change {
+        Change::Opens => Ok(()),
+        Change::Commits => keep_some(alloc, store, disk, graph, false),
+        Change::CommitsBoth => keep_some(alloc, store, disk, graph, true),
+        Change::Compacts => store.compact(alloc, disk),
+        Change::Empties => Ok(()),
+    }
+}
+
+/// Of both files `f` where the latest record has what would be asked now, and else `s`; and then the artefacts that are lent.
+fn seen(alloc: Global, store: &RequestStore, graph: &Graph) -> Result<[u8; 4], NoMemory>
+    requires { 1 < length graph.now }
+{
+    let seats = store.seats(alloc, graph)?;
+    let mut letters = [b's'; 4];
+    if store.fits(&seats, graph, 0) {
+        letters[0] = b'f';
+    }
+    if store.fits(&seats, graph, 1) {
+        letters[1] = b'f';
+    }
+    letters[2] = letter(store, &graph.get(0).name);
+    letters[3] = letter(store, &graph.get(1).name);
+    Ok(letters)
+}
+
+/// The same after a change.
+fn seen_after<D: Disk>(
+    alloc: Global,
+    store: &mut RequestStore,
+    disk: &mut D,
+    by: Change,
+    graph: &Graph,
+) -> Result<[u8; 4], StoreFault>
+    requires both { 1 < length graph.now }
+    requires usable { store.old.journal.broken ≡ false }
+    requires in_step { D.tells → IsRequestStoreInStep store.old (D.moments disk.old).now }
+{
+    make_change(alloc, store, disk, by, graph)?;
+    Ok(seen(alloc, store, graph)?)
+}
+
+/// Opens the store of a disk, and gives what is seen after a change. It alone owns a store.
+pub(super) fn seen_on<D: Disk>(
+    alloc: Global,
+    disk: &mut D,
+    by: Change,
+    graph: &Graph,
+) -> Result<[u8; 4], StoreFault>
+    requires { 1 < length graph.now }
+{
+    let mut store = RequestStore::open(alloc, disk)?;
+    seen_after(alloc, &mut store, disk, by, graph)
+}
+
+/// What is seen in a store.
+fn seen_in(alloc: Global, store: &RequestStore, graph: &Graph) -> Result<[u8; 4], StoreFault>
+    requires { 1 < length graph.now }
+{
+    Ok(seen(alloc, store, graph)?)
+}
+
+/// Opens the store of a disk empty, and gives what is seen.
+fn seen_empty<D: Disk>(alloc: Global, disk: &mut D, graph: &Graph) -> Result<[u8; 4], StoreFault>
+    requires { 1 < length graph.now }
+{
+    let store = RequestStore::emptied(alloc, disk)?;
+    seen_in(alloc, &store, graph)
+}
+
+/// Adds a record of the first file, and empties the disk.
+fn seen_emptied<D: Disk>(alloc: Global, disk: &mut D, graph: &Graph) -> Result<[u8; 4], StoreFault>
+    requires { 1 < length graph.now }
+{
+    seen_on(alloc, disk, Change::Commits, graph)?;
+    seen_empty(alloc, disk, graph)
+}
+
+/// The same of files with the text `x`.
+pub(super) fn run<D: Disk>(alloc: Global, disk: &mut D, by: Change) -> Result<[u8; 4], StoreFault> {
+    let graph = both(alloc, b'x', b'x')?;
+    match by {
+        Change::Empties => seen_emptied(alloc, disk, &graph),
+        _ => seen_on(alloc, disk, by, &graph),
+    }
+}

@@ -1,7 +1,0 @@
--- So far each is met.
-use Rattle.std.proofs.Common.{◌≡◌, All, take}
-use Rattle.build_plan.specs.declared.plans.Need.TheVariants.{Fresh}
-use Rattle.verdict_tests.proofs.asked.all_fresh.Given as goal
-
-abbrev pub invariant-loop-need : goal.invariant-loop-need
-invariant-loop-need l = All (λ need. need ≡ Fresh) (take l.need-index l.needs)

@@ -1,0 +1,80 @@
+-- The units of a project by name: an index of them, and what it is to add one.
+use Rattle.std.specs.Prelude.{◌≡◌, ℕ, ◌<◌, Option, Some, None, Result, Ok, Err, List, [], ◌∷◌, ◌++◌, Contains, slice_get, if◌then◌else◌}
+use Rattle.std.specs.List.{All, find}
+use Rattle.std.specs.Option.{option_map}
+use Rattle.base_key_index.specs.Maps.{Entries, get}
+use Rattle.base.specs.declared.design.Unit.{Unit as DesignUnit}
+use Rattle.base.specs.declared.linking.LinkFault.{LinkFault}
+use Rattle.base.specs.declared.linking.LinkFault.TheVariants.{NoMemory}
+use Rattle.base.specs.declared.project.ProjectFile.{ProjectFile}
+use Rattle.vhdl_spec.specs.Dependencies.{LinkUnit, duplicate_of, first_duplicate, is_alike, is_package_kind}
+use Rattle.vhdl_graph.specs.declared.index.Place.{Place}
+use Rattle.vhdl_graph.specs.Keys.{UnitKey, is_same_key, key_of}
+
+-- the fault is the one that is said, unless memory ran out
+abbrev pub IsFaultOf : Option LinkFault → LinkFault → Type 0
+IsFaultOf said NoMemory = Unit {0}
+IsFaultOf said fault = said ≡ Some fault
+
+-- a fault is given where there is one, and else a value
+abbrev pub GivesOrFaults : {T : Type 0} → Option LinkFault → (T → Type 0) → Result T LinkFault → Type 0
+GivesOrFaults said right (Ok value) = (said ≡ None) × right value
+GivesOrFaults said right (Err fault) = IsFaultOf said fault
+
+-- this fault is given
+abbrev pub Refuses : {T : Type 0} → LinkFault → Result T LinkFault → Type 0
+Refuses fault (Ok value) = ⊥
+Refuses fault (Err given) = IsFaultOf (Some fault) given
+
+-- where a unit stands, and whether it is a package
+abbrev pub unit_place : LinkUnit → Place
+unit_place unit = record { file = unit.position; is_package = is_package_kind unit.scope.unit.kind }
+
+-- the first unit of a name
+abbrev pub unit_named : List LinkUnit → UnitKey → Option LinkUnit
+unit_named units key = find (λ unit. is_same_key key (key_of unit)) units
+
+-- the place of each name is that of its unit
+abbrev pub HoldsUnits : Entries UnitKey Place → List LinkUnit → Type 0
+HoldsUnits index units = (key : UnitKey) → get is_same_key index key ≡ option_map unit_place (unit_named units key)
+
+-- a name has another place, and the others have theirs
+abbrev pub GivesPlace : Entries UnitKey Place → Entries UnitKey Place → UnitKey → Place → Type 0
+GivesPlace old new key place = (other : UnitKey) → get is_same_key new other ≡ (if is_same_key key other then Some place else get is_same_key old other)
+
+-- no two units have one name
+abbrev pub AreDistinct : List LinkUnit → Type 0
+AreDistinct units = (unit other : LinkUnit) → Contains units unit → Contains units other → key_of unit ≡ key_of other → unit ≡ other
+
+-- a unit is of the file at its position
+abbrev pub IsOfFile : List ProjectFile → LinkUnit → Type 0
+IsOfFile files unit = (slice_get files unit.position ≡ Some unit.file) × (unit.scope.library ≡ unit.file.name.library)
+
+-- an index of units of files, which have distinct names
+pub record IsIndex (files : List ProjectFile) (units : List LinkUnit) (index : Entries UnitKey Place) : Type 0 where
+  pub holds : HoldsUnits index units
+  pub distinct : AreDistinct units
+  pub of : All (IsOfFile files) units
+
+-- each place is that of a file
+abbrev pub ArePlacesOfFiles : ℕ → Entries UnitKey Place → Type 0
+ArePlacesOfFiles files index = (key : UnitKey) (place : Place) → get is_same_key index key ≡ Some place → place.file < files
+
+-- a design unit of a file
+pub record IsUnitOf (files : List ProjectFile) (file : ℕ) (design : DesignUnit) (unit : LinkUnit) : Type 0 where
+  pub position : unit.position ≡ file
+  pub is : unit.scope.unit ≡ design
+  pub of : IsOfFile files unit
+
+-- the unit before that has the name of this one makes a fault
+abbrev pub fault_before : List LinkUnit → LinkUnit → Option LinkFault
+fault_before units unit = option_map (λ first. duplicate_of first unit) (find (is_alike unit) units)
+
+-- a unit was added, unless there is one of its name
+abbrev pub AddsUnit : {T : Type 0} → List ProjectFile → List LinkUnit → LinkUnit → Entries UnitKey Place → Result T LinkFault → Type 0
+AddsUnit files units unit new result = GivesOrFaults (fault_before units unit) (λ value. IsIndex files (units ++ unit ∷ []) new) result
+
+-- the units of a file were added, unless there is one of the name of one before
+abbrev pub AddsAll : {T : Type 0} → List ProjectFile → List LinkUnit → List LinkUnit → Entries UnitKey Place → Result T LinkFault → Type 0
+AddsAll files units more new (Ok value) = IsIndex files (units ++ more) new × ((rest : List LinkUnit) → first_duplicate units (more ++ rest) ≡ first_duplicate (units ++ more) rest)
+AddsAll files units more new (Err fault) = (rest : List LinkUnit) → IsFaultOf (first_duplicate units (more ++ rest)) fault

@@ -1,0 +1,387 @@
+//! The names of design units, by which they are found.
+
+ghost use Rattle.std.specs.Prelude.{◌≡◌, ◌+◌, ◌≤◌, [], ◌∷◌, ◌++◌, drop, length, IfOk, OnOk};
+ghost use Rattle.std.specs.Cmp.Rules.{comparing, hashing};
+ghost use Rattle.std.proofs.Common.{refl, rules};
+ghost use Rattle.vhdl_spec.specs.References.{owner_name};
+ghost use Rattle.std.specs.Cmp.{partial_order_from_agreeing_total};
+ghost use Rattle.std.specs.Cmp.Lexicographic.{slice_cmp};
+ghost use Rattle.std.specs.Ordering.{as_partial_cmp, nat_cmp};
+ghost use Rattle.vhdl_graph.specs.KeyOrder.{entities_cmp, flags_cmp, key_cmp, key_ties, key_total, keys_decide, libraries_cmp};
+ghost use Rattle.vhdl_graph.specs.Keys.{is_same_key, primary_key, architecture_key, body_key, unit_key};
+
+use base::{MaybeText, NoMemory, Text, Unit, UnitKind};
+use base_key_index::Key;
+use std::alloc::Global;
+use std::cmp::Ordering;
+use std::hash::{Hash, Hasher};
+use std::marker::Model;
+use std::mem::replace;
+
+static NOTHING: [u8; 0] = *b"";
+
+/// What a key is of, and how many bytes its first two names have.
+#[derive(Clone, Copy, PartialEq, Eq)]
+pub struct Head {
+    primary: bool,
+    body: bool,
+    library: usize,
+    entity: usize,
+}
+
+/// What names a design unit of a project (IEEE Std 1076-2008, clause 13.1): a primary unit of any kind by its library and
+/// name, an architecture by its entity too, and the body of a package by the name of the package. The three names stand one
+/// after another in one buffer, so that a key takes one allocation. Contracts see the names.
+#[derive(Drop)]
+pub struct UnitKey {
+    head: Head,
+    letters: Vec<u8>,
+}
+
+impl Model for UnitKey {
+    ghost use Rattle.vhdl_graph.specs.Joined.{AreJoined, joined_key};
+    ghost use Rattle.vhdl_graph.specs.Keys.{UnitKey as Named};
+
+    ghost Value = { Named };
+
+    ghost view = { λ a. joined_key a.head a.letters.items };
+
+    ghost invariant = { λ a. AreJoined a.head a.letters.items };
+}
+
+impl PartialEq for UnitKey {
+    ghost eq = { is_same_key };
+
+    ghost laws = { Prim.search (comparing, rules) };
+
+    fn eq(&self, other: &UnitKey) -> bool {
+        self.head == other.head && self.letters.as_slice() == other.letters.as_slice()
+    }
+}
+
+impl Eq for UnitKey {
+    ghost laws = { Prim.search (comparing, rules) };
+}
+
+/// The names are handed over as one.
+impl Hash for UnitKey {
+    ghost hash_input = { λ a. (a.library ++ (a.entity ++ a.name)) ∷ [] };
+
+    ghost respects_eq = { Prim.search (hashing, rules) };
+
+    fn hash<H: Hasher>(&self, state: &mut H) {
+        state.write(self.letters.as_slice());
+    }
+}
+
+/// What comes after so many bytes.
+#[tactic(auto, using(crate::proofs::JoinedLemmas::rest_is))]
+fn after(bytes: &[u8], count: usize) -> &[u8]
+    requires { count ≤ length bytes.now }
+    ensures rest { result.now ≡ drop count bytes.now }
+    ensures length { length result.now + count ≡ length bytes.now }
+{
+    &bytes[count..]
+}
+
+impl UnitKey {
+    #[tactic(auto, unfolding(crate::specs::Joined::joined_key))]
+    fn is_primary(&self) -> bool
+        ensures { result ≡ self.now.primary }
+    {
+        self.head.primary
+    }
+
+    #[tactic(auto, unfolding(crate::specs::Joined::joined_key))]
+    fn is_body(&self) -> bool
+        ensures { result ≡ self.now.body }
+    {
+        self.head.body
+    }
+
+    #[tactic(auto, unfolding(crate::specs::Joined::joined_key))]
+    fn library(&self) -> &[u8]
+        ensures { result.now ≡ self.now.library }
+    {
+        &self.letters[..self.head.library]
+    }
+
+    #[tactic(auto, unfolding(crate::specs::Joined::joined_key))]
+    fn entity(&self) -> &[u8]
+        ensures { result.now ≡ self.now.entity }
+    {
+        &after(self.letters.as_slice(), self.head.library)[..self.head.entity]
+    }
+
+    #[tactic(auto, unfolding(crate::specs::Joined::joined_key))]
+    fn name(&self) -> &[u8]
+        ensures { result.now ≡ self.now.name }
+    {
+        after(
+            after(self.letters.as_slice(), self.head.library),
+            self.head.entity,
+        )
+    }
+}
+
+fn order<'a>(one: &'a [u8], other: &'a [u8]) -> Ordering
+    ensures { result ≡ slice_cmp nat_cmp one.now other.now }
+{
+    Ord::cmp(&one, &other)
+}
+
+/// The order by what keys are of.
+fn order_of_flags(one: &UnitKey, other: &UnitKey) -> Ordering
+    ensures { result ≡ flags_cmp one.now other.now }
+{
+    let rest = one.is_primary().cmp(&other.is_primary());
+    one.is_body().cmp(&other.is_body()).then(rest)
+}
+
+/// The order by libraries, and then by what keys are of.
+fn order_of_libraries(one: &UnitKey, other: &UnitKey) -> Ordering
+    ensures { result ≡ libraries_cmp one.now other.now }
+{
+    match order(one.library(), other.library()) {
+        Ordering::Less => Ordering::Less,
+        Ordering::Equal => order_of_flags(one, other),
+        Ordering::Greater => Ordering::Greater,
+    }
+}
+
+/// The order by entities, and then by the rest.
+fn order_of_entities(one: &UnitKey, other: &UnitKey) -> Ordering
+    ensures { result ≡ entities_cmp one.now other.now }
+{
+    match order(one.entity(), other.entity()) {
+        Ordering::Less => Ordering::Less,
+        Ordering::Equal => order_of_libraries(one, other),
+        Ordering::Greater => Ordering::Greater,
+    }
+}
+
+/// Names come first, since nearly all keys differ in them: nothing else is then looked at.
+impl Ord for UnitKey {
+    ghost cmp = { key_cmp };
+
+    ghost total = { key_total };
+
+    ghost matches_partial_cmp = { λ one other. refl };
+
+    ghost matches_eq = { key_ties };
+
+    fn cmp(&self, other: &UnitKey) -> Ordering {
+        match order(self.name(), other.name()) {
+            Ordering::Less => Ordering::Less,
+            Ordering::Equal => order_of_entities(self, other),
+            Ordering::Greater => Ordering::Greater,
+        }
+    }
+}
+
+impl PartialOrd for UnitKey {
+    ghost partial_cmp = { as_partial_cmp key_cmp };
+
+    ghost laws = { partial_order_from_agreeing_total key_cmp key_total (λ one other. refl) key_ties };
+
+    fn partial_cmp(&self, other: &UnitKey) -> Option<Ordering> {
+        Some(self.cmp(other))
+    }
+}
+
+impl Key for UnitKey {
+    ghost decides = { keys_decide };
+
+    fn copy(&self, alloc: Global) -> Result<UnitKey, NoMemory> {
+        Ok(UnitKey {
+            head: self.head,
+            letters: Vec::from_slice(alloc, self.letters.as_slice())?,
+        })
+    }
+}
+
+/// No name of a unit, which takes no memory: others are put in its place.
+pub fn no_key(alloc: Global) -> UnitKey {
+    let head = Head {
+        primary: false,
+        body: false,
+        library: 0,
+        entity: 0,
+    };
+    UnitKey {
+        head,
+        letters: Vec::new(alloc),
+    }
+}
+
+/// Puts bytes in the place of those of a text, in its memory where that has room.
+pub fn fill(alloc: Global, text: &mut Text, bytes: &[u8]) -> Result<(), NoMemory>
+    ensures { OnOk result (text.new ≡ bytes.now) }
+{
+    let mut room = replace(text, Text::new(alloc)).into_vec();
+    room.clear();
+    room.extend_from_slice(bytes)?;
+    *text = Text::from_vec(room);
+    Ok(())
+}
+
+/// A name, in the memory of one that isn't used any more.
+fn joined(
+    used: UnitKey,
+    primary: bool,
+    body: bool,
+    library: &[u8],
+    entity: &[u8],
+    name: &[u8],
+) -> Result<UnitKey, NoMemory>
+    ensures { IfOk result (λ key. key ≡ record {
+      primary = primary;
+      body = body;
+      library = library.now;
+      entity = entity.now;
+      name = name.now;
+    }) }
+{
+    let mut letters = used.letters;
+    letters.clear();
+    letters.extend_from_slice(library)?;
+    letters.extend_from_slice(entity)?;
+    letters.extend_from_slice(name)?;
+    let head = Head {
+        primary,
+        body,
+        library: library.len(),
+        entity: entity.len(),
+    };
+    Ok(UnitKey { head, letters })
+}
+
+/// Puts a name in the place of another, in its memory.
+fn put_key(
+    alloc: Global,
+    key: &mut UnitKey,
+    primary: bool,
+    body: bool,
+    library: &[u8],
+    entity: &[u8],
+    name: &[u8],
+) -> Result<(), NoMemory>
+    ensures { OnOk result (key.new ≡ record {
+      primary = primary;
+      body = body;
+      library = library.now;
+      entity = entity.now;
+      name = name.now;
+    }) }
+{
+    let used = replace(key, no_key(alloc));
+    *key = joined(used, primary, body, library, entity, name)?;
+    Ok(())
+}
+
+/// Puts the name of a primary unit of a library in the place of another.
+pub fn put_primary_key(
+    alloc: Global,
+    key: &mut UnitKey,
+    library: &Text,
+    name: &Text,
+) -> Result<(), NoMemory>
+    ensures { OnOk result (key.new ≡ primary_key library.now name.now) }
+{
+    put_key(
+        alloc,
+        key,
+        true,
+        false,
+        library.bytes(),
+        NOTHING.as_slice(),
+        name.bytes(),
+    )
+}
+
+/// The same of an architecture of an entity.
+pub fn put_architecture_key(
+    alloc: Global,
+    key: &mut UnitKey,
+    library: &Text,
+    entity: &Text,
+    name: &Text,
+) -> Result<(), NoMemory>
+    ensures { OnOk result (key.new ≡ architecture_key library.now entity.now name.now) }
+{
+    put_key(
+        alloc,
+        key,
+        false,
+        false,
+        library.bytes(),
+        entity.bytes(),
+        name.bytes(),
+    )
+}
+
+/// The same of the body of a package.
+pub fn put_body_key(
+    alloc: Global,
+    key: &mut UnitKey,
+    library: &Text,
+    name: &Text,
+) -> Result<(), NoMemory>
+    ensures { OnOk result (key.new ≡ body_key library.now name.now) }
+{
+    put_key(
+        alloc,
+        key,
+        false,
+        true,
+        library.bytes(),
+        NOTHING.as_slice(),
+        name.bytes(),
+    )
+}
+
+/// The name of an owner, which is empty where there is none.
+pub fn owner_name<'a>(owner: &'a MaybeText) -> &'a [u8]
+    ensures { result.now ≡ owner_name owner.entry.now }
+{
+    match owner {
+        MaybeText::Nothing => NOTHING.as_slice(),
+        MaybeText::Given(name) => name.bytes(),
+    }
+}
+
+/// Puts the name of a unit of a library in the place of another.
+fn put_unit_key(
+    alloc: Global,
+    key: &mut UnitKey,
+    library: &Text,
+    unit: &Unit,
+) -> Result<(), NoMemory>
+    ensures { OnOk result (key.new ≡ unit_key library.now unit.now unit.now.kind) }
+{
+    match unit.kind {
+        UnitKind::Architecture => {
+            let entity = owner_name(&unit.owner);
+            put_key(
+                alloc,
+                key,
+                false,
+                false,
+                library.bytes(),
+                entity,
+                unit.name.bytes(),
+            )
+        }
+        UnitKind::PackageBody => put_body_key(alloc, key, library, &unit.name),
+        _ => put_primary_key(alloc, key, library, &unit.name),
+    }
+}
+
+/// The name of a unit of a library.
+pub fn unit_key(alloc: Global, library: &Text, unit: &Unit) -> Result<UnitKey, NoMemory>
+    ensures { IfOk result (λ key. key ≡ unit_key library.now unit.now unit.now.kind) }
+{
+    let mut key = no_key(alloc);
+    put_unit_key(alloc, &mut key, library, unit)?;
+    Ok(key)
+}

@@ -1,0 +1,18 @@
+-- One unit more.
+use Rattle.std.proofs.Common.{◌∙◌, ◌++◌, ◌∷◌, [], List, map, take, ap, sym, arith, append_assoc}
+use Rattle.vhdl_outlines.specs.declared.outlines.UnitScope.{UnitScope}
+use Rattle.vhdl_outlines.specs.Outlines.{scope_of}
+use Rattle.vhdl_outlines.proofs.OutlineLemmas.{few_units, mapped_more}
+use Rattle.vhdl_outlines.proofs.outlines.push_scopes.Goals as goal
+
+pub overflow_cast-number : goal.overflow_cast-number
+overflow_cast-number c = let few = few_units c.args.text.now c.args.scan.now c.requires.scan in omega (arith, c.requires.small)
+
+pub loop-number-preserved : goal.loop-number-preserved
+loop-number-preserved c =
+    let made = scope_of c.args.text.now c.args.scan.now in
+    let done : List UnitScope = map made (take c.loop-number.number c.args.scan.now.units) in
+    c.in_ok-push.ensures.ok
+    ∙ (ap (λ (some : List UnitScope). some ++ c.in_ok-scope_at.field-0 ∷ []) c.loop-number.invariant
+    ∙ (append_assoc c.args.scopes.now done (c.in_ok-scope_at.field-0 ∷ [])
+    ∙ ap (λ (some : List UnitScope). c.args.scopes.now ++ some) (sym (mapped_more made c.args.scan.now.units c.loop-number.number c.in_ok-scope_at.field-0 c.in_ok-scope_at.ensures))))

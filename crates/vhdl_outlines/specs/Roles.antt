@@ -1,0 +1,6 @@
+-- Texts of at most so many bytes as the program reads of a file.
+use Rattle.std.specs.Prelude.{ℕ, ◌≤◌, List, length}
+use Rattle.base.specs.declared.limits.TheConstants.{TEXT_LIMIT}
+
+abbrev pub IsTextSmall : List ℕ → Type 0
+IsTextSmall text = length text ≤ TEXT_LIMIT

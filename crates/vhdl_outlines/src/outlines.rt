@@ -1,0 +1,191 @@
+//! What is kept of scanned files: their design units, what each of these names and mentions, and what it says of tests.
+
+ghost use Rattle.std.specs.Prelude.{◌≡◌, ◌<◌, ◌≤◌, ◌++◌, [], IfOk, OnOk, Some, length, map, slice_get};
+ghost use Rattle.std.specs.List.{All};
+ghost use Rattle.std.specs.Option.{option_map};
+ghost use Rattle.vhdl_spec.specs.Units.{roles_of};
+ghost use Rattle.vhdl_spec.specs.Scans.{AreScansOf, IsScanOf};
+ghost use Rattle.vhdl_refs.specs.Mentions.{MentionsLieIn};
+ghost use Rattle.vhdl_outlines.specs.Outlines.{AreOutlinesOf, FilesLieIn, HasAdded, MentionsAreOf, scope_of};
+ghost use Rattle.vhdl_outlines.specs.Roles.{IsTextSmall};
+
+use crate::copies::copy_units;
+use base::{Items, NoMemory, RoleList, Scan, Scans, TEXT_LIMIT, TextList, Tokens, UnitList};
+use std::alloc::Global;
+use vhdl_refs::{Mentions, library_names, mentions_of};
+use vhdl_runs::{FileRuns, runs_of};
+use vhdl_units::roles_of;
+
+/// What a design unit names: the libraries of its library clauses (IEEE Std 1076-2008, clause 13.2).
+#[derive(Drop)]
+pub struct UnitScope {
+    pub names: TextList,
+}
+
+/// The design units of a file, what each mentions, and what it says of tests.
+#[derive(Drop)]
+pub struct FileOutline {
+    pub units: UnitList,
+    pub mentions: Items<Mentions>,
+    pub runs: FileRuns,
+}
+
+/// The outlines of files, in order, and what their units name, file by file.
+#[derive(Drop)]
+pub struct Outlines {
+    pub scopes: Items<UnitScope>,
+    pub files: Items<FileOutline>,
+}
+
+/// How many units files have, or a number above all that memory holds: how much room is made for them. Nothing that is said
+/// of them rests on it.
+pub fn room_for_units(files: &Items<FileOutline>) -> usize {
+    let mut count: usize = 0;
+    for file in 0..files.len() {
+        count = count.saturating_add(files.get(file).units.len() as usize);
+    }
+    count
+}
+
+/// What each unit of a scan mentions, in order.
+fn mentions_of_units(
+    alloc: Global,
+    text: &[u8],
+    scan: &Scan,
+    roles: &RoleList,
+) -> Result<Items<Mentions>, NoMemory>
+    requires scan { IsScanOf text.now scan.now }
+    requires small { length text.now ≤ TEXT_LIMIT }
+    requires roles { roles.now ≡ roles_of text.now scan.now.tokens.list }
+    ensures are { IfOk result (MentionsAreOf text.now scan.now) }
+    ensures lie { IfOk result (All (MentionsLieIn text.now)) }
+{
+    let mut room = Vec::new(alloc);
+    let mut all = Vec::with_capacity(alloc, scan.units.len() as usize)?;
+    for number in 0..scan.units.len() {
+        all.push(mentions_of(alloc, text, scan, roles, number as u32, &mut room)?)?;
+    }
+    Ok(Items::from_vec(all))
+}
+
+/// What the unit of a number in a scan names.
+fn scope_at(
+    alloc: Global,
+    text: &[u8],
+    scan: &Scan,
+    roles: &RoleList,
+    number: u32,
+) -> Result<UnitScope, NoMemory>
+    requires scan { IsScanOf text.now scan.now }
+    requires small { length text.now ≤ TEXT_LIMIT }
+    requires roles { roles.now ≡ roles_of text.now scan.now.tokens.list }
+    requires number { number < length scan.now.units }
+    ensures { IfOk result (λ scope.
+        option_map (scope_of text.now scan.now) (slice_get scan.now.units number) ≡ Some scope) }
+{
+    Ok(UnitScope {
+        names: library_names(alloc, text, scan, roles, number)?,
+    })
+}
+
+/// Adds what each unit of a scan names, in order.
+fn push_scopes(
+    alloc: Global,
+    text: &[u8],
+    scan: &Scan,
+    roles: &RoleList,
+    scopes: &mut Items<UnitScope>,
+) -> Result<(), NoMemory>
+    requires scan { IsScanOf text.now scan.now }
+    requires small { length text.now ≤ TEXT_LIMIT }
+    requires roles { roles.now ≡ roles_of text.now scan.now.tokens.list }
+    ensures { OnOk result
+        (scopes.new ≡ scopes.old ++ map (scope_of text.now scan.now) scan.now.units) }
+{
+    for number in 0..scan.units.len() {
+        scopes.push(scope_at(alloc, text, scan, roles, number as u32)?)?;
+    }
+    Ok(())
+}
+
+impl Outlines {
+    /// Those of no file.
+    pub fn new(alloc: Global) -> Outlines
+        ensures { result ≡ record { scopes = []; files = [] } }
+    {
+        Outlines {
+            scopes: Items::new(alloc),
+            files: Items::new(alloc),
+        }
+    }
+
+    /// Adds the outline of one more file, whose tokens aren't kept: they come back, since others can use their memory.
+    /// `roles` are those of the tokens.
+    pub fn push(
+        &mut self,
+        alloc: Global,
+        text: &[u8],
+        scan: Scan,
+        roles: &RoleList,
+    ) -> Result<Tokens, NoMemory>
+        requires scan { IsScanOf text.now scan }
+        requires small { length text.now ≤ TEXT_LIMIT }
+        requires roles { roles.now ≡ roles_of text.now scan.tokens.list }
+        ensures added { IfOk result (λ used. HasAdded text.now scan self.old self.new) }
+        ensures used { IfOk result (λ used. used ≡ scan.tokens) }
+    {
+        let mentions = mentions_of_units(alloc, text, &scan, roles)?;
+        let runs = runs_of(alloc, text, &scan, roles)?;
+        push_scopes(alloc, text, &scan, roles, &mut self.scopes)?;
+        let Scan { tokens, units } = scan;
+        self.files.push(FileOutline {
+            units,
+            mentions,
+            runs,
+        })?;
+        Ok(tokens)
+    }
+
+    /// Adds the outline of a file whose scan is lent: its units are copied.
+    fn push_copy(
+        &mut self,
+        alloc: Global,
+        text: &[u8],
+        scan: &Scan,
+        roles: &RoleList,
+    ) -> Result<(), NoMemory>
+        requires scan { IsScanOf text.now scan.now }
+        requires small { length text.now ≤ TEXT_LIMIT }
+        requires roles { roles.now ≡ roles_of text.now scan.now.tokens.list }
+        ensures { OnOk result (HasAdded text.now scan.now self.old self.new) }
+    {
+        let mentions = mentions_of_units(alloc, text, scan, roles)?;
+        let runs = runs_of(alloc, text, scan, roles)?;
+        push_scopes(alloc, text, scan, roles, &mut self.scopes)?;
+        let units = copy_units(alloc, scan.units.as_slice())?;
+        self.files.push(FileOutline {
+            units,
+            mentions,
+            runs,
+        })?;
+        Ok(())
+    }
+}
+
+/// The outlines of files whose scans are kept, as tests and benches have them; the program makes outlines by `push`. There
+/// is one text and one scan for each file, in order.
+pub fn outlines_of(alloc: Global, texts: &TextList, scans: &Scans) -> Result<Outlines, NoMemory>
+    requires scans { AreScansOf texts.now scans.now }
+    requires small { All IsTextSmall texts.now }
+    ensures are { IfOk result (AreOutlinesOf texts.now scans.now) }
+    ensures lie { IfOk result (λ outlines. FilesLieIn texts.now outlines.files) }
+{
+    let mut outlines = Outlines::new(alloc);
+    for file in 0..texts.len() {
+        let text = texts.get(file).bytes();
+        let scan = scans.get(file);
+        let roles = roles_of(alloc, text, &scan.tokens)?;
+        outlines.push_copy(alloc, text, scan, &roles)?;
+    }
+    Ok(outlines)
+}

@@ -1,0 +1,18 @@
+-- First the units up to the index have rows, and then so many groups.
+use Rattle.std.proofs.Common.{◌≡◌, [], ◌++◌, length, map, replicate, take}
+use Rattle.std.specs.List.{AllZip}
+use Rattle.vhdl_scope.specs.Names.{implicit, keys_of}
+use Rattle.vhdl_scope.specs.Graph.{IsRowOf}
+use Rattle.vhdl_scope.proofs.own.rows_of.Given as goal
+
+abbrev pub invariant-loop-unit : goal.invariant-loop-unit
+invariant-loop-unit l = record {
+  room : length l.room ≡ l.words;
+  rows : AllZip (IsRowOf (keys_of l.names) l.words) l.rows.items (map (λ unit. implicit ++ unit.names) (take l.unit-index l.units));
+}
+
+abbrev pub invariant-loop : goal.invariant-loop
+invariant-loop l = record {
+  room : length l.room ≡ l.words;
+  rows : AllZip (IsRowOf (keys_of l.names) l.words) l.rows.items (map (λ unit. implicit ++ unit.names) l.units ++ replicate l.counter (implicit ++ []));
+}

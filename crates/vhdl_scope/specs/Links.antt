@@ -1,0 +1,61 @@
+-- Links along which one set hands its numbers on to another.
+use Rattle.std.specs.Prelude.{◌≡◌, ◌≢◌, ℕ, ◌<◌, Bool, true, false, List, [], IsTrue, Contains, length, slice_index_or}
+use Rattle.std.specs.List.{All}
+use Rattle.vhdl_scope.specs.declared.links.Link.{Link}
+use Rattle.vhdl_scope.specs.Bits.{has, row_has, gap, IsPartOf, AreWithin}
+
+-- the links of a place
+abbrev pub links_at : List (List Link) → ℕ → List Link
+links_at links at = slice_index_or links at []
+
+-- a set takes what a link hands on, where it has the link's gate
+abbrev pub TakesLink : (ℕ → ℕ → Bool) → (ℕ → Bool) → Link → Type 0
+TakesLink sets own link = IsTrue (own link.gate) → IsPartOf (sets link.source) own
+
+-- and of each of some links
+abbrev pub TakesAll : List Link → (ℕ → ℕ → Bool) → (ℕ → Bool) → Type 0
+TakesAll links sets own = (link : Link) → Contains links link → TakesLink sets own link
+
+-- the set of each place takes what its links hand on
+abbrev pub AreTaken : List (List Link) → (ℕ → ℕ → Bool) → Type 0
+AreTaken links sets = (at : ℕ) → TakesAll (links_at links at) sets (sets at)
+
+-- the set of each place before one takes what its links hand on
+abbrev pub AreTakenTo : ℕ → List (List Link) → (ℕ → ℕ → Bool) → Type 0
+AreTakenTo end links sets = (at : ℕ) → at < end → TakesAll (links_at links at) sets (sets at)
+
+-- a row after it took, once each and in order, what links hand on from the sets of other rows, and whether it grew:
+-- it has nothing that closed sets around it don't have, and where it didn't grow it takes what they hand on
+pub record HasLooked (links : List Link) (rows : List (List ℕ)) (old new : List ℕ) (grown : Bool) : Type 0 where
+  pub even : length new ≡ length old
+  pub larger : IsPartOf (row_has old) (row_has new)
+  pub sound : (sets : ℕ → ℕ → Bool) (own : ℕ → Bool) → AreWithin (has rows) sets → TakesAll links sets own → IsPartOf (row_has old) own → IsPartOf (row_has new) own
+  pub same : grown ≡ false → new ≡ old
+  pub taken : grown ≡ false → TakesAll links (has rows) (row_has old)
+  pub grows : grown ≡ true → gap new < gap old
+
+-- the row of a place
+abbrev pub place_row : List (List ℕ) → ℕ → List ℕ
+place_row rows at = slice_index_or rows at []
+
+-- all rows have so many words
+abbrev pub AreEven : ℕ → List (List ℕ) → Type 0
+AreEven words rows = All (λ row. length row ≡ words) rows
+
+-- the links lead to places below a number
+abbrev pub AreBelow : ℕ → List (List Link) → Type 0
+AreBelow places links = All (λ some. All (λ link. link.source < places) some) links
+
+-- one place was looked at
+pub record HasLookedAt (links : List (List Link)) (at : ℕ) (old new : List (List ℕ)) (grown : Bool) : Type 0 where
+  pub each : length new ≡ length old
+  pub even : (words : ℕ) → AreEven words old → AreEven words new
+  pub others : (other : ℕ) → other ≢ at → place_row new other ≡ place_row old other
+  pub looked : HasLooked (links_at links at) old (place_row old at) (place_row new at) grown
+
+-- what the sets have become by any number of looks: no smaller, and within closed sets around them
+pub record HasSpread (links : List (List Link)) (old new : List (List ℕ)) : Type 0 where
+  pub each : length new ≡ length old
+  pub even : (words : ℕ) → AreEven words old → AreEven words new
+  pub larger : AreWithin (has old) (has new)
+  pub sound : (sets : ℕ → ℕ → Bool) → AreTaken links sets → AreWithin (has old) sets → AreWithin (has new) sets

@@ -1,0 +1,8 @@
+-- The steps of a walk along links.
+use Rattle.std.specs.Prelude.{ℕ, ◌<◌, List}
+use Rattle.std.specs.List.{All}
+use Rattle.vhdl_scope.specs.declared.order.Step.{Step}
+
+-- the steps stand at places below a number
+abbrev pub AreStepsBelow : ℕ → List Step → Type 0
+AreStepsBelow places steps = All (λ step. step.place < places) steps

@@ -1,0 +1,96 @@
+//! The sets that units begin with: by their own library clauses.
+
+ghost use Rattle.std.specs.Prelude.{◌≡◌, ◌/◌, ◌<◌, ◌≤◌, ◌*◌, ◌∷◌, ◌++◌, [], Contains, IfOk, OnOk, length, map, replicate};
+ghost use Rattle.std.specs.List.{All, AllZip};
+ghost use Rattle.vhdl_scope.specs.Names.{implicit, keys_of};
+ghost use Rattle.vhdl_scope.specs.Graph.{AreNamed, HasPut, IsRowOf};
+
+use crate::names::{Names, STD, find};
+use crate::row::{Room, Row};
+use crate::wants::WORK;
+use base::{NoMemory, Text};
+use std::alloc::Global;
+use vhdl_outlines::UnitScope;
+
+/// Puts the number of a name into a row.
+fn put(names: &Names, name: &[u8], row: &mut Room)
+    requires known { Contains (keys_of names.now) name.now }
+    requires room { length (keys_of names.now) ≤ 64 * length row.old }
+    ensures { HasPut (keys_of names.now) (name.now ∷ []) row.old row.new }
+{
+    if let Some(number) = find(names, name) {
+        row.put(number);
+    }
+}
+
+/// Puts the numbers of names into a row.
+fn put_all(names: &Names, more: &[Text], row: &mut Room)
+    requires known { AreNamed (keys_of names.now) more.now }
+    requires room { length (keys_of names.now) ≤ 64 * length row.old }
+    ensures { HasPut (keys_of names.now) more.now row.old row.new }
+{
+    for name in more {
+        put(names, name.bytes(), row);
+    }
+}
+
+/// The row of `work` and `std`.
+fn implicit_row(alloc: Global, names: &Names, words: usize) -> Result<Row, NoMemory>
+    requires implicit { AreNamed (keys_of names.now) implicit }
+    requires room { length (keys_of names.now) ≤ 64 * words }
+    ensures { IfOk result (λ row. IsRowOf (keys_of names.now) words row implicit) }
+{
+    let mut row = Room::new(alloc, words)?;
+    put(names, WORK.as_slice(), &mut row);
+    put(names, STD.as_slice(), &mut row);
+    Ok(row.kept(alloc)?)
+}
+
+/// The row of `work` and `std`, which the first row has, and of further names. What is in `room` is lost.
+fn row_of(
+    alloc: Global,
+    names: &Names,
+    first: &Row,
+    more: &[Text],
+    room: &mut Room,
+) -> Result<Row, NoMemory>
+    requires first { IsRowOf (keys_of names.now) (length room.old) first.now implicit }
+    requires known { AreNamed (keys_of names.now) more.now }
+    requires room { length (keys_of names.now) ≤ 64 * length room.old }
+    ensures long { length room.new ≡ length room.old }
+    ensures row { IfOk result (λ row.
+        IsRowOf (keys_of names.now) (length room.old) row (implicit ++ more.now)) }
+{
+    if more.is_empty() {
+        return Ok(first.copy(alloc)?);
+    }
+    room.load(first);
+    put_all(names, more, room);
+    Ok(room.kept(alloc)?)
+}
+
+/// The rows that units begin with, and after them one for each group, which has `work` and `std`.
+pub fn rows_of(
+    alloc: Global,
+    names: &Names,
+    units: &[UnitScope],
+    groups: usize,
+    words: usize,
+) -> Result<Vec<Row>, NoMemory>
+    requires implicit { AreNamed (keys_of names.now) implicit }
+    requires known { All (λ unit. AreNamed (keys_of names.now) unit.names) units.now }
+    requires room { length (keys_of names.now) ≤ 64 * words }
+    ensures { IfOk result (λ rows. AllZip (IsRowOf (keys_of names.now) words) rows.items
+        (map (λ unit. implicit ++ unit.names) units.now ++ replicate groups (implicit ++ []))) }
+{
+    let first = implicit_row(alloc, names, words)?;
+    let mut room = Room::new(alloc, words)?;
+    let mut rows = Vec::new(alloc);
+    for unit in units {
+        rows.push(row_of(alloc, names, &first, unit.names.as_slice(), &mut room)?)?;
+    }
+    for _ in 0..groups {
+        rows.push(row_of(alloc, names, &first, &[], &mut room)?)?;
+    }
+    Ok(rows)
+}

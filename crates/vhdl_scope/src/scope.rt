@@ -1,0 +1,76 @@
+//! The design units of a project in one list: where those of each file begin, and the groups that they are in.
+
+ghost use Rattle.std.specs.Prelude.{◌≡◌, ℕ, List, IfOk, length};
+ghost use Rattle.std.specs.List.{list_any};
+ghost use Rattle.base.specs.declared.design.Scan.{Scan};
+ghost use Rattle.vhdl_spec.specs.References.{is_configuration};
+ghost use Rattle.vhdl_outlines.specs.Outlines.{FilesAreOf};
+ghost use Rattle.vhdl_scope.specs.Scopes.{AreScopes};
+
+use crate::groups::{Groups, Owned, add_groups};
+use base::{Items, NoMemory, Project, Unit, UnitKind};
+use std::alloc::Global;
+use vhdl_outlines::{FileOutline, room_for_units};
+
+/// For each file of a project the number of its first unit; and the groups of units, with the numbers of those that each
+/// unit is in.
+#[derive(Drop)]
+pub struct Scopes {
+    pub starts: Vec<usize>,
+    pub groups: Groups,
+    pub owned: Vec<Owned>,
+}
+
+fn is_configuration(kind: UnitKind) -> bool
+    ensures { result ≡ is_configuration kind }
+{
+    match kind {
+        UnitKind::Configuration => true,
+        _ => false,
+    }
+}
+
+/// Whether one of some units is a configuration.
+fn has_configuration(units: &[Unit]) -> bool
+    ensures { result ≡ list_any (λ unit. is_configuration unit.kind) units.now }
+{
+    units.iter().any(|unit| is_configuration(unit.kind))
+}
+
+/// Whether a unit of files is a configuration: configurations alone want architectures.
+fn have_configuration(files: &[FileOutline]) -> bool
+    ensures { result ≡ list_any
+        (λ file. list_any (λ unit. is_configuration unit.kind) file.units) files.now }
+{
+    files
+        .iter()
+        .any(|file| has_configuration(file.units.as_slice()))
+}
+
+/// The units of a project, by the outlines of its files. Groups of architectures, which are many, are left out where no unit
+/// is a configuration.
+pub fn scopes_of(
+    alloc: Global,
+    project: &Project,
+    files: &Items<FileOutline>,
+) -> Result<Scopes, NoMemory>
+    requires { length files.now ≡ length project.now.files }
+    ensures { IfOk result (λ scopes. (texts : List (List ℕ)) (scans : List Scan) →
+        FilesAreOf texts scans files.now → AreScopes project.now.files texts scans scopes) }
+{
+    let keeps = have_configuration(files.as_slice());
+    let mut starts = Vec::new(alloc);
+    let mut groups = Groups::with_room(alloc, room_for_units(files))?;
+    let mut owned = Vec::new(alloc);
+    for file in 0..project.files.len() {
+        starts.push(owned.len())?;
+        let library = &project.files.get(file).name.library;
+        let units = files.get(file).units.as_slice();
+        add_groups(alloc, keeps, library, units, &mut groups, &mut owned)?;
+    }
+    Ok(Scopes {
+        starts,
+        groups,
+        owned,
+    })
+}

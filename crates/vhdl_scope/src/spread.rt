@@ -1,0 +1,301 @@
+//! The sets of all places, grown along links until each takes all that its links hand on.
+
+ghost use Rattle.std.specs.Prelude.{◌≡◌, ℕ, ◌+◌, ◌<◌, ◌∷◌, ◌++◌, [], Contains, false, length, IfOk, OnOk, slice_index, slice_set};
+ghost use Rattle.std.specs.List.{All};
+ghost use Rattle.vhdl_scope.specs.Bits.{AreWithin, has, row_has};
+ghost use Rattle.vhdl_scope.specs.Links.{AreBelow, AreEven, AreTaken, HasLookedAt, HasSpread};
+ghost use Rattle.vhdl_scope.specs.Work.{AreReaders, HasRevisited, IsSettling, IsWork, KnowReaders};
+
+use crate::links::LinkList;
+use crate::look::{look, look_up_to};
+use crate::order::order_of;
+use crate::row::{Draft, Row};
+use crate::work::{list_all, list_one, readers_of};
+use base::{Items, NoMemory};
+use std::alloc::Global;
+
+/// Puts a row in the place of one.
+fn put_back(rows: &mut [Row], at: usize, row: Row)
+    requires { at < length rows.old }
+    ensures { rows.new ≡ slice_set rows.old at row }
+{
+    rows[at] = row;
+}
+
+/// Looks at a place, and says whether its row has grown. What is in `room` is lost.
+fn look_at(
+    alloc: Global,
+    links: &[LinkList],
+    rows: &mut [Row],
+    at: usize,
+    room: &mut Draft,
+) -> Result<bool, NoMemory>
+    requires at { at < length rows.old }
+    requires each { length links.now ≡ length rows.old }
+    requires even { AreEven (length room.old) rows.old }
+    requires below { AreBelow (length rows.old) links.now }
+    ensures room { length room.new ≡ length room.old }
+    ensures looked { IfOk result (HasLookedAt links.now at rows.old rows.new) }
+{
+    room.load(&rows[at])?;
+    let grown = look(links[at].as_slice(), rows, room)?;
+    if grown {
+        put_back(rows, at, room.kept(alloc)?);
+    }
+    Ok(grown)
+}
+
+/// A row that has all numbers of all rows.
+fn top_of(alloc: Global, rows: &[Row], words: usize) -> Result<Draft, NoMemory>
+    requires { AreEven words rows.now }
+    ensures { IfOk result (λ top. AreWithin (has rows.now) (λ at. row_has top)) }
+{
+    let mut top = Draft::new(alloc, words);
+    for row in rows {
+        top.join(row)?;
+    }
+    Ok(top)
+}
+
+/// Looks at a place, unless its row is one that has all numbers of all rows: then there is nothing to take.
+fn look_below(
+    alloc: Global,
+    links: &[LinkList],
+    rows: &mut [Row],
+    at: usize,
+    room: &mut Draft,
+    top: &Draft,
+) -> Result<bool, NoMemory>
+    requires at { at < length rows.old }
+    requires each { length links.now ≡ length rows.old }
+    requires even { AreEven (length room.old) rows.old }
+    requires below { AreBelow (length rows.old) links.now }
+    requires inside { AreWithin (has rows.old) (λ place. row_has top.now) }
+    ensures room { length room.new ≡ length room.old }
+    ensures looked { IfOk result (HasLookedAt links.now at rows.old rows.new) }
+{
+    if rows[at].same(top) {
+        return Ok(false);
+    }
+    room.load(&rows[at])?;
+    let grown = look_up_to(links[at].as_slice(), rows, room, top)?;
+    if grown {
+        put_back(rows, at, room.kept(alloc)?);
+    }
+    Ok(grown)
+}
+
+/// Looks at places, in order. No row has a number that `top` doesn't have.
+fn sweep(
+    alloc: Global,
+    links: &[LinkList],
+    rows: &mut [Row],
+    order: &[usize],
+    room: &mut Draft,
+    top: &Draft,
+) -> Result<(), NoMemory>
+    requires each { length links.now ≡ length rows.old }
+    requires even { AreEven (length room.old) rows.old }
+    requires below { AreBelow (length rows.old) links.now }
+    requires inside { AreWithin (has rows.old) (λ place. row_has top.now) }
+    requires within { All (λ at. at < length rows.old) order.now }
+    ensures room { length room.new ≡ length room.old }
+    ensures spread { OnOk result (HasSpread links.now rows.old rows.new) }
+{
+    for at in order {
+        look_below(alloc, links, rows, *at, room, top)?;
+    }
+    Ok(())
+}
+
+/// Looks at places, from the last on.
+fn sweep_back(
+    alloc: Global,
+    links: &[LinkList],
+    rows: &mut [Row],
+    order: &[usize],
+    room: &mut Draft,
+) -> Result<(), NoMemory>
+    requires each { length links.now ≡ length rows.old }
+    requires even { AreEven (length room.old) rows.old }
+    requires below { AreBelow (length rows.old) links.now }
+    requires within { All (λ at. at < length rows.old) order.now }
+    ensures room { length room.new ≡ length room.old }
+    ensures spread { OnOk result (HasSpread links.now rows.old rows.new) }
+{
+    for index in (0..order.len()).rev() {
+        look_at(alloc, links, rows, order[index], room)?;
+    }
+    Ok(())
+}
+
+/// Looks at places twice, in order. No row has a number that `top` doesn't have.
+fn sweep_twice(
+    alloc: Global,
+    links: &[LinkList],
+    rows: &mut [Row],
+    order: &[usize],
+    room: &mut Draft,
+    top: &Draft,
+) -> Result<(), NoMemory>
+    requires each { length links.now ≡ length rows.old }
+    requires even { AreEven (length room.old) rows.old }
+    requires below { AreBelow (length rows.old) links.now }
+    requires inside { AreWithin (has rows.old) (λ place. row_has top.now) }
+    requires within { All (λ at. at < length rows.old) order.now }
+    ensures room { length room.new ≡ length room.old }
+    ensures spread { OnOk result (HasSpread links.now rows.old rows.new) }
+{
+    sweep(alloc, links, rows, order, room, top)?;
+    sweep(alloc, links, rows, order, room, top)?;
+    Ok(())
+}
+
+/// Looks at each place once, and says whether a row has grown. No row has a number that `top` doesn't have.
+fn sweep_all(
+    alloc: Global,
+    links: &[LinkList],
+    rows: &mut [Row],
+    room: &mut Draft,
+    top: &Draft,
+) -> Result<bool, NoMemory>
+    requires each { length links.now ≡ length rows.old }
+    requires even { AreEven (length room.old) rows.old }
+    requires below { AreBelow (length rows.old) links.now }
+    requires inside { AreWithin (has rows.old) (λ place. row_has top.now) }
+    ensures room { length room.new ≡ length room.old }
+    ensures spread { OnOk result (HasSpread links.now rows.old rows.new) }
+    ensures taken { IfOk result (λ grown. grown ≡ false → AreTaken links.now (has rows.new)) }
+{
+    let mut grown = false;
+    for at in 0..rows.len() {
+        let more = look_below(alloc, links, rows, at, room, top)?;
+        grown |= more;
+    }
+    Ok(grown)
+}
+
+/// Looks at a place that was taken from the list of work. Where its row has grown, the place and its readers are listed.
+fn revisit(
+    alloc: Global,
+    links: &[LinkList],
+    readers: &[Items<usize>],
+    rows: &mut [Row],
+    room: &mut Draft,
+    work: &mut Vec<usize>,
+    marks: &mut [bool],
+    at: usize,
+) -> Result<(), NoMemory>
+    requires at { at < length rows.old }
+    requires each { length links.now ≡ length rows.old }
+    requires even { AreEven (length room.old) rows.old }
+    requires below { AreBelow (length rows.old) links.now }
+    requires marks { length marks.old ≡ length rows.old }
+    requires readers { length readers.now ≡ length rows.old }
+    requires places { AreReaders (length rows.old) readers.now }
+    requires known { KnowReaders links.now readers.now }
+    requires work { IsWork (work.old.items ++ at ∷ []) marks.old }
+    ensures room { length room.new ≡ length room.old }
+    ensures revisited { OnOk result (HasRevisited links.now readers.now at
+        rows.old work.old.items marks.old rows.new work.new.items marks.new) }
+{
+    marks[at] = false;
+    let grown = look_at(alloc, links, rows, at, room)?;
+    if grown {
+        list_one(work, marks, at)?;
+        list_all(work, marks, readers[at].as_slice())?;
+    }
+    Ok(())
+}
+
+/// Looks at places on the list of work until none is on it.
+fn settle(
+    alloc: Global,
+    links: &[LinkList],
+    readers: &[Items<usize>],
+    rows: &mut [Row],
+    room: &mut Draft,
+    work: &mut Vec<usize>,
+    marks: &mut [bool],
+) -> Result<(), NoMemory>
+    requires each { length links.now ≡ length rows.old }
+    requires even { AreEven (length room.old) rows.old }
+    requires below { AreBelow (length rows.old) links.now }
+    requires readers { length readers.now ≡ length rows.old }
+    requires places { AreReaders (length rows.old) readers.now }
+    requires known { KnowReaders links.now readers.now }
+    requires settling { IsSettling links.now rows.old rows.old work.old.items marks.old }
+    ensures spread { OnOk result (HasSpread links.now rows.old rows.new) }
+    ensures taken { OnOk result (AreTaken links.now (has rows.new)) }
+{
+    while let Some(at) = work.pop() {
+        revisit(alloc, links, readers, rows, room, work, marks, at)?;
+    }
+    Ok(())
+}
+
+/// All places, in order.
+fn all_places(alloc: Global, places: usize) -> Result<Vec<usize>, NoMemory>
+    ensures each { IfOk result (λ work. length work.items ≡ places) }
+    ensures is { IfOk result (λ work. (k : ℕ) → k < places → slice_index work.items k ≡ k) }
+{
+    let mut work = Vec::new(alloc);
+    for at in 0..places {
+        work.push(at)?;
+    }
+    Ok(work)
+}
+
+/// Looks at places until each takes all that its links hand on: again where a set that it takes from has grown.
+fn settle_all(
+    alloc: Global,
+    links: &[LinkList],
+    rows: &mut [Row],
+    room: &mut Draft,
+) -> Result<(), NoMemory>
+    requires each { length links.now ≡ length rows.old }
+    requires even { AreEven (length room.old) rows.old }
+    requires below { AreBelow (length rows.old) links.now }
+    ensures spread { OnOk result (HasSpread links.now rows.old rows.new) }
+    ensures taken { OnOk result (AreTaken links.now (has rows.new)) }
+{
+    let readers = readers_of(alloc, links)?;
+    let mut work = all_places(alloc, rows.len())?;
+    let mut marks = vec![in alloc; true; rows.len()]?;
+    settle(
+        alloc,
+        links,
+        readers.as_slice(),
+        rows,
+        room,
+        &mut work,
+        marks.as_mut_slice(),
+    )
+}
+
+/// Grows the sets of all places until each takes all that its links hand on: they are then the least that hold the given
+/// ones and take it. Two sweeps, in an order in which a place comes after those that it takes from, settle rings and
+/// what has none; a sweep back and the list of work settle the rest. Sweeps pass over a place whose row has all there is.
+pub fn spread(
+    alloc: Global,
+    links: &[LinkList],
+    rows: &mut [Row],
+    words: usize,
+) -> Result<(), NoMemory>
+    requires each { length links.now ≡ length rows.old }
+    requires even { AreEven words rows.old }
+    requires below { AreBelow (length rows.old) links.now }
+    ensures spread { OnOk result (HasSpread links.now rows.old rows.new) }
+    ensures taken { OnOk result (AreTaken links.now (has rows.new)) }
+{
+    let mut room = Draft::new(alloc, words);
+    let top = top_of(alloc, rows, words)?;
+    let order = order_of(alloc, links)?;
+    sweep_twice(alloc, links, rows, order.as_slice(), &mut room, &top)?;
+    let grown = sweep_all(alloc, links, rows, &mut room, &top)?;
+    if !grown {
+        return Ok(());
+    }
+    sweep_back(alloc, links, rows, order.as_slice(), &mut room)?;
+    settle_all(alloc, links, rows, &mut room)
+}

@@ -1,0 +1,221 @@
+//! The libraries that all units of a project see, worked out at once.
+
+ghost use Rattle.std.specs.Prelude.{◌≡◌, ◌+◌, ◌<◌, ◌++◌, [], List, IfOk, length, slice_get, slice_index};
+ghost use Rattle.std.specs.List.{All, flat_map};
+ghost use Rattle.std.specs.Option.{option_map};
+ghost use Rattle.base.specs.declared.design.Scan.{Scan};
+ghost use Rattle.vhdl_spec.specs.Scans.{AreScansOf};
+ghost use Rattle.vhdl_spec.specs.Visibility.{ScopeUnit, scope_units};
+ghost use Rattle.vhdl_outlines.specs.Outlines.{AreOutlined, AreOutlinesOf};
+ghost use Rattle.vhdl_outlines.specs.Roles.{IsTextSmall};
+ghost use Rattle.vhdl_scope.specs.Exact.{AreGrown};
+ghost use Rattle.vhdl_scope.specs.Names.{HasAll, implicit, keys_of};
+ghost use Rattle.vhdl_scope.specs.Scopes.{HasGroups};
+ghost use Rattle.vhdl_scope.specs.Tables.{AreExactly, AreVisible, ListsNames, IsUnitAt, set_at, table_sees};
+
+use crate::groups::{Groups, Owned};
+use crate::joins::group_links;
+use crate::linking::links_of_units;
+use crate::listing::{rising_names, sees_name};
+use crate::names::{self, Names, names_of};
+use crate::own::rows_of;
+use crate::row::Row;
+use crate::scope::{Scopes, scopes_of};
+use crate::spread::spread;
+use crate::wants::WORK;
+use base::{Items, NoMemory, Project, Scans, TextList, UnitId};
+use std::alloc::Global;
+use std::marker::Model;
+use vhdl_outlines::{Outlines, outlines_of};
+
+/// The rows of units, grown until each takes all that it wants.
+fn grown_rows(
+    alloc: Global,
+    names: &Names,
+    outlines: &Outlines,
+    groups: &Groups,
+    owned: &[Owned],
+    project: &Project,
+    texts: &TextList,
+) -> Result<Vec<Row>, NoMemory>
+    requires each { length texts.now ≡ length project.now.files }
+    requires outlined { AreOutlined texts.now outlines.now }
+    requires named { HasAll (implicit ++ flat_map (λ unit. unit.names) outlines.now.scopes)
+        [] (keys_of names.now) }
+    requires grouped { (scans : List Scan) → AreOutlinesOf texts.now scans outlines.now →
+        HasGroups (scope_units project.now.files texts.now scans) groups.now owned.now }
+    ensures { IfOk result (λ rows. (scans : List Scan) →
+        AreOutlinesOf texts.now scans outlines.now →
+        AreGrown outlines.now.scopes (scope_units project.now.files texts.now scans)
+        (keys_of names.now) rows.items) }
+{
+    let units = outlines.scopes.as_slice();
+    if units.len().checked_add(groups.len()).is_none() {
+        return Err(NoMemory);
+    }
+    let words = names.len() / 64 + 1;
+    let mut rows = rows_of(alloc, names, units, groups.len(), words)?;
+    let gate = match names::find(names, WORK.as_slice()) {
+        Some(gate) => gate,
+        None => unreachable!(),
+    };
+    let mut links = links_of_units(
+        alloc,
+        names,
+        groups,
+        units.len(),
+        project,
+        texts,
+        &outlines.files,
+    )?;
+    let mut members = group_links(alloc, groups, owned, gate)?;
+    links.append(&mut members)?;
+    spread(alloc, links.as_slice(), rows.as_mut_slice(), words)?;
+    Ok(rows)
+}
+
+/// The libraries that each design unit of a project sees (IEEE Std 1076-2008, clauses 13.1 to 13.4). Contracts see the
+/// set of each unit, in file order, and for each file the number of units before it.
+#[derive(Drop)]
+pub struct VisibleLibraries {
+    starts: Vec<usize>,
+    names: Names,
+    rows: Vec<Row>,
+}
+
+impl Model for VisibleLibraries {
+    ghost use Rattle.vhdl_scope.specs.Names.{keys_of};
+    ghost use Rattle.vhdl_scope.specs.Tables.{Table, table_of};
+
+    ghost Value = { Table };
+
+    ghost view = { λ a. table_of a.starts.items (keys_of a.names) a.rows.items };
+}
+
+/// The sets of all units of a project. There is one text and one scan for each file, in order.
+pub fn visible_sets(
+    alloc: Global,
+    project: &Project,
+    texts: &TextList,
+    scans: &Scans,
+) -> Result<VisibleLibraries, NoMemory>
+    requires each { length texts.now ≡ length project.now.files }
+    requires scans { AreScansOf texts.now scans.now }
+    requires small { All IsTextSmall texts.now }
+    ensures { IfOk result (AreVisible project.now.files texts.now scans.now) }
+{
+    let outlines = outlines_of(alloc, texts, scans)?;
+    visible_sets_by_outlines(alloc, project, texts, &outlines)
+}
+
+/// `visible_sets` for a caller that has the outlines of all files, and not their tokens.
+pub fn visible_sets_by_outlines(
+    alloc: Global,
+    project: &Project,
+    texts: &TextList,
+    outlines: &Outlines,
+) -> Result<VisibleLibraries, NoMemory>
+    requires each { length texts.now ≡ length project.now.files }
+    requires outlined { AreOutlined texts.now outlines.now }
+    ensures { IfOk result (λ sets. (scans : List Scan) →
+        AreOutlinesOf texts.now scans outlines.now →
+        AreVisible project.now.files texts.now scans sets) }
+{
+    let Scopes {
+        starts,
+        groups,
+        owned,
+    } = scopes_of(alloc, project, &outlines.files)?;
+    let names = names_of(alloc, outlines.scopes.as_slice())?;
+    let rows = grown_rows(
+        alloc,
+        &names,
+        outlines,
+        &groups,
+        owned.as_slice(),
+        project,
+        texts,
+    )?;
+    Ok(VisibleLibraries {
+        starts,
+        names,
+        rows,
+    })
+}
+
+/// The row of a unit, if there is one.
+fn row_at<'a>(starts: &[usize], rows: &'a [Row], unit: UnitId) -> Option<&'a Row>
+    requires { unit.file < length starts.now }
+    ensures { option_map (λ row. row.now) result
+        ≡ slice_get rows.entry.now (slice_index starts.now unit.file + unit.unit) }
+{
+    match starts[unit.file as usize].checked_add(unit.unit as usize) {
+        Some(at) => rows.get(at),
+        None => None,
+    }
+}
+
+impl VisibleLibraries {
+    /// Whether a library is visible in a unit. It takes one look-up of the name.
+    pub fn sees_library(&self, unit: UnitId, name: &[u8]) -> bool
+        requires { unit.file < length self.now.starts }
+        ensures { result ≡ table_sees self.now unit name.now }
+    {
+        match row_at(self.starts.as_slice(), self.rows.as_slice(), unit) {
+            Some(row) => sees_name(&self.names, row, name),
+            None => false,
+        }
+    }
+
+    /// The libraries that are visible in a unit, strictly rising by bytes.
+    pub fn libraries(&self, alloc: Global, unit: UnitId) -> Result<TextList, NoMemory>
+        requires { unit.file < length self.now.starts }
+        ensures { IfOk result (ListsNames (set_at self.now unit)) }
+    {
+        match row_at(self.starts.as_slice(), self.rows.as_slice(), unit) {
+            Some(row) => Ok(Items::from_vec(rising_names(alloc, &self.names, row)?)),
+            None => Ok(Items::new(alloc)),
+        }
+    }
+}
+
+/// The libraries that are visible in one unit of a project (IEEE Std 1076-2008, clauses 13.1 to 13.4), strictly rising by
+/// bytes: one row of the sets of all units.
+pub fn visible_libraries(
+    alloc: Global,
+    project: &Project,
+    texts: &TextList,
+    scans: &Scans,
+    unit: UnitId,
+) -> Result<TextList, NoMemory>
+    requires each { length texts.now ≡ length project.now.files }
+    requires scans { AreScansOf texts.now scans.now }
+    requires small { All IsTextSmall texts.now }
+    requires file { unit.file < length project.now.files }
+    ensures { IfOk result (λ names. (user : ScopeUnit) →
+        IsUnitAt project.now.files texts.now scans.now unit user →
+        AreExactly (scope_units project.now.files texts.now scans.now) user names) }
+{
+    let outlines = outlines_of(alloc, texts, scans)?;
+    visible_libraries_by_outlines(alloc, project, texts, &outlines, unit)
+}
+
+/// `visible_libraries` for a caller that has the outlines of all files, and not their tokens.
+pub fn visible_libraries_by_outlines(
+    alloc: Global,
+    project: &Project,
+    texts: &TextList,
+    outlines: &Outlines,
+    unit: UnitId,
+) -> Result<TextList, NoMemory>
+    requires each { length texts.now ≡ length project.now.files }
+    requires outlined { AreOutlined texts.now outlines.now }
+    requires file { unit.file < length project.now.files }
+    ensures { IfOk result (λ names. (scans : List Scan) (user : ScopeUnit) →
+        AreOutlinesOf texts.now scans outlines.now →
+        IsUnitAt project.now.files texts.now scans unit user →
+        AreExactly (scope_units project.now.files texts.now scans) user names) }
+{
+    let sets = visible_sets_by_outlines(alloc, project, texts, outlines)?;
+    sets.libraries(alloc, unit)
+}

@@ -1,9 +1,0 @@
--- The definitions.
-pub mod Counts
-pub mod Trees
-pub mod Children
-pub mod Streams
-pub mod Disks
-pub mod Records
-pub mod Commits
-pub mod Phases

@@ -1,9 +1,0 @@
-//! Counts of faults.
-ghost use Rattle.vr_outside.specs.Counts.{Counted};
-
-/// A count of faults with one more fault. It stays at the last number.
-pub fn counted(count: u64) -> u64
-    ensures { Counted count result }
-{
-    count.saturating_add(1)
-}
