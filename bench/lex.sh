@@ -8,5 +8,5 @@ work=$(mktemp -d)
 trap 'rm -rf "$work"' EXIT
 (cd ../crates/bench_scanner && rt lib >"$work/log" 2>&1) || { tail -5 "$work/log"; exit 1; }
 python3 generate.py 4000000 >"$work/text.vhd"
-${CC:-cc} -O2 -o "$work/compare" compare.c ../crates/bench_scanner/out/libscan_c.a "$kit/c/liblibc_c.a"
+${CC:-cc} -O2 -o "$work/compare" compare.c ../crates/bench_scanner/out/libbench_scanner.a "$kit/c/liblibc_c.a"
 "$work/compare" "$work/text.vhd" "${1:-51}"

@@ -13,5 +13,5 @@ trap 'rm -rf "$work"' EXIT
 # up to the end of the last whole unit
 last='import sys; text = sys.stdin.read(); print(text[: text.rindex("end architecture rtl;") + 21])'
 python3 generate.py 4000000 | python3 -c "$last" >"$work/text.vhd"
-${CC:-cc} -O2 -o "$work/refs" refs.c ../crates/bench_scanner/out/libscan_c.a "$kit/c/liblibc_c.a"
+${CC:-cc} -O2 -o "$work/refs" refs.c ../crates/bench_scanner/out/libbench_scanner.a "$kit/c/liblibc_c.a"
 "$work/refs" "$work/text.vhd" "${1:-51}"
