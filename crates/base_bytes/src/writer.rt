@@ -80,6 +80,13 @@ impl ByteWriter {
         Ok(())
     }
 
+    /// What was written so far.
+    pub fn bytes(&self) -> &[u8]
+        ensures { result.now ≡ self.now }
+    {
+        self.bytes.as_slice()
+    }
+
     /// What was written.
     pub fn into_text(self) -> Text
         ensures { result ≡ self }

@@ -1,9 +1,8 @@
 -- What the store lends of files that are made, once all is committed.
-use Rattle.std.proofs.Common.{◌≡◌, ℕ, suc, ◌<◌, ◌≤◌, Bool, true, List, [], ◌∷◌, ◌++◌, length, get_or, map, take, Option, Some, None, refl, sym, ap, subst, ◌∙◌, arith, inl, inr}
+use Rattle.std.proofs.Common.{◌≡◌, ℕ, suc, ◌<◌, ◌≤◌, Bool, true, List, [], ◌∷◌, ◌++◌, length, get_or, map, Option, Some, None, refl, sym, ap, subst, ◌∙◌, arith, inl, inr}
 use Rattle.std.specs.Prelude.{All, slice_get, is_some}
 use Rattle.std.specs.Option.{option_map, option_and_then, option_map_or}
 use Rattle.std.specs.List.{filter_map, flat_map, list_all}
-use Rattle.std.proofs.lemmas.List.{take_all}
 use Rattle.std.proofs.lemmas.Map.Keys.{sorted_from_strictly_increasing}
 use Rattle.std.proofs.lemmas.Map.Views.{length-le_from_below}
 use Rattle.std.proofs.lemmas.Bool.{cases_lt, and_parts, false≢true}
@@ -17,7 +16,7 @@ use Rattle.base.specs.declared.child.MaybeText.{MaybeText}
 use Rattle.base.specs.declared.child.MaybeText.TheVariants.{Nothing}
 use Rattle.base.specs.Graphs.{IsGraph, IsEntryAt}
 use Rattle.base.specs.Jobs.{built_bytes, compile_input, compile_request}
-use Rattle.child_job_codec.specs.Written.{Written}
+use Rattle.child_job_codec.specs.declared.writing.RequestWriter.{RequestWriter}
 use Rattle.child_job_codec.specs.Written as job
 use Rattle.child_job_codec.proofs.WrittenInput.{compile_input-is}
 use Rattle.outside.specs.Records.{Asked, Record, HasLatest, IsRecorded, asked_of, built_of_record, deps_at, latest_built, no_built}
@@ -225,16 +224,15 @@ length_lent latest_of graph (position ∷ positions) all =
 
 -- the request that was written over lent files
 pub lent_request_is : (latest_of : FileName → Option Record) (graph : List Entry) (position : ℕ) (entry : Entry) → slice_get graph position ≡ Some entry → (deps : List ℕ) → deps ≡ entry.deps → All (IsRecorded latest_of graph) deps →
-    (request : Request) (written begun : Written) (count : ℕ) → length deps ≤ count → begun ≡ job.begun entry (length deps) → request.command ≡ written.command → request.input ≡ written.input → request.results ≡ Nothing →
-    written.command ≡ begun.command → written.input ≡ begun.input ++ flat_map built_bytes (filter_map (lent_at latest_of graph) (take count deps)) → lent_request latest_of graph position ≡ Some request
-lent_request_is latest_of graph position entry at deps same all request written begun count enough begins words input results command bytes =
+    (request : Request) (written begun : RequestWriter) → begun ≡ job.begun entry (length deps) → request.command ≡ written.command → request.input ≡ written.input → request.results ≡ Nothing →
+    written.command ≡ begun.command → written.input ≡ begun.input ++ flat_map built_bytes (filter_map (lent_at latest_of graph) deps) → lent_request latest_of graph position ≡ Some request
+lent_request_is latest_of graph position entry at deps same all request written begun begins words input results command bytes =
     let files : List BuiltFile = filter_map (lent_at latest_of graph) deps in
-    let whole : take count deps ≡ deps = take_all count deps enough in
     let number : length files ≡ length deps = length_lent latest_of graph deps all in
     let is_input : request.input ≡ compile_input entry.name entry.text files =
-    input ∙ bytes ∙ ap (λ (l : List ℕ). begun.input ++ flat_map built_bytes (filter_map (lent_at latest_of graph) l)) whole
-    ∙ ap (λ (w : Written). w.input ++ flat_map built_bytes files) (begins ∙ ap (job.begun entry) (sym number)) ∙ compile_input-is entry.name entry.text files in
-    let is_command : request.command ≡ entry.command = words ∙ command ∙ ap (λ (w : Written). w.command) begins in
+    input ∙ bytes
+    ∙ ap (λ (w : RequestWriter). w.input ++ flat_map built_bytes files) (begins ∙ ap (job.begun entry) (sym number)) ∙ compile_input-is entry.name entry.text files in
+    let is_command : request.command ≡ entry.command = words ∙ command ∙ ap (λ (w : RequestWriter). w.command) begins in
     let is_request : request ≡ compile_request entry files =
     ap (λ (w : List (List ℕ)). record { command = w; input = request.input; results = request.results }) is_command
     ∙ ap (λ (i : List ℕ). record { command = entry.command; input = i; results = request.results }) is_input

@@ -6,6 +6,7 @@ mod RecordsThen
 mod Unchecked
 mod EventsThen
 mod Lent
+mod Gathering
 mod Acknowledging
 mod FirstFaults
 mod UnderWayThen

@@ -3,7 +3,6 @@ use Rattle.std.proofs.Common.{◌≡◌, ℕ, List, [], map, Option, Some, sym, 
 use Rattle.std.specs.Prelude.{slice_get}
 use Rattle.std.specs.Option.{option_map_or}
 use Rattle.base.specs.declared.file.FileName.{FileName}
-use Rattle.base.specs.declared.graph.BuiltFile.{BuiltFile}
 use Rattle.base.specs.declared.graph.Entry.{Entry}
 use Rattle.outside.specs.Records.{Asked, Record, asked_now, asked_of, deps_at, latest_built}
 use Rattle.run_spec.specs.Commits.{record_at}

@@ -1,11 +1,11 @@
 -- What children gave is the latest records of their files, event after event, once all is committed.
-use Rattle.std.proofs.Common.{◌≡◌, ℕ, true, false, Bool, eqb, ◌&&◌, List, map, [], ◌∷◌, ◌++◌, cond, Option, Some, None, refl, sym, ap, subst, ◌∙◌, inl, inr}
+use Rattle.std.proofs.Common.{◌≡◌, ℕ, true, false, Bool, eqb, ◌&&◌, List, map, [], ◌∷◌, ◌++◌, Option, Some, None, refl, sym, ap, ◌∙◌, inl, inr}
 use Rattle.std.specs.Prelude.{All, slice_get}
 use Rattle.std.proofs.lemmas.Grind.{flat_map-append}
 use Rattle.std.proofs.lemmas.List.{append-nil}
 use Rattle.std.proofs.lemmas.List.Concat.{flat_map-cons}
 use Rattle.std.proofs.lemmas.List.Elements.{All-nil, All-head, All-tail, All-cons, All-push, All-weaker}
-use Rattle.std.proofs.lemmas.Bool.{cases_Bool, eqb-true, eq-eqb, ne_eqb, cond-true, cond-false, and_from, false≢true}
+use Rattle.std.proofs.lemmas.Bool.{cases_Bool, eqb-true, eq-eqb, cond-true, cond-false, and_from, false≢true}
 use Rattle.std.proofs.lemmas.Option.{none-some, same_Some}
 use Rattle.base.specs.declared.file.FileName.{FileName}
 use Rattle.base.specs.declared.graph.Entry.{Entry}
@@ -18,7 +18,6 @@ use Rattle.run_spec.proofs.Artefacts.{so_far_stays}
 use Rattle.run_spec.proofs.BuiltLists.{has_all_more, built_more}
 use Rattle.run_spec.proofs.Steps.{run_found, All-others}
 use Rattle.run_spec.specs.Commits.{record_at, commit_of, commits_of}
-use Rattle.run_spec.proofs.RecordNames.{is_of_own}
 use Rattle.build_loop.specs.Commits.{latest_after}
 use Rattle.build_loop.specs.UnderWay.{IsDueOver, IsKnown, HasRecords}
 use Rattle.build_loop.proofs.Latest.{latest_after-append, latest_here, latest_elsewhere}

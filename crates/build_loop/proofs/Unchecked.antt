@@ -1,13 +1,13 @@
 -- A file that wasn't checked: no end of its child is committed, so its latest record stays, and fits where it is current.
-use Rattle.std.proofs.Common.{◌≡◌, ℕ, Bool, true, false, eqb, ◌&&◌, List, map, [], ◌∷◌, Option, Some, None, refl, sym, ap, subst, ◌∙◌, inl, inr}
+use Rattle.std.proofs.Common.{◌≡◌, ℕ, Bool, true, false, eqb, ◌&&◌, List, map, [], ◌∷◌, Option, Some, None, refl, sym, ap, subst, ◌∙◌}
 use Rattle.std.specs.Prelude.{◌↔◌, All, IsTrue, is_some, slice_get}
 use Rattle.std.specs.List.{list_any}
 use Rattle.std.proofs.lemmas.Bool.{cond-false, or_parts, true≢false}
-use Rattle.std.proofs.lemmas.Option.{none-some, same_Some}
+use Rattle.std.proofs.lemmas.Option.{same_Some}
 use Rattle.base.specs.declared.file.FileName.{FileName}
 use Rattle.base.specs.declared.graph.BuiltFile.{BuiltFile}
 use Rattle.base.specs.declared.graph.Entry.{Entry}
-use Rattle.outside.specs.Records.{Asked, Record, HasLatest, IsRecorded, asked_of, latest_built}
+use Rattle.outside.specs.Records.{Record, HasLatest, IsRecorded, asked_of, latest_built}
 use Rattle.run_spec.specs.ChildJournal.{End, child_of_end, output_at}
 use Rattle.run_spec.specs.Recorded.{current_by_request}
 use Rattle.run_spec.proofs.RecordedArtefacts.{record_of_current, current_of_record}
@@ -23,7 +23,7 @@ none_printed at (end ∷ ends) none =
 
 -- a record of a file over files that the store has, by a store that has the same latest record of it
 module _ (first now : FileName → Option Record) (graph : List Entry) (at : ℕ) (entry : Entry) (found : slice_get graph at ≡ Some entry) (same : now entry.name ≡ first entry.name) (files : List BuiltFile) (files_are : files ≡ map (latest_built now graph) entry.deps) (built : All (HasLatest now graph) entry.deps) where
-  recorded_current : IsRecorded now graph at → is_some (current_by_request first graph at files) ≡ true
+  pub recorded_current : IsRecorded now graph at → is_some (current_by_request first graph at files) ≡ true
   recorded_current recorded =
       let is : recorded.entry ≡ entry = same_Some recorded.entry entry (sym recorded.is_entry ∙ found) in
       let latest : now entry.name ≡ Some (record { asked = asked_of entry (map (latest_built now graph) entry.deps); artefact = recorded.artefact }) =

@@ -5,7 +5,7 @@ use Rattle.std.specs.Option.{option_and_then}
 use Rattle.std.specs.Bool.{OnTrue}
 use Rattle.std.specs.List.{list_all, list_any}
 use Rattle.std.proofs.Math.ListN.{set}
-use Rattle.std.proofs.lemmas.Bool.{cases_Bool, cond-true, cond-false}
+use Rattle.std.proofs.lemmas.Bool.{cases_Bool, cond-true, cond-false, true≢false}
 use Rattle.std.proofs.lemmas.List.{append-nil, length-map}
 use Rattle.std.proofs.lemmas.List.Elements.{All-weaker}
 use Rattle.base.specs.declared.file.FileName.{FileName}
@@ -21,12 +21,12 @@ use Rattle.base.proofs.Below.{length-below}
 use Rattle.outside.specs.declared.procs.WaitFault.{WaitFault}
 use Rattle.outside.specs.declared.procs.WaitFault.TheVariants as wait
 use Rattle.outside.specs.Children.{end_event}
-use Rattle.outside.specs.Records.{Record, HasLatest, IsRecorded, deps_at, latest_built}
+use Rattle.outside.specs.Records.{Record, HasLatest, IsRecorded, deps_at, latest_built, with_record}
 use Rattle.run_spec.specs.Moves.{Job, Core, Starts, Ends, Loses, is_taken, is_made_so_far, start_now, is_running, position_of, IsLawfulMove, after_move}
 use Rattle.run_spec.specs.ChildJournal.{Work, Run, End, Book, job_of, core_of, child_of_end, next_position, request_at, files_below, run_of, others_of, end_of, exit_at, or_else, has_all, artefact_so_far, after, book_of, move_of}
 use Rattle.run_spec.specs.Settled.{IsAsked}
 use Rattle.run_spec.proofs.Artefacts.{deps_before, artefact_free}
-use Rattle.run_spec.specs.Commits.{commit_of, commits_of, commits}
+use Rattle.run_spec.specs.Commits.{record_at, commit_of, commits_of, commits}
 use Rattle.run_spec.specs.Marks.{mark_of, mark_at, marks_of}
 use Rattle.run_spec.specs.declared.marks.Mark.TheVariants.{Fresh}
 use Rattle.run_spec.proofs.Journal.{made_so_far}
@@ -40,7 +40,7 @@ use Rattle.build_loop.specs.declared.faults.BuildFault.{BuildFault}
 use Rattle.build_loop.specs.declared.faults.BuildFault.TheVariants.{NoMemory, StartFailed, ChildLost, DiskFailed}
 use Rattle.build_loop.specs.Commits.{latest_after, Acknowledges}
 use Rattle.build_loop.specs.Faults.{noted_with, is_all_committed, is_of_disk, ComesFirst}
-use Rattle.build_loop.specs.Requests.{lent_request}
+use Rattle.build_loop.specs.Requests.{lent_request, AreRecorded, KeepsFirst}
 use Rattle.build_loop.specs.UnderWay.{Origin, BuildState, with_machine, work_from, IsDueOver, HasRecords, IsUnderWay}
 use Rattle.build_loop.specs.Marks.{waiting_mark, known_mark, known_marks}
 use Rattle.run_steps.specs.Steps.{halted_if}
@@ -51,7 +51,8 @@ use Rattle.run_laws.proofs.JournalSettled.{map-below_same}
 use Rattle.build_loop.proofs.Lent.{item_at, All-from_test, made_latest, made_recorded, files_latest, files_now, deps_latest, request_is}
 use Rattle.build_loop.proofs.MarksThen.{mark_of_exit, marks_then, marks_same, mark_checked, marks_fresh, marks_stale}
 use Rattle.build_loop.proofs.RecordsThen.{commits_then, uncommitted, records_started, records_left, records_ended}
-use Rattle.build_loop.proofs.Unchecked.{none_printed, fits_as}
+use Rattle.build_loop.proofs.Latest.{latest_elsewhere}
+use Rattle.build_loop.proofs.Unchecked.{none_printed, fits_as, recorded_current}
 use Rattle.build_loop.proofs.Acknowledging.{knows_all, all_few, acknowledges_left}
 use Rattle.build_loop.proofs.FirstFaults.{first_of_none, first_lost}
 
@@ -412,6 +413,29 @@ module _ (graph : List Entry) (from : Origin) (events : List Event) (acknowledge
         let entry = item_at graph at inside in
         due.below_is ∙ ap (files_below s book.ends) run.2
         ∙ files_now graph from.latest_of from.slots from.keep_going book state.latest_of is.is_graph is.recorded (knows on) at entry.0 entry.1 (made_deps at free)
+
+    -- and what its file has isn't what is asked for it now
+    pub ended_unrecorded : all ≡ true → IsRecorded state.latest_of graph at → ⊥
+    unfolding has_all
+    ended_unrecorded on recorded =
+        let due : IsDueOver s book.ends run.0.position run.0.below = run_found (λ r. IsDueOver s book.ends r.position r.below) book.runs ticket run.0 run.1 is.recorded.runs in
+        let entry = item_at graph at inside in
+        let found = found_child (λ c. list_any (is_end_of c.position) core.ended ≡ false) ticket at core.running there children.unended in
+        let none : list_any (is_end_of at) core.ended ≡ false = subst (λ (p : ℕ). list_any (is_end_of p) core.ended ≡ false) found.1 found.2 in
+        let below_is : run.0.below ≡ files_below s book.ends at = due.below_is ∙ ap (files_below s book.ends) run.2 in
+        let stale : s.current at (files_below s book.ends at) ≡ None =
+        ap (λ (files : List BuiltFile). s.current at files) (sym below_is) ∙ ap (λ (p : ℕ). s.current p run.0.below) (sym run.2) ∙ due.stale in
+        let current =
+        recorded_current from.latest_of state.latest_of graph at entry.0 entry.1
+        (knows on entry.0.name ∙ uncommitted graph is.is_graph at entry.0 entry.1 book.ends from.latest_of (none_printed at book.ends none)) (files_below s book.ends at)
+        (files_latest graph from.latest_of from.slots from.keep_going book state.latest_of is.is_graph is.recorded (knows on) at entry.0 entry.1 (made_deps at free))
+        (deps_latest graph from.latest_of from.slots from.keep_going book state.latest_of is.is_graph is.recorded (knows on) at entry.0 entry.1 (made_deps at free)) recorded in
+        true≢false (sym current ∙ ap is_some stale)
+
+    -- so that it is none of the first files where these are all recorded, and their records stay
+    pub ended_keeps : all ≡ true → (count : ℕ) → AreRecorded state.latest_of graph count → (files : List BuiltFile) (artefact : List ℕ) → KeepsFirst graph count state.latest_of (with_record (record_at graph at files artefact) state.latest_of)
+    ended_keeps on count recorded files artefact position entry lt found =
+        latest_elsewhere graph is.is_graph at position entry found (λ same. ended_unrecorded on (subst (IsRecorded state.latest_of graph) (sym same) (recorded position lt))) files artefact state.latest_of
 
     ends_are : (book_of s (events ++ ended ∷ [])).ends ≡ book.ends ++ end ∷ []
     ends_are = ends_then s events ticket exit run.0 run.1 ∙ ap (λ (p : ℕ). book.ends ++ (record { position = p; request = run.0.request; below = run.0.below; exit = exit }) ∷ []) run.2

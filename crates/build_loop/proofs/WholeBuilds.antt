@@ -338,3 +338,10 @@ goes_on tells told answer answers records_of graph from state now machine noted 
       journal = λ t. subst (λ (a : Request → Exit). IsJournalled a (work_from graph from) (goes.events ++ on.more) from.journal journal) same (on.journal t);
       images = λ t. subst (λ (more : List Record). HoldsFirst goes.acknowledged state.broken more records_of from.moments now.moments) (sym on.same) (goes.images t);
     }
+
+-- after one step more over children whose answers are the same
+pub goes_by : (tells told : Type 0) (answer answers : Request → Exit) (records_of : Image → List Record) (graph : List Entry) (from : Origin) (before after : BuildState) (now later : Told) → answers ≡ answer →
+    Goes tells told answer records_of graph from before now → (Goes tells told answers records_of graph from before now → Goes tells told answers records_of graph from after later) → Goes tells told answer records_of graph from after later
+goes_by tells told answer answers records_of graph from before after now later same goes then =
+    subst (λ (a : Request → Exit). Goes tells told a records_of graph from after later) same
+    (then (subst (λ (a : Request → Exit). Goes tells told a records_of graph from before now) (sym same) goes))

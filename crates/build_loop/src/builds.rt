@@ -22,7 +22,7 @@ use crate::checks::check_one;
 use crate::ends::end_one;
 use crate::faults::BuildFault;
 use crate::marks::{are_made, due_files, first_marks};
-use crate::requests::built_files;
+use crate::requests::{Gathered, built_files};
 use crate::starts::start_one;
 use base::{Built, FILE_LIMIT, Graph, Items, NoMemory, SLOT_LIMIT};
 use build_slots::{BuildStep, Slots, plan};
@@ -141,6 +141,7 @@ fn build_seated<K: Records, D: Disk, P: Procs>(
     };
     procs.expects(due);
     let mut noted = None;
+    let mut gathered = Gathered::new(alloc);
     loop {
         match slots.next() {
             BuildStep::Check(at) => {
@@ -151,7 +152,15 @@ fn build_seated<K: Records, D: Disk, P: Procs>(
             }
             BuildStep::Run(Step::Start(at)) => {
                 start_one(
-                    alloc, graph, at, store, seats, &mut slots, &mut noted, procs,
+                    alloc,
+                    graph,
+                    at,
+                    store,
+                    seats,
+                    &mut gathered,
+                    &mut slots,
+                    &mut noted,
+                    procs,
                 )
             }
             BuildStep::Run(Step::Wait) => end_one(

@@ -17,6 +17,7 @@ ghost use Rattle.build_slots.specs.declared.step.BuildStep.TheVariants.{Run};
 ghost use Rattle.build_slots.specs.Machines.{IsMachineOf, next_of, tickets_of, files_of, to_come};
 ghost use Rattle.run_spec.specs.Commits.{commits};
 ghost use Rattle.build_loop.specs.Commits.{HoldsFirst};
+ghost use Rattle.build_loop.specs.Requests.{AreRecorded, KeepsFirst};
 ghost use Rattle.build_loop.specs.Faults.{FaultCounts, CountsBy, noted_with, is_of_disk};
 ghost use Rattle.build_loop.specs.UnderWay.{Origin, BuildState, with_machine, work_from, IsUnderWay, IsGoing, TakesEnd, Goes};
 
@@ -110,6 +111,8 @@ fn take_exit<K: Records, D: Disk>(
     ensures in_step { D.tells →
         OnFalse (K.broken store.new) (K.in_step store.new (D.moments disk.new).now) }
     ensures seated { K.is_seated store.new graph.now seats.new }
+    ensures keeps { (count : ℕ) → AreRecorded (K.latest_of store.old) graph.now count →
+        KeepsFirst graph.now count (K.latest_of store.old) (K.latest_of store.new) }
     ensures runs { (job : Job) (core : Core) → IsMachineOf slots.old job core →
         IsTrue (is_running core ticket) }
     ensures goes { (from : Origin) (events : List Event) (acknowledged : ℕ) →
@@ -199,6 +202,8 @@ pub(crate) fn end_one<K: Records, D: Disk, P: Procs>(
     ensures in_step { D.tells →
         OnFalse (K.broken store.new) (K.in_step store.new (D.moments disk.new).now) }
     ensures seated { K.is_seated store.new graph.now seats.new }
+    ensures keeps { (count : ℕ) → AreRecorded (K.latest_of store.old) graph.now count →
+        KeepsFirst graph.now count (K.latest_of store.old) (K.latest_of store.new) }
     ensures goes { (from : Origin) →
         let before : BuildState = record {
           machine = slots.old;

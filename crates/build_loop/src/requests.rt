@@ -1,20 +1,44 @@
 //! What is asked of a compiler, and what all files gave, by the artefacts that the store lends.
 
-ghost use Rattle.std.specs.Prelude.{ℕ, ◌≡◌, ◌<◌, ◌++◌, ◌∷◌, [], length, All, Some, IfOk, OnOk};
+ghost use Rattle.std.specs.Prelude.{ℕ, ◌≡◌, ◌<◌, ◌≤◌, ◌++◌, ◌∷◌, [], List, Option, length, All, IsTrue, Some, IfOk, OnOk};
 ghost use Rattle.std.specs.List.{filter_map, flat_map};
+ghost use Rattle.base.specs.declared.file.FileName.{FileName};
+ghost use Rattle.base.specs.declared.graph.Entry.{Entry};
 ghost use Rattle.base.specs.PresentGraph.{below};
 ghost use Rattle.base.specs.Jobs.{built_bytes};
-ghost use Rattle.outside.specs.Records.{IsRecorded, deps_at};
-ghost use Rattle.build_loop.specs.Requests.{lent_at, lent_request};
+ghost use Rattle.outside.specs.Records.{Record, IsRecorded, deps_at};
+ghost use Rattle.build_loop.specs.Requests.{lent_at, lent_request, AreRecorded, IsGathered};
 
 use base::{Built, BuiltFile, FILE_LIMIT, Graph, NoMemory, Request, Text};
-use child_job_codec::RequestWriter;
+use child_job_codec::{BuiltBytes, RequestWriter};
 use outside::Records;
 use std::alloc::Global;
+use std::mem::replace;
+
+/// The files at the first positions of a graph, as requests have them, with the artefacts that the store lent. Where a file
+/// depends on all before it, as each one of a listed project does, they are copied in one piece.
+#[derive(Drop)]
+pub struct Gathered {
+    pub count: u32,
+    pub files: BuiltBytes,
+}
+
+impl Gathered {
+    /// No file, which takes no memory.
+    pub fn new(alloc: Global) -> Gathered
+        ensures { (latest_of : FileName → Option Record) (graph : List Entry) →
+            IsGathered latest_of graph result }
+    {
+        Gathered {
+            count: 0,
+            files: BuiltBytes::new(alloc),
+        }
+    }
+}
 
 /// Adds a file with the artefact that the store lends.
 fn add_lent<K: Records>(
-    writer: &mut RequestWriter,
+    files: &mut BuiltBytes,
     graph: &Graph,
     dep: u32,
     store: &K,
@@ -23,15 +47,133 @@ fn add_lent<K: Records>(
     requires position { dep < length graph.now }
     requires seated { K.is_seated store.now graph.now seats.now }
     requires recorded { IsRecorded (K.latest_of store.now) graph.now dep }
-    ensures words { OnOk result (writer.new.command ≡ writer.old.command) }
-    ensures input { OnOk result (writer.new.input ≡ writer.old.input ++
+    ensures { OnOk result (files.new ≡ files.old ++
         flat_map built_bytes (filter_map (lent_at (K.latest_of store.now) graph.now) (dep ∷ []))) }
 {
     let entry = graph.get(dep as u64);
     match store.artefact_at(seats, graph, dep) {
-        Some(artefact) => writer.add(&entry.name, artefact),
+        Some(artefact) => files.add(&entry.name, artefact),
         None => unreachable!(),
     }
+}
+
+/// Whether a file depends on all files at the first positions, up to some.
+fn are_first(deps: &[u32]) -> bool
+    ensures { IsTrue result → deps.now ≡ below (length deps.now) }
+{
+    for at in 0..deps.len() {
+        if deps[at] as usize != at {
+            return false;
+        }
+    }
+    true
+}
+
+/// What was gathered, with the files up to a number.
+fn gathered_to<K: Records>(
+    gathered: Gathered,
+    count: u32,
+    graph: &Graph,
+    store: &K,
+    seats: &K::Seats,
+) -> Result<Gathered, NoMemory>
+    requires more { gathered.count ≤ count }
+    requires inside { count ≤ length graph.now }
+    requires seated { K.is_seated store.now graph.now seats.now }
+    requires gathered { IsGathered (K.latest_of store.now) graph.now gathered }
+    requires recorded { AreRecorded (K.latest_of store.now) graph.now count }
+    ensures count { IfOk result (λ all. all.count ≡ count) }
+    ensures gathered { IfOk result (IsGathered (K.latest_of store.now) graph.now) }
+{
+    let Gathered {
+        count: first,
+        mut files,
+    } = gathered;
+    for at in first..count {
+        add_lent(&mut files, graph, at, store, seats)?;
+    }
+    Ok(Gathered { count, files })
+}
+
+/// Puts back what more was gathered to.
+fn keep(gathered: &mut Gathered, all: Gathered)
+    ensures { gathered.new ≡ all }
+{
+    *gathered = all;
+}
+
+/// Gathers the files up to a number. Where memory is wanting, none is left gathered.
+fn gather<K: Records>(
+    alloc: Global,
+    gathered: &mut Gathered,
+    count: u32,
+    graph: &Graph,
+    store: &K,
+    seats: &K::Seats,
+) -> Result<(), NoMemory>
+    requires more { gathered.old.count ≤ count }
+    requires inside { count ≤ length graph.now }
+    requires seated { K.is_seated store.now graph.now seats.now }
+    requires gathered { IsGathered (K.latest_of store.now) graph.now gathered.old }
+    requires recorded { AreRecorded (K.latest_of store.now) graph.now count }
+    ensures count { OnOk result (gathered.new.count ≡ count) }
+    ensures gathered { IsGathered (K.latest_of store.now) graph.now gathered.new }
+{
+    let before = replace(gathered, Gathered::new(alloc));
+    let all = gathered_to(before, count, graph, store, seats)?;
+    keep(gathered, all);
+    Ok(())
+}
+
+/// Adds files with the artefacts that the store lends, one by one.
+fn add_each<K: Records>(
+    files: &mut BuiltBytes,
+    deps: &[u32],
+    graph: &Graph,
+    store: &K,
+    seats: &K::Seats,
+) -> Result<(), NoMemory>
+    requires positions { All (λ dep. dep < length graph.now) deps.now }
+    requires seated { K.is_seated store.now graph.now seats.now }
+    requires recorded { All (IsRecorded (K.latest_of store.now) graph.now) deps.now }
+    ensures { OnOk result (files.new ≡ files.old ++
+        flat_map built_bytes (filter_map (lent_at (K.latest_of store.now) graph.now) deps.now)) }
+{
+    for dep in deps {
+        add_lent(files, graph, *dep, store, seats)?;
+    }
+    Ok(())
+}
+
+/// Adds files with the artefacts that the store lends: at once where they are the first ones.
+fn add_deps<K: Records>(
+    alloc: Global,
+    files: &mut BuiltBytes,
+    deps: &[u32],
+    graph: &Graph,
+    store: &K,
+    seats: &K::Seats,
+    gathered: &mut Gathered,
+) -> Result<(), NoMemory>
+    requires positions { All (λ dep. dep < length graph.now) deps.now }
+    requires inside { length deps.now ≤ length graph.now }
+    requires seated { K.is_seated store.now graph.now seats.now }
+    requires recorded { All (IsRecorded (K.latest_of store.now) graph.now) deps.now }
+    requires gathered { IsGathered (K.latest_of store.now) graph.now gathered.old }
+    ensures input { OnOk result (files.new ≡ files.old ++
+        flat_map built_bytes (filter_map (lent_at (K.latest_of store.now) graph.now) deps.now)) }
+    ensures gathered { IsGathered (K.latest_of store.now) graph.now gathered.new }
+{
+    prove!(graph.len() <= FILE_LIMIT as u64);
+    let count = deps.len() as u32;
+    if gathered.count > count {
+        return add_each(files, deps, graph, store, seats);
+    }
+    if !are_first(deps) {
+        return add_each(files, deps, graph, store, seats);
+    }
+    gather(alloc, gathered, count, graph, store, seats)?;
+    files.add_all(&gathered.files)
 }
 
 /// What the compiler of the file at a position is started with, over the artefacts of the files that it depends on.
@@ -41,19 +183,28 @@ pub(crate) fn request_of<K: Records>(
     at: u32,
     store: &K,
     seats: &K::Seats,
+    gathered: &mut Gathered,
 ) -> Result<Request, NoMemory>
     requires position { at < length graph.now }
     requires seated { K.is_seated store.now graph.now seats.now }
     requires recorded { All (IsRecorded (K.latest_of store.now) graph.now) (deps_at graph.now at) }
-    ensures { IfOk result
+    requires gathered { IsGathered (K.latest_of store.now) graph.now gathered.old }
+    ensures request { IfOk result
         (λ request. lent_request (K.latest_of store.now) graph.now at ≡ Some request) }
+    ensures gathered { IsGathered (K.latest_of store.now) graph.now gathered.new }
 {
     let entry = graph.get(at as u64);
     let deps = entry.deps.as_slice();
     let mut writer = RequestWriter::new(alloc, entry, deps.len() as u32)?;
-    for dep in deps {
-        add_lent(&mut writer, graph, *dep, store, seats)?;
-    }
+    add_deps(
+        alloc,
+        &mut writer.input,
+        deps,
+        graph,
+        store,
+        seats,
+        gathered,
+    )?;
     Ok(writer.finish())
 }
 

@@ -13,14 +13,14 @@ ghost use Rattle.run_spec.specs.Moves.{Job, Core};
 ghost use Rattle.run_steps.specs.declared.step.Step.TheVariants.{Start};
 ghost use Rattle.build_slots.specs.declared.step.BuildStep.TheVariants.{Run};
 ghost use Rattle.build_slots.specs.Machines.{IsMachineOf, is_checked, is_stopped_in, next_of, tickets_of, files_of, to_come};
-ghost use Rattle.build_loop.specs.Requests.{lent_request};
+ghost use Rattle.build_loop.specs.Requests.{lent_request, IsGathered};
 ghost use Rattle.build_loop.specs.Faults.{FaultCounts, CountsBy, CountsStart, noted_with};
 ghost use Rattle.build_loop.specs.UnderWay.{Origin, BuildState, with_machine, work_from, IsUnderWay, IsJournalled, GoesOn};
 ghost use Rattle.run_steps.specs.Steps.{halted_if};
 
 use crate::faults::BuildFault;
 use crate::notes::note;
-use crate::requests::request_of;
+use crate::requests::{Gathered, request_of};
 use base::Graph;
 use build_slots::Slots;
 use outside::{Procs, Records, StartFault};
@@ -51,11 +51,14 @@ fn try_start<K: Records, P: Procs>(
     at: u32,
     store: &K,
     seats: &K::Seats,
+    gathered: &mut Gathered,
     procs: &mut P,
 ) -> Result<u64, BuildFault>
     requires position { at < length graph.now }
     requires seated { K.is_seated store.now graph.now seats.now }
     requires recorded { All (IsRecorded (K.latest_of store.now) graph.now) (deps_at graph.now at) }
+    requires gathered { IsGathered (K.latest_of store.now) graph.now gathered.old }
+    ensures gathered { IsGathered (K.latest_of store.now) graph.now gathered.new }
     ensures running { IfOk result (λ ticket.
         P.running procs.new ≡ P.running procs.old ++ ticket ∷ []) }
     ensures runs { OnErr result (P.running procs.new ≡ P.running procs.old) }
@@ -68,7 +71,7 @@ fn try_start<K: Records, P: Procs>(
     ensures starts { CountsStart result (P.failed_starts procs.old) (P.failed_starts procs.new) }
     ensures losses { P.lost_children procs.new ≡ P.lost_children procs.old }
 {
-    let request = request_of(alloc, graph, at, store, seats)?;
+    let request = request_of(alloc, graph, at, store, seats, gathered)?;
     match procs.start(alloc, &request) {
         Ok(ticket) => Ok(ticket),
         Err(StartFault::NoMemory) => Err(BuildFault::NoMemory),
@@ -83,6 +86,7 @@ pub(crate) fn start_one<K: Records, P: Procs>(
     at: u32,
     store: &K,
     seats: &K::Seats,
+    gathered: &mut Gathered,
     slots: &mut Slots,
     noted: &mut Option<BuildFault>,
     procs: &mut P,
@@ -90,9 +94,11 @@ pub(crate) fn start_one<K: Records, P: Procs>(
     requires position { at < length graph.now }
     requires seated { K.is_seated store.now graph.now seats.now }
     requires recorded { All (IsRecorded (K.latest_of store.now) graph.now) (deps_at graph.now at) }
+    requires gathered { IsGathered (K.latest_of store.now) graph.now gathered.old }
     requires step { next_of slots.old ≡ Run (Start at) }
     requires running { P.running procs.old ≡ tickets_of slots.old }
     requires unnoted { noted.old ≡ None }
+    ensures gathered { IsGathered (K.latest_of store.now) graph.now gathered.new }
     ensures running { P.running procs.new ≡ tickets_of slots.new }
     ensures same { P.answer procs.new ≡ P.answer procs.old }
     ensures files { files_of slots.new ≡ files_of slots.old }
@@ -123,7 +129,7 @@ pub(crate) fn start_one<K: Records, P: Procs>(
           disks = disks;
         }) }
 {
-    match try_start(alloc, graph, at, store, seats, procs) {
+    match try_start(alloc, graph, at, store, seats, gathered, procs) {
         Ok(ticket) => slots.started(at, ticket),
         Err(fault) => halt(slots, noted, fault),
     }

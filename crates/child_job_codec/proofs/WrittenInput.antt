@@ -1,5 +1,5 @@
 -- A request that was written file by file is the one of all its files.
-use Rattle.std.proofs.Common.{◌≡◌, ℕ, ◌≤◌, List, [], ◌++◌, length, take, sym, ap, ◌∙◌, refl}
+use Rattle.std.proofs.Common.{◌≡◌, ℕ, ◌≤◌, List, ◌++◌, length, take, ap, ◌∙◌}
 use Rattle.std.specs.Prelude.{codes}
 use Rattle.std.specs.List.{flat_map}
 use Rattle.std.proofs.lemmas.List.{append_assoc, take_all}
@@ -11,7 +11,8 @@ use Rattle.base.specs.declared.child.MaybeText.{MaybeText}
 use Rattle.base.specs.declared.child.MaybeText.TheVariants.{Nothing}
 use Rattle.base.specs.Bytes.{number_bytes, text_bytes}
 use Rattle.base.specs.Jobs.{name_bytes, built_bytes, all_built_bytes, compile_input, compile_request}
-use Rattle.child_job_codec.specs.Written.{Written, begun_input}
+use Rattle.child_job_codec.specs.declared.writing.RequestWriter.{RequestWriter}
+use Rattle.child_job_codec.specs.Written.{begun_input}
 
 pub compile_input-is : (name : FileName) (text : List ℕ) (files : List BuiltFile) → begun_input name text (length files) ++ flat_map built_bytes files ≡ compile_input name text files
 unfolding begun_input compile_input all_built_bytes
@@ -22,7 +23,7 @@ compile_input-is name text files =
     ∙ ap (λ (l : List ℕ). codes "VRC1" ++ l) (append_assoc (name_bytes name) (text_bytes text ++ count) rest ∙ ap (λ (l : List ℕ). name_bytes name ++ l) (append_assoc (text_bytes text) count rest))
 
 -- where all files are written, the request is that of the file over them
-pub written_request : (request : Request) (entry : Entry) (files all : List BuiltFile) (written : Written) (count : ℕ) → all ≡ files → length all ≤ count
+pub written_request : (request : Request) (entry : Entry) (files all : List BuiltFile) (written : RequestWriter) (count : ℕ) → all ≡ files → length all ≤ count
     → request.command ≡ written.command → request.input ≡ written.input → request.results ≡ Nothing → written.command ≡ entry.command
     → written.input ≡ begun_input entry.name entry.text (length all) ++ flat_map built_bytes (take count all) → request ≡ compile_request entry files
 written_request request entry files all written count same enough words input results command bytes =

@@ -1,10 +1,10 @@
 //! Writing what a compiler is asked.
 
-ghost use Rattle.std.specs.Prelude.{◌≡◌, ◌≤◌, ◌++◌, length, IfOk, OnOk};
+ghost use Rattle.std.specs.Prelude.{◌≡◌, ◌≤◌, ◌++◌, [], length, IfOk, OnOk};
 ghost use Rattle.base.specs.Names.{FitsName};
 ghost use Rattle.base.specs.Graphs.{IsBuiltFile};
 ghost use Rattle.base.specs.Jobs.{built_bytes, compile_request};
-ghost use Rattle.child_job_codec.specs.Written.{begun, with_file};
+ghost use Rattle.child_job_codec.specs.Written.{begun};
 
 use base::{
     ARTEFACT_LIMIT, Built, Entry, FileName, MaybeText, NoMemory, Request, TEXT_LIMIT, TextList,
@@ -13,20 +13,58 @@ use base_bytes::ByteWriter;
 use std::alloc::Global;
 use std::marker::Model;
 
-/// What a compiler is to be started with, while the files that its file depends on are added. Contracts see the words
-/// and the input so far.
+/// Files that were built, as a request has them: the name and the artefact of each, one after the other. Contracts see the
+/// bytes.
 #[derive(Drop)]
-pub struct RequestWriter {
-    command: TextList,
+pub struct BuiltBytes {
     out: ByteWriter,
 }
 
-impl Model for RequestWriter {
-    ghost use Rattle.child_job_codec.specs.Written.{Written};
+impl Model for BuiltBytes {
+    ghost use Rattle.std.specs.Prelude.{List, ℕ};
 
-    ghost Value = { Written };
+    ghost Value = { List ℕ };
 
-    ghost view = { λ a. record { command = a.command; input = a.out } };
+    ghost view = { λ a. a.out };
+}
+
+impl BuiltBytes {
+    /// Those of no file, which take no memory.
+    pub fn new(alloc: Global) -> BuiltBytes
+        ensures { result ≡ [] }
+    {
+        BuiltBytes {
+            out: ByteWriter::new(alloc),
+        }
+    }
+
+    /// Adds a file, with its artefact of at most 262,144 bytes, which is copied once.
+    #[tactic(auto, unfolding(base::specs::Jobs::built_bytes))]
+    pub fn add(&mut self, name: &FileName, artefact: &[u8]) -> Result<(), NoMemory>
+        requires name { FitsName name.now }
+        requires artefact { length artefact.now ≤ ARTEFACT_LIMIT }
+        ensures { OnOk result (self.new ≡ self.old ++
+            built_bytes (record { name = name.now; artefact = artefact.now })) }
+    {
+        self.out.name(name)?;
+        self.out.text(artefact)?;
+        Ok(())
+    }
+
+    /// Adds copies of other files.
+    pub fn add_all(&mut self, others: &BuiltBytes) -> Result<(), NoMemory>
+        ensures { OnOk result (self.new ≡ self.old ++ others.now) }
+    {
+        self.out.plain(others.out.bytes())?;
+        Ok(())
+    }
+}
+
+/// What a compiler is to be started with, while the files that its file depends on are added to its input.
+#[derive(Drop)]
+pub struct RequestWriter {
+    pub command: TextList,
+    pub input: BuiltBytes,
 }
 
 impl RequestWriter {
@@ -44,21 +82,8 @@ impl RequestWriter {
         out.u32(count)?;
         Ok(RequestWriter {
             command: entry.command.copy(alloc)?,
-            out,
+            input: BuiltBytes { out },
         })
-    }
-
-    /// Adds a file that it depends on, with its artefact of at most 262,144 bytes, which is copied once.
-    #[tactic(auto, unfolding(base::specs::Jobs::built_bytes))]
-    pub fn add(&mut self, name: &FileName, artefact: &[u8]) -> Result<(), NoMemory>
-        requires name { FitsName name.now }
-        requires artefact { length artefact.now ≤ ARTEFACT_LIMIT }
-        ensures { OnOk result
-            (self.new ≡ with_file self.old (record { name = name.now; artefact = artefact.now })) }
-    {
-        self.out.name(name)?;
-        self.out.text(artefact)?;
-        Ok(())
     }
 
     /// The request. It has no path for results.
@@ -67,10 +92,10 @@ impl RequestWriter {
         ensures input { result.input ≡ self.input }
         ensures results { result.results ≡ MaybeText.Nothing }
     {
-        let RequestWriter { command, out } = self;
+        let RequestWriter { command, input } = self;
         Request {
             command,
-            input: out.into_text(),
+            input: input.out.into_text(),
             results: MaybeText::Nothing,
         }
     }
@@ -85,7 +110,7 @@ pub fn compile_request(alloc: Global, entry: &Entry, deps: &Built) -> Result<Req
     let files = deps.as_slice();
     let mut writer = RequestWriter::new(alloc, entry, files.len() as u32)?;
     for file in files {
-        writer.add(&file.name, file.artefact.bytes())?;
+        writer.input.add(&file.name, file.artefact.bytes())?;
     }
     Ok(writer.finish())
 }

@@ -1,11 +1,11 @@
 -- The examples of "Bytes: requests".
 use Rattle.std.specs.Prelude.{◌≡◌, ℕ, ◌++◌, ◌∷◌, false, List, [], Some, None, length, take, codes}
 use Rattle.base.specs.Bytes.{number_bytes, text_bytes}
-use Rattle.base.specs.Jobs.{name_bytes}
+use Rattle.base.specs.Jobs.{built_bytes, name_bytes}
 use Rattle.base_bytes.specs.Reading.{text_at}
 use Rattle.test_spec.specs.declared.runs.TestRun.{TestRun}
 use Rattle.child_job_codec.specs.Reading.{job_at}
-use Rattle.child_job_codec.specs.Written.{begun, with_file}
+use Rattle.child_job_codec.specs.Written.{begun}
 use Rattle.child_bench_codec.specs.Written.{begun_run}
 use Rattle.tests_examples.specs.Example.{a_built, a_name, a_request, b_file}
 
@@ -29,7 +29,7 @@ pub record NumbersAndTexts : Type 0 where
 pub record CompileJobs : Type 0 where
   pub begun_b : (begun b_file 1).input ≡ 86 ∷ 82 ∷ 67 ∷ 49 ∷ 3 ∷ 0 ∷ 0 ∷ 0 ∷ 108 ∷ 105 ∷ 98 ∷ 5 ∷ 0 ∷ 0 ∷ 0 ∷ 98 ∷ 46 ∷ 118 ∷ 104 ∷ 100 ∷ 1 ∷ 0 ∷
       0 ∷ 0 ∷ 121 ∷ 1 ∷ 0 ∷ 0 ∷ 0 ∷ []
-  pub with_a : (with_file (begun b_file 1) a_built).input ≡ (begun b_file 1).input ++ (name_spelling ++ (1 ∷ 0 ∷ 0 ∷ 0 ∷ 49 ∷ []))
+  pub with_a : (begun b_file 1).input ++ built_bytes a_built ≡ (begun b_file 1).input ++ (name_spelling ++ (1 ∷ 0 ∷ 0 ∷ 0 ∷ 49 ∷ []))
   pub count : length job ≡ 29
   pub is_job : job_at job ≡ Some (record { name = a_name; text = codes "x"; deps = [] })
   pub shorter : job_at (take 28 job) ≡ None

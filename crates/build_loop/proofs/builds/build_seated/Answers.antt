@@ -6,8 +6,9 @@ use Rattle.run_steps.specs.declared.step.Step.{Step}
 use Rattle.build_slots.specs.declared.step.BuildStep.TheVariants.{Run}
 use Rattle.build_loop.specs.Faults.{CountsBy}
 use Rattle.build_loop.specs.UnderWay.{IsJournalled}
+use Rattle.build_loop.proofs.Gathering.{gathered_still}
 use Rattle.build_loop.proofs.UnderWayThen.{marks_count, none_noted, started_at, nothing_noted, start_recorded, check_recorded}
-use Rattle.build_loop.proofs.WholeBuilds.{first_under_way, first_journal, holds_nothing, on_false, counts_at_first, ran_nothing, ran_done, ran_fault, marks_recorded, goes_on}
+use Rattle.build_loop.proofs.WholeBuilds.{first_under_way, first_journal, holds_nothing, on_false, counts_at_first, ran_nothing, ran_done, ran_fault, marks_recorded, goes_by, goes_on}
 use Rattle.build_loop.proofs.builds.build_seated.Goals as goal
 
 pub returns-in_default-clause-ran : goal.returns-in_default-clause-ran
@@ -27,6 +28,7 @@ loop-at-init g c = record {
   files = c.in-Ok.ensures.files;
   in_step = λ tells. on_false (g.K.Records.broken c.args.store.now) (c.requires.in_step tells);
   seated = c.requires.seated;
+  gathered = c.new-gathered.ensures (g.K.Records.latest_of c.args.store.now) c.args.graph.now;
   counts = subst₂ (λ (starts losses : ℕ). CountsBy None (g.K.Records.broken c.args.store.now)
       (record { starts = g.P.Procs.failed_starts c.args.procs.now; losses = g.P.Procs.lost_children c.args.procs.now; disks = g.D.Disk.failed_disk_calls c.args.disk.now })
       (record { starts = starts; losses = losses; disks = g.D.Disk.failed_disk_calls c.args.disk.now }))
@@ -54,7 +56,23 @@ loop-at-preserved-in-Run-Start g c =
       files = c.start_one.ensures.files ∙ before.files;
       in_step = before.in_step;
       seated = before.seated;
+      gathered = c.start_one.ensures.gathered;
       counts = c.start_one.ensures.counts _ _ _ before.counts;
+    }
+
+pub loop-at-preserved : goal.loop-at-preserved
+loop-at-preserved g c =
+    let before = c.loop-at.invariant in
+    record {
+      going = goes_by _ _ _ _ _ _ _ _ _ _ _ before.same before.going (c.end_one.ensures.goes _);
+      running = c.end_one.ensures.running;
+      same = c.end_one.ensures.same ∙ before.same;
+      files = c.end_one.ensures.files ∙ before.files;
+      in_step = c.end_one.ensures.in_step;
+      seated = c.end_one.ensures.seated;
+      gathered = gathered_still c.args.graph.now before.going.under_way.is_graph _ _ c.loop-at.gathered
+          (c.end_one.ensures.keeps c.loop-at.gathered.count before.gathered.recorded) before.gathered;
+      counts = c.end_one.ensures.counts _ before.counts;
     }
 
 pub returns-in-None-clause-count : goal.returns-in-None-clause-count
@@ -105,6 +123,7 @@ loop-at-preserved-else-fresh g c =
       files = c.check_one-fresh.ensures.files ∙ before.files;
       in_step = before.in_step;
       seated = before.seated;
+      gathered = before.gathered;
       counts = before.counts;
     }
 
@@ -124,6 +143,7 @@ loop-at-preserved-then-fresh g c =
       files = c.check_one-fresh.ensures.files ∙ before.files;
       in_step = before.in_step;
       seated = before.seated;
+      gathered = before.gathered;
       counts = subst₂ (λ (starts losses : ℕ). CountsBy c.loop-at.noted (g.K.Records.broken c.loop-at.store)
           (record { starts = g.P.Procs.failed_starts c.args.procs.now; losses = g.P.Procs.lost_children c.args.procs.now; disks = g.D.Disk.failed_disk_calls c.args.disk.now })
           (record { starts = starts; losses = losses; disks = g.D.Disk.failed_disk_calls c.loop-at.disk }))

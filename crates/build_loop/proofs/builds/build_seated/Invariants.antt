@@ -3,6 +3,7 @@ use Rattle.std.proofs.Common.{◌≡◌, length}
 use Rattle.std.specs.Bool.{OnFalse}
 use Rattle.build_slots.specs.Machines.{tickets_of, files_of, to_come}
 use Rattle.build_loop.specs.Faults.{CountsBy}
+use Rattle.build_loop.specs.Requests.{IsGathered}
 use Rattle.build_loop.specs.UnderWay.{Goes}
 use Rattle.build_loop.proofs.builds.build_seated.Given as goal
 
@@ -17,6 +18,7 @@ invariant-loop-at g l = record {
   files : files_of l.slots ≡ length l.graph;
   in_step : g.D.Disk.tells → OnFalse (g.K.Records.broken l.store) (g.K.Records.in_step l.store (g.D.Disk.moments l.disk).now);
   seated : g.K.Records.is_seated l.store l.graph l.seats;
+  gathered : IsGathered (g.K.Records.latest_of l.store) l.graph l.gathered;
   counts : CountsBy l.noted (g.K.Records.broken l.store)
       (record { starts = g.P.Procs.failed_starts l.fn.procs; losses = g.P.Procs.lost_children l.fn.procs; disks = g.D.Disk.failed_disk_calls l.fn.disk })
       (record { starts = g.P.Procs.failed_starts l.procs; losses = g.P.Procs.lost_children l.procs; disks = g.D.Disk.failed_disk_calls l.disk });

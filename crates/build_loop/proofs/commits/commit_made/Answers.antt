@@ -1,5 +1,5 @@
 -- Answers to the goals of `commit_made`: what is prepared is the record of what would be asked now.
-use Rattle.std.proofs.Common.{◌≡◌, ◌<◌, ℕ, List, length, [], ◌∷◌, take, Some, sym, ap, subst, ◌∙◌}
+use Rattle.std.proofs.Common.{◌<◌, ℕ, length, [], ◌∷◌, take, sym, ap, subst, ◌∙◌}
 use Rattle.std.specs.Prelude.{slice_get}
 use Rattle.std.specs.Result.{is_ok}
 use Rattle.outside.specs.Records.{Record}

@@ -6,7 +6,7 @@ use Rattle.build_loop.specs.declared.faults.BuildFault.{BuildFault}
 use Rattle.base.specs.declared.child.Event.TheVariants.{Ended}
 use Rattle.build_loop.specs.Faults.{is_all_committed, ComesFirst}
 use Rattle.build_loop.specs.UnderWay.{work_from}
-use Rattle.build_loop.proofs.UnderWayThen.{not_noted, marks_count, end_latest}
+use Rattle.build_loop.proofs.UnderWayThen.{not_noted, marks_count, end_latest, ended_keeps}
 use Rattle.build_loop.proofs.EndsThen.{failed_commit, takes_refused, takes_uncommitted, takes_commit, first_committed, first_failed}
 use Rattle.build_loop.proofs.ends.take_exit.Goals as goal
 
@@ -69,3 +69,19 @@ returns-in-Ok-clause-runs g c = λ job core step. c.ended-at.ensures.lawful job 
 
 pub returns-clause-runs : goal.returns-clause-runs
 returns-clause-runs g c = λ job core step. c.ended-at.ensures.lawful job core [] step
+
+pub returns-then-code-ne0-clause-keeps : goal.returns-then-code-ne0-clause-keeps
+returns-then-code-ne0-clause-keeps g c = λ count recorded position entry lt found. refl
+
+pub returns-then-not-is_committing-clause-keeps : goal.returns-then-not-is_committing-clause-keeps
+returns-then-not-is_committing-clause-keeps g c = λ count recorded position entry lt found. refl
+
+pub returns-in-Ok-clause-keeps : goal.returns-in-Ok-clause-keeps
+returns-in-Ok-clause-keeps g c = λ count recorded position entry lt found.
+    let under = c.requires.going.under_way in
+    c.in-Ok.ensures.latest entry.name
+    ∙ ended_keeps _ _ _ _ _ under c.args.ticket c.ended-at.result c.args.exit (c.ended-at.ensures.position _ _ under.in_step) (omega (arith, c.ended-at.ensures.within, c.requires.files))
+    (sym (ap (is_all_committed c.args.noted.now) c.is_broken.ensures) ∙ sym c.is_committing.ensures ∙ c.if-not-is_committing.false) count recorded _ _ position entry lt found
+
+pub returns-clause-keeps : goal.returns-clause-keeps
+returns-clause-keeps g c = λ count recorded position entry lt found. c.in-Err.ensures.latest entry.name

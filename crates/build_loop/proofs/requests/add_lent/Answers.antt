@@ -5,17 +5,15 @@ use Rattle.std.proofs.lemmas.List.{append-nil}
 use Rattle.std.proofs.lemmas.Result.{on_ok_weaker}
 use Rattle.base.specs.declared.graph.BuiltFile.{BuiltFile}
 use Rattle.base.specs.Jobs.{built_bytes}
-use Rattle.child_job_codec.specs.Written.{Written}
 use Rattle.build_loop.specs.Requests.{lent_at}
 use Rattle.build_loop.proofs.Lent.{lent_of}
 use Rattle.build_loop.proofs.requests.add_lent.Goals as goal
 
-pub returns-clause-input : goal.returns-clause-input
-returns-clause-input g c =
+pub returns : goal.returns
+returns g c =
     let file : BuiltFile = record { name = c.get-entry.result.now.name; artefact = c.in-Some.artefact.now } in
     let lent : lent_at (g.K.Records.latest_of c.args.store.now) c.args.graph.now c.args.dep ≡ Some file = lent_of _ c.args.graph.now c.args.dep c.get-entry.result.now c.in-Some.artefact.now c.get-entry.ensures.entry (c.in-Some.ensures.bytes c.get-entry.result.now c.get-entry.ensures.entry) in
     on_ok_weaker c.add.result
     (λ is.
-    ap (λ (w : Written). w.input) is
-    ∙ ap (λ (l : List ℕ). c.args.writer.now.input ++ l) (sym (append-nil (built_bytes file)) ∙ sym (ap (λ (o : Option BuiltFile). flat_map built_bytes (cons_option o [])) lent)))
+    is ∙ ap (λ (l : List ℕ). c.args.files.now ++ l) (sym (append-nil (built_bytes file)) ∙ sym (ap (λ (o : Option BuiltFile). flat_map built_bytes (cons_option o [])) lent)))
     c.add.ensures
