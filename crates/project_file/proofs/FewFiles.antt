@@ -1,10 +1,9 @@
 -- Which files libraries have, by their tables and all names.
 use Rattle.std.proofs.Common.{◌≡◌, ◌≢◌, ℕ, zero, suc, ◌+◌, ◌<◌, Bool, true, false, not, ◌&&◌, ◌||◌, cond, List, [], ◌∷◌, ◌++◌, length, take, get_or, map, Option, Some, None, Ok, Err, Result, refl, sym, ap, subst, ◌∙◌, arith, inl, inr}
-use Rattle.std.specs.Prelude.{All, AllPairs, Contains, filter, codes, position, slice_get}
+use Rattle.std.specs.Prelude.{AllPairs, Contains, filter, codes, position, slice_get}
 use Rattle.std.specs.List.{list_any}
 use Rattle.std.specs.Option.{ok_or}
 use Rattle.std.specs.Str.{bytes_eq}
-use Rattle.std.proofs.Math.Path.{fun_ext}
 use Rattle.std.proofs.lemmas.Bool.{cases_Bool, both_ways, false_from_ne_true, or_parts, cond-true, cond-false}
 use Rattle.std.proofs.lemmas.List.{get_or_default, get_or-map, get_or-take, length-map, length-take, map_push, take_more}
 use Rattle.std.proofs.lemmas.List.Quantifiers.{position-Some}
@@ -25,7 +24,7 @@ use Rattle.project_file.specs.Paths.{matches_path}
 use Rattle.project_file.specs.Steps.{ReadsStep}
 use Rattle.project_file.specs.Toml.{is_among, library_after, matching_names, file_in, library_files, files_of, place_of, required, optional, texts_of, words_of}
 use Rattle.project_file.specs.Libraries.{alone}
-use Rattle.project_file.specs.Few.{among_files, faults_of, has_path, is_wanted, library_name, AreLibraries, IsLookup}
+use Rattle.project_file.specs.Few.{among_files, faults_of, has_path, is_wanted, library_name, IsLookup}
 use Rattle.project_file.proofs.TomlNames.{files_new, named_is, named_new, ok_same, then_ok, AreNew}
 use Rattle.project_file.proofs.PairSteps.{not_found}
 

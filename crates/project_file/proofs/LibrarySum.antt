@@ -1,5 +1,5 @@
 -- The files of libraries, library after library.
-use Rattle.std.proofs.Common.{◌≡◌, ℕ, ◌+◌, ◌<◌, ◌≤◌, List, [], ◌∷◌, ◌++◌, length, take, drop, get_or, map, Option, Some, None, Ok, Err, Result, refl, sym, ap, subst, ◌∙◌}
+use Rattle.std.proofs.Common.{◌≡◌, ℕ, ◌+◌, ◌<◌, ◌≤◌, List, [], ◌∷◌, ◌++◌, length, take, drop, get_or, map, Option, Ok, Err, Result, refl, sym, ap, subst, ◌∙◌}
 use Rattle.std.proofs.lemmas.List.{drop_more, drop_all, map_push, take_more, take_all}
 use Rattle.toml.specs.Data.{Members}
 use Rattle.base.specs.declared.file.FileName.{FileName}
@@ -9,9 +9,9 @@ use Rattle.base.specs.declared.project.ProjectFile.{ProjectFile}
 use Rattle.base.specs.declared.project.ProjectFault.{ProjectFault}
 use Rattle.project_file.specs.Csv.{then_read}
 use Rattle.project_file.specs.Steps.{ReadsStep}
-use Rattle.project_file.specs.Toml.{library_after, library_files, library_in, files_of, new_library, required, text_of}
+use Rattle.project_file.specs.Toml.{library_after, library_files, files_of}
 use Rattle.project_file.specs.Libraries.{alone, libraries_of, AddsLibrary, FailsTable}
-use Rattle.project_file.specs.Few.{few_files, few_with, library_name, AddsTable, AreLibraries}
+use Rattle.project_file.specs.Few.{few_with, library_name, AddsTable, AreLibraries}
 use Rattle.project_file.proofs.FewSteps.{few_again, then_more}
 use Rattle.project_file.proofs.TomlNames.{named_is, ok_same}
 

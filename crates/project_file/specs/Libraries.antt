@@ -6,9 +6,7 @@ use Rattle.toml.specs.Data.{Members}
 use Rattle.base.specs.declared.file.FileName.{FileName}
 use Rattle.base.specs.declared.memory.OrMemory.{OrMemory}
 use Rattle.base.specs.declared.memory.OrMemory.TheVariants as memory
-use Rattle.base.specs.declared.project.ProjectFile.{ProjectFile}
 use Rattle.base.specs.declared.project.ProjectFault.{ProjectFault}
-use Rattle.project_file.specs.Csv.{then_read}
 use Rattle.project_file.specs.Paths.{matches_path}
 use Rattle.project_file.specs.Steps.{ReadsStep}
 use Rattle.project_file.specs.Toml.{is_among, matching_names, files_of}

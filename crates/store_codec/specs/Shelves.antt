@@ -7,7 +7,7 @@ use Rattle.base.specs.Names.{FitsCommand, FitsName, is_same_name}
 use Rattle.base.specs.declared.file.FileName.{FileName}
 use Rattle.base.specs.declared.graph.BuiltFile.{BuiltFile}
 use Rattle.base.specs.declared.limits.TheConstants.{ARTEFACT_LIMIT, COMMAND_LIMIT, FILE_LIMIT, LIBRARY_LIMIT, PATH_LIMIT, TEXT_LIMIT, WORD_LIMIT}
-use Rattle.outside.specs.Records.{Asked, Record as RequestRecord}
+use Rattle.outside.specs.Records.{Record as RequestRecord}
 use Rattle.store_codec.specs.Forms.{ProductDraft, RequestDraft, RequestPayload, TextRef, request_payload_in}
 use Rattle.store_codec.specs.Forms.TextRef.{ByNumber, InFull}
 use Rattle.store_codec.specs.Forms.RequestPayload.{OfProduct, OfRequest}

@@ -1,7 +1,7 @@
 -- The parts of a payload that is written.
-use Rattle.std.specs.Prelude.{ℕ, ◌≤◌, ◌<◌, ◌^◌, List, length, Option, Some, None, IfSome}
+use Rattle.std.specs.Prelude.{ℕ, ◌≤◌, ◌<◌, List, length, Option, Some, None}
 use Rattle.base.specs.Names.{FitsName}
-use Rattle.base.specs.declared.limits.TheConstants.{ARTEFACT_LIMIT, FILE_LIMIT, TEXT_LIMIT}
+use Rattle.base.specs.declared.limits.TheConstants.{FILE_LIMIT, TEXT_LIMIT}
 use Rattle.store_codec.specs.declared.writing.TextPart.{TextPart}
 use Rattle.store_codec.specs.declared.writing.ProductParts.{ProductParts}
 use Rattle.store_codec.specs.declared.writing.RequestParts.{RequestParts}

@@ -1,6 +1,6 @@
 -- Seats where one more record was added.
-use Rattle.std.proofs.Common.{◌≡◌, ◌≢◌, ℕ, suc, ◌+◌, ◌<◌, ◌≤◌, Bool, true, false, List, [], ◌∷◌, ◌++◌, length, map, get_or, set, None, Some, Option, refl, sym, ap, subst, ◌∙◌, arith, inl, inr, length-append}
-use Rattle.std.specs.Prelude.{AllPairs, slice_get, if◌then◌else◌}
+use Rattle.std.proofs.Common.{◌≡◌, ◌≢◌, ℕ, ◌<◌, ◌≤◌, Bool, true, false, List, [], ◌∷◌, ◌++◌, length, get_or, set, None, Some, Option, refl, sym, ap, subst, ◌∙◌, arith, inl, inr, length-append}
+use Rattle.std.specs.Prelude.{slice_get, if◌then◌else◌}
 use Rattle.std.specs.List.{list_any}
 use Rattle.std.specs.Option.{option_or}
 use Rattle.std.proofs.lemmas.Bool.{cases_eq, cases_lt}
@@ -13,11 +13,11 @@ use Rattle.base.specs.Graphs.{IsGraph}
 use Rattle.base_numbering.specs.NameLaws.{names_decide}
 use Rattle.store_codec.specs.Forms.{RequestDraft}
 use Rattle.store_codec.specs.Forms.RequestPayload.{OfRequest}
-use Rattle.outside.specs.Records.{Record as RequestRecord, is_of as asks_for, built_of_record, latest as latest_request}
+use Rattle.outside.specs.Records.{Record as RequestRecord, is_of as asks_for, latest as latest_request}
 use Rattle.store_codec.specs.Ranges.{request_in_ranges}
-use Rattle.store_codec.specs.Shelves.{RequestShelf, drafted_record, is_same_built, no_product, product_at, request_shelf_of, with_built, with_request}
+use Rattle.store_codec.specs.Shelves.{RequestShelf, drafted_record, is_same_built, no_product, request_shelf_of, with_built, with_request}
 use Rattle.store_shelf.specs.declared.shelf.PlacedShelf.{PlacedShelf}
-use Rattle.store_shelf.specs.Placed.{no_name, placed_texts, row_products, row_record}
+use Rattle.store_shelf.specs.Placed.{placed_texts, row_products, row_record}
 use Rattle.store_shelf.proofs.Keeping.{Keeps, keeps_more, keeps_self}
 use Rattle.store_shelf.proofs.Takes.{shelf_more, took_payload, took_request}
 use Rattle.store_holdings.specs.declared.additions.RequestAddition.{RequestAddition}

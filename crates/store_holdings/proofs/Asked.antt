@@ -10,22 +10,18 @@ use Rattle.std.proofs.lemmas.List.Elements.{Contains-push_cases}
 use Rattle.std.proofs.lemmas.List.Kept.{AllPairs-from_increasing}
 use Rattle.std.proofs.lemmas.Option.{get_or_from_slice_get, same_Some, slice_get-get_or, slice_get_within}
 use Rattle.base.specs.Graphs.{IsEntryAt, IsGraph}
-use Rattle.base.specs.declared.file.FileName.{FileName}
 use Rattle.base.specs.declared.graph.BuiltFile.{BuiltFile}
 use Rattle.base.specs.declared.graph.Entry.{Entry}
-use Rattle.base.specs.declared.limits.TheConstants.{ARTEFACT_LIMIT, FILE_LIMIT}
+use Rattle.base.specs.declared.limits.TheConstants.{ARTEFACT_LIMIT}
 use Rattle.outside.specs.Records.{deps_at}
 use Rattle.base_numbering.specs.Numbers.{IsPlaceOf}
 use Rattle.store_codec.specs.Forms.{HasRefSpelling, HasRequestSpelling, RequestDraft, RequestPayload, request_payload_bytes, request_payload_in}
 use Rattle.store_codec.specs.Forms.RequestPayload.{OfProduct, OfRequest}
-use Rattle.outside.specs.Records.{Record as RequestRecord, asked_of, built_of_record, latest as latest_request}
-use Rattle.store_codec.specs.Ranges.{request_in_ranges}
-use Rattle.store_codec.specs.Shelves.{IsRequest, RequestShelf, drafted_record, is_text_ref, no_product, product_at, request_shelf_of, told_text, with_text}
+use Rattle.outside.specs.Records.{Record as RequestRecord, built_of_record, latest as latest_request}
+use Rattle.store_codec.specs.Shelves.{IsRequest, RequestShelf, drafted_record, is_text_ref, no_product, product_at, told_text, with_text}
 use Rattle.store_codec.specs.Writing.{ref_or}
 use Rattle.store_codec.proofs.Spelling.{payload_again}
-use Rattle.store_shelf.specs.Checked.{AreTextNumbers, IsNameNumber}
 use Rattle.store_shelf.proofs.Finding.{new_is}
-use Rattle.store_holdings.specs.declared.additions.RequestAddition.{RequestAddition}
 use Rattle.store_holdings.specs.declared.asking.TextRefs.{TextRefs}
 use Rattle.store_holdings.specs.Additions.{AreDeps, AreRefs, HasAskedSizes, IsRequestOver, asked_draft, record_over}
 use Rattle.outside.specs.Records.{HasLatest, latest_built}

@@ -12,7 +12,7 @@ use Rattle.store_codec.specs.Shelves.{RequestShelf, no_product, product_at}
 use Rattle.store_shelf.proofs.Finding.{once_at}
 use Rattle.store_holdings.specs.declared.seats.Seat.{Seat}
 use Rattle.outside.specs.Records.{IsRecorded as FitsLatest, HasLatest, latest_built}
-use Rattle.store_holdings.specs.Seated.{AreSeats, HasSeat, IsSeat, seated_product}
+use Rattle.store_holdings.specs.Seated.{AreSeats, IsSeat, seated_product}
 use Rattle.store_shelf.specs.Placed.{no_name}
 use Rattle.store_holdings.proofs.Latest.{latest_named}
 

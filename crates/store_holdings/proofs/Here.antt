@@ -1,5 +1,5 @@
 -- What is known of the seat of a file.
-use Rattle.std.proofs.Common.{◌≡◌, ℕ, ◌<◌, List, [], length, map, get_or, None, Some, Option, refl, sym, ap, subst, ◌∙◌, arith}
+use Rattle.std.proofs.Common.{◌≡◌, ℕ, ◌<◌, List, length, map, get_or, None, Some, Option, sym, ap, subst, ◌∙◌, arith}
 use Rattle.std.specs.Prelude.{All, slice_get}
 use Rattle.std.proofs.lemmas.List.{get_or-map, length-map}
 use Rattle.std.proofs.lemmas.Option.{get_or_from_slice_get, same_Some, slice_get-get_or, slice_get_within}
@@ -7,7 +7,7 @@ use Rattle.base.specs.declared.file.FileName.{FileName}
 use Rattle.base.specs.declared.graph.BuiltFile.{BuiltFile}
 use Rattle.base.specs.declared.graph.Entry.{Entry}
 use Rattle.base.specs.Graphs.{IsGraph}
-use Rattle.outside.specs.Records.{Record as RequestRecord, built_of_record, latest as latest_request}
+use Rattle.outside.specs.Records.{Record as RequestRecord, built_of_record}
 use Rattle.store_codec.specs.Shelves.{RequestShelf, product_at, no_product}
 use Rattle.store_shelf.specs.declared.products.ProductRow.{ProductRow}
 use Rattle.store_shelf.specs.declared.shelf.RecordRow.{RecordRow}

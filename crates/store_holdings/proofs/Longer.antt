@@ -1,5 +1,5 @@
 -- Payloads with more after them.
-use Rattle.std.proofs.Common.{◌≡◌, ℕ, ◌<◌, List, [], length, map, get_or, refl, sym, ap, subst, ◌∙◌, arith}
+use Rattle.std.proofs.Common.{◌≡◌, ℕ, List, [], get_or, sym, ap, subst, ◌∙◌, arith}
 use Rattle.std.proofs.lemmas.List.{length-map}
 use Rattle.base_text_index.specs.Splits.{AreSplit}
 use Rattle.outside.specs.Records.{Record as RequestRecord}
@@ -7,7 +7,7 @@ use Rattle.store_codec.specs.Ranges.{ranged}
 use Rattle.store_shelf.specs.declared.shelf.PlacedShelf.{PlacedShelf}
 use Rattle.store_shelf.specs.declared.texts.PlacedText.{PlacedText}
 use Rattle.store_shelf.specs.declared.texts.PlacedTexts.{PlacedTexts}
-use Rattle.store_shelf.specs.Placed.{AreRowsPlaced, AreTextsPlaced, IsShelfPlaced, placed_shelf, placed_text, placed_texts, row_product, row_products, row_record, shelf_by}
+use Rattle.store_shelf.specs.Placed.{AreRowsPlaced, AreTextsPlaced, IsShelfPlaced, placed_shelf, placed_text, placed_texts, row_product, row_products, shelf_by}
 use Rattle.store_shelf.proofs.Keeping.{Keeps, keeps_self, map_same, placed_still, records_still}
 use Rattle.store_shelf.proofs.Puts.{no_record}
 

@@ -1,11 +1,10 @@
 -- The latest records of the files of a graph, and which of them have what would be asked now.
-use Rattle.std.specs.Prelude.{◌≡◌, ℕ, ◌<◌, List, [], length, map, All, slice_get, slice_index_or, Option, Some, None}
-use Rattle.std.specs.Option.{option_map, option_map_or}
+use Rattle.std.specs.Prelude.{◌≡◌, ℕ, ◌<◌, List, length, slice_get, slice_index_or, Option, Some, None}
+use Rattle.std.specs.Option.{option_map}
 use Rattle.base.specs.declared.file.FileName.{FileName}
-use Rattle.base.specs.declared.graph.BuiltFile.{BuiltFile}
 use Rattle.base.specs.declared.graph.Entry.{Entry}
 use Rattle.outside.specs.Records.{Record as RequestRecord, built_of_record, latest as latest_request}
-use Rattle.store_codec.specs.Shelves.{RequestShelf, no_product, product_at}
+use Rattle.store_codec.specs.Shelves.{RequestShelf, product_at}
 use Rattle.store_holdings.specs.declared.seats.Seat.{Seat}
 
 -- a seat has the number of the latest record of a name, and that of its product

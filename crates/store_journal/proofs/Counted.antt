@@ -1,11 +1,11 @@
 -- Which of two forms counts in an image, and what it counts for, where the sides are cut, dead, or made.
-use Rattle.std.proofs.Common.{◌≡◌, ℕ, Bool, true, false, not, ◌&&◌, if◌then◌else◌, List, [], ◌∷◌, take, None, Some, inl, inr, refl, sym, ap, ◌∙◌}
+use Rattle.std.proofs.Common.{◌≡◌, ℕ, Bool, true, false, not, ◌&&◌, if◌then◌else◌, List, [], take, None, Some, inl, inr, refl, sym, ap, ◌∙◌}
 use Rattle.std.specs.Prelude.{◌⊎◌}
 use Rattle.outside.specs.declared.disk.Side.{Side}
 use Rattle.outside.specs.Disks.{Image, image_side}
 use Rattle.store_journal.specs.Forms.{CountsNone, CountsSame, found_form, has_form, older_counts}
 use Rattle.store_journal.specs.Journals.{other_side}
-use Rattle.store_journal.specs.Payloads.{counting, is_live, payloads}
+use Rattle.store_journal.specs.Payloads.{counting, payloads}
 use Rattle.store_journal.proofs.Changing.{IsDead}
 use Rattle.store_journal.proofs.Counting.{counting_live, counting_none, dead_prefix, none_dead, paired, paired_again}
 use Rattle.store_journal.proofs.Forms.{counts_no_form, no_form_counts, no_form_paired, no_form_payloads, other_has_form}

@@ -1,5 +1,5 @@
 -- The form of a journal stays live while a payload is committed and while the side that counts is replaced.
-use Rattle.std.proofs.Common.{◌≡◌, ℕ, ◌-◌, true, List, [], ◌∷◌, length, take, Some, sym, subst}
+use Rattle.std.proofs.Common.{◌≡◌, ℕ, ◌-◌, true, List, ◌∷◌, length, take, Some, sym, subst}
 use Rattle.std.specs.List.{AllByRecursion}
 use Rattle.outside.specs.declared.disk.Side.{Side}
 use Rattle.outside.specs.Disks.{AtAnyMoment, DiskState, EachImage, Image, Moments, image_side, on_side, reads_of, settled_disk, writing}

@@ -1,10 +1,10 @@
 -- What a journal knows of its disk.
-use Rattle.std.specs.Prelude.{◌≡◌, ◌≢◌, ◌⊎◌, ℕ, ◌+◌, ◌<◌, ◌^◌, Bool, List, [], ◌∷◌, ◌++◌, ◌-◌, length, take, drop, All, Option, Some, None, Result, IfOk, OnOk}
+use Rattle.std.specs.Prelude.{◌≡◌, ◌≢◌, ◌⊎◌, ℕ, ◌+◌, ◌<◌, ◌^◌, Bool, List, [], ◌∷◌, ◌++◌, ◌-◌, length, take, drop, All, Option, Some, None, Result, OnOk}
 use Rattle.std.specs.List.{flat_map}
 use Rattle.base.specs.Bytes.{text_bytes}
 use Rattle.outside.specs.declared.disk.Side.{Side}
 use Rattle.outside.specs.declared.disk.Side.TheVariants.{A, B}
-use Rattle.outside.specs.Disks.{AtAnyMoment, DiskState, Goes, Image, IsEither, IsImage, Moments, NeverLoses, image_side, reads_of, settled_disk}
+use Rattle.outside.specs.Disks.{DiskState, Goes, Image, IsImage, Moments, image_side, reads_of, settled_disk}
 use Rattle.store_journal.specs.Payloads.{counting, generation_of, block, payload_at, payloads, payloads_in, side_bytes}
 
 -- A journal: its form, the side that counts with its generation, the number of its bytes up to and with the closed

@@ -1,5 +1,5 @@
 -- The records of a store of the earlier form are of graphs, whatever its payloads.
-use Rattle.std.proofs.Common.{◌≡◌, ℕ, ◌<◌, Bool, true, false, nat_lt, List, [], ◌∷◌, length, Option, Some, None, refl, sym, ap, subst, ◌∙◌, arith}
+use Rattle.std.proofs.Common.{◌≡◌, ℕ, ◌<◌, Bool, true, false, nat_lt, List, [], ◌∷◌, length, Option, Some, None, refl, ap, arith}
 use Rattle.std.specs.Prelude.{All, if◌then◌else◌}
 use Rattle.std.specs.List.{fold}
 use Rattle.std.specs.Option.{option_map_or}
@@ -8,12 +8,11 @@ use Rattle.std.proofs.lemmas.Bool.Decides.{nat_tests}
 use Rattle.std.proofs.lemmas.List.Elements.{All-nil, All-push}
 use Rattle.base.specs.Graphs.{IsGraph}
 use Rattle.outside.specs.Disks.{Image}
-use Rattle.outside.specs.Records.{Record}
 use Rattle.store_record_codec.specs.declared.kept_view.Record.{Record as ViewRecord}
 use Rattle.store_node_codec.specs.Forms.{NodePayload, node_payload_in}
 use Rattle.store_node_codec.specs.Forms.NodePayload.{OfNode, OfDraft, DraftAlone}
 use Rattle.store_node_codec.specs.Nodes.{unfolded}
-use Rattle.store_node_codec.specs.Shelves.{Shelf, after_payload, empty_shelf, is_artefact, is_draft, shelf_of, with_draft, with_node_record, with_payload}
+use Rattle.store_node_codec.specs.Shelves.{Shelf, after_payload, empty_shelf, is_draft, shelf_of, with_draft, with_node_record, with_payload}
 use Rattle.store_node_codec.proofs.Taking.{HasNodes, is_new, taken_bytes}
 use Rattle.store_journal.specs.Forms.{older_counts}
 use Rattle.store_journal.specs.Payloads.{payloads}

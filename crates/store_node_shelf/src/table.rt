@@ -68,14 +68,6 @@ impl NodeTable {
         self.names.key(number)
     }
 
-    /// The number of a name, if it has one.
-    pub fn name_number(&self, name: &FileName) -> Option<usize>
-        ensures number { IsPlaceOf self.now.names name.now result }
-        ensures table { IsTable self.now }
-    {
-        self.names.number(name)
-    }
-
     /// The number of a name, which is added where it has none. The nodes are unchanged, and after `NoMemory` the names too.
     pub fn add_name(&mut self, name: FileName) -> Result<usize, NoMemory>
         ensures ok { IfOk result (λ number. IsNumbered name number self.old.names self.new.names) }
@@ -93,16 +85,6 @@ impl NodeTable {
         ensures { slice_get self.now.commands number ≡ Some result.now }
     {
         &self.commands.key(number).words
-    }
-
-    /// The number of a command, if it has one.
-    pub fn command_number(&self, alloc: Global, words: &TextList) -> Result<Option<usize>, NoMemory>
-        ensures { IfOk result (λ number. IsPlaceOf self.now.commands words.now number) }
-    {
-        let command = Command {
-            words: words.copy(alloc)?,
-        };
-        Ok(self.commands.number(&command))
     }
 
     /// The number of a command, which is added where it has none. The nodes are unchanged, and after `NoMemory` the

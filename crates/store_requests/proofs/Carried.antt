@@ -1,5 +1,5 @@
 -- What a compaction leaves, from what it leaves of the journal.
-use Rattle.std.proofs.Common.{◌≡◌, ℕ, ◌+◌, ◌-◌, ◌<◌, ◌≤◌, ◌^◌, min, true, false, List, [], length, map, Option, Some, None, refl, sym, ap, subst, ◌∙◌, arith}
+use Rattle.std.proofs.Common.{◌≡◌, ℕ, ◌+◌, ◌-◌, ◌<◌, ◌≤◌, ◌^◌, min, false, List, [], length, map, Option, Some, None, refl, sym, ap, subst, ◌∙◌, arith}
 use Rattle.std.specs.Prelude.{Result, Err}
 use Rattle.std.specs.List.{flat_map}
 use Rattle.std.specs.Option.{option_map_or}
@@ -11,7 +11,7 @@ use Rattle.outside.specs.declared.records.StoreFault.{StoreFault}
 use Rattle.outside.specs.declared.records.StoreFault.TheVariants as fault
 use Rattle.store_journal.specs.Forms.{has_form}
 use Rattle.store_journal.specs.Payloads.{block, counting, generation_of, payloads}
-use Rattle.store_journal.proofs.Forms.{no_form_counts, no_form_payloads}
+use Rattle.store_journal.proofs.Forms.{no_form_payloads}
 use Rattle.store_journal.specs.Journals.{IsHealthy, IsInStep, JournalState, OpensAt}
 use Rattle.store_codec.specs.Carrying.{CarriedSoFar, carried_from, compacted_requests, none_carried}
 use Rattle.store_codec.specs.Forms.{request_payload_bytes}

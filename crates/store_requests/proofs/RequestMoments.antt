@@ -2,7 +2,7 @@
 use Rattle.std.proofs.Common.{◌≡◌, ℕ, true, List, [], ◌∷◌, ◌++◌, refl, sym, ap, subst, ◌∙◌, inl, inr}
 use Rattle.std.specs.Prelude.{Result}
 use Rattle.std.specs.List.{AllByRecursion}
-use Rattle.outside.specs.Disks.{DiskState, Image, IsEither, Moments, EachImage, AtAnyMoment, StaysTrue, NeverLoses, OpensWith, added_since, reads_of, IsImage, AreSound, IsDurable, IsSound}
+use Rattle.outside.specs.Disks.{DiskState, Image, IsEither, Moments, AtAnyMoment, NeverLoses, OpensWith, reads_of, IsImage, AreSound, IsDurable, IsSound}
 use Rattle.outside.proofs.MomentLaws.{call_loses_nothing, joined_losses, joined_moments, started_moments, weaker_moments}
 use Rattle.store_journal.specs.Payloads.{payloads}
 use Rattle.store_journal.specs.Forms.{CountsNone, CountsSameOrNone, HoldsForms, HoldsFormsOf, OpensEmpty, has_form}
@@ -10,7 +10,7 @@ use Rattle.store_journal.specs.Journals.{JournalState}
 use Rattle.outside.specs.Records.{Record as RequestRecord, latest_alone as latest_requests}
 use Rattle.store_codec.specs.Shelves.{requests_among}
 use Rattle.store_requests.specs.StoreLaws.{in_step_live, live_requests, request_store_durable}
-use Rattle.store_requests.specs.Stored.{AreAllOrLatest, HasRequestsOf, IsRequestStoreInStep, RequestStoreState, kept_payloads, own_requests, requests_in}
+use Rattle.store_requests.specs.Stored.{AreAllOrLatest, HasRequestsOf, IsRequestStoreInStep, RequestStoreState, own_requests, requests_in}
 use Rattle.store_requests.proofs.Kept.{moments_of, requests_held, requests_none, requests_same}
 use Rattle.store_requests.proofs.Losing.{always_had, losses_as}
 use Rattle.store_requests.proofs.RequestsAdded.{no_longer, none_among}

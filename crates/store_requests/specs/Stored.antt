@@ -1,5 +1,5 @@
 -- The records of a store of requests.
-use Rattle.std.specs.Prelude.{◌≡◌, ◌⊎◌, ℕ, ◌+◌, ◌-◌, ◌^◌, ◌<◌, min, Bool, true, false, List, length, Option, Some, Result, Ok, Err, slice_index_or, if◌then◌else◌}
+use Rattle.std.specs.Prelude.{◌≡◌, ℕ, ◌+◌, ◌-◌, ◌^◌, ◌<◌, min, Bool, true, false, List, length, Option, Some, Result, Ok, Err, slice_index_or, if◌then◌else◌}
 use Rattle.std.specs.List.{flat_map}
 use Rattle.std.specs.Option.{option_map_or}
 use Rattle.base.specs.declared.file.FileName.{FileName}
@@ -7,7 +7,7 @@ use Rattle.base.specs.declared.graph.Entry.{Entry}
 use Rattle.base.specs.declared.memory.DiskFailed.{DiskFailed}
 use Rattle.outside.specs.declared.records.StoreFault.{StoreFault}
 use Rattle.outside.specs.declared.records.StoreFault.TheVariants as fault
-use Rattle.outside.specs.Disks.{DiskState, Image, IsImage, image_side, reads_of}
+use Rattle.outside.specs.Disks.{DiskState, Image, image_side, reads_of}
 use Rattle.store_journal.specs.Forms.{older_counts}
 use Rattle.store_journal.specs.Payloads.{block, counting, generation_of, payloads}
 use Rattle.store_journal.specs.Journals.{IsHealthy, IsInStep, JournalState}

@@ -1,13 +1,13 @@
 -- Products have different names exactly where the numbers of their names differ.
 use Rattle.std.proofs.Common.{◌≡◌, ◌≢◌, ℕ, zero, suc, ◌+◌, ◌<◌, List, [], ◌∷◌, ◌++◌, length, map, take, get_or, refl, sym, ap, ◌∙◌, arith}
-use Rattle.std.specs.Prelude.{All, AllPairs, Contains, slice_get}
+use Rattle.std.specs.Prelude.{All, AllPairs, Contains}
 use Rattle.std.proofs.lemmas.List.{get_or-map, get_or-take, length-map, length-take, map-append, take_more}
 use Rattle.std.proofs.lemmas.Option.{get_or_from_slice_get, slice_get_within}
 use Rattle.base.specs.declared.file.FileName.{FileName}
 use Rattle.base.specs.declared.graph.BuiltFile.{BuiltFile}
 use Rattle.store_codec.specs.Shelves.{no_product, product_at}
 use Rattle.store_shelf.specs.declared.products.ProductRow.{ProductRow}
-use Rattle.store_shelf.specs.Checked.{HasRowDeps, IsNameNumber, dep_names}
+use Rattle.store_shelf.specs.Checked.{IsNameNumber, dep_names}
 use Rattle.store_shelf.specs.Placed.{IsProductRow, no_name, no_row, row_product, row_products}
 use Rattle.store_shelf.proofs.Finding.{once_at}
 

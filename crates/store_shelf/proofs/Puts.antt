@@ -1,8 +1,8 @@
 -- One more record or product on a shelf.
-use Rattle.std.proofs.Common.{◌≡◌, ◌≢◌, ℕ, ◌+◌, ◌<◌, ◌≤◌, Bool, true, false, List, [], ◌∷◌, ◌++◌, length, map, get_or, Some, refl, sym, ap, subst, ◌∙◌, arith, length-append}
-use Rattle.std.specs.Prelude.{All, AllPairs, if◌then◌else◌, slice_get}
+use Rattle.std.proofs.Common.{◌≡◌, ◌≢◌, ℕ, ◌<◌, Bool, true, false, List, [], ◌∷◌, ◌++◌, length, map, get_or, refl, sym, ap, subst, ◌∙◌, arith}
+use Rattle.std.specs.Prelude.{All, AllPairs, if◌then◌else◌}
 use Rattle.std.specs.List.{list_any}
-use Rattle.std.proofs.lemmas.List.{append-nil, get_or-map, get_or_default, length-map, map-append}
+use Rattle.std.proofs.lemmas.List.{get_or-map, length-map, map-append}
 use Rattle.std.proofs.lemmas.List.Elements.{All-push}
 use Rattle.std.proofs.lemmas.Option.{get_or_from_slice_get, slice_get_within}
 use Rattle.base.specs.declared.file.FileName.{FileName}
@@ -12,7 +12,7 @@ use Rattle.base_text_index.specs.Splits.{AreSplit}
 use Rattle.store_codec.specs.Forms.{ProductDraft, RequestDraft, TextRef}
 use Rattle.outside.specs.Records.{Record as RequestRecord}
 use Rattle.store_codec.specs.Ranges.{counted_numbers, counted_words}
-use Rattle.store_codec.specs.Shelves.{IsNewProduct, IsRequest, RequestShelf, drafted_artefact, drafted_product, drafted_record, is_same_built, is_text_ref, no_product, product_at, told_text, with_built, with_product, with_request, with_text}
+use Rattle.store_codec.specs.Shelves.{IsNewProduct, IsRequest, RequestShelf, drafted_artefact, drafted_product, drafted_record, is_text_ref, no_product, product_at, told_text, with_built, with_product, with_request, with_text}
 use Rattle.store_shelf.specs.declared.products.ProductRow.{ProductRow}
 use Rattle.store_shelf.specs.declared.shelf.RecordRow.{RecordRow}
 use Rattle.store_shelf.specs.ProductRows.{is_same_product_row}

@@ -1,6 +1,5 @@
 -- What is there after a draft was taken up.
-use Rattle.std.proofs.Common.{◌≡◌, ◌≢◌, ℕ, Bool, true, false, List, [], ◌∷◌, ◌++◌, map, get_or, Option, None, Some, refl, sym, ap, ◌∙◌, inl, inr}
-use Rattle.std.specs.Prelude.{All, AllPairs}
+use Rattle.std.proofs.Common.{◌≡◌, ℕ, Bool, true, false, List, [], ◌∷◌, ◌++◌, map, get_or, Option, None, Some, refl, sym, ap, ◌∙◌, inl, inr}
 use Rattle.std.specs.Bool.{Decides}
 use Rattle.std.specs.Option.{option_map_or}
 use Rattle.std.proofs.lemmas.List.{append-nil, length-map}
@@ -15,7 +14,7 @@ use Rattle.store_codec.specs.Shelves.{IsNewProduct, IsRequest, RequestShelf, aft
 use Rattle.store_codec.proofs.Deciding.{new_product-Decides, request-Decides}
 use Rattle.store_shelf.specs.declared.products.ProductRow.{ProductRow}
 use Rattle.store_shelf.specs.declared.shelf.RecordRow.{RecordRow}
-use Rattle.store_shelf.specs.Placed.{AreRowsPlaced, IsProductRow, row_product, row_products, row_record, shelf_by}
+use Rattle.store_shelf.specs.Placed.{AreRowsPlaced, row_product, row_products, row_record, shelf_by}
 use Rattle.store_shelf.proofs.Keeping.{Keeps, keeps_more, keeps_self, placed_still, product_row_still, products_still, records_still}
 
 undecided : {P : Type 0} (b : Bool) → Decides b P → (¬ P) → b ≡ false

@@ -1,5 +1,5 @@
 -- Each of some requests stands behind those before it.
-use Rattle.std.proofs.Common.{◌≡◌, ◌≢◌, ℕ, zero, suc, ◌+◌, ◌<◌, ◌≤◌, List, [], ◌∷◌, ◌++◌, length, map, get_or, take, drop, Option, Some, None, refl, sym, ap, subst, ◌∙◌, arith, inl, inr}
+use Rattle.std.proofs.Common.{◌≡◌, ◌≢◌, ℕ, suc, ◌+◌, ◌<◌, ◌≤◌, List, [], ◌∷◌, ◌++◌, length, map, get_or, take, drop, Option, Some, None, refl, sym, ap, subst, ◌∙◌, arith, inl, inr}
 use Rattle.std.specs.Prelude.{All, AllPairs, Contains}
 use Rattle.std.specs.Option.{option_map, option_or}
 use Rattle.std.proofs.lemmas.List.{drop_more, get_or-map, get_or-take, length-map, length-take-le, take-append-drop}
@@ -12,7 +12,7 @@ use Rattle.outside.specs.Records.{Record, built_of_record, latest}
 use Rattle.store_holdings.proofs.Adding.{latest_other, latest_own}
 use Rattle.store_migration.proofs.Members.{either_first}
 use Rattle.store_migration.proofs.Picking.{AllPairs-head, AllPairs-tail}
-use Rattle.store_takeover.specs.Taking.{AreEachNext, IsNext}
+use Rattle.store_takeover.specs.Taking.{AreEachNext}
 
 abbrev OfOtherName : Record → Record → Type 0
 OfOtherName a b = a.asked.name ≢ b.asked.name

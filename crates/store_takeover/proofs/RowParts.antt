@@ -8,7 +8,7 @@ use Rattle.base.specs.declared.file.FileName.{FileName}
 use Rattle.base.specs.declared.graph.BuiltFile.{BuiltFile}
 use Rattle.base.specs.Names.{FitsCommand, FitsName}
 use Rattle.base.specs.declared.graph.Entry.{Entry}
-use Rattle.base.specs.declared.limits.TheConstants.{ARTEFACT_LIMIT, FILE_LIMIT, TEXT_LIMIT}
+use Rattle.base.specs.declared.limits.TheConstants.{ARTEFACT_LIMIT, TEXT_LIMIT}
 use Rattle.outside.specs.Records.{Asked, Record, asked_of, built_of_record, latest}
 use Rattle.store_node_codec.specs.Nodes.{Node, node_file}
 use Rattle.store_codec.specs.Shelves.{RequestShelf, product_at}

@@ -1,6 +1,6 @@
 -- The records of a shelf of nodes by their numbers, and the requests that stand for them.
 use Rattle.std.proofs.Common.{◌≡◌, ◌≢◌, ℕ, ◌<◌, ◌≤◌, Bool, true, false, List, [], ◌∷◌, length, map, get_or, Option, Some, None, refl, sym, ap, subst, ◌∙◌, arith}
-use Rattle.std.specs.Prelude.{All, AllPairs, is_some, slice_get, if◌then◌else◌}
+use Rattle.std.specs.Prelude.{All, AllPairs, is_some, if◌then◌else◌}
 use Rattle.std.specs.List.{cons_option, filter_map, list_any}
 use Rattle.std.proofs.lemmas.List.{get_or-map, length-map}
 use Rattle.std.proofs.lemmas.Simd.{map-map}
@@ -8,10 +8,10 @@ use Rattle.std.proofs.lemmas.List.Elements.{All-head, All-tail}
 use Rattle.base.specs.declared.file.FileName.{FileName}
 use Rattle.base.specs.declared.limits.TheConstants.{ARTEFACT_LIMIT}
 use Rattle.base.specs.Graphs.{IsGraph}
-use Rattle.outside.specs.Records.{Record, is_of, is_replaced, latest_alone}
+use Rattle.outside.specs.Records.{Record, is_of, latest_alone}
 use Rattle.base_numbering.specs.NameLaws.{names_decide}
 use Rattle.store_record_codec.specs.declared.kept_view.Record.{Record as ViewRecord}
-use Rattle.store_node_codec.specs.Nodes.{AreNodes, Node}
+use Rattle.store_node_codec.specs.Nodes.{AreNodes}
 use Rattle.store_node_shelf.specs.Rows.{IsTable}
 use Rattle.store_node_shelf.specs.declared.records.RecordPlace.{RecordPlace}
 use Rattle.store_node_shelf.specs.declared.shelf.ShelfPlaces.{ShelfPlaces}

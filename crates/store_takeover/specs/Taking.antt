@@ -1,7 +1,6 @@
 -- Records of requests that stand for the records of a shelf of nodes, and the payloads that keep them.
 use Rattle.std.specs.Prelude.{◌≡◌, ◌≢◌, ℕ, ◌≤◌, ◌<◌, List, [], length, map, take, slice_index_or, All, AllPairs, Option, Some}
 use Rattle.std.specs.Option.{option_map}
-use Rattle.base.specs.declared.graph.BuiltFile.{BuiltFile}
 use Rattle.base.specs.declared.graph.Entry.{Entry}
 use Rattle.base.specs.declared.limits.TheConstants.{ARTEFACT_LIMIT, FILE_LIMIT, TEXT_LIMIT}
 use Rattle.base.specs.Names.{FitsCommand, FitsName}

@@ -1,4 +1,4 @@
-use Rattle.std.proofs.Common.{◌≡◌, ◌≢◌, ◌+◌, ◌-◌, [], ◌∷◌, ◌++◌, take, drop, get_or, true, false, not, Option, ap, refl, sym, subst, ◌∙◌, true≢false, length, List, ℕ, arith}
+use Rattle.std.proofs.Common.{◌≡◌, ◌≢◌, ◌+◌, ◌-◌, [], ◌∷◌, ◌++◌, take, drop, get_or, Option, ap, refl, sym, subst, ◌∙◌, true≢false, length, List, ℕ, arith}
 use Rattle.std.specs.Int.{w32}
 use Rattle.std.specs.Option.{option_map_or}
 use Rattle.std.proofs.lemmas.Bool.{not-false, not-true}

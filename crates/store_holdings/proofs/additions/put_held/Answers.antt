@@ -1,10 +1,10 @@
-use Rattle.std.proofs.Common.{◌≡◌, ℕ, List, [], ◌∷◌, ◌++◌, length, sym, ap, subst, ◌∙◌}
+use Rattle.std.proofs.Common.{◌≡◌, ℕ, List, [], ◌∷◌, sym, ap, subst, ◌∙◌}
 use Rattle.std.proofs.lemmas.List.{get_or_at}
 use Rattle.store_codec.specs.Ranges.{request_in_ranges}
 use Rattle.store_codec.specs.Shelves.{IsRequest, RequestShelf, request_shelf_of, with_request}
 use Rattle.store_shelf.specs.Checked.{AreTextNumbers}
-use Rattle.store_shelf.specs.Placed.{nth_payload, placed_shelf, placed_texts}
-use Rattle.store_shelf.proofs.Keeping.{Keeps, keeps_more}
+use Rattle.store_shelf.specs.Placed.{nth_payload, placed_shelf}
+use Rattle.store_shelf.proofs.Keeping.{keeps_more}
 use Rattle.store_holdings.proofs.Adding.{adds_shelf}
 use Rattle.store_holdings.proofs.Longer.{shelf_placed_still, shelf_same_still}
 use Rattle.store_holdings.proofs.additions.put_held.Goals as goal

@@ -1,5 +1,4 @@
-use Rattle.std.proofs.Common.{◌≡◌, ℕ, ◌≤◌, List, length, sym, ap, ◌∙◌, arith}
-use Rattle.base.specs.declared.limits.TheConstants.{ARTEFACT_LIMIT, TEXT_LIMIT}
+use Rattle.std.proofs.Common.{◌≡◌, ℕ, List, length, ap, ◌∙◌, arith}
 use Rattle.store_codec.specs.Forms.{command_bytes, request_payload_bytes}
 use Rattle.store_codec.specs.Forms.RequestPayload.{OfRequest}
 use Rattle.store_codec.specs.Writing.{ref_or}

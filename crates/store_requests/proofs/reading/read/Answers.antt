@@ -1,5 +1,5 @@
-use Rattle.std.proofs.Common.{rules, ◌≡◌, ◌≢◌, ℕ, true, false, List, sym, ap, subst, ◌∙◌, inl, inr, arith}
-use Rattle.outside.specs.Disks.{AtAnyMoment, Image, Moments, reads_of}
+use Rattle.std.proofs.Common.{rules, ◌≡◌, ℕ, false, List, sym, subst, ◌∙◌, inl, inr}
+use Rattle.outside.specs.Disks.{Image, reads_of}
 use Rattle.store_journal.specs.Forms.{found_form, has_form}
 use Rattle.store_journal.specs.Journals.{IsHealthy}
 use Rattle.store_journal.specs.Payloads.{payloads}
@@ -7,7 +7,6 @@ use Rattle.store_requests.proofs.Carried.{found_generation, image_asks, none_una
 use Rattle.store_requests.proofs.Kept.{requests_held}
 use Rattle.store_requests.proofs.RequestMoments.{open_leaves, open_opens, reads_image, then_leaves, then_opens}
 use Rattle.store_requests.proofs.TakingOver.{found_none, healthy_found}
-use Rattle.store_requests.proofs.reading.read.Given as given
 use Rattle.store_requests.proofs.reading.read.Goals as goal
 
 pub returns-in_err-journal-clause-any_moment : goal.returns-in_err-journal-clause-any_moment

@@ -1,4 +1,4 @@
-use Rattle.std.proofs.Common.{◌≡◌, ℕ, List, length, sym, subst}
+use Rattle.std.proofs.Common.{ℕ, List, length, sym, subst}
 use Rattle.std.specs.Prelude.{Contains, SomeIff}
 use Rattle.std.proofs.lemmas.List.{length-map}
 use Rattle.store_codec.specs.Ranges.{ranged}

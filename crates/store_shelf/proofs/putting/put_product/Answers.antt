@@ -1,8 +1,5 @@
-use Rattle.std.proofs.Common.{◌≡◌, ◌≢◌, ℕ, List, length, sym, ap, subst, ◌∙◌}
-use Rattle.base.specs.Names.{FitsName}
 use Rattle.store_codec.specs.Ranges.{product_in_ranges}
-use Rattle.store_codec.specs.Shelves.{IsNewProduct}
-use Rattle.store_shelf.specs.Placed.{AreRowsPlaced, nth_payload, placed_shelf, placed_texts}
+use Rattle.store_shelf.specs.Placed.{nth_payload, placed_texts}
 use Rattle.store_shelf.specs.Checked.{PutsProduct}
 use Rattle.store_shelf.proofs.Puts.{no_record, product_placed, product_put}
 use Rattle.store_shelf.proofs.putting.put_product.Goals as goal

@@ -1,4 +1,4 @@
-use Rattle.std.proofs.Common.{◌≡◌, true, sym, subst}
+use Rattle.std.proofs.Common.{◌≡◌, true, subst}
 use Rattle.store_codec.specs.Ranges.{ranged, ref_in_range}
 use Rattle.store_codec.specs.Shelves.{is_text_ref}
 use Rattle.store_shelf.specs.Placed.{nth_payload, placed_texts}

@@ -1,12 +1,5 @@
-use Rattle.std.proofs.Common.{◌≡◌, List, [], ◌∷◌, ◌++◌, true, false, refl, sym, ap, subst, ◌∙◌}
-use Rattle.std.specs.Prelude.{Contains, slice_get, if◌then◌else◌}
-use Rattle.std.specs.List.{list_any}
-use Rattle.std.proofs.lemmas.List.{append-nil, get_or_at}
-use Rattle.std.proofs.lemmas.Option.{get_or_from_slice_get, slice_get-get_or, slice_get_within}
+use Rattle.std.proofs.Common.{subst}
 use Rattle.base_numbering.specs.Numbers.{IsPlaceOf}
-use Rattle.store_shelf.specs.declared.products.ProductRow.{ProductRow}
-use Rattle.store_shelf.specs.ProductRows.{is_same_product_row, product_rows_decide}
-use Rattle.store_shelf.specs.Checked.{PutsProduct}
 use Rattle.store_shelf.proofs.RowProducts.{puts_new, puts_old}
 use Rattle.store_shelf.proofs.putting.put_row.Goals as goal
 

@@ -1,4 +1,4 @@
-use Rattle.std.proofs.Common.{◌≡◌, ◌≢◌, List, [], ℕ, get_or, sym, true≢false, ◌∙◌}
+use Rattle.std.proofs.Common.{◌≢◌, List, [], ℕ, get_or, sym, true≢false, ◌∙◌}
 use Rattle.std.proofs.lemmas.Slice.Eq.{bytes_eq-Decides}
 use Rattle.base_text_index.specs.Splits.{AreSplit}
 use Rattle.store_shelf.specs.Placed.{placed_texts}

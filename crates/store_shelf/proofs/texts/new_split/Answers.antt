@@ -1,5 +1,5 @@
-use Rattle.std.proofs.Common.{◌≡◌, List, [], ◌∷◌, ◌++◌, ℕ, get_or, sym, ap, subst, ◌∙◌}
-use Rattle.base_text_index.specs.Splits.{AreSplit, Parts, reached}
+use Rattle.std.proofs.Common.{◌≡◌, List, [], ℕ, get_or, sym, ap, subst, ◌∙◌}
+use Rattle.base_text_index.specs.Splits.{Parts}
 use Rattle.base_text_index.proofs.Reaching.{more_splits}
 use Rattle.store_shelf.specs.Placed.{placed_texts}
 use Rattle.store_shelf.proofs.Finding.{split_none}

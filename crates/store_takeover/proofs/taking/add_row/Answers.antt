@@ -1,9 +1,8 @@
-use Rattle.std.proofs.Common.{◌≡◌, ℕ, ◌<◌, List, [], ◌∷◌, ◌++◌, length, map, get_or, None, Some, refl, sym, ap, subst, ◌∙◌, arith}
+use Rattle.std.proofs.Common.{◌≡◌, ℕ, ◌<◌, List, [], ◌∷◌, ◌++◌, length, map, get_or, None, Some, sym, ap, subst, ◌∙◌, arith}
 use Rattle.std.specs.Prelude.{OnOk, slice_get}
 use Rattle.std.specs.Option.{option_map}
 use Rattle.std.proofs.lemmas.List.{get_or-map, get_or_default}
-use Rattle.std.proofs.lemmas.Option.{get_or_from_slice_get, same_Some, slice_get-get_or, slice_get_within}
-use Rattle.base.specs.declared.graph.BuiltFile.{BuiltFile}
+use Rattle.std.proofs.lemmas.Option.{get_or_from_slice_get, same_Some, slice_get_within}
 use Rattle.outside.specs.Records.{Record, built_of_record, latest}
 use Rattle.store_node_codec.specs.Nodes.{Node, node_file}
 use Rattle.store_node_codec.specs.Spans.{spanned}
@@ -13,11 +12,10 @@ use Rattle.store_node_shelf.specs.Places.{artefact_in, texts_in}
 use Rattle.store_node_shelf.specs.Rows.{node_in}
 use Rattle.store_codec.specs.Shelves.{request_shelf_of}
 use Rattle.store_holdings.specs.Additions.{IsRequestOver, record_over}
-use Rattle.store_migration.specs.ByNumber.{NodeRecord, named_by, node_request, numbered_node, unnamed_node}
+use Rattle.store_migration.specs.ByNumber.{named_by, node_request, numbered_node, unnamed_node}
 use Rattle.store_migration.specs.NodeRows.{no_record}
-use Rattle.store_takeover.specs.Taking.{IsNext, alone, node_records, record_at_place, request_at}
+use Rattle.store_takeover.specs.Taking.{alone, node_records, record_at_place, request_at}
 use Rattle.store_takeover.proofs.RowParts.{HasParts, is_new, over_products, parts_of, there_at}
-use Rattle.store_takeover.proofs.taking.add_row.Given as given
 use Rattle.store_takeover.proofs.taking.add_row.Goals as goal
 
 found : (payloads : List (List ℕ)) (places : List RecordPlace) (number : ℕ) (place : RecordPlace) → number < length places → place ≡ get_or places number place → get_or (map (record_at_place payloads) places) number no_record ≡ record_at_place payloads place

@@ -1,4 +1,4 @@
-use Rattle.std.proofs.Common.{◌≡◌, ℕ, ◌≤◌, List, Some, length, map, take}
+use Rattle.std.proofs.Common.{◌≡◌, List, Some, map, take}
 use Rattle.outside.specs.Records.{Record}
 use Rattle.store_codec.specs.Shelves.{request_shelf_of}
 use Rattle.store_takeover.specs.Taking.{request_at}

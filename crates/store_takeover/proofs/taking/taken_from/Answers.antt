@@ -1,5 +1,5 @@
-use Rattle.std.proofs.Common.{◌≡◌, ℕ, List, ap, ◌∙◌}
-use Rattle.outside.specs.Records.{Record, latest_alone}
+use Rattle.std.proofs.Common.{ap, ◌∙◌}
+use Rattle.outside.specs.Records.{latest_alone}
 use Rattle.store_node_codec.specs.Shelves.{shelf_of as node_shelf_of}
 use Rattle.store_codec.specs.Carrying.{compacted_requests}
 use Rattle.store_migration.specs.Migrating.{migrated_requests}

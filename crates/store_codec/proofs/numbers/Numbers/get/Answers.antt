@@ -1,4 +1,4 @@
-use Rattle.std.proofs.Common.{◌≡◌, ◌/◌, ◌<◌, ℕ, List, get_or, length, sym, ap, ◌∙◌, arith}
+use Rattle.std.proofs.Common.{◌≡◌, ◌/◌, ℕ, List, get_or, length, sym, ap, ◌∙◌, arith}
 use Rattle.store_codec.proofs.LongNumbers.{length-long_numbers, long_number_at}
 use Rattle.store_codec.proofs.numbers.Numbers.get.Goals as goal
 

@@ -1,10 +1,9 @@
-use Rattle.std.proofs.Common.{◌≡◌, ℕ, List, get_or, None, Some, Option, sym, ap, subst, ◌∙◌}
+use Rattle.std.proofs.Common.{ℕ, List, get_or, Some, Option, sym, ap, subst, ◌∙◌}
 use Rattle.std.specs.Option.{option_map}
 use Rattle.std.proofs.lemmas.Option.{slice_get-get_or}
-use Rattle.base.specs.declared.graph.Entry.{Entry}
-use Rattle.outside.specs.Records.{Record as RequestRecord, latest as latest_request}
-use Rattle.store_codec.specs.Shelves.{RequestShelf, request_shelf_of}
-use Rattle.store_holdings.specs.Seated.{AreSeats, IsSeat}
+use Rattle.outside.specs.Records.{Record as RequestRecord}
+use Rattle.store_codec.specs.Shelves.{request_shelf_of}
+use Rattle.store_holdings.specs.Seated.{IsSeat}
 use Rattle.store_holdings.proofs.Fits.{no_entry, no_kept}
 use Rattle.store_holdings.proofs.holdings.RequestHoldings.artefact_at.Goals as goal
 

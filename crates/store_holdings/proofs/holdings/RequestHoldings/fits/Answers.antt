@@ -1,5 +1,5 @@
-use Rattle.std.proofs.Common.{◌≡◌, ℕ, ◌<◌, List, [], length, map, None, Some, Option, refl, sym, ap, subst, ◌∙◌, arith}
-use Rattle.std.specs.Prelude.{All, slice_get}
+use Rattle.std.proofs.Common.{◌≡◌, ℕ, ◌<◌, List, length, None, Some, refl, sym, ap, subst, ◌∙◌, arith}
+use Rattle.std.specs.Prelude.{All}
 use Rattle.std.proofs.lemmas.List.{length-map}
 use Rattle.std.proofs.lemmas.Option.{none-some, same_Some}
 use Rattle.base.specs.declared.graph.Entry.{Entry}
@@ -9,7 +9,7 @@ use Rattle.store_codec.proofs.Once.{once_in_all}
 use Rattle.store_shelf.specs.Placed.{placed_shelf, placed_texts, row_deps, row_product, row_products, row_record}
 use Rattle.store_holdings.specs.Held.{HeldState}
 use Rattle.outside.specs.Records.{IsRecorded as FitsLatest, HasLatest}
-use Rattle.store_holdings.specs.Seated.{AreSeats, IsSeat}
+use Rattle.store_holdings.specs.Seated.{AreSeats}
 use Rattle.store_holdings.proofs.Fits.{built_from, fits_command, fits_deps, fits_text, fits_to}
 use Rattle.store_holdings.proofs.Here.{command_some, deps_low, record_at, row_is, seat_here}
 use Rattle.store_holdings.proofs.holdings.RequestHoldings.fits.Goals as goal

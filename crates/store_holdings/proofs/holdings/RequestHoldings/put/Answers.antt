@@ -1,6 +1,4 @@
-use Rattle.std.proofs.Common.{◌≡◌, ℕ, ◌+◌, ◌<◌, List, [], ◌∷◌, ◌++◌, length, Some, set, refl, sym, ap, subst, ◌∙◌, arith, length-append}
-use Rattle.std.specs.Vec.{vec_len}
-use Rattle.base.specs.declared.graph.Entry.{Entry}
+use Rattle.std.proofs.Common.{◌≡◌, ℕ, List, [], ◌∷◌, length, Some, sym, ap, subst, ◌∙◌, arith, length-append}
 use Rattle.store_codec.specs.Forms.{RequestDraft}
 use Rattle.store_codec.specs.Ranges.{request_in_ranges}
 use Rattle.store_codec.specs.Shelves.{RequestShelf, drafted_record, request_shelf_of, with_request}

@@ -1,5 +1,5 @@
-use Rattle.std.proofs.Common.{◌≡◌, List, ap, subst, sym, ◌∙◌}
-use Rattle.outside.specs.Disks.{AtAnyMoment, DiskState, reads_of}
+use Rattle.std.proofs.Common.{List, ap, subst, sym, ◌∙◌}
+use Rattle.outside.specs.Disks.{reads_of}
 use Rattle.outside.specs.Records.{Record as RequestRecord}
 use Rattle.store_requests.specs.Stored.{AreAllOrLatest, HasCarriedOver, kept_payloads, own_requests, requests_in, store_of}
 use Rattle.store_requests.proofs.RequestMoments.{all_moments, own_all, reads_image, then_leaves, then_opens}
