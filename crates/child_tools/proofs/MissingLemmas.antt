@@ -2,14 +2,16 @@
 use Rattle.std.proofs.Common.{◌≡◌, ℕ, zero, suc, ◌+◌, ◌<◌, ◌≤◌, Bool, true, false, cond, ◌&&◌, ◌||◌, Option, Some, None, List, [], ◌∷◌, ◌++◌, length, get_or, drop, take, refl, sym, ap, ◌∙◌, arith}
 use Rattle.std.specs.Prelude.{is_some}
 use Rattle.std.specs.List.{list_any}
+use Rattle.std.specs.Option.{option_map}
 use Rattle.std.specs.Str.{bytes_eq}
 use Rattle.std.proofs.lemmas.List.{drop_all, drop_more, take_more}
 use Rattle.std.proofs.lemmas.List.Folds.{list_any-append}
+use Rattle.std.proofs.lemmas.Slice.Eq.{bytes_eq-Decides}
 use Rattle.base.specs.declared.graph.BuiltFile.{BuiltFile}
 use Rattle.base_key_index.specs.Maps.{get}
 use Rattle.child_lines.specs.Lines.{in_library}
-use Rattle.child_tools.specs.Exports.{first_missing, has_library, is_missing}
-use Rattle.child_tools.specs.Marks.{KnowsLibraries}
+use Rattle.child_tools.specs.Exports.{exports, exports_unit, first_missing, has_library, is_missing}
+use Rattle.child_tools.specs.Marks.{HasPut, KnowsLibraries, KnowsUnits, Marks, has_key}
 use Rattle.child_tools.specs.NameOrder.{is_same_unit, units_decide}
 use Rattle.child_tools.specs.declared.names.UnitName.{UnitName}
 use Rattle.child_tools.proofs.MarkLemmas.{Marking}
@@ -30,6 +32,22 @@ wanted_more units unit old new are put other =
     put other ∙ (ap (cond (is_same_unit unit other) (Some false)) (are other) ∙ (either (list_any (λ o. is_same_unit o other) units) (is_same_unit unit other)
     ∙ ap (λ (b : Bool). cond b (Some false) None) (sym (list_any-append (λ o. is_same_unit o other) units (unit ∷ [])))))
 
+-- what files and one more export is found of what is wanted
+pub units_known : (files : List BuiltFile) (last : BuiltFile) (units : List UnitName) (library artefact : List ℕ) (first now new : Marking) → last.name.library ≡ library → last.artefact ≡ artefact → AreWanted units first → Marks (exports files) first now
+    → Marks (λ unit. bytes_eq library unit.library && exports_unit artefact unit.name) now new → KnowsUnits (files ++ last ∷ []) units new
+units_known files last units library artefact first now new is_library is_artefact are more own unit =
+    own unit ∙ (ap (option_map (λ found. found || (bytes_eq library unit.library && exports_unit artefact unit.name))) (more unit ∙ ap (option_map (λ found. found || exports files unit)) (are unit))
+    ∙ (told (list_any (λ other. is_same_unit other unit) units) (exports files unit) (bytes_eq library unit.library && exports_unit artefact unit.name)
+    ∙ ap (λ (b : Bool). cond (list_any (λ other. is_same_unit other unit) units) (Some b) None) (ap (λ (b : Bool). exports files unit || (b || false)) same ∙ sym (list_any-append (λ file. in_library unit.library file && exports_unit file.artefact unit.name) files (last ∷ []))))) where
+      same : (bytes_eq library unit.library && exports_unit artefact unit.name) ≡ (bytes_eq last.name.library unit.library && exports_unit last.artefact unit.name)
+      same = ap (λ (l : List ℕ). bytes_eq l unit.library && exports_unit artefact unit.name) (sym is_library) ∙ ap (λ (a : List ℕ). bytes_eq last.name.library unit.library && exports_unit a unit.name) (sym is_artefact)
+
+      told : (wanted one two : Bool) → option_map (λ found. found || two) (option_map (λ found. found || one) (cond wanted (Some false) None)) ≡ cond wanted (Some (one || (two || false))) None
+      told true true two = refl
+      told true false true = refl
+      told true false false = refl
+      told false one two = refl
+
 -- ## Libraries that are there
 
 abbrev pub library_name : List ℕ → UnitName
@@ -49,11 +67,48 @@ and_true : (a : Bool) → (a && true) ≡ a
 and_true true = refl
 and_true false = refl
 
-pub library_more : (files : List BuiltFile) (file : BuiltFile) (old new : Marking) → KnowsLibraries files old → ((other : UnitName) → get is_same_unit new other ≡ cond (is_same_unit (library_name file.name.library) other) (Some true) (get is_same_unit old other)) → KnowsLibraries (files ++ file ∷ []) new
-library_more files file old new knows put library =
-    ap is_some (put (library_name library)) ∙ (some_put (is_same_unit (library_name file.name.library) (library_name library)) (get is_same_unit old (library_name library))
-    ∙ (ap (λ (b : Bool). b || (bytes_eq file.name.library library && true)) (knows library) ∙ (ap (λ (b : Bool). has_library files library || b) (and_true (bytes_eq file.name.library library) ∙ sym (or_false (bytes_eq file.name.library library)))
-    ∙ sym (list_any-append (in_library library) files (file ∷ [])))))
+pub has_put : (library : List ℕ) (old new : Marking) → ((other : UnitName) → get is_same_unit new other ≡ cond (is_same_unit (library_name library) other) (Some true) (get is_same_unit old other)) → HasPut library old new
+has_put library old new put other =
+    ap is_some (put (library_name other)) ∙ (some_put (is_same_unit (library_name library) (library_name other)) (get is_same_unit old (library_name other))
+    ∙ ap (λ (b : Bool). has_key old other || b) (and_true (bytes_eq library other)))
+
+-- nothing is to be put where it is there
+pub has_same : (library before : List ℕ) (old : Marking) → library ≡ before → has_key old before ≡ true → HasPut library old old
+has_same library before old same there other = in_it (has_key old other) (bytes_eq library other) (λ (e : bytes_eq library other ≡ true). ap (has_key old) (sym ((bytes_eq-Decides library other).0 e) ∙ same) ∙ there) where
+  in_it : (a b : Bool) → (b ≡ true → a ≡ true) → a ≡ (a || b)
+  in_it true b known = refl
+  in_it false true known = known refl
+  in_it false false known = refl
+
+-- what was put is there
+pub put_is_there : (library : List ℕ) (old new : Marking) → HasPut library old new → has_key new library ≡ true
+put_is_there library old new put = put library ∙ (ap (λ (b : Bool). has_key old library || b) ((bytes_eq-Decides library library).1 refl) ∙ or_true (has_key old library)) where
+  or_true : (b : Bool) → (b || true) ≡ true
+  or_true true = refl
+  or_true false = refl
+
+-- the libraries of files and one more are there
+abbrev pub AreThere : List BuiltFile → List ℕ → Marking → Type 0
+AreThere files own libraries = (other : List ℕ) → has_key libraries other ≡ (has_library files other || bytes_eq own other)
+
+pub own_there : (own : List ℕ) (old new : Marking) → ((key : UnitName) → get is_same_unit old key ≡ None) → HasPut own old new → AreThere [] own new
+own_there own old new none put other = put other ∙ ap (λ (o : Option Bool). is_some o || bytes_eq own other) (none (library_name other))
+
+pub library_more : (files : List BuiltFile) (file : BuiltFile) (own : List ℕ) (old new : Marking) → AreThere files own old → HasPut file.name.library old new → AreThere (files ++ file ∷ []) own new
+library_more files file own old new there put other =
+    put other ∙ (ap (λ (b : Bool). b || bytes_eq file.name.library other) (there other) ∙ (last_first (has_library files other) (bytes_eq own other) (bytes_eq file.name.library other)
+    ∙ ap (λ (b : Bool). b || bytes_eq own other) (sym (list_any-append (in_library other) files (file ∷ []))))) where
+      last_first : (a b c : Bool) → ((a || b) || c) ≡ ((a || (c || false)) || b)
+      last_first true b c = refl
+      last_first false true true = refl
+      last_first false true false = refl
+      last_first false false true = refl
+      last_first false false false = refl
+
+pub libraries_known : (files : List BuiltFile) (own : List ℕ) (libraries : Marking) (last : BuiltFile) → last.name.library ≡ own → AreThere files own libraries → KnowsLibraries (files ++ last ∷ []) libraries
+libraries_known files own libraries last is there other =
+    there other ∙ (ap (λ (b : Bool). has_library files other || b) (ap (λ (library : List ℕ). bytes_eq library other) (sym is) ∙ sym (or_false (bytes_eq last.name.library other)))
+    ∙ sym (list_any-append (in_library other) files (last ∷ [])))
 
 -- ## The first that is missing
 

@@ -2,6 +2,7 @@
 use Rattle.std.specs.Prelude.{◌≡◌, ℕ, Bool, ◌||◌, if◌then◌else◌, List, [], Some, None, is_some}
 use Rattle.std.specs.List.{list_any}
 use Rattle.std.specs.Option.{option_map}
+use Rattle.std.specs.Str.{bytes_eq}
 use Rattle.base.specs.declared.graph.BuiltFile.{BuiltFile}
 use Rattle.base_key_index.specs.Maps.{Entries, get}
 use Rattle.child_tools.specs.Exports.{exports, has_library}
@@ -16,6 +17,16 @@ Marks test old new = (unit : UnitName) → get is_same_unit new unit ≡ option_
 abbrev pub KnowsUnits : List BuiltFile → List UnitName → Entries UnitName Bool → Type 0
 KnowsUnits files units marks = (unit : UnitName) → get is_same_unit marks unit ≡ (if list_any (λ other. is_same_unit other unit) units then Some (exports files unit) else None)
 
+-- ## Libraries
+
+-- a library is among some, which are keys with empty names
+abbrev pub has_key : Entries UnitName Bool → List ℕ → Bool
+has_key libraries library = is_some (get is_same_unit libraries (record { library = library; name = [] }))
+
+-- one library is there now beside those that were there
+abbrev pub HasPut : List ℕ → Entries UnitName Bool → Entries UnitName Bool → Type 0
+HasPut library old new = (other : List ℕ) → has_key new other ≡ (has_key old other || bytes_eq library other)
+
 -- the libraries of the files
 abbrev pub KnowsLibraries : List BuiltFile → Entries UnitName Bool → Type 0
-KnowsLibraries files libraries = (library : List ℕ) → is_some (get is_same_unit libraries (record { library = library; name = [] })) ≡ has_library files library
+KnowsLibraries files libraries = (library : List ℕ) → has_key libraries library ≡ has_library files library

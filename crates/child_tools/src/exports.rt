@@ -8,9 +8,9 @@ ghost use Rattle.base.specs.declared.graph.BuiltFile.{BuiltFile};
 ghost use Rattle.base_key_index.specs.Maps.{get};
 ghost use Rattle.child_tools.specs.NameOrder.{is_same_unit};
 ghost use Rattle.child_tools.specs.Exports.{exported_by, exports, exports_unit, first_missing, is_export, is_missing};
-ghost use Rattle.child_tools.specs.Marks.{Marks, KnowsLibraries, KnowsUnits};
+ghost use Rattle.child_tools.specs.Marks.{Marks, HasPut, KnowsLibraries, KnowsUnits, has_key};
 
-use crate::names::{UnitName, library_key, put_name};
+use crate::names::{UnitName, library_key, put_library, put_name};
 use base::{BuiltFile, NoMemory, Text};
 use base_key_index::{Key, KeyMap};
 use child_lines::{after_word, next_line};
@@ -69,36 +69,52 @@ fn mark_line(
     mark_unit(alloc, key, marks)
 }
 
-/// Marks the units that an artefact of a library exports, in one pass.
+/// Marks the units that an artefact of the library of `key` exports, in one pass. What is in the name of `key` is lost.
+fn mark_lines(
+    alloc: Global,
+    artefact: &[u8],
+    key: &mut UnitName,
+    marks: &mut KeyMap<UnitName, bool>,
+) -> Result<(), NoMemory>
+    ensures { OnOk result (Marks
+        (λ unit. bytes_eq key.old.library unit.library && exports_unit artefact.now unit.name)
+        marks.old marks.new) }
+{
+    let mut rest = artefact;
+    while let Some((line, others)) = next_line(rest) {
+        mark_line(alloc, line, key, marks)?;
+        rest = others;
+    }
+    mark_line(alloc, rest, key, marks)
+}
+
+/// Marks the units that an artefact of a library exports. `key` is any, and takes no memory anew where it is of that library.
 fn mark_artefact(
     alloc: Global,
     library: &Text,
     artefact: &[u8],
+    key: &mut UnitName,
     marks: &mut KeyMap<UnitName, bool>,
 ) -> Result<(), NoMemory>
     ensures { OnOk result (Marks
         (λ unit. bytes_eq library.now unit.library && exports_unit artefact.now unit.name)
         marks.old marks.new) }
 {
-    let mut key = library_key(alloc, library)?;
-    let mut rest = artefact;
-    while let Some((line, others)) = next_line(rest) {
-        mark_line(alloc, line, &mut key, marks)?;
-        rest = others;
-    }
-    mark_line(alloc, rest, &mut key, marks)
+    put_library(alloc, key, library)?;
+    mark_lines(alloc, artefact, key, marks)
 }
 
-/// Marks the units that the artefacts of files export.
+/// Marks the units that the artefacts of files export. `key` is any.
 fn mark_files(
     alloc: Global,
     files: &[BuiltFile],
+    key: &mut UnitName,
     marks: &mut KeyMap<UnitName, bool>,
 ) -> Result<(), NoMemory>
     ensures { OnOk result (Marks (exports files.now) marks.old marks.new) }
 {
     for file in files {
-        mark_artefact(alloc, &file.name.library, file.artefact.bytes(), marks)?;
+        mark_artefact(alloc, &file.name.library, file.artefact.bytes(), key, marks)?;
     }
     Ok(())
 }
@@ -108,7 +124,7 @@ fn wanted(alloc: Global, units: &[UnitName]) -> Result<KeyMap<UnitName, bool>, N
     ensures { IfOk result (λ marks. (unit : UnitName) → get is_same_unit marks unit ≡
         (if list_any (λ other. is_same_unit other unit) units.now then Some false else None)) }
 {
-    let mut marks = KeyMap::new(alloc);
+    let mut marks = KeyMap::with_room(alloc, units.len())?;
     for unit in units {
         marks.insert(unit.copy(alloc)?, false)?;
     }
@@ -127,25 +143,56 @@ fn marks_of(
         IfOk result (KnowsUnits (files.now ++ last ∷ []) units.now) }
 {
     let mut marks = wanted(alloc, units)?;
-    mark_files(alloc, files, &mut marks)?;
-    mark_artefact(alloc, library, artefact, &mut marks)?;
+    let mut key = library_key(alloc, library)?;
+    mark_files(alloc, files, &mut key, &mut marks)?;
+    mark_artefact(alloc, library, artefact, &mut key, &mut marks)?;
     Ok(marks)
 }
 
-/// The libraries of files, of which that of the last is lent apart.
-fn libraries_of(
+/// Puts a library among some.
+fn put_new(
     alloc: Global,
-    files: &[BuiltFile],
     library: &Text,
+    libraries: &mut KeyMap<UnitName, bool>,
+) -> Result<(), NoMemory>
+    ensures { OnOk result (HasPut library.now libraries.old libraries.new) }
+{
+    libraries.insert(library_key(alloc, library)?, true)?;
+    Ok(())
+}
+
+/// Puts a library among some, which takes no time where it is that of the file before it.
+fn put_next(
+    alloc: Global,
+    library: &Text,
+    before: &Text,
+    libraries: &mut KeyMap<UnitName, bool>,
+) -> Result<(), NoMemory>
+    ensures { IsTrue (has_key libraries.old before.now) →
+        OnOk result (HasPut library.now libraries.old libraries.new) }
+{
+    if library.same(before) {
+        return Ok(());
+    }
+    put_new(alloc, library, libraries)
+}
+
+/// The libraries of files, of which that of the last is lent apart.
+fn libraries_of<'a>(
+    alloc: Global,
+    files: &'a [BuiltFile],
+    library: &'a Text,
 ) -> Result<KeyMap<UnitName, bool>, NoMemory>
     ensures { (last : BuiltFile) → last.name.library ≡ library.now →
         IfOk result (KnowsLibraries (files.now ++ last ∷ [])) }
 {
     let mut libraries = KeyMap::new(alloc);
+    put_new(alloc, library, &mut libraries)?;
+    let mut before = library;
     for file in files {
-        libraries.insert(library_key(alloc, &file.name.library)?, true)?;
+        put_next(alloc, &file.name.library, before, &mut libraries)?;
+        before = &file.name.library;
     }
-    libraries.insert(library_key(alloc, library)?, true)?;
     Ok(libraries)
 }
 
@@ -207,6 +254,9 @@ pub fn first_missing<'a>(
         (first_missing (files.now ++ last ∷ []) units.now ≡ None)
         (λ unit. first_missing (files.now ++ last ∷ []) units.now ≡ Some unit.now)) }
 {
+    if units.is_empty() {
+        return Ok(None);
+    }
     let libraries = libraries_of(alloc, files, library)?;
     let marks = marks_of(alloc, units, files, library, artefact)?;
     first_of(alloc, units, &libraries, &marks)

@@ -100,6 +100,17 @@ pub(crate) fn library_key(alloc: Global, library: &Text) -> Result<UnitName, NoM
     })
 }
 
+/// Puts a library in the place of that of a key. Where it is the same the key is unchanged, and keeps its memory.
+pub(crate) fn put_library(alloc: Global, key: &mut UnitName, library: &Text) -> Result<(), NoMemory>
+    ensures { OnOk result (key.new.library ≡ library.now) }
+{
+    if key.library.same(library) {
+        return Ok(());
+    }
+    key.library = library.copy(alloc)?;
+    Ok(())
+}
+
 /// Puts bytes in the place of a name, in its memory where that has room.
 pub(crate) fn put_name(alloc: Global, key: &mut UnitName, name: &[u8]) -> Result<(), NoMemory>
     ensures { OnOk result (key.new ≡ record { library = key.old.library; name = name.now }) }
