@@ -79,7 +79,7 @@ pub record AreFirst (files : List ProjectFile) (texts : List (List ℕ)) (count 
   pub lie : FilesLieIn (take count texts) outlines.files
   pub given : (scan : List ℕ → Finding) → IsScanner scan → after scans (scans_of scan (drop count files) (drop count texts)) ≡ scans_of scan files texts
 
-pub none_first : (files : List ProjectFile) (texts : List (List ℕ)) → AreFirst files texts 0 (record { scopes = []; files = [] })
+pub none_first : (files : List ProjectFile) (texts : List (List ℕ)) → AreFirst files texts 0 (record { files = [] })
 none_first files texts = record {
   scans = [];
   scanned = no_scans;

@@ -32,7 +32,7 @@ abbrev pub no_runs : UnitRuns
 no_runs = record { bench = None; strings = [] }
 
 abbrev pub no_outline : FileOutline
-no_outline = record { units = []; mentions = []; runs = record { units = []; same_sim = false } }
+no_outline = record { units = []; scopes = []; mentions = []; runs = record { units = []; same_sim = false } }
 
 abbrev pub outline_at : Files → UnitId → FileOutline
 outline_at files id = slice_index_or files.outlines.now id.file no_outline

@@ -35,7 +35,7 @@ pub record IsKnown (tables : Tables) (said : NeedSources) : Type 0 where
   pub visible : AreVisible said.files said.texts said.scans tables.sets.now
 
 abbrev pub no_outline : FileOutline
-no_outline = record { units = []; mentions = []; runs = record { units = []; same_sim = false } }
+no_outline = record { units = []; scopes = []; mentions = []; runs = record { units = []; same_sim = false } }
 
 -- the outline of a file
 abbrev pub outline_at : Tables → ℕ → FileOutline

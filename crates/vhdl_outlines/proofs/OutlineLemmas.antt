@@ -1,9 +1,9 @@
 -- Outlines grow with their texts and scans.
-use Rattle.std.proofs.Common.{◌≡◌, ℕ, zero, suc, ◌+◌, ◌<◌, ◌≤◌, ◌⊎◌, inl, inr, List, [], ◌∷◌, ◌++◌, Some, get_or, length, map, take, refl, sym, ◌∙◌, ap, subst, arith, append_assoc}
+use Rattle.std.proofs.Common.{◌≡◌, ℕ, zero, suc, ◌+◌, ◌<◌, ◌≤◌, ◌⊎◌, inl, inr, List, [], ◌∷◌, ◌++◌, Some, get_or, length, map, take, refl, sym, ◌∙◌, ap, subst, arith}
 use Rattle.std.specs.Prelude.{slice_get}
 use Rattle.std.specs.List.{All}
 use Rattle.std.specs.Option.{option_map}
-use Rattle.std.proofs.lemmas.List.{append-nil, length-map, length_push}
+use Rattle.std.proofs.lemmas.List.{length-map, length_push}
 use Rattle.std.proofs.lemmas.Option.{slice_get-get_or, slice_get_within}
 use Rattle.base.specs.declared.design.Scan.{Scan}
 use Rattle.vhdl_spec.specs.Units.{role_of, roles_of}
@@ -16,7 +16,7 @@ use Rattle.vhdl_runs.specs.Runs.{UnitRunsLieIn, file_runs, unit_runs}
 use Rattle.vhdl_outlines.specs.declared.outlines.FileOutline.{FileOutline}
 use Rattle.vhdl_outlines.specs.declared.outlines.Outlines.{Outlines}
 use Rattle.vhdl_outlines.specs.declared.outlines.UnitScope.{UnitScope}
-use Rattle.vhdl_outlines.specs.Outlines.{AreOutlined, AreOutlinesOf, FilesAreOf, FilesLieIn, HasAdded, IsOutlineOf, MentionsAreOf, OutlineLiesIn, scope_of, scopes_of}
+use Rattle.vhdl_outlines.specs.Outlines.{AreOutlined, AreOutlinesOf, FilesAreOf, FilesLieIn, HasAdded, IsOutlineOf, MentionsAreOf, OutlineLiesIn, file_scopes, scope_of, scopes_of}
 
 pub few_units : (text : List ℕ) (scan : Scan) → IsScanOf text scan → length scan.units ≤ length text
 few_units text scan is =
@@ -49,20 +49,11 @@ mapped_more {X} {Y} f (x ∷ xs) (suc i) y is =
     let next : suc i + 1 ≡ suc (i + 1) = omega arith in
     rw next (ap (λ (rest : List Y). f x ∷ rest) (mapped_more f xs i y is))
 
-pub scopes_more : (texts : List (List ℕ)) (scans : List Scan) (text : List ℕ) (scan : Scan) → length scans ≡ length texts → scopes_of (texts ++ text ∷ []) (scans ++ scan ∷ []) ≡ scopes_of texts scans ++ map (scope_of text scan) scan.units
-scopes_more [] [] text scan each = append-nil (map (scope_of text scan) scan.units)
-scopes_more [] (s ∷ scans) text scan each = let never : ⊥ = cc in absurd never
-scopes_more (t ∷ texts) [] text scan each = let never : ⊥ = cc in absurd never
-scopes_more (t ∷ texts) (s ∷ scans) text scan each =
-    let fewer : length scans ≡ length texts = cc in
-    ap (λ (rest : List UnitScope). map (scope_of t s) s.units ++ rest) (scopes_more texts scans text scan fewer)
-    ∙ sym (append_assoc (map (scope_of t s) s.units) (scopes_of texts scans) (map (scope_of text scan) scan.units))
-
 -- a file with what is kept of its units was added
-pub added : (text : List ℕ) (scan : Scan) (old new : Outlines) (file : FileOutline) → IsScanOf text scan → file.units ≡ scan.units → MentionsAreOf text scan file.mentions → All (MentionsLieIn text) file.mentions → file.runs ≡ file_runs text scan → All (UnitRunsLieIn text) file.runs.units → new.files ≡ old.files ++ file ∷ [] → new.scopes ≡ old.scopes ++ map (scope_of text scan) scan.units → HasAdded text scan old new
-added text scan old new file is units are lie runs runs_lie files scopes = record {
+pub added : (text : List ℕ) (scan : Scan) (old new : Outlines) (file : FileOutline) → IsScanOf text scan → file.units ≡ scan.units → file.scopes ≡ map (scope_of text scan) scan.units → MentionsAreOf text scan file.mentions → All (MentionsLieIn text) file.mentions → file.runs ≡ file_runs text scan → All (UnitRunsLieIn text) file.runs.units → new.files ≡ old.files ++ file ∷ [] → HasAdded text scan old new
+added text scan old new file is units scopes are lie runs runs_lie files = record {
   file = file;
-  is = record { units = units; mentions = are; runs = runs };
+  is = record { units = units; scopes = scopes; mentions = are; runs = runs };
   lies = record {
     each = are.each ∙ ap length (sym units);
     few = let few = few_units text scan is in omega (arith, few, ap length units);
@@ -71,14 +62,13 @@ added text scan old new file is units are lie runs runs_lie files scopes = recor
     runs = runs_lie;
   };
   files = files;
-  scopes = scopes;
 }
 
 pub no_files : FilesAreOf [] [] []
 no_files = record { scanned = refl; each = refl; are = λ i text scan file in_texts in_scans in_files. let never : ⊥ = cc in absurd never }
 
-pub no_outlines : AreOutlinesOf [] [] (record { scopes = []; files = [] })
-no_outlines = record { files = no_files; scopes = refl }
+pub no_outlines : AreOutlinesOf [] [] (record { files = [] })
+no_outlines = record { files = no_files }
 
 pub none_lie : FilesLieIn [] []
 none_lie = record { each = refl; lie = λ i text file in_texts in_files. let never : ⊥ = cc in absurd never }
@@ -103,8 +93,25 @@ files_more texts scans files text scan file are is = record {
 pub outlines_more : (texts : List (List ℕ)) (scans : List Scan) (text : List ℕ) (scan : Scan) (old new : Outlines) → AreOutlinesOf texts scans old → HasAdded text scan old new → AreOutlinesOf (texts ++ text ∷ []) (scans ++ scan ∷ []) new
 outlines_more texts scans text scan old new are added = record {
   files = subst (FilesAreOf (texts ++ text ∷ []) (scans ++ scan ∷ [])) (sym added.files) (files_more texts scans old.files text scan added.file are.files added.is);
-  scopes = added.scopes ∙ (ap (λ (some : List UnitScope). some ++ map (scope_of text scan) scan.units) are.scopes ∙ sym (scopes_more texts scans text scan are.files.scanned));
 }
+
+-- without the first file
+later : (text : List ℕ) (texts : List (List ℕ)) (scan : Scan) (scans : List Scan) (file : FileOutline) (files : List FileOutline) → FilesAreOf (text ∷ texts) (scan ∷ scans) (file ∷ files) → FilesAreOf texts scans files
+later text texts scan scans file files are = record {
+  scanned = omega (arith, are.scanned);
+  each = omega (arith, are.each);
+  are = λ i t s f in_texts in_scans in_files. are.are (suc i) t s f in_texts in_scans in_files;
+}
+
+-- what the units name is kept file by file
+pub scopes_kept : (texts : List (List ℕ)) (scans : List Scan) (files : List FileOutline) → FilesAreOf texts scans files → file_scopes files ≡ scopes_of texts scans
+scopes_kept [] scans [] are = refl
+scopes_kept [] scans (file ∷ files) are = absurd (omega (arith, are.each))
+scopes_kept (text ∷ texts) [] files are = absurd (omega (arith, are.scanned))
+scopes_kept (text ∷ texts) (scan ∷ scans) [] are = absurd (omega (arith, are.each))
+scopes_kept (text ∷ texts) (scan ∷ scans) (file ∷ files) are =
+    ap (λ (some : List UnitScope). some ++ file_scopes files) (are.are 0 text scan file refl refl refl).scopes
+    ∙ ap (λ (some : List UnitScope). map (scope_of text scan) scan.units ++ some) (scopes_kept texts scans files (later text texts scan scans file files are))
 
 some_lie : (texts : List (List ℕ)) (files : List FileOutline) (text : List ℕ) (file : FileOutline) → FilesLieIn texts files → OutlineLiesIn text file → FilesLieIn (texts ++ text ∷ []) (files ++ file ∷ [])
 some_lie texts files text file lie lies = record {
@@ -146,7 +153,7 @@ scans_more texts scans text scan are is = record {
 pub no_scans : AreScansOf [] []
 no_scans = record { each = refl; are = λ i text scan in_texts in_scans. let never : ⊥ = cc in absurd never }
 
-pub none_outlined : AreOutlined [] (record { scopes = []; files = [] })
+pub none_outlined : AreOutlined [] (record { files = [] })
 none_outlined = record { scans = []; scanned = no_scans; are = no_outlines; lie = none_lie }
 
 -- the outline of one text more

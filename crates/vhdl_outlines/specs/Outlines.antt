@@ -1,6 +1,6 @@
--- The outlines of files: their design units, what each mentions, and what it says of tests.
+-- The outlines of files: their design units, what each names and mentions, and what it says of tests.
 use Rattle.std.specs.Prelude.{◌≡◌, ℕ, ◌≤◌, List, [], ◌∷◌, ◌++◌, length, map, slice_get, Some}
-use Rattle.std.specs.List.{All}
+use Rattle.std.specs.List.{All, flat_map}
 use Rattle.base.specs.declared.design.Scan.{Scan}
 use Rattle.base.specs.declared.design.Unit.{Unit as DesignUnit}
 use Rattle.vhdl_spec.specs.References.{library_names}
@@ -22,6 +22,10 @@ scopes_of (text ∷ texts) (scan ∷ scans) = map (scope_of text scan) scan.unit
 scopes_of (text ∷ texts) [] = []
 scopes_of [] scans = []
 
+-- the same, as their outlines have it
+abbrev pub file_scopes : List FileOutline → List UnitScope
+file_scopes files = flat_map (λ file. file.scopes) files
+
 -- what each unit of a scan mentions
 pub record MentionsAreOf (text : List ℕ) (scan : Scan) (mentions : List Mentions) : Type 0 where
   pub each : length mentions ≡ length scan.units
@@ -30,6 +34,7 @@ pub record MentionsAreOf (text : List ℕ) (scan : Scan) (mentions : List Mentio
 -- the outline of a file of this text and scan
 pub record IsOutlineOf (text : List ℕ) (scan : Scan) (file : FileOutline) : Type 0 where
   pub units : file.units ≡ scan.units
+  pub scopes : file.scopes ≡ map (scope_of text scan) scan.units
   pub mentions : MentionsAreOf text scan file.mentions
   pub runs : file.runs ≡ file_runs text scan
 
@@ -52,10 +57,9 @@ pub record FilesLieIn (texts : List (List ℕ)) (files : List FileOutline) : Typ
   pub each : length files ≡ length texts
   pub lie : (i : ℕ) (text : List ℕ) (file : FileOutline) → slice_get texts i ≡ Some text → slice_get files i ≡ Some file → OutlineLiesIn text file
 
--- with what their units name
+-- these are the outlines of files of these texts and scans
 pub record AreOutlinesOf (texts : List (List ℕ)) (scans : List Scan) (outlines : Outlines) : Type 0 where
   pub files : FilesAreOf texts scans outlines.files
-  pub scopes : outlines.scopes ≡ scopes_of texts scans
 
 -- these are the outlines of the files of these texts, which have scans
 pub record AreOutlined (texts : List (List ℕ)) (outlines : Outlines) : Type 0 where
@@ -70,4 +74,3 @@ pub record HasAdded (text : List ℕ) (scan : Scan) (old new : Outlines) : Type 
   pub is : IsOutlineOf text scan file
   pub lies : OutlineLiesIn text file
   pub files : new.files ≡ old.files ++ file ∷ []
-  pub scopes : new.scopes ≡ old.scopes ++ map (scope_of text scan) scan.units

@@ -1,6 +1,6 @@
 //! What is kept of scanned files: their design units, what each of these names and mentions, and what it says of tests.
 
-ghost use Rattle.std.specs.Prelude.{◌≡◌, ◌<◌, ◌≤◌, ◌++◌, [], IfOk, OnOk, Some, length, map, slice_get};
+ghost use Rattle.std.specs.Prelude.{◌≡◌, ◌<◌, ◌≤◌, [], IfOk, OnOk, Some, length, map, slice_get};
 ghost use Rattle.std.specs.List.{All};
 ghost use Rattle.std.specs.Option.{option_map};
 ghost use Rattle.vhdl_spec.specs.Units.{roles_of};
@@ -22,18 +22,18 @@ pub struct UnitScope {
     pub names: TextList,
 }
 
-/// The design units of a file, what each mentions, and what it says of tests.
+/// The design units of a file, what each names and mentions, and what it says of tests.
 #[derive(Drop)]
 pub struct FileOutline {
     pub units: UnitList,
+    pub scopes: Items<UnitScope>,
     pub mentions: Items<Mentions>,
     pub runs: FileRuns,
 }
 
-/// The outlines of files, in order, and what their units name, file by file.
+/// The outlines of files, in order.
 #[derive(Drop)]
 pub struct Outlines {
-    pub scopes: Items<UnitScope>,
     pub files: Items<FileOutline>,
 }
 
@@ -88,33 +88,32 @@ fn scope_at(
     })
 }
 
-/// Adds what each unit of a scan names, in order.
-fn push_scopes(
+/// What each unit of a scan names, in order.
+fn scopes_of_units(
     alloc: Global,
     text: &[u8],
     scan: &Scan,
     roles: &RoleList,
-    scopes: &mut Items<UnitScope>,
-) -> Result<(), NoMemory>
+) -> Result<Items<UnitScope>, NoMemory>
     requires scan { IsScanOf text.now scan.now }
     requires small { length text.now ≤ TEXT_LIMIT }
     requires roles { roles.now ≡ roles_of text.now scan.now.tokens.list }
-    ensures { OnOk result
-        (scopes.new ≡ scopes.old ++ map (scope_of text.now scan.now) scan.now.units) }
+    ensures { IfOk result (λ scopes.
+        scopes ≡ map (scope_of text.now scan.now) scan.now.units) }
 {
+    let mut scopes = Vec::with_capacity(alloc, scan.units.len() as usize)?;
     for number in 0..scan.units.len() {
         scopes.push(scope_at(alloc, text, scan, roles, number as u32)?)?;
     }
-    Ok(())
+    Ok(Items::from_vec(scopes))
 }
 
 impl Outlines {
     /// Those of no file.
     pub fn new(alloc: Global) -> Outlines
-        ensures { result ≡ record { scopes = []; files = [] } }
+        ensures { result ≡ record { files = [] } }
     {
         Outlines {
-            scopes: Items::new(alloc),
             files: Items::new(alloc),
         }
     }
@@ -136,10 +135,11 @@ impl Outlines {
     {
         let mentions = mentions_of_units(alloc, text, &scan, roles)?;
         let runs = runs_of(alloc, text, &scan, roles)?;
-        push_scopes(alloc, text, &scan, roles, &mut self.scopes)?;
+        let scopes = scopes_of_units(alloc, text, &scan, roles)?;
         let Scan { tokens, units } = scan;
         self.files.push(FileOutline {
             units,
+            scopes,
             mentions,
             runs,
         })?;
@@ -161,10 +161,11 @@ impl Outlines {
     {
         let mentions = mentions_of_units(alloc, text, scan, roles)?;
         let runs = runs_of(alloc, text, scan, roles)?;
-        push_scopes(alloc, text, scan, roles, &mut self.scopes)?;
+        let scopes = scopes_of_units(alloc, text, scan, roles)?;
         let units = copy_units(alloc, scan.units.as_slice())?;
         self.files.push(FileOutline {
             units,
+            scopes,
             mentions,
             runs,
         })?;

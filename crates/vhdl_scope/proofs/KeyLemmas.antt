@@ -72,6 +72,11 @@ pub part_more : {X Y : Type 0} (f : X → List Y) (xs : List X) (i : ℕ) (d : X
 part_more f xs i d within =
     ap (flat_map f) (take_more xs i d within) ∙ (flat_map-append f (take i xs) (get_or xs i d ∷ []) ∙ ap (λ rest. flat_map f (take i xs) ++ rest) (append-nil (f (get_or xs i d))))
 
+-- the parts of parts, all together
+pub parts_of_parts : {X Y Z : Type 0} (g : Y → List Z) (f : X → List Y) (xs : List X) → flat_map g (flat_map f xs) ≡ flat_map (λ x. flat_map g (f x)) xs
+parts_of_parts g f [] = refl
+parts_of_parts {X} {Y} {Z} g f (x ∷ xs) = flat_map-append g (f x) (flat_map f xs) ∙ ap (λ (rest : List Z). flat_map g (f x) ++ rest) (parts_of_parts g f xs)
+
 pub all_more : {X Y : Type 0} (before : List Y) (f : X → List Y) (xs : List X) (i : ℕ) (d : X) (old mid new : List Y) → i < length xs → HasAll (before ++ flat_map f (take i xs)) old mid → HasAll (f (get_or xs i d)) mid new → HasAll (before ++ flat_map f (take (i + 1) xs)) old new
 all_more {X} {Y} before f xs i d old mid new within one two =
     subst (λ (all : List Y). HasAll all old new) (append_assoc before (flat_map f (take i xs)) (f (get_or xs i d)) ∙ ap (λ (rest : List Y). before ++ rest) (sym (part_more f xs i d within)))

@@ -1,6 +1,6 @@
 -- What a row has after names were put into it.
 use Rattle.std.proofs.Common.{◌≡◌, ℕ, zero, suc, ◌+◌, ◌/◌, ◌%◌, ◌<◌, ◌≤◌, true, false, ◌||◌, List, [], ◌∷◌, ◌++◌, Contains, length, nat_eq, map, take, get_or, replicate, ◌⊎◌, inl, inr, refl, sym, ◌∙◌, ap, subst, arith, append_assoc, eq-eqb}
-use Rattle.std.specs.List.{AllZip}
+use Rattle.std.specs.List.{AllZip, flat_map}
 use Rattle.std.specs.Int.{bit_at}
 use Rattle.std.specs.Str.{bytes_eq}
 use Rattle.std.proofs.lemmas.Bool.{cases_lt, eqb-true}
@@ -10,7 +10,7 @@ use Rattle.std.proofs.lemmas.Nat.Bits.{bit_at-zero}
 use Rattle.vhdl_scope.specs.Bits.{row_has}
 use Rattle.vhdl_scope.specs.Names.{name_of_number, number_of}
 use Rattle.vhdl_scope.specs.Graph.{HasPut, IsRowOf}
-use Rattle.vhdl_scope.proofs.KeyLemmas.{numbered}
+use Rattle.vhdl_scope.proofs.KeyLemmas.{numbered, part_more}
 use Rattle.vhdl_scope.proofs.LookLemmas.{in_either, left_in, one_of, right_in}
 use Rattle.vhdl_scope.proofs.NameLemmas.{same_bytes, told_same}
 use Rattle.vhdl_scope.proofs.ScopeLemmas.{zip_push}
@@ -93,10 +93,16 @@ row_more names some more words old new is put = record {
   by_row number (inr there) = Contains-append_right some more (name_of_number names number) there
 
 -- one list more
-pub zip_more : {X Y Z : Type 0} (R : X → Y → Type 0) (f : Z → Y) (rows : List X) (row : X) (zs : List Z) (i : ℕ) (d : Z) → i < length zs → AllZip R rows (map f (take i zs)) → R row (f (get_or zs i d)) → AllZip R (rows ++ row ∷ []) (map f (take (i + 1) zs))
-zip_more {X} {Y} R f rows row zs i d within so_far one =
-    subst (AllZip R (rows ++ row ∷ [])) (sym (ap (map f) (take_more zs i d within) ∙ map-append f (take i zs) (get_or zs i d ∷ [])))
-    (zip_push R rows (map f (take i zs)) row (f (get_or zs i d)) so_far one)
+pub zip_more : {X Y Z : Type 0} (R : X → Y → Type 0) (f : Z → Y) (before : List Y) (rows : List X) (row : X) (zs : List Z) (i : ℕ) (d : Z) → i < length zs → AllZip R rows (before ++ map f (take i zs)) → R row (f (get_or zs i d)) → AllZip R (rows ++ row ∷ []) (before ++ map f (take (i + 1) zs))
+zip_more {X} {Y} R f before rows row zs i d within so_far one =
+    subst (AllZip R (rows ++ row ∷ []))
+    (append_assoc before (map f (take i zs)) (f (get_or zs i d) ∷ []) ∙ ap (λ (rest : List Y). before ++ rest) (sym (ap (map f) (take_more zs i d within) ∙ map-append f (take i zs) (get_or zs i d ∷ []))))
+    (zip_push R rows (before ++ map f (take i zs)) row (f (get_or zs i d)) so_far one)
+
+-- one list of lists more
+pub zip_part : {X Y Z W : Type 0} (R : X → Y → Type 0) (f : Z → Y) (part : W → List Z) (rows : List X) (ws : List W) (i : ℕ) (d : W) → i < length ws → AllZip R rows (map f (flat_map part (take i ws)) ++ map f (part (get_or ws i d))) → AllZip R rows (map f (flat_map part (take (i + 1) ws)))
+zip_part R f part rows ws i d within all =
+    subst (AllZip R rows) (sym (ap (map f) (part_more part ws i d within) ∙ map-append f (flat_map part (take i ws)) (part (get_or ws i d)))) all
 
 again : {X : Type 0} (k : ℕ) (x : X) → replicate (suc k) x ≡ replicate k x ++ x ∷ []
 again zero x = refl

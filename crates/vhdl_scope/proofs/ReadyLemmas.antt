@@ -1,12 +1,18 @@
 -- The rows and links of a project fit together.
-use Rattle.std.proofs.Common.{◌≡◌, ℕ, Bool, false, ◌+◌, ◌<◌, List, [], ◌++◌, Contains, length, map, get_or, replicate, ◌⊎◌, inl, inr, ◌∙◌, ap, subst, arith, length-append, take}
+use Rattle.std.proofs.Common.{◌≡◌, ℕ, Bool, false, ◌+◌, ◌<◌, List, [], ◌++◌, Contains, length, map, get_or, replicate, ◌⊎◌, inl, inr, ◌∙◌, ap, subst, sym, arith, length-append, take}
 use Rattle.std.specs.List.{All, AllZip, flat_map}
 use Rattle.std.proofs.Math.Seq.{take-append_seam}
 use Rattle.std.proofs.lemmas.List.{get_or_default, length-map, length-replicate}
 use Rattle.std.proofs.lemmas.List.Elements.{All-append, Contains-append_right, Contains-get_or}
-use Rattle.vhdl_spec.specs.Visibility.{ScopeUnit}
+use Rattle.base.specs.declared.design.Scan.{Scan}
+use Rattle.base.specs.declared.project.ProjectFile.{ProjectFile}
+use Rattle.vhdl_spec.specs.Visibility.{ScopeUnit, scope_units}
+use Rattle.vhdl_scope.specs.declared.groups.Owned.{Owned}
 use Rattle.vhdl_scope.specs.declared.links.Link.{Link}
+use Rattle.vhdl_outlines.specs.declared.outlines.FileOutline.{FileOutline}
 use Rattle.vhdl_outlines.specs.declared.outlines.UnitScope.{UnitScope}
+use Rattle.vhdl_outlines.specs.Outlines.{FilesAreOf, file_scopes}
+use Rattle.vhdl_outlines.proofs.OutlineLemmas.{scopes_kept}
 use Rattle.vhdl_scope.specs.declared.want.Group.{Group}
 use Rattle.vhdl_scope.specs.Groups.{is_same_group}
 use Rattle.vhdl_scope.specs.Links.{AreBelow, AreEven, links_at}
@@ -14,15 +20,34 @@ use Rattle.vhdl_scope.specs.Names.{HasAll, group_number, implicit}
 use Rattle.vhdl_scope.specs.Wants.{group_of, unit_wants}
 use Rattle.vhdl_scope.specs.Graph.{AreNamed, IsRowOf}
 use Rattle.vhdl_scope.specs.Joins.{AreMembers, IsLinkFor, IsLinkedFor}
+use Rattle.vhdl_scope.specs.Owned.{IsOwnedBy}
+use Rattle.vhdl_scope.specs.Scopes.{as_scope}
 use Rattle.vhdl_scope.proofs.Exact.{in_parts, no_unit}
 use Rattle.vhdl_scope.proofs.KeyLemmas.{numbered}
 use Rattle.vhdl_scope.proofs.NameLemmas.{same_group, told_group}
-use Rattle.vhdl_scope.proofs.ScopeLemmas.{as_long, at_place}
+use Rattle.vhdl_scope.proofs.ScopeLemmas.{as_long, at_place, scopes_are}
 
 -- the names of each unit have numbers
-pub names_known : (units : List UnitScope) (names : List (List ℕ)) → HasAll (implicit ++ flat_map (λ unit. unit.names) units) [] names → All (λ unit. AreNamed names unit.names) units
-names_known units names are k d within name there =
-    are.added name (Contains-append_right implicit (flat_map (λ (unit : UnitScope). unit.names) units) name (in_parts (λ (unit : UnitScope). unit.names) units (get_or units k d) name (Contains-get_or units k d within) there))
+pub names_known : (files : List FileOutline) (names : List (List ℕ)) → HasAll (implicit ++ flat_map (λ unit. unit.names) (file_scopes files)) [] names → All (λ file. All (λ unit. AreNamed names unit.names) file.scopes) files
+names_known files names are i d within k e inside name there =
+    let file : FileOutline = get_or files i d in
+    let unit : UnitScope = get_or file.scopes k e in
+    let scoped : Contains (file_scopes files) unit = in_parts (λ (f : FileOutline). f.scopes) files file unit (Contains-get_or files i d within) (Contains-get_or file.scopes k e inside) in
+    are.added name (Contains-append_right implicit (flat_map (λ (u : UnitScope). u.names) (file_scopes files)) name (in_parts (λ (u : UnitScope). u.names) (file_scopes files) unit name scoped there))
+
+-- what is kept of names is kept of each unit
+pub kept_each : (files : List ProjectFile) (texts : List (List ℕ)) (scans : List Scan) (outlines : List FileOutline) → length texts ≡ length files → FilesAreOf texts scans outlines → length (scope_units files texts scans) ≡ length (file_scopes outlines)
+kept_each files texts scans outlines each are =
+    sym (ap length (scopes_kept texts scans outlines are ∙ scopes_are files texts scans each) ∙ length-map (scope_units files texts scans) as_scope)
+
+-- each unit has its links, where each has the numbers of its groups
+pub linked_each : (keeps : Bool) (files : List ProjectFile) (texts : List (List ℕ)) (scans : List Scan) (outlines : List FileOutline) (names : List (List ℕ)) (groups : List Group) (owned : List Owned) (links : List (List Link))
+    → length texts ≡ length files → FilesAreOf texts scans outlines → AllZip (IsOwnedBy keeps groups) owned (scope_units files texts scans) → AllZip (IsLinkedFor names groups (length owned)) links (scope_units files texts scans)
+    → AllZip (IsLinkedFor names groups (length (file_scopes outlines))) links (scope_units files texts scans)
+linked_each keeps files texts scans outlines names groups owned links each are own linked =
+    let users : List ScopeUnit = scope_units files texts scans in
+    let long : length owned ≡ length (file_scopes outlines) = as_long (IsOwnedBy keeps groups) owned users own ∙ kept_each files texts scans outlines each are in
+    subst (λ (n : ℕ). AllZip (IsLinkedFor names groups n) links users) long linked
 
 module _ (units : List UnitScope) (names : List (List ℕ)) (groups : List Group) (words : ℕ) (rows : List (List ℕ)) (of_units of_groups : List (List Link)) (gate : ℕ) (rows_are : AllZip (IsRowOf names words) rows (map (λ unit. implicit ++ unit.names) units ++ replicate (length groups) (implicit ++ []))) (users : List ScopeUnit) (long : length users ≡ length units) (links_are : AllZip (IsLinkedFor names groups (length units)) of_units users) {keeps : Bool} (members_are : AreMembers keeps groups users gate of_groups) where
   abbrev lists : List (List (List ℕ))

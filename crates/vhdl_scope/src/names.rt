@@ -3,6 +3,7 @@
 ghost use Rattle.std.specs.Prelude.{◌≡◌, ◌↔◌, ◌<◌, ◌∷◌, ◌++◌, [], Contains, IfOk, IfSome, IfNone, IsSome, OnOk, Some, length, map, position, slice_get};
 ghost use Rattle.std.specs.List.{flat_map};
 ghost use Rattle.std.specs.Str.{bytes_eq};
+ghost use Rattle.vhdl_outlines.specs.Outlines.{file_scopes};
 ghost use Rattle.vhdl_scope.specs.Names.{HasAll, implicit, keys_of, number_of};
 
 use crate::wants::WORK;
@@ -10,7 +11,7 @@ use base::{NoMemory, Text};
 use std::alloc::Global;
 use std::collections::BTreeMap;
 use std::marker::Model;
-use vhdl_outlines::UnitScope;
+use vhdl_outlines::{FileOutline, UnitScope};
 
 /// The second library that each unit sees without a clause.
 pub static STD: [u8; 3] = *b"std";
@@ -154,16 +155,27 @@ fn add_all(alloc: Global, names: &mut Names, more: &[Text]) -> Result<(), NoMemo
     Ok(())
 }
 
-/// Numbers the names of all library clauses, and `work` and `std`.
-pub fn names_of(alloc: Global, units: &[UnitScope]) -> Result<Names, NoMemory>
-    ensures { IfOk result (λ names.
-        HasAll (implicit ++ flat_map (λ unit. unit.names) units.now) [] (keys_of names)) }
+/// Gives the names of the library clauses of units numbers, where they have none.
+fn add_units(alloc: Global, names: &mut Names, units: &[UnitScope]) -> Result<(), NoMemory>
+    ensures { OnOk result (HasAll (flat_map (λ unit. unit.names) units.now)
+        (keys_of names.old) (keys_of names.new)) }
+{
+    for unit in units {
+        add_all(alloc, names, unit.names.as_slice())?;
+    }
+    Ok(())
+}
+
+/// Numbers the names of the library clauses of all files, and `work` and `std`.
+pub fn names_of(alloc: Global, files: &[FileOutline]) -> Result<Names, NoMemory>
+    ensures { IfOk result (λ names. HasAll
+        (implicit ++ flat_map (λ unit. unit.names) (file_scopes files.now)) [] (keys_of names)) }
 {
     let mut names = Names::new(alloc);
     add(alloc, &mut names, WORK.as_slice())?;
     add(alloc, &mut names, STD.as_slice())?;
-    for unit in units {
-        add_all(alloc, &mut names, unit.names.as_slice())?;
+    for file in files {
+        add_units(alloc, &mut names, file.scopes.as_slice())?;
     }
     Ok(names)
 }

@@ -1,7 +1,8 @@
 //! The sets that units begin with: by their own library clauses.
 
-ghost use Rattle.std.specs.Prelude.{◌≡◌, ◌/◌, ◌<◌, ◌≤◌, ◌*◌, ◌∷◌, ◌++◌, [], Contains, IfOk, OnOk, length, map, replicate};
+ghost use Rattle.std.specs.Prelude.{◌≡◌, ℕ, ◌/◌, ◌<◌, ◌≤◌, ◌*◌, ◌∷◌, ◌++◌, List, [], Contains, IfOk, OnOk, length, map, replicate};
 ghost use Rattle.std.specs.List.{All, AllZip};
+ghost use Rattle.vhdl_outlines.specs.Outlines.{file_scopes};
 ghost use Rattle.vhdl_scope.specs.Names.{implicit, keys_of};
 ghost use Rattle.vhdl_scope.specs.Graph.{AreNamed, HasPut, IsRowOf};
 
@@ -10,7 +11,7 @@ use crate::row::{Room, Row};
 use crate::wants::WORK;
 use base::{NoMemory, Text};
 use std::alloc::Global;
-use vhdl_outlines::UnitScope;
+use vhdl_outlines::{FileOutline, UnitScope};
 
 /// Puts the number of a name into a row.
 fn put(names: &Names, name: &[u8], row: &mut Room)
@@ -69,25 +70,58 @@ fn row_of(
     Ok(room.kept(alloc)?)
 }
 
-/// The rows that units begin with, and after them one for each group, which has `work` and `std`.
+/// Adds the rows that units begin with to those before. What is in `room` is lost.
+fn push_rows(
+    alloc: Global,
+    names: &Names,
+    first: &Row,
+    units: &[UnitScope],
+    room: &mut Room,
+    rows: &mut Vec<Row>,
+) -> Result<(), NoMemory>
+    requires first { IsRowOf (keys_of names.now) (length room.old) first.now implicit }
+    requires known { All (λ unit. AreNamed (keys_of names.now) unit.names) units.now }
+    requires room { length (keys_of names.now) ≤ 64 * length room.old }
+    ensures long { length room.new ≡ length room.old }
+    ensures rows { OnOk result ((before : List (List (List ℕ))) →
+        AllZip (IsRowOf (keys_of names.now) (length room.old)) rows.old.items before →
+        AllZip (IsRowOf (keys_of names.now) (length room.old)) rows.new.items
+        (before ++ map (λ unit. implicit ++ unit.names) units.now)) }
+{
+    for unit in units {
+        rows.push(row_of(alloc, names, first, unit.names.as_slice(), room)?)?;
+    }
+    Ok(())
+}
+
+/// The rows that the units of files begin with, and after them one for each group, which has `work` and `std`.
 pub fn rows_of(
     alloc: Global,
     names: &Names,
-    units: &[UnitScope],
+    files: &[FileOutline],
     groups: usize,
     words: usize,
 ) -> Result<Vec<Row>, NoMemory>
     requires implicit { AreNamed (keys_of names.now) implicit }
-    requires known { All (λ unit. AreNamed (keys_of names.now) unit.names) units.now }
+    requires known { All (λ file. All (λ unit. AreNamed (keys_of names.now) unit.names) file.scopes)
+        files.now }
     requires room { length (keys_of names.now) ≤ 64 * words }
     ensures { IfOk result (λ rows. AllZip (IsRowOf (keys_of names.now) words) rows.items
-        (map (λ unit. implicit ++ unit.names) units.now ++ replicate groups (implicit ++ []))) }
+        (map (λ unit. implicit ++ unit.names) (file_scopes files.now)
+        ++ replicate groups (implicit ++ []))) }
 {
     let first = implicit_row(alloc, names, words)?;
     let mut room = Room::new(alloc, words)?;
     let mut rows = Vec::new(alloc);
-    for unit in units {
-        rows.push(row_of(alloc, names, &first, unit.names.as_slice(), &mut room)?)?;
+    for file in files {
+        push_rows(
+            alloc,
+            names,
+            &first,
+            file.scopes.as_slice(),
+            &mut room,
+            &mut rows,
+        )?;
     }
     for _ in 0..groups {
         rows.push(row_of(alloc, names, &first, &[], &mut room)?)?;

@@ -6,7 +6,7 @@ ghost use Rattle.std.specs.Option.{option_map};
 ghost use Rattle.base.specs.declared.design.Scan.{Scan};
 ghost use Rattle.vhdl_spec.specs.Scans.{AreScansOf};
 ghost use Rattle.vhdl_spec.specs.Visibility.{ScopeUnit, scope_units};
-ghost use Rattle.vhdl_outlines.specs.Outlines.{AreOutlined, AreOutlinesOf};
+ghost use Rattle.vhdl_outlines.specs.Outlines.{AreOutlined, AreOutlinesOf, file_scopes};
 ghost use Rattle.vhdl_outlines.specs.Roles.{IsTextSmall};
 ghost use Rattle.vhdl_scope.specs.Exact.{AreGrown};
 ghost use Rattle.vhdl_scope.specs.Names.{HasAll, implicit, keys_of};
@@ -40,34 +40,28 @@ fn grown_rows(
 ) -> Result<Vec<Row>, NoMemory>
     requires each { length texts.now ≡ length project.now.files }
     requires outlined { AreOutlined texts.now outlines.now }
-    requires named { HasAll (implicit ++ flat_map (λ unit. unit.names) outlines.now.scopes)
+    requires named { HasAll
+        (implicit ++ flat_map (λ unit. unit.names) (file_scopes outlines.now.files))
         [] (keys_of names.now) }
     requires grouped { (scans : List Scan) → AreOutlinesOf texts.now scans outlines.now →
         HasGroups (scope_units project.now.files texts.now scans) groups.now owned.now }
     ensures { IfOk result (λ rows. (scans : List Scan) →
         AreOutlinesOf texts.now scans outlines.now →
-        AreGrown outlines.now.scopes (scope_units project.now.files texts.now scans)
-        (keys_of names.now) rows.items) }
+        AreGrown (file_scopes outlines.now.files)
+        (scope_units project.now.files texts.now scans) (keys_of names.now) rows.items) }
 {
-    let units = outlines.scopes.as_slice();
-    if units.len().checked_add(groups.len()).is_none() {
+    let files = outlines.files.as_slice();
+    let units = owned.len();
+    if units.checked_add(groups.len()).is_none() {
         return Err(NoMemory);
     }
     let words = names.len() / 64 + 1;
-    let mut rows = rows_of(alloc, names, units, groups.len(), words)?;
+    let mut rows = rows_of(alloc, names, files, groups.len(), words)?;
     let gate = match names::find(names, WORK.as_slice()) {
         Some(gate) => gate,
         None => unreachable!(),
     };
-    let mut links = links_of_units(
-        alloc,
-        names,
-        groups,
-        units.len(),
-        project,
-        texts,
-        &outlines.files,
-    )?;
+    let mut links = links_of_units(alloc, names, groups, units, project, texts, &outlines.files)?;
     let mut members = group_links(alloc, groups, owned, gate)?;
     links.append(&mut members)?;
     spread(alloc, links.as_slice(), rows.as_mut_slice(), words)?;
@@ -126,7 +120,7 @@ pub fn visible_sets_by_outlines(
         groups,
         owned,
     } = scopes_of(alloc, project, &outlines.files)?;
-    let names = names_of(alloc, outlines.scopes.as_slice())?;
+    let names = names_of(alloc, outlines.files.as_slice())?;
     let rows = grown_rows(
         alloc,
         &names,

@@ -1,8 +1,8 @@
--- So far those of the units up to the index are there.
+-- So far those of the files up to the index are there.
 use Rattle.std.proofs.Common.{take, [], ◌++◌}
 use Rattle.std.specs.List.{flat_map}
 use Rattle.vhdl_scope.specs.Names.{HasAll, implicit, keys_of}
 use Rattle.vhdl_scope.proofs.names.names_of.Given as goal
 
-abbrev pub invariant-loop-unit : goal.invariant-loop-unit
-invariant-loop-unit l = HasAll (implicit ++ flat_map (λ unit. unit.names) (take l.unit-index l.units)) [] (keys_of l.names)
+abbrev pub invariant-loop-file : goal.invariant-loop-file
+invariant-loop-file l = HasAll (implicit ++ flat_map (λ file. flat_map (λ unit. unit.names) file.scopes) (take l.file-index l.files)) [] (keys_of l.names)

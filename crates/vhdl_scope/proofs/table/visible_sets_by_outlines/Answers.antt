@@ -2,6 +2,7 @@
 use Rattle.std.proofs.Common.{◌∙◌, List, subst, sym}
 use Rattle.vhdl_spec.specs.Visibility.{scope_units}
 use Rattle.vhdl_outlines.specs.declared.outlines.UnitScope.{UnitScope}
+use Rattle.vhdl_outlines.proofs.OutlineLemmas.{scopes_kept}
 use Rattle.vhdl_scope.specs.Names.{keys_of}
 use Rattle.vhdl_scope.specs.Exact.{AreGrown}
 use Rattle.vhdl_scope.specs.Scopes.{HasGroups}
@@ -17,4 +18,4 @@ pub returns : goal.returns
 returns c scans are =
     visible c.args.project.now.files c.args.texts.now scans c.in_ok-starts.field-0 (keys_of c.in_ok-names.names) c.in_ok-rows.rows.items (c.in_ok-starts.ensures c.args.texts.now scans are.files)
     (subst (λ (units : List UnitScope). AreGrown units (scope_units c.args.project.now.files c.args.texts.now scans) (keys_of c.in_ok-names.names) c.in_ok-rows.rows.items)
-    (are.scopes ∙ scopes_are c.args.project.now.files c.args.texts.now scans c.requires.each) (c.in_ok-rows.ensures scans are))
+    (scopes_kept c.args.texts.now scans c.args.outlines.now.files are.files ∙ scopes_are c.args.project.now.files c.args.texts.now scans c.requires.each) (c.in_ok-rows.ensures scans are))
