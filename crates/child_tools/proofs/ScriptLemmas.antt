@@ -1,8 +1,8 @@
 -- The script lines of comments, one after the other.
-use Rattle.std.proofs.Common.{◌≡◌, ℕ, ◌+◌, ◌<◌, ◌≤◌, Option, Some, None, List, length, drop, refl, sym, ap, ap₂, ◌∙◌}
+use Rattle.std.proofs.Common.{◌≡◌, ℕ, ◌+◌, ◌<◌, ◌≤◌, Option, Some, None, List, length, drop, sym, ap, ap₂, ◌∙◌}
 use Rattle.std.specs.Prelude.{slice_get}
 use Rattle.std.specs.List.{cons_option, filter_map}
-use Rattle.std.specs.Option.{option_map, option_or}
+use Rattle.std.specs.Option.{option_or}
 use Rattle.std.proofs.lemmas.List.{drop_all, drop_more}
 use Rattle.base.specs.declared.lexical.Span.{Span}
 use Rattle.child_tools.proofs.Comments.{comment_at}
@@ -33,14 +33,5 @@ refused_never text comments i long so_far = ap (λ (lines : List (List ℕ)). sl
 
 -- ## The first of five that is there
 
-mapped_or : {X Y : Type 0} (f : X → Y) (a b : Option X) → option_map f (option_or a b) ≡ option_or (option_map f a) (option_map f b)
-mapped_or f None b = refl
-mapped_or f (Some x) b = refl
-
-next_of : {X Y : Type 0} (f : X → Y) (a b r : Option X) (p q : Option Y) → option_map f a ≡ p → option_map f b ≡ q → r ≡ option_or a b → option_map f r ≡ option_or p q
-next_of f a b r p q one two is = ap (option_map f) is ∙ (mapped_or f a b ∙ ap₂ option_or one two)
-
-pub first_of_five : {X Y : Type 0} (f : X → Y) (a b c d e : Option X) (p q r s t : Option Y) (two three four five : Option X) → option_map f a ≡ p → option_map f b ≡ q → option_map f c ≡ r → option_map f d ≡ s → option_map f e ≡ t
-    → two ≡ option_or a b → three ≡ option_or two c → four ≡ option_or three d → five ≡ option_or four e → option_map f five ≡ option_or (option_or (option_or (option_or p q) r) s) t
-first_of_five f a b c d e p q r s t two three four five is_a is_b is_c is_d is_e second third fourth fifth =
-    next_of f four e five _ t (next_of f three d four _ s (next_of f two c three _ r (next_of f a b two p q is_a is_b second) is_c third) is_d fourth) is_e fifth
+pub same_first : {Y : Type 0} (p q r s t v w x y z : Option Y) → v ≡ p → w ≡ q → x ≡ r → y ≡ s → z ≡ t → option_or (option_or (option_or (option_or v w) x) y) z ≡ option_or (option_or (option_or (option_or p q) r) s) t
+same_first p q r s t v w x y z is_p is_q is_r is_s is_t = ap₂ option_or (ap₂ option_or (ap₂ option_or (ap₂ option_or is_p is_q) is_r) is_s) is_t

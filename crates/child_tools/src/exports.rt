@@ -21,15 +21,23 @@ use std::alloc::Global;
 fn exported_by(line: &[u8]) -> Option<&[u8]>
     ensures { option_map (λ name. name.now) result ≡ exported_by line.now }
 {
-    let entity = after_word(b"unit entity ", line);
-    let configuration = after_word(b"unit configuration ", line);
-    let package = after_word(b"unit package ", line);
-    let instance = after_word(b"unit instance ", line);
-    let context = after_word(b"unit context ", line);
-    let two = entity.or(configuration);
-    let three = two.or(package);
-    let four = three.or(instance);
-    four.or(context)
+    match after_word(b"unit entity ", line) {
+        Some(name) => return Some(name),
+        None => {}
+    }
+    match after_word(b"unit configuration ", line) {
+        Some(name) => return Some(name),
+        None => {}
+    }
+    match after_word(b"unit package ", line) {
+        Some(name) => return Some(name),
+        None => {}
+    }
+    match after_word(b"unit instance ", line) {
+        Some(name) => return Some(name),
+        None => {}
+    }
+    after_word(b"unit context ", line)
 }
 
 /// Marks a unit as found, where it is wanted.
