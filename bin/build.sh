@@ -4,10 +4,10 @@
 # Minutes of a build from nothing by the number of checks at once.
 minutes_of() {
     case $1 in
-        1) echo 90 ;;
-        2) echo 50 ;;
-        3) echo 36 ;;
-        *) echo 30 ;;
+        1) echo 145 ;;
+        2) echo 75 ;;
+        3) echo 55 ;;
+        *) echo 48 ;;
     esac
 }
 
