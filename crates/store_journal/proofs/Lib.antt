@@ -1,5 +1,6 @@
 -- The lemmas.
 pub mod Spelled
+pub mod WindowLemmas
 pub mod Headers
 pub mod Went
 pub mod Settled
@@ -17,7 +18,6 @@ pub mod Replacing
 pub mod Fresh
 pub mod Emptied
 pub mod Emptying
-pub mod Buffers
 pub mod Lives
 pub mod Openings
 pub mod Readings

@@ -13,7 +13,7 @@ use Rattle.store_journal.proofs.Openings.{Ends, ends_payloads}
 use Rattle.store_journal.proofs.Settled.{settled_each}
 
 -- a run without a call
-goes_nowhere : (moments : Moments) → Goes moments.now moments moments
+pub goes_nowhere : (moments : Moments) → Goes moments.now moments moments
 goes_nowhere moments = record { inside = []; added = sym (append-nil (all_of moments)); shrinks = tt; within = λ image is. is }
 
 pub rests_at_once : {T E : Type 0} (result : Result T E) (moments : Moments) → moments.now ≡ settled_disk (reads_of moments.now) → Rests result moments moments

@@ -1,6 +1,6 @@
 -- The definitions.
 pub mod Payloads
-pub mod Places
+pub mod Windows
 pub mod Headers
 pub mod Journals
 pub mod Steps

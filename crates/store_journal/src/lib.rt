@@ -8,10 +8,11 @@ mod journal;
 mod layout;
 mod making;
 mod opening;
-mod parsing;
 mod payloads;
+mod reading;
 mod ready;
 mod sides;
+mod windows;
 
 pub use journal::{Journal, commit_both};
 pub use opening::Opened;

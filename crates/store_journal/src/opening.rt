@@ -1,18 +1,18 @@
 //! Opening a journal over whatever a disk holds.
 
-ghost use Rattle.std.specs.Prelude.{◌≡◌, ◌≢◌, ◌≤◌, ℕ, [], true, false, None, length, IfOk, IfSome, OnOk};
+ghost use Rattle.std.specs.Prelude.{◌≡◌, ◌≢◌, ◌≤◌, ◌-◌, ◌↔◌, ℕ, [], true, false, None, slice_index, IsTrue, IfOk, IfSome, OnOk};
 ghost use Rattle.outside.specs.Counts.{StoreCounts};
 ghost use Rattle.outside.specs.Disks.{reads_of, settled_disk, image_side, AtAnyMoment, OpensWith};
 ghost use Rattle.outside.specs.declared.disk.Side.TheVariants.{A};
 ghost use Rattle.store_journal.specs.Forms.{HoldsSame, has_form};
 ghost use Rattle.store_journal.specs.Payloads.{payloads, counting, generation_of, side_bytes};
-ghost use Rattle.store_journal.specs.Journals.{IsInStep, HasPayloadsOf, IsHealthy, Rests, OpensAs, CountsAs};
+ghost use Rattle.store_journal.specs.Journals.{EndsAt, IsInStep, HasPayloadsOf, IsHealthy, Rests, OpensAs, CountsAs};
 ghost use Rattle.store_journal.specs.Headers.{headers_in, IsLiveOf};
 
 use crate::layout::{Headers, Live, empty_side, live_side};
 use crate::making::make_side;
-use crate::parsing::{Found, find_payloads};
-use crate::sides::{read_first, read_headers};
+use crate::reading::{Found, read_payloads};
+use crate::sides::read_headers;
 use crate::{Journal, Payloads};
 use outside::{Disk, Side, StoreFault, write_durably};
 use std::alloc::Global;
@@ -157,7 +157,7 @@ pub(crate) fn begin<D: Disk>(alloc: Global, disk: &mut D, form: u8) -> Result<Op
     })
 }
 
-/// Reads the side that counts, into one buffer, and opens it.
+/// Reads the payloads of the side that counts, and opens it.
 fn open<D: Disk>(alloc: Global, disk: &mut D, form: u8, live: Live) -> Result<Opened, StoreFault>
     requires size { 19 ≤ live.len }
     requires settled { D.tells →
@@ -183,24 +183,26 @@ fn open<D: Disk>(alloc: Global, disk: &mut D, form: u8, live: Live) -> Result<Op
     ensures cause { StoreCounts result (D.failed_disk_calls disk.old)
         (D.failed_disk_calls disk.new) }
 {
-    let bytes = read_first(alloc, disk, live.side, live.len)?;
-    open_bytes(alloc, disk, form, live, bytes)
+    let found = read_payloads(alloc, disk, live)?;
+    finish_opening(disk, form, live, found)
 }
 
-/// Opens the side that counts, of these bytes: finds its payloads, and closes the gate after them where it is open.
-fn open_bytes<D: Disk>(
-    alloc: Global,
+/// Opens the side that counts, of which this was found: closes the gate after its payloads where it is open.
+fn finish_opening<D: Disk>(
     disk: &mut D,
     form: u8,
     live: Live,
-    bytes: Vec<u8>,
+    found: Found,
 ) -> Result<Opened, StoreFault>
-    requires size { 19 ≤ length bytes.items }
+    requires size { 19 ≤ found.len }
     requires settled { D.tells →
         (D.moments disk.old).now ≡ settled_disk (reads_of (D.moments disk.old).now) }
     requires live { D.tells → IsLiveOf form (reads_of (D.moments disk.old).now) live }
-    requires bytes { D.tells →
-        image_side live.side (reads_of (D.moments disk.old).now) ≡ bytes.items }
+    requires end { D.tells →
+        EndsAt found.len found.payloads (image_side live.side (reads_of (D.moments disk.old).now)) }
+    requires gate { D.tells →
+        let bytes = image_side live.side (reads_of (D.moments disk.old).now) in
+        IsTrue found.is_open ↔ (slice_index bytes (found.len - 1) ≡ 1) }
     ensures any_moment { D.tells →
         AtAnyMoment (D.moments disk.old) (D.moments disk.new)
         (λ image. payloads form image ≡ payloads form (reads_of (D.moments disk.old).now)) }
@@ -221,11 +223,10 @@ fn open_bytes<D: Disk>(
     ensures cause { StoreCounts result (D.failed_disk_calls disk.old)
         (D.failed_disk_calls disk.new) }
 {
-    let found = find_payloads(alloc, bytes)?;
     if !found.is_open {
         return Ok(as_found(form, live, found));
     }
-    write_durably(disk, live.side, found.len as u64 - 1, &[0])?;
+    write_durably(disk, live.side, found.len - 1, &[0])?;
     Ok(as_found(form, live, found))
 }
 
@@ -243,7 +244,7 @@ fn as_found(form: u8, live: Live, found: Found) -> Opened
     ensures payloads { result.payloads ≡ found.payloads }
 {
     Opened {
-        journal: Journal::of(form, live.side, live.generation, found.len as u64),
+        journal: Journal::of(form, live.side, live.generation, found.len),
         payloads: found.payloads,
     }
 }

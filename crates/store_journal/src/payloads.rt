@@ -1,35 +1,26 @@
-//! The list of payloads, as places in one buffer.
+//! The list of payloads, each in a buffer of its own.
 
-ghost use Rattle.std.specs.Prelude.{◌≡◌, ◌≤◌, ◌+◌, ◌^◌, ◌<◌, ◌++◌, ◌==◌, [], ◌∷◌, length, map, All, slice_get, Some, OnOk, OnErr};
-ghost use Rattle.store_journal.specs.Places.{cut, IsPlaceIn};
+ghost use Rattle.std.specs.Prelude.{◌≡◌, ◌<◌, ◌^◌, ◌++◌, ◌==◌, [], ◌∷◌, length, slice_get, Some, OnOk, OnErr};
 
-use base::NoMemory;
+use base::{NoMemory, Text};
 use std::alloc::Global;
 use std::marker::Model;
 
-/// Where a payload is in a buffer: its first byte, and the number of its bytes.
-#[derive(Clone, Copy)]
-pub struct Place {
-    pub start: usize,
-    pub count: usize,
-}
-
-/// Payloads of a journal, in order, each of fewer than 2^32 bytes, in one buffer. Contracts see their list.
+/// Payloads of a journal, in order, each of fewer than 2^32 bytes. Each has a buffer of just its bytes, so that memory
+/// which was given back in pieces serves for them. Contracts see their list.
 #[derive(Drop)]
 pub struct Payloads {
-    bytes: Vec<u8>,
-    places: Vec<Place>,
+    list: Vec<Text>,
 }
 
 impl Model for Payloads {
-    ghost use Rattle.std.specs.Prelude.{List, ℕ, map, All};
-    ghost use Rattle.store_journal.specs.Places.{cut, IsPlaceIn};
+    ghost use Rattle.std.specs.Prelude.{List, ℕ, ◌<◌, ◌^◌, length, All};
 
     ghost Value = { List (List ℕ) };
 
-    ghost view = { λ a. map (cut a.bytes.items) a.places.items };
+    ghost view = { λ a. a.list.items };
 
-    ghost invariant = { λ a. All (IsPlaceIn a.bytes.items) a.places.items };
+    ghost invariant = { λ a. All (λ payload. length payload < 2 ^ 32) a.list.items };
 }
 
 impl Payloads {
@@ -38,17 +29,8 @@ impl Payloads {
         ensures { result ≡ [] }
     {
         Payloads {
-            bytes: Vec::new(alloc),
-            places: Vec::new(alloc),
+            list: Vec::new(alloc),
         }
-    }
-
-    /// The payloads at places of a buffer, which is kept as it is.
-    pub(crate) fn of(bytes: Vec<u8>, places: Vec<Place>) -> Payloads
-        requires { All (IsPlaceIn bytes.items) places.items }
-        ensures { result ≡ map (cut bytes.items) places.items }
-    {
-        Payloads { bytes, places }
     }
 
     /// The number of payloads.
@@ -56,23 +38,32 @@ impl Payloads {
         ensures len { result ≡ length self.now }
         ensures small { result < 2 ^ 63 }
     {
-        self.places.len() as u64
+        self.list.len() as u64
     }
 
     pub fn is_empty(&self) -> bool
         ensures { result ≡ (length self.now == 0) }
     {
-        self.places.is_empty()
+        self.list.is_empty()
     }
 
-    /// The bytes of the payload at a position, counted from 0, lent from the buffer.
+    /// The bytes of the payload at a position, counted from 0, lent.
     pub fn get(&self, i: u64) -> &[u8]
         requires { i < length self.now }
         ensures payload { slice_get self.now i ≡ Some result.now }
         ensures small { length result.now < 2 ^ 32 }
     {
-        let place = self.places[i as usize];
-        slice_at(&self.bytes, place)
+        self.list[i as usize].bytes()
+    }
+
+    /// Adds a payload at the end, which is moved in. After `NoMemory` the list is unchanged.
+    pub(crate) fn put(&mut self, payload: Text) -> Result<(), NoMemory>
+        requires { length payload < 2 ^ 32 }
+        ensures ok { OnOk result (self.new ≡ self.old ++ payload ∷ []) }
+        ensures err { OnErr result (self.new ≡ self.old) }
+    {
+        self.list.push(payload)?;
+        Ok(())
     }
 
     /// Adds a copy of a payload at the end. After `NoMemory` the list is unchanged.
@@ -81,21 +72,7 @@ impl Payloads {
         ensures ok { OnOk result (self.new ≡ self.old ++ payload.now ∷ []) }
         ensures err { OnErr result (self.new ≡ self.old) }
     {
-        let place = Place {
-            start: self.bytes.len(),
-            count: payload.len(),
-        };
-        self.bytes.extend_from_slice(payload)?;
-        self.places.push(place)?;
-        Ok(())
+        let copy = Text::from_slice(alloc, payload)?;
+        self.put(copy)
     }
-}
-
-/// The bytes at a place.
-fn slice_at(bytes: &[u8], place: Place) -> &[u8]
-    requires { IsPlaceIn bytes.now place }
-    ensures { result.now ≡ cut bytes.now place }
-{
-    let end = place.start + place.count;
-    &bytes[place.start..end]
 }

@@ -1,6 +1,6 @@
 //! Reading a disk, after both sides are synced: how they begin, and then one of them.
 
-ghost use Rattle.std.specs.Prelude.{◌≡◌, ◌^◌, ◌<◌, ◌≤◌, length, min, IfOk, IfSome, OnOk};
+ghost use Rattle.std.specs.Prelude.{◌≡◌, ◌^◌, ◌<◌, ◌≤◌, ◌+◌, length, min, IfOk, IfSome, OnOk};
 ghost use Rattle.outside.specs.Counts.{StoreCounts};
 ghost use Rattle.outside.specs.Disks.{side_of, bytes_at, reads_of, settled_disk, Goes};
 ghost use Rattle.store_journal.specs.Headers.{header_in, headers_in};
@@ -9,17 +9,18 @@ use crate::layout::{FormHeaders, Header, Headers, header_of};
 use outside::{Disk, Side, StoreFault};
 use std::alloc::Global;
 
-/// So many bytes of a side, from its start on.
-pub fn read_first<D: Disk>(
+/// So many bytes of a side, from an offset on.
+pub fn read_some<D: Disk>(
     alloc: Global,
     disk: &mut D,
     side: Side,
+    at: u64,
     count: u64,
 ) -> Result<Vec<u8>, StoreFault>
-    requires { D.tells → (count ≤ length (side_of side (D.moments disk.old).now).reads) }
+    requires { D.tells → (at + count ≤ length (side_of side (D.moments disk.old).now).reads) }
     ensures bytes { D.tells →
         IfOk result
-        (λ bytes. bytes.items ≡ bytes_at 0 count (side_of side (D.moments disk.old).now).reads) }
+        (λ bytes. bytes.items ≡ bytes_at at count (side_of side (D.moments disk.old).now).reads) }
     ensures length { IfOk result (λ bytes. length bytes.items ≡ count) }
     ensures same { D.tells → OnOk result ((D.moments disk.new).now ≡ (D.moments disk.old).now) }
     ensures moments { D.tells →
@@ -28,7 +29,7 @@ pub fn read_first<D: Disk>(
         (D.failed_disk_calls disk.new) }
 {
     let mut bytes = vec![in alloc; 0; count as usize]?;
-    disk.read(side, 0, &mut bytes)?;
+    disk.read(side, at, &mut bytes)?;
     Ok(bytes)
 }
 
@@ -69,7 +70,7 @@ fn read_header<D: Disk>(
         (D.failed_disk_calls disk.new) }
 {
     let len = disk.len(side)?;
-    let first = read_first(alloc, disk, side, header_count(len))?;
+    let first = read_some(alloc, disk, side, 0, header_count(len))?;
     let newer = header_of(newer, len, &first);
     let older = header_of(older, len, &first);
     Ok(SideHeaders { newer, older })

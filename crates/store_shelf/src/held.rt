@@ -1,4 +1,4 @@
-//! The payloads of a store: those that it was opened with, in one buffer, and each later one as it was written.
+//! The payloads of a store: those that it was opened with, and each later one as it was written.
 
 ghost use Rattle.std.specs.Prelude.{◌≡◌, ◌<◌, ◌++◌, ◌∷◌, [], length, slice_get, Some, OnOk};
 

@@ -9,3 +9,5 @@ mod forms;
 mod journals;
 #[cfg(test)]
 mod objects;
+#[cfg(test)]
+mod windows;

@@ -7,12 +7,12 @@ use Rattle.store_journal.proofs.sides.read_header.Goals as goal
 pub returns-in_err-first-clause-moments : goal.returns-in_err-first-clause-moments
 returns-in_err-first-clause-moments g c = λ told.
     let moments = g.D.Disk.moments in
-    goes_then (moments c.args.disk.now).now (moments c.args.disk.now) (moments c.len.new.self) (moments c.read_first.new.disk) (c.len.ensures.moments told) (c.read_first.ensures.moments told)
+    goes_then (moments c.args.disk.now).now (moments c.args.disk.now) (moments c.len.new.self) (moments c.read_some.new.disk) (c.len.ensures.moments told) (c.read_some.ensures.moments told)
 
 pub returns-clause-moments : goal.returns-clause-moments
 returns-clause-moments g c = λ told.
     let moments = g.D.Disk.moments in
-    goes_then (moments c.args.disk.now).now (moments c.args.disk.now) (moments c.len.new.self) (moments c.read_first.new.disk) (c.len.ensures.moments told) (c.read_first.ensures.moments told)
+    goes_then (moments c.args.disk.now).now (moments c.args.disk.now) (moments c.len.new.self) (moments c.read_some.new.disk) (c.len.ensures.moments told) (c.read_some.ensures.moments told)
 
 pub returns-clause-newer : goal.returns-clause-newer
 returns-clause-newer g c = λ told.
