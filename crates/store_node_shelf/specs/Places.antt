@@ -16,10 +16,9 @@ use Rattle.store_node_shelf.specs.declared.records.RecordPlace.{RecordPlace}
 use Rattle.store_node_shelf.specs.declared.records.RecordPlaces.{RecordPlaces}
 use Rattle.store_node_shelf.specs.declared.shelf.ShelfPlaces.{ShelfPlaces}
 
--- payloads in order, and for how many more there is room
+-- payloads in order
 pub record PieceList : Type 0 where
   pub payloads : List (List ℕ)
-  pub room : ℕ
 
 abbrev pub payload_at : List (List ℕ) → ℕ → List ℕ
 payload_at payloads number = slice_index_or payloads number []

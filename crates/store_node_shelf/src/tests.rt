@@ -57,7 +57,7 @@ fn shelved(alloc: Global, pieces: &Pieces) -> Result<usize, NoMemory> {
 }
 
 fn shelved_of(alloc: Global, opened: Payloads) -> Result<usize, NoMemory> {
-    let pieces = Pieces::of(alloc, opened);
+    let pieces = Pieces::of(opened);
     shelved(alloc, &pieces)
 }
 

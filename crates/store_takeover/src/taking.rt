@@ -147,7 +147,7 @@ pub fn taken_over(alloc: Global, journal: &Journal, opened: Payloads) -> Result<
         (request_shelf_of payloads).records
         ≡ migrated_requests (node_shelf_of opened).records) }
 {
-    let pieces = Pieces::of(alloc, opened);
+    let pieces = Pieces::of(opened);
     let payloads = taken_from(alloc, journal, &pieces)?;
     Ok(payloads)
 }
