@@ -238,11 +238,17 @@ stopped.wait()
 write("project", {"p.vhd": FILES["p.vhd"]})
 expect("p is edited back after a stop", "project", 0, build_text([(b"lib", b"p.vhd")]), "--compile", env=environment("requests"))
 
-# A side of more bytes than there is memory for, most of which take no room on the disk: `--clean` doesn't read it.
+# A side of more bytes than there is memory for, most of which take no room on the disk: it is read up to its closed gate alone.
+LITTLE = ["sh", "-c", 'ulimit -v 262144; exec "$@"', "sh"]
+restore()
+put(A, side(given))
+os.truncate(A, 2**40)
+expect("a side of a tebibyte", "project", 0, "Re-compile not needed\n", "--compile", env=environment("requests"), before=LITTLE)
+# A payload of more bytes than there is memory for: `--clean` doesn't read it.
 restore()
 put(A, side(given, end=b"\1\0\0\0\x40"))
 os.truncate(A, 2**40)
-expect("a side of a tebibyte", "project", 4, "", "--compile", error="vunit_run: out of memory\n", env=environment("requests"))
+expect("a payload of a gibibyte", "project", 4, "", "--compile", error="vunit_run: out of memory\n", env=environment("requests"), before=LITTLE)
 expect("a side of a tebibyte that is emptied", "project", 0, build_text([(b"lib", path.encode()) for path in sorted(FILES) if path != "vunit.toml"]), "--compile", "--clean", env=environment("requests"))
 expect("and once more", "project", 0, build_text([]), "--compile", env=environment("requests"))
 
