@@ -1,0 +1,13 @@
+-- The lemmas.
+pub mod MadeFiles
+pub mod SteadyMarks
+pub mod MarksUnrefused
+pub mod CompiledFiles
+pub mod StartedOver
+pub mod CommittedRecords
+pub mod TouchedFiles
+pub mod AskedAgain
+pub mod BothBuilds
+pub mod TestsEnded
+pub mod PassedCases
+pub mod GeneratedCounts
