@@ -1,0 +1,12 @@
+-- The lemmas.
+pub mod Digits
+pub mod Rests
+pub mod Parts
+pub mod Pieces
+pub mod PackageParts
+pub mod PackageTokens
+pub mod PackageRoles
+pub mod PackageOutlines
+pub mod PackageFindings
+pub mod PackageReferences
+pub mod PackageExamples

@@ -1,0 +1,4 @@
+-- The definitions.
+pub mod PackageScans
+pub mod PackageLinks
+pub mod PackageExamples
