@@ -1,6 +1,8 @@
 -- The lemmas.
 pub mod Digits
 pub mod Rests
+pub mod ByteTests
+pub mod Strings
 pub mod Parts
 pub mod Pieces
 pub mod PackageParts
@@ -10,3 +12,4 @@ pub mod PackageOutlines
 pub mod PackageFindings
 pub mod PackageReferences
 pub mod PackageExamples
+pub mod BenchFindings

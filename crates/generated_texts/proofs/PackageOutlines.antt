@@ -5,7 +5,7 @@ use Rattle.base.specs.declared.design.Role.{Role}
 use Rattle.base.specs.declared.design.Role.TheVariants.{End, Function, Generate, Package, Procedure, Semicolon}
 use Rattle.vhdl_spec.specs.References.{is_semicolon}
 use Rattle.vhdl_spec.specs.Units.{role_at, IsPackageOpener, IsSubprogramOpener, IsGenerateOpener, IsPlainEnd, IsSingle, Items, nothing, single, IsFirstSemicolon, IsOutline}
-use Rattle.generated_texts.proofs.Parts.{both_of}
+use Rattle.generated_texts.proofs.ByteTests.{both_of}
 use Rattle.generated_texts.specs.PackageScans.{file_elements, file_roles}
 
 -- a role of a token that neither opens nor ends anything
@@ -35,7 +35,7 @@ abbrev all_from : (Role → Bool) → List Role → ℕ → ℕ → Bool
 all_from test roles at zero = true
 all_from test roles at (suc count) = test (role_at roles at) && all_from test roles (at + 1) count
 
-quiet_items : (roles : List Role) (start at count end : ℕ) → end ≡ at + count → all_from is_quiet roles at count ≡ true → Items roles start false at end
+pub quiet_items : (roles : List Role) (start at count end : ℕ) → end ≡ at + count → all_from is_quiet roles at count ≡ true → Items roles start false at end
 quiet_items roles start at zero end up_to all = nothing (omega (arith, up_to))
 quiet_items roles start at (suc count) end up_to all =
     let both = both_of (is_quiet (role_at roles at)) (all_from is_quiet roles (at + 1) count) all in
@@ -58,7 +58,7 @@ none_before roles start (suc count) all before from below =
     absurd no_number)
     (order start before)
 
-first_semicolon : (roles : List Role) (start count at : ℕ) → at ≡ start + count → all_from is_no_semicolon roles start count ≡ true → role_at roles at ≡ Semicolon → IsFirstSemicolon roles start at
+pub first_semicolon : (roles : List Role) (start count at : ℕ) → at ≡ start + count → all_from is_no_semicolon roles start count ≡ true → role_at roles at ≡ Semicolon → IsFirstSemicolon roles start at
 first_semicolon roles start count at up_to all there = record {
   after = omega (arith, up_to);
   there = there;

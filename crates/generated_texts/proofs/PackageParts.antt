@@ -6,15 +6,16 @@ use Rattle.std.specs.List.{list_all}
 use Rattle.std.proofs.lemmas.Bool.Decides.{nat_tests}
 use Rattle.vhdl_spec.specs.Tokens.{is_word_byte}
 use Rattle.generated_project.specs.Files.{library_words, all_words, package_words, constant_words, end_words, note_line}
-use Rattle.generated_texts.proofs.Parts.{letters, number, mark, gap, note, Part, joined, is_part, are_parts, both_of}
+use Rattle.generated_texts.proofs.Parts.{letters, number, mark, gap, note, Part, joined, is_part, are_parts}
+use Rattle.generated_texts.proofs.ByteTests.{both_of}
 
-abbrev word : List ℕ → Part
+abbrev pub word : List ℕ → Part
 word bytes = record { kind = letters; bytes = bytes }
 
-abbrev sign : ℕ → Part
+abbrev pub sign : ℕ → Part
 sign byte = record { kind = mark; bytes = byte ∷ [] }
 
-abbrev blank : ℕ → Part
+abbrev pub blank : ℕ → Part
 blank byte = record { kind = gap; bytes = byte ∷ [] }
 
 -- a name with these digits

@@ -12,7 +12,8 @@ use Rattle.base.specs.declared.lexical.TokenKind.TheVariants.{High}
 use Rattle.vhdl_spec.specs.Units.{name_of, word_role}
 use Rattle.vhdl_spec.specs.Words.{lower_case, reserved_words}
 use Rattle.generated_texts.proofs.PackageParts.{use_parts, line_parts, note_parts, file_parts}
-use Rattle.generated_texts.proofs.Parts.{Part, both_of}
+use Rattle.generated_texts.proofs.Parts.{Part}
+use Rattle.generated_texts.proofs.ByteTests.{both_of}
 use Rattle.generated_texts.proofs.Pieces.{part_roles, roles_in, part_names, names_in, name_in}
 use Rattle.generated_texts.specs.PackageScans.{AreDigits, use_roles, lines_roles, file_roles}
 

@@ -1,19 +1,22 @@
 -- A text by its parts: the bytes of each piece, and what of piece it is. Where each part begins and ends as its kind has
 -- it, the pieces of the text's cut are these parts.
-use Rattle.std.proofs.Common.{◌≡◌, zero, suc, ℕ, ◌+◌, ◌-◌, ◌<◌, ◌≤◌, ◌⊎◌, ◌==◌, ◌&&◌, ◌||◌, Bool, true, false, not, List, [], ◌∷◌, ◌++◌, length, slice_index, Option, refl, sym, ap, subst, ◌∙◌, inl, inr, ⊎_elim, arith}
+use Rattle.std.proofs.Common.{◌≡◌, zero, suc, ℕ, ◌+◌, ◌-◌, ◌<◌, ◌≤◌, ◌==◌, ◌&&◌, ◌||◌, Bool, true, false, not, List, [], ◌∷◌, ◌++◌, length, slice_index, Option, refl, sym, ap, subst, ◌∙◌, ⊎_elim, arith}
 use Rattle.std.specs.Char.{is_ascii_digit, is_ascii_alphabetic}
 use Rattle.std.specs.Int.{is_in_range}
 use Rattle.std.specs.List.{list_all}
 use Rattle.std.proofs.lemmas.Bool.Decides.{nat_tests}
 use Rattle.std.proofs.str.Laws.{order}
 use Rattle.base.specs.declared.lexical.Token.{Token}
-use Rattle.base.specs.declared.lexical.TokenKind.TheVariants.{Word, Number, Symbol}
-use Rattle.vhdl_spec.specs.Tokens.{Row, blank, line_comment, token, first_row, row_at, is_tick_at, is_blank, is_line_end, is_word_byte, is_number_byte, EachByte, HasForm, IsRight, Piece, Place, Leads, place_after}
+use Rattle.base.specs.declared.lexical.TokenKind.TheVariants.{Word, Number, Str, Symbol}
+use Rattle.vhdl_spec.specs.Tokens.{Row, blank, line_comment, token, first_row, row_at, is_tick_at, is_blank, is_word_byte, is_number_byte, EachByte, IsMarked, HasForm, IsRight, Piece, Place, Leads, place_after}
+use Rattle.generated_texts.proofs.ByteTests.{begins_with, in_line, is_empty, is_quote, ends_quoted, both_of, either_of, false_both, not_false}
 use Rattle.generated_texts.proofs.Rests.{IsRest, rest_after, rest_byte, rest_size}
+use Rattle.generated_texts.proofs.Strings.{Quoted, quoted_of, marked, before_close}
 
 pub data Kind : Type 0 where
   letters : Kind
   number : Kind
+  quoted : Kind
   mark : Kind
   gap : Kind
   note : Kind
@@ -25,6 +28,7 @@ pub record Part : Type 0 where
 abbrev pub row_of : Kind → Row
 row_of letters = token Word
 row_of number = token Number
+row_of quoted = token Str
 row_of mark = token Symbol
 row_of gap = blank
 row_of note = line_comment
@@ -47,32 +51,22 @@ pieces_from at (part ∷ parts) = piece_of at part ∷ pieces_from (end_of at pa
 
 -- ## How parts begin and end
 
-abbrev pub begins_with : (ℕ → Bool) → List ℕ → Bool
-begins_with test [] = false
-begins_with test (byte ∷ bytes) = test byte
-
 -- all pass a test that what comes next doesn't pass
 abbrev pub runs : (ℕ → Bool) → List ℕ → List ℕ → Bool
 runs test bytes rest = list_all test bytes && not (begins_with test rest)
 
--- a dot, and the bytes from a colon up to an equals sign
+-- parentheses, a dot, and the bytes from a colon up to an equals sign
 abbrev pub is_mark : ℕ → Bool
-is_mark byte = byte == 46 || is_in_range 58 61 byte
-
-abbrev pub in_line : ℕ → Bool
-in_line byte = not (is_line_end byte)
+is_mark byte = is_in_range 40 41 byte || (byte == 46 || is_in_range 58 61 byte)
 
 abbrev is_dash : ℕ → Bool
 is_dash byte = byte == 45
-
-abbrev is_empty : List ℕ → Bool
-is_empty [] = true
-is_empty (byte ∷ bytes) = false
 
 -- a part of a kind that begins with a byte and goes on with others, before what comes next
 abbrev pub is_kind : Kind → ℕ → List ℕ → List ℕ → Bool
 is_kind letters byte bytes rest = is_ascii_alphabetic byte && runs is_word_byte bytes rest
 is_kind number byte bytes rest = is_ascii_digit byte && runs is_number_byte bytes rest
+is_kind quoted byte bytes rest = is_quote byte && ends_quoted bytes rest
 is_kind mark byte bytes rest = is_mark byte && is_empty bytes
 is_kind gap byte bytes rest = is_blank byte && is_empty bytes
 is_kind note byte bytes rest = is_dash byte && (begins_with is_dash bytes && runs in_line bytes rest)
@@ -85,24 +79,6 @@ is_part kind (byte ∷ bytes) rest = is_kind kind byte bytes rest
 abbrev pub are_parts : List Part → List ℕ → Bool
 are_parts [] rest = true
 are_parts (part ∷ parts) rest = is_part part.kind part.bytes (joined parts rest) && are_parts parts rest
-
--- ## Tests
-
-pub both_of : (x y : Bool) → (x && y) ≡ true → (x ≡ true) × (y ≡ true)
-both_of true y h = (refl, h)
-both_of false y h = let nothing : ⊥ = cc in absurd nothing
-
-either_of : (x y : Bool) → (x || y) ≡ true → (x ≡ true) ⊎ (y ≡ true)
-either_of true y h = inl refl
-either_of false y h = inr h
-
-false_both : (x : Bool) → (x && false) ≡ true → ⊥
-false_both true h = cc
-false_both false h = cc
-
-not_false : (x : Bool) → not x ≡ true → x ≡ false
-not_false true h = let nothing : ⊥ = cc in absurd nothing
-not_false false h = refl
 
 -- ## A run of bytes
 
@@ -163,8 +139,16 @@ module _ (start tick : Bool) (a b c : ℕ) where
   unfolding first_row
   colon_row is = grind (arith, nat_tests)
 
+  parenthesis_row : is_in_range 40 41 a ≡ true → token Symbol ≡ first_row start tick a b c
+  unfolding first_row
+  parenthesis_row is = grind (arith, nat_tests)
+
   mark_row : is_mark a ≡ true → token Symbol ≡ first_row start tick a b c
-  mark_row is = ⊎_elim dot_row colon_row (either_of (a == 46) (is_in_range 58 61 a) is)
+  mark_row is = ⊎_elim parenthesis_row (λ other. ⊎_elim dot_row colon_row (either_of (a == 46) (is_in_range 58 61 a) other)) (either_of (is_in_range 40 41 a) (a == 46 || is_in_range 58 61 a) is)
+
+  quote_row : is_quote a ≡ true → token Str ≡ first_row start tick a b c
+  unfolding first_row
+  quote_row is = grind (arith, nat_tests)
 
   gap_row : is_blank a ≡ true → blank ≡ first_row start tick a b c
   unfolding first_row
@@ -234,6 +218,23 @@ one_right row text last at byte rest to from is fits =
       };
     }
 
+-- ## A string
+
+quoted_right : (text : List ℕ) (last : Option Token) (at byte : ℕ) (bytes rest : List ℕ) → IsRest text at (byte ∷ bytes ++ rest) → token Str ≡ row_at text last at → Quoted bytes rest → IsRight text last at (record { row = token Str; start = at; end = at + length (byte ∷ bytes) })
+quoted_right text last at byte bytes rest is fits q =
+    let after : IsRest text (at + 1) (bytes ++ rest) = rest_after text at (byte ∷ []) (bytes ++ rest) is in
+    let end_is : at + 1 + q.inner + 1 ≡ at + length (byte ∷ bytes) = omega (arith, q.size) in
+    record {
+      starts = refl;
+      first = fits;
+      longest = record {
+        some = some_bytes at byte bytes;
+        within = within text at (byte ∷ bytes) rest is;
+        fits = subst (IsMarked 34 text at) end_is (marked text at bytes rest after q);
+        longest = λ other inside form. let least : form.close ≤ at + 1 + q.inner = before_close text at bytes rest after q form.inside in omega (arith, least, form.up_to, end_is);
+      };
+    }
+
 module _ (text : List ℕ) (last : Option Token) (at : ℕ) where
   kind_right : (kind : Kind) (byte : ℕ) (bytes rest : List ℕ) → IsRest text at (byte ∷ bytes ++ rest) → is_kind kind byte bytes rest ≡ true → IsRight text last at (piece_of at (record { kind = kind; bytes = byte ∷ bytes }))
   kind_right letters byte bytes rest is fits =
@@ -242,6 +243,9 @@ module _ (text : List ℕ) (last : Option Token) (at : ℕ) where
   kind_right number byte bytes rest is fits =
       let both = both_of (is_ascii_digit byte) (runs is_number_byte bytes rest) fits in
       run_right (token Number) is_number_byte text last at byte bytes rest (λ start end each. each) (λ start end each. each) is (row_is text last at byte (bytes ++ rest) (token Number) is (digit_row _ _ byte _ _ both.0)) (digit_byte byte both.0) both.1
+  kind_right quoted byte bytes rest is fits =
+      let both = both_of (is_quote byte) (ends_quoted bytes rest) fits in
+      quoted_right text last at byte bytes rest is (row_is text last at byte (bytes ++ rest) (token Str) is (quote_row _ _ byte _ _ both.0)) (quoted_of bytes rest both.1)
   kind_right mark byte [] rest is fits =
       let both = both_of (is_mark byte) true fits in
       one_right (token Symbol) text last at byte rest (λ start end one. one) (λ start end one. one) is (row_is text last at byte rest (token Symbol) is (mark_row _ _ byte _ _ both.0))

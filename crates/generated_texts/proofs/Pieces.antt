@@ -7,7 +7,8 @@ use Rattle.base.specs.declared.lexical.Token.{Token}
 use Rattle.vhdl_spec.specs.Tokens.{Place, IsCut, place_after, text_start, tokens_of}
 use Rattle.vhdl_spec.specs.Units.{role_of, roles_of, name_by_kind, symbol_role, word_role}
 use Rattle.vhdl_spec.specs.Words.{lower_case}
-use Rattle.generated_texts.proofs.Parts.{Kind, letters, number, mark, gap, note, Part, joined, end_of, piece_of, pieces_from, is_part, are_parts, both_of, place_from, parts_lead}
+use Rattle.generated_texts.proofs.Parts.{Kind, letters, number, quoted, mark, gap, note, Part, joined, end_of, piece_of, pieces_from, is_part, are_parts, place_from, parts_lead}
+use Rattle.generated_texts.proofs.ByteTests.{both_of}
 use Rattle.generated_texts.proofs.Rests.{IsRest, rest_start, rest_after, rest_byte, rest_range, rest_size}
 
 -- ## The cut
@@ -31,6 +32,7 @@ parts_cut text parts is fits = record {
 abbrev pub part_roles : Kind → List ℕ → List Role
 part_roles letters bytes = word_role (lower_case bytes) ∷ []
 part_roles number bytes = Other ∷ []
+part_roles quoted bytes = Other ∷ []
 part_roles mark bytes = symbol_role (slice_index bytes 0) ∷ []
 part_roles gap bytes = []
 part_roles note bytes = []
@@ -45,6 +47,7 @@ name_in text token = name_by_kind text token token.kind
 abbrev pub part_names : Kind → List ℕ → List (List ℕ)
 part_names letters bytes = lower_case bytes ∷ []
 part_names number bytes = lower_case bytes ∷ []
+part_names quoted bytes = lower_case bytes ∷ []
 part_names mark bytes = lower_case bytes ∷ []
 part_names gap bytes = []
 part_names note bytes = []
@@ -62,6 +65,7 @@ token_role text at part rest is fits = by_kind part.kind part.bytes is fits wher
   by_kind : (kind : Kind) (bytes : List ℕ) → IsRest text at (bytes ++ rest) → is_part kind bytes rest ≡ true → roles_of text (tokens_of (piece_of at (record { kind = kind; bytes = bytes }) ∷ [])) ≡ part_roles kind bytes
   by_kind letters bytes is fits = ap (λ (word : List ℕ). word_role (lower_case word) ∷ []) (same_range bytes is)
   by_kind number bytes is fits = refl
+  by_kind quoted bytes is fits = refl
   by_kind mark [] is fits = let nothing : ⊥ = cc in absurd nothing
   by_kind mark (byte ∷ bytes) is fits = let same : at ≡ at + 0 = omega arith in ap (λ (b : ℕ). symbol_role b ∷ []) (ap (λ (n : ℕ). slice_index text n) same ∙ rest_byte text at (byte ∷ bytes ++ rest) is 0)
   by_kind gap bytes is fits = refl
@@ -72,6 +76,7 @@ token_name text at part rest is = by_kind part.kind part.bytes is where
   by_kind : (kind : Kind) (bytes : List ℕ) → IsRest text at (bytes ++ rest) → map (name_in text) (tokens_of (piece_of at (record { kind = kind; bytes = bytes }) ∷ [])) ≡ part_names kind bytes
   by_kind letters bytes is = ap (λ (word : List ℕ). lower_case word ∷ []) (rest_range text at bytes rest is)
   by_kind number bytes is = ap (λ (word : List ℕ). lower_case word ∷ []) (rest_range text at bytes rest is)
+  by_kind quoted bytes is = ap (λ (word : List ℕ). lower_case word ∷ []) (rest_range text at bytes rest is)
   by_kind mark bytes is = ap (λ (word : List ℕ). lower_case word ∷ []) (rest_range text at bytes rest is)
   by_kind gap bytes is = refl
   by_kind note bytes is = refl
@@ -82,6 +87,7 @@ map_more f at part parts = by_kind part.kind part.bytes where
   by_kind : (kind : Kind) (bytes : List ℕ) → map f (tokens_of (pieces_from at (record { kind = kind; bytes = bytes } ∷ parts))) ≡ map f (tokens_of (piece_of at (record { kind = kind; bytes = bytes }) ∷ [])) ++ map f (tokens_of (pieces_from (at + length bytes) parts))
   by_kind letters bytes = refl
   by_kind number bytes = refl
+  by_kind quoted bytes = refl
   by_kind mark bytes = refl
   by_kind gap bytes = refl
   by_kind note bytes = refl

@@ -2,3 +2,4 @@
 pub mod PackageScans
 pub mod PackageLinks
 pub mod PackageExamples
+pub mod BenchScans

@@ -1,13 +1,14 @@
 //! Laws of the files of packages, as functions with empty bodies: a caller cites one by calling it.
 
-ghost use Rattle.std.specs.Prelude.{◌≡◌, ◌<◌, ◌^◌, ℕ, Bool, List, ◌∷◌};
+ghost use Rattle.std.specs.Prelude.{◌≡◌, ◌<◌, ◌^◌, ℕ, Bool, List, ◌∷◌, ◌++◌};
 ghost use Rattle.std.specs.Fmt.{decimal};
 ghost use Rattle.base.specs.declared.project.ProjectFile.{ProjectFile};
 ghost use Rattle.vhdl_spec.specs.Dependencies.{link_unit};
 ghost use Rattle.vhdl_spec.specs.References.{refs_of};
 ghost use Rattle.vhdl_spec.specs.Scans.{Clean, Finding, IsScanOf, IsScanner};
 ghost use Rattle.vhdl_spec.specs.Units.{roles_of};
-ghost use Rattle.generated_project.specs.Files.{package_text};
+ghost use Rattle.generated_project.specs.Files.{bench_head, bench_body, package_text};
+ghost use Rattle.generated_texts.specs.BenchScans.{architecture_link, bench_architecture, bench_entity, bench_scan, entity_link};
 ghost use Rattle.generated_texts.specs.PackageExamples.{FirstPackage, TwelfthPackage};
 ghost use Rattle.generated_texts.specs.PackageLinks.{package_link, package_refs};
 ghost use Rattle.generated_texts.specs.PackageScans.{AreDigits, file_roles, is_alone, package_name, package_scan, package_tokens, package_unit};
@@ -44,6 +45,20 @@ pub fn laws_of_references()
         link_unit position file
         (package_text number noted) (package_scan number noted) (package_unit number)
         ≡ package_link position file number }
+{}
+
+/// The file of the bench has a scan, which is what each scanner finds in it: an entity, which uses the first package, and
+/// its architecture.
+pub fn laws_of_bench()
+    ensures is_scan { IsScanOf (bench_head ++ bench_body) bench_scan }
+    ensures found { (scan : List ℕ → Finding) → IsScanner scan →
+        scan (bench_head ++ bench_body) ≡ Clean bench_scan }
+    ensures entity { (position : ℕ) (file : ProjectFile) →
+        link_unit position file (bench_head ++ bench_body) bench_scan bench_entity
+        ≡ entity_link position file }
+    ensures architecture { (position : ℕ) (file : ProjectFile) →
+        link_unit position file (bench_head ++ bench_body) bench_scan bench_architecture
+        ≡ architecture_link position file }
 {}
 
 /// The first package and the twelfth, worked out by hand.

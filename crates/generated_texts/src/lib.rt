@@ -4,4 +4,6 @@
 
 mod laws;
 
-pub use laws::{examples_of_packages, laws_of_names, laws_of_references, laws_of_scans};
+pub use laws::{
+    examples_of_packages, laws_of_bench, laws_of_names, laws_of_references, laws_of_scans,
+};
