@@ -19,17 +19,17 @@ fn byte_at(number: usize, place: usize) -> u8 {
 }
 
 /// Puts an open gate, the length of a payload, and its bytes.
-fn put_payload(side: &mut Vec<u8>, number: usize, length: usize) -> Result<(), NoMemory> {
+fn put_payload(side: &mut Vec<u8>, number: usize, length: u32) -> Result<(), NoMemory> {
     side.push(1)?;
-    side.extend_from_slice(&(length as u32).to_le_bytes())?;
-    for place in 0..length {
+    side.extend_from_slice(&length.to_le_bytes())?;
+    for place in 0..length as usize {
         side.push(byte_at(number, place))?;
     }
     Ok(())
 }
 
 /// A side with payloads of these lengths, without so many of its last bytes, of which the very last is a closed gate.
-fn side_of(alloc: Global, lengths: &[usize], dropped: usize) -> Result<Vec<u8>, NoMemory> {
+fn side_of(alloc: Global, lengths: &[u32], dropped: usize) -> Result<Vec<u8>, NoMemory> {
     let mut side = Vec::from_slice(alloc, &HEAD)?;
     for number in 0..lengths.len() {
         put_payload(&mut side, number, lengths[number])?;
@@ -40,8 +40,8 @@ fn side_of(alloc: Global, lengths: &[usize], dropped: usize) -> Result<Vec<u8>, 
 }
 
 /// Whether a payload is the one of this number and length.
-fn is_payload(payload: &[u8], number: usize, length: usize) -> bool {
-    if payload.len() != length {
+fn is_payload(payload: &[u8], number: usize, length: u32) -> bool {
+    if payload.len() != length as usize {
         return false;
     }
     for place in 0..payload.len() {
@@ -53,7 +53,7 @@ fn is_payload(payload: &[u8], number: usize, length: usize) -> bool {
 }
 
 /// Whether payloads are the first so many of these lengths.
-fn are_first(payloads: &Payloads, lengths: &[usize], whole: usize) -> bool {
+fn are_first(payloads: &Payloads, lengths: &[u32], whole: usize) -> bool {
     if payloads.len() != whole as u64 || whole > lengths.len() {
         return false;
     }
@@ -65,35 +65,49 @@ fn are_first(payloads: &Payloads, lengths: &[usize], whole: usize) -> bool {
     true
 }
 
-/// Whether opening a disk finds the first so many payloads of these lengths, and a second opening the same ones.
+/// Whether opening a disk finds the first so many payloads of these lengths.
+fn opens_to(
+    alloc: Global,
+    disk: &mut MemDisk,
+    lengths: &[u32],
+    whole: usize,
+) -> Result<bool, StoreFault> {
+    let Opened { payloads, .. } = Journal::from_disk(alloc, disk, 1)?;
+    Ok(are_first(&payloads, lengths, whole))
+}
+
+/// The same of a disk with these bytes as side A, and of a second opening.
 fn finds(
     alloc: Global,
     disk: &mut MemDisk,
-    lengths: &[usize],
+    side: &[u8],
+    lengths: &[u32],
     whole: usize,
 ) -> Result<bool, StoreFault> {
-    let Opened { payloads, .. } = Journal::from_disk(alloc, disk, 1)?;
-    let is_so = are_first(&payloads, lengths, whole);
-    let Opened { payloads, .. } = Journal::from_disk(alloc, disk, 1)?;
-    Ok(is_so && are_first(&payloads, lengths, whole))
+    write_durably(disk, Side::A, 0, side)?;
+    Ok(opens_to(alloc, disk, lengths, whole)? && opens_to(alloc, disk, lengths, whole)?)
 }
 
-/// The same of a disk whose side A has payloads of these lengths, without so many of its last bytes.
+/// The same of an empty disk.
+fn finds_on(alloc: Global, side: &[u8], lengths: &[u32], whole: usize) -> Result<bool, StoreFault> {
+    let mut disk = disk(alloc, &[])?;
+    finds(alloc, &mut disk, side, lengths, whole)
+}
+
+/// The same of a side with payloads of these lengths, without so many of its last bytes.
 fn is_read(
     alloc: Global,
-    lengths: &[usize],
+    lengths: &[u32],
     dropped: usize,
     whole: usize,
 ) -> Result<bool, StoreFault> {
-    let mut disk = disk(alloc, &[])?;
     let side = side_of(alloc, lengths, dropped)?;
-    write_durably(&mut disk, Side::A, 0, &side)?;
-    finds(alloc, &mut disk, lengths, whole)
+    finds_on(alloc, &side, lengths, whole)
 }
 
 /// Lengths of payloads. 131,072 bytes are read at once, from the first gate on: with one payload of 131,066 bytes the gate after it
 /// is the last of these. A longer payload is read alone.
-static LENGTHS: [[usize; 3]; 14] = [
+static LENGTHS: [[u32; 3]; 14] = [
     [131_065, 3, 9],
     [131_066, 3, 9],
     [131_067, 3, 9],
@@ -123,7 +137,7 @@ fn each_payload_of_a_long_side_is_read(rt: HostRuntime) -> Result<(), Fail> {
 fn a_long_side_that_breaks_off_has_the_payloads_before(rt: HostRuntime) -> Result<(), Fail> {
     for lengths in LENGTHS {
         assert!(rt; is_read(rt.alloc(), &lengths, 1, 2)?);
-        assert!(rt; is_read(rt.alloc(), &lengths, lengths[2].saturating_add(4), 2)?);
+        assert!(rt; is_read(rt.alloc(), &lengths, lengths[2] as usize + 4, 2)?);
     }
     Ok(())
 }
