@@ -11,3 +11,4 @@ pub mod BothBuilds
 pub mod TestsEnded
 pub mod PassedCases
 pub mod GeneratedCounts
+pub mod TextArtefacts

@@ -1,5 +1,6 @@
 -- The definitions.
 pub mod Edits
+pub mod Texts
 pub mod Compiled
 pub mod Passes
 pub mod Counted
