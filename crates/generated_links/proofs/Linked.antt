@@ -7,19 +7,19 @@ use Rattle.vhdl_spec.specs.Dependencies.{link_of, link_units}
 use Rattle.vhdl_spec.specs.Scans.{Clean, Finding, IsScanner}
 use Rattle.generated_texts.proofs.BenchFindings.{bench_found}
 use Rattle.generated_texts.proofs.PackageFindings.{package_found}
-use Rattle.generated_links.specs.NumberedFiles.{AreAllNumbers, AreNumbers, numbered_edges, numbered_file, numbered_project, numbered_scan, numbered_text, uses_number}
+use Rattle.generated_links.specs.NumberedFiles.{AreAllNumbers, AreNumbers, numbered_edges, numbered_file, numbered_project, numbered_scan, numbered_bytes, uses_number}
 use Rattle.generated_links.proofs.Edges.{edges_are}
 use Rattle.generated_links.proofs.NoFaults.{all_linked}
 use Rattle.generated_links.proofs.Slots.{units_are}
 
 pub links_are : (command simulator external : List (List ℕ)) (edited : ℕ) (numbers : List ℕ) → AreNumbers numbers →
-    link_of (numbered_project command simulator external numbers) (link_units 0 (map (numbered_file command) numbers) (map (numbered_text edited) numbers) (map (numbered_scan edited) numbers)) ≡ Ok (record { edges = numbered_edges numbers; warnings = [] })
+    link_of (numbered_project command simulator external numbers) (link_units 0 (map (numbered_file command) numbers) (map (numbered_bytes edited) numbers) (map (numbered_scan edited) numbers)) ≡ Ok (record { edges = numbered_edges numbers; warnings = [] })
 links_are command simulator external edited numbers are =
     ap (link_of (numbered_project command simulator external numbers)) (units_are command edited 0 numbers (recursion_from_All (λ n. n < 2 ^ 64) numbers are.small))
     ∙ all_linked command simulator external numbers are
     ∙ ap (λ (edges : List (List ℕ)). Ok (record { edges = edges; warnings = [] })) (edges_are command simulator external numbers are)
 
-pub numbered_found : (scan : List ℕ → Finding) (edited number : ℕ) → IsScanner scan → number < 2 ^ 64 → scan (numbered_text edited number) ≡ Clean (numbered_scan edited number)
+pub numbered_found : (scan : List ℕ → Finding) (edited number : ℕ) → IsScanner scan → number < 2 ^ 64 → scan (numbered_bytes edited number) ≡ Clean (numbered_scan edited number)
 numbered_found scan edited zero scans small = bench_found scan scans
 numbered_found scan edited (suc before) scans small = package_found scan (suc before) (suc before == edited) scans small
 

@@ -187,7 +187,7 @@ module _ (command : List (List ℕ)) (place other : ℕ) where
   unfolding used_library bench_name
   body_unlike = refl
 
-small_had : (numbers : List ℕ) (number : ℕ) → AllByRecursion (λ n. n < 2 ^ 64) numbers → Has numbers number → number < 2 ^ 64
+pub small_had : (numbers : List ℕ) (number : ℕ) → AllByRecursion (λ n. n < 2 ^ 64) numbers → Has numbers number → number < 2 ^ 64
 small_had [] number small has = absurd has
 small_had (n ∷ numbers) number small has = ⊎_elim (λ (is : n ≡ number). subst (λ (m : ℕ). m < 2 ^ 64) is small.0) (λ (later : Has numbers number). small_had numbers number small.1 later) has
 

@@ -7,7 +7,7 @@ use Rattle.generated_texts.proofs.BenchFindings.{architecture_linked, entity_lin
 use Rattle.generated_texts.proofs.PackageReferences.{package_linked}
 use Rattle.generated_texts.specs.BenchScans.{architecture_link, entity_link}
 use Rattle.generated_texts.specs.PackageLinks.{package_link}
-use Rattle.generated_links.specs.NumberedFiles.{numbered_file, numbered_scan, numbered_text}
+use Rattle.generated_links.specs.NumberedFiles.{numbered_file, numbered_scan, numbered_bytes}
 use Rattle.generated_links.proofs.Members.{Has, has_either, has_first_part, has_second_part}
 
 -- the bench's units, and the package of the number after another
@@ -53,7 +53,7 @@ Small number = number < 2 ^ 64
 cons_is : {x y : LinkUnit} {xs ys : List LinkUnit} → x ≡ y → xs ≡ ys → x ∷ xs ≡ y ∷ ys
 cons_is first rest = λ i. first i ∷ rest i
 
-pub units_are : (command : List (List ℕ)) (edited place : ℕ) (numbers : List ℕ) → AllByRecursion Small numbers → link_units place (map (numbered_file command) numbers) (map (numbered_text edited) numbers) (map (numbered_scan edited) numbers) ≡ map (unit_of command) (slots_from place numbers)
+pub units_are : (command : List (List ℕ)) (edited place : ℕ) (numbers : List ℕ) → AllByRecursion Small numbers → link_units place (map (numbered_file command) numbers) (map (numbered_bytes edited) numbers) (map (numbered_scan edited) numbers) ≡ map (unit_of command) (slots_from place numbers)
 units_are command edited place [] small = refl
 units_are command edited place (zero ∷ numbers) small =
     cons_is (entity_linked place (numbered_file command 0))

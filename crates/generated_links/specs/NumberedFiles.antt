@@ -11,22 +11,22 @@ use Rattle.generated_texts.specs.PackageScans.{package_scan}
 
 -- ## Files
 
-abbrev pub is_bench : ℕ → Bool
-is_bench zero = true
-is_bench (suc before) = false
+abbrev pub is_bench_number : ℕ → Bool
+is_bench_number zero = true
+is_bench_number (suc before) = false
 
 abbrev pub numbered_path : ℕ → List ℕ
-numbered_path number = if is_bench number then bench_path else package_path number
+numbered_path number = if is_bench_number number then bench_path else package_path number
 
 abbrev pub numbered_file : (command : List (List ℕ)) → ℕ → ProjectFile
 numbered_file command number = record { name = record { library = used_library; path = numbered_path number }; command = command }
 
 -- the text of a file, where that of a number is edited
-abbrev pub numbered_text : (edited : ℕ) → ℕ → List ℕ
-numbered_text edited number = if is_bench number then bench_head ++ bench_body else package_text number (number == edited)
+abbrev pub numbered_bytes : (edited : ℕ) → ℕ → List ℕ
+numbered_bytes edited number = if is_bench_number number then bench_head ++ bench_body else package_text number (number == edited)
 
 abbrev pub numbered_scan : (edited : ℕ) → ℕ → Scan
-numbered_scan edited number = if is_bench number then bench_scan else package_scan number (number == edited)
+numbered_scan edited number = if is_bench_number number then bench_scan else package_scan number (number == edited)
 
 -- the project of files of these numbers, in this order: it names no dependency itself
 abbrev pub numbered_project : (command simulator external : List (List ℕ)) → List ℕ → Project
@@ -43,7 +43,7 @@ numbered_project command simulator external numbers = record {
 
 -- the bench uses the first package, and each other package that of half its number
 abbrev pub uses_number : (user used : ℕ) → Bool
-uses_number user used = if is_bench user then used == 1 else nat_lt 1 user && used == user / 2
+uses_number user used = if is_bench_number user then used == 1 else nat_lt 1 user && used == user / 2
 
 -- distinct numbers, with those of all files that are used
 pub record AreNumbers (numbers : List ℕ) : Type 0 where

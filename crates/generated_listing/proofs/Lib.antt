@@ -1,0 +1,6 @@
+-- The lemmas.
+pub mod Sorted
+pub mod Listed
+pub mod Matched
+pub mod TomlProject
+pub mod FoundProject
