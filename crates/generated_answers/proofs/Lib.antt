@@ -1,0 +1,11 @@
+-- The lemmas.
+pub mod Examples
+pub mod Sizes
+pub mod Scripts
+pub mod ExportLines
+pub mod Linking
+pub mod Answering
+pub mod LoopExits
+pub mod PackageAnswers
+pub mod BenchAnswers
+pub mod AnswerExamples
