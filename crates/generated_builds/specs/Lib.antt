@@ -1,0 +1,3 @@
+-- The definitions.
+pub mod NumberedGraphs
+pub mod NumberedBuilds

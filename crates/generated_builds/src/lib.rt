@@ -1,0 +1,6 @@
+//! Laws of what a clean build makes of the generated project. Nothing here runs.
+#![tactic(auto)]
+
+mod laws;
+
+pub use laws::{laws_of_numbered_builds, laws_of_numbered_graphs};
