@@ -1,0 +1,4 @@
+-- The definitions.
+pub mod TestedBench
+pub mod BenchTests
+pub mod TestExamples
