@@ -18,7 +18,7 @@ use Rattle.order_spec.proofs.Cycles.{ordered_is}
 use Rattle.project_graph.proofs.LinkedGraphs.{get_or-linked, length-linked, linked_is_graph, no_file}
 use Rattle.generated_links.specs.NumberedFiles.{numbered_edges, numbered_file, numbered_project, numbered_text}
 use Rattle.generated_links.proofs.Orders.{are_edges, edge_count}
-use Rattle.generated_builds.specs.NumberedGraphs.{AreInOrder, IsNumberedEntry, numbered_graph, numbered_name, ordered_number}
+use Rattle.generated_builds.specs.NumberedGraphs.{AreInOrder, IsEntryOfNumber, numbered_graph, numbered_name, ordered_number}
 use Rattle.generated_builds.proofs.Counted.{number_count}
 use Rattle.generated_builds.proofs.Fitting.{name_fits, same_path, texts_small}
 
@@ -124,7 +124,7 @@ module _ (count : ℕ) (command : List (List ℕ)) (numbers order : List ℕ) (a
     pub found_is : (position : ℕ) (entry : Entry) → slice_get graph position ≡ Some entry → entry ≡ entry_of position
     found_is position entry found = same_Some entry (entry_of position) (sym found ∙ found_at position (found_within position entry found))
 
-    pub numbered_entry : (position : ℕ) (entry : Entry) → slice_get graph position ≡ Some entry → IsNumberedEntry command edited (ordered_number numbers order position) entry
+    pub numbered_entry : (position : ℕ) (entry : Entry) → slice_get graph position ≡ Some entry → IsEntryOfNumber command edited (ordered_number numbers order position) entry
     numbered_entry position entry found =
         let same : entry ≡ entry_of position = found_is position entry found in
         record {
@@ -133,5 +133,5 @@ module _ (count : ℕ) (command : List (List ℕ)) (numbers order : List ℕ) (a
           text_is = ap (λ (e : Entry). e.text) same;
         }
 
-    pub both_said : (position : ℕ) (entry : Entry) → slice_get graph position ≡ Some entry → (ordered_number numbers order position ≤ count) × IsNumberedEntry command edited (ordered_number numbers order position) entry
+    pub both_said : (position : ℕ) (entry : Entry) → slice_get graph position ≡ Some entry → (ordered_number numbers order position ≤ count) × IsEntryOfNumber command edited (ordered_number numbers order position) entry
     both_said position entry found = (ordered_within position (found_within position entry found), numbered_entry position entry found)

@@ -6,3 +6,5 @@ pub mod Graphs
 pub mod Uses
 pub mod Edits
 pub mod Builds
+pub mod Permuted
+pub mod Touched

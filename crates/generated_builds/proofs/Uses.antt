@@ -44,12 +44,12 @@ module _ (count : ℕ) (command : List (List ℕ)) (numbers order : List ℕ) (a
 
   -- ## What a file uses
 
-  deps_are : (file : ℕ) → file < length numbers → deps_in (numbered_edges numbers) file ≡ filter (uses_at numbers file) (below (length numbers))
+  pub deps_are : (file : ℕ) → file < length numbers → deps_in (numbered_edges numbers) file ≡ filter (uses_at numbers file) (below (length numbers))
   deps_are file lt =
       get_or-map (λ user. filter (uses_at numbers user) (below (length numbers))) (below (length numbers)) file 0 [] (omega (arith, lt, length-below (length numbers)))
       ∙ ap (λ (user : ℕ). filter (uses_at numbers user) (below (length numbers))) (get_or-below (length numbers) file 0 lt)
 
-  used_dep : (user used : ℕ) → user < length numbers → used < length numbers → uses_at numbers user used ≡ true → Contains (deps_in (numbered_edges numbers) user) used
+  pub used_dep : (user used : ℕ) → user < length numbers → used < length numbers → uses_at numbers user used ≡ true → Contains (deps_in (numbered_edges numbers) user) used
   used_dep user used first second uses =
       subst (λ (deps : List ℕ). Contains deps used) (sym (deps_are user first)) (kept_there (uses_at numbers user) (below (length numbers)) used (in_below (length numbers) used second) uses)
 

@@ -10,7 +10,7 @@ use Rattle.base.specs.Jobs.{compile_request}
 use Rattle.base.specs.Names.{FitsName}
 use Rattle.generated_texts.specs.PackageLinks.{used_library}
 use Rattle.generated_links.specs.NumberedFiles.{uses_number}
-use Rattle.generated_builds.specs.NumberedGraphs.{IsNumberedEntry, numbered_name}
+use Rattle.generated_builds.specs.NumberedGraphs.{IsEntryOfNumber, numbered_name}
 
 -- A file of the library `lib` has the artefact of a number, edited or not.
 pub record IsNumberBuilt (artefact : (number : ℕ) → (noted : Bool) → List ℕ) (number : ℕ) (file : BuiltFile) : Type 0 where
@@ -26,7 +26,7 @@ pub record HasNumberBuilt (artefact : (number : ℕ) → (noted : Bool) → List
 
 -- The file of a number as a clean build has it compiled: over files that were built, with one of the number that it uses.
 pub record IsNumberAsked (artefact : (number : ℕ) → (noted : Bool) → List ℕ) (command : List (List ℕ)) (edited number : ℕ) (entry : Entry) (built : List BuiltFile) : Type 0 where
-  pub entry_is : IsNumberedEntry command edited number entry
+  pub entry_is : IsEntryOfNumber command edited number entry
   pub name : FitsName entry.name
   pub text : length entry.text ≤ TEXT_LIMIT
   pub built_are : IsBuilt built

@@ -30,7 +30,7 @@ abbrev pub numbered_name : ℕ → FileName
 numbered_name number = record { library = used_library; path = numbered_path number }
 
 -- a file of a graph is that of a number
-pub record IsNumberedEntry (command : List (List ℕ)) (edited number : ℕ) (entry : Entry) : Type 0 where
+pub record IsEntryOfNumber (command : List (List ℕ)) (edited number : ℕ) (entry : Entry) : Type 0 where
   pub name_is : entry.name ≡ numbered_name number
   pub command_is : entry.command ≡ command
   pub text_is : entry.text ≡ numbered_text edited number

@@ -8,9 +8,11 @@ ghost use Rattle.base.specs.Graphs.{IsGraph};
 ghost use Rattle.run_tested_laws.specs.Libraries.{libraries};
 ghost use Rattle.generated_project.specs.Files.{unedited};
 ghost use Rattle.generated_links.specs.NumberedFiles.{uses_number};
-ghost use Rattle.generated_laws.specs.Edits.{ChangesFile, IsEdit, MakesAll, clean_file};
+ghost use Rattle.generated_laws.specs.Edits.{ChangesFile, IsEdit, MakesAll, clean_file, is_touched, touched_files};
 ghost use Rattle.generated_builds.specs.NumberedBuilds.{MakesNumbered, numbered_built};
-ghost use Rattle.generated_builds.specs.NumberedGraphs.{AreInOrder, IsNumberedEntry, numbered_graph, ordered_number};
+ghost use Rattle.generated_builds.specs.NumberedExamples.{NumberedExamples};
+ghost use Rattle.generated_builds.specs.NumberedGraphs.{AreInOrder, IsEntryOfNumber, numbered_graph, ordered_number};
+ghost use Rattle.generated_builds.specs.TouchedNumbers.{comes_to, touched_numbers};
 
 /// The files of the generated project, edited or not, are a graph, whatever order they come in.
 pub fn laws_of_numbered_graphs()
@@ -30,7 +32,7 @@ pub fn laws_of_numbered_graphs()
         AreInOrder count command numbers order → (position : ℕ) (entry : Entry) →
         slice_get (numbered_graph command edited numbers order) position ≡ Some entry →
         (ordered_number numbers order position ≤ count)
-        × IsNumberedEntry command edited (ordered_number numbers order position) entry }
+        × IsEntryOfNumber command edited (ordered_number numbers order position) entry }
     // What a file uses comes before it, and is among its dependencies.
     ensures uses { (count edited : ℕ) (command : List (List ℕ)) (numbers order : List ℕ) →
         AreInOrder count command numbers order → (position : ℕ) (entry : Entry) (used : ℕ) →
@@ -81,4 +83,25 @@ pub fn laws_of_numbered_builds()
         MakesNumbered count command artefact answer → number ≤ count →
         Contains (libraries answer (numbered_graph command edited numbers order))
         (numbered_built artefact edited number) }
+{}
+
+/// The edit of a package touches the files that come to its number,
+pub fn laws_of_touched_numbers()
+    ensures which { (count edited : ℕ) (command : List (List ℕ)) (numbers order : List ℕ)
+        (position other : ℕ) → AreInOrder count command numbers order →
+        position < count + 1 → other < count + 1 →
+        ordered_number numbers order position ≡ edited →
+        is_touched (numbered_graph command unedited numbers order) position other
+        ≡ comes_to count edited (ordered_number numbers order other) }
+    // which are so many.
+    ensures count { (count edited : ℕ) (command : List (List ℕ)) (numbers order : List ℕ)
+        (position : ℕ) → AreInOrder count command numbers order → position < count + 1 →
+        ordered_number numbers order position ≡ edited →
+        touched_files (numbered_graph command unedited numbers order) position
+        ≡ touched_numbers count edited }
+{}
+
+/// The graphs of two and of three packages, and how many files edits touch, worked out by hand.
+pub fn examples_of_numbers()
+    ensures { NumberedExamples }
 {}

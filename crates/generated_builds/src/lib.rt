@@ -3,4 +3,6 @@
 
 mod laws;
 
-pub use laws::{laws_of_numbered_builds, laws_of_numbered_graphs};
+pub use laws::{
+    examples_of_numbers, laws_of_numbered_builds, laws_of_numbered_graphs, laws_of_touched_numbers,
+};
