@@ -5,14 +5,14 @@ use Rattle.std.proofs.lemmas.Bool.{cases_lt, ne_eqb}
 use Rattle.std.proofs.lemmas.Option.{slice_get_past}
 use Rattle.order_spec.specs.LinkedGraph.{closure_of}
 use Rattle.generated_project.specs.Files.{package_text, unedited}
-use Rattle.generated_links.specs.NumberedFiles.{numbered_edges, numbered_text}
+use Rattle.generated_links.specs.NumberedFiles.{numbered_edges, numbered_bytes}
 use Rattle.generated_laws.specs.Edits.{IsEdit}
 use Rattle.generated_builds.specs.NumberedGraphs.{AreInOrder, numbered_graph, numbered_name, ordered_number}
 use Rattle.generated_builds.proofs.Graphs.{entry_of, found_at, graph_count}
 use Rattle.generated_builds.proofs.Uses.{one_position}
 
 -- the text of a file that isn't edited
-same_text : (edited number : ℕ) → (number ≡ edited → ⊥) → numbered_text edited number ≡ numbered_text unedited number
+same_text : (edited number : ℕ) → (number ≡ edited → ⊥) → numbered_bytes edited number ≡ numbered_bytes unedited number
 same_text edited zero other = refl
 same_text edited (suc before) other =
     ap (package_text (suc before)) (ne_eqb (suc before) edited other ∙ sym (ne_eqb (suc before) unedited (λ same. omega (arith, same))))
@@ -34,7 +34,7 @@ module _ (count : ℕ) (command : List (List ℕ)) (numbers order : List ℕ) (a
   is_edit = record {
     count = graph_count count command numbers order are edited ∙ sym (graph_count count command numbers order are unedited);
     entry = entry_of count command numbers order are unedited position;
-    text = numbered_text edited (ordered_number numbers order position);
+    text = numbered_bytes edited (ordered_number numbers order position);
     is_entry = found_at count command numbers order are unedited position within;
     is_edited = found_at count command numbers order are edited position within;
     others = others;

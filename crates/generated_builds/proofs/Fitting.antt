@@ -11,7 +11,7 @@ use Rattle.base.specs.Names.{FitsName, IsBetween}
 use Rattle.order_spec.specs.LinkedGraph.{AreSmall}
 use Rattle.generated_project.specs.Files.{all_words, bench_body, bench_head, bench_path, constant_words, end_words, note_line, noted_lines, library_words, package_begin, package_end, package_lines, package_text, package_words, source_end, source_folder, use_lines, used_lines}
 use Rattle.generated_texts.specs.PackageLinks.{used_library}
-use Rattle.generated_links.specs.NumberedFiles.{numbered_path, numbered_text}
+use Rattle.generated_links.specs.NumberedFiles.{numbered_path, numbered_bytes}
 use Rattle.generated_builds.specs.NumberedGraphs.{numbered_name}
 
 few_digits : (number : ℕ) → number < FILE_LIMIT → length (decimal number) ≤ 4
@@ -114,18 +114,18 @@ package_short : (number : ℕ) (noted : Bool) → number < FILE_LIMIT → length
 package_short number noted low =
     omega (arith, used_short (number == 1) (number / 2) (omega (arith, low)), begin_short number low, end_short number low, noted_short noted, length-append (used_lines number) (package_lines number ++ noted_lines noted), length-append (package_lines number) (noted_lines noted), length-append (package_begin number) (package_end number))
 
-pub text_short : (edited number : ℕ) → number < FILE_LIMIT → length (numbered_text edited number) ≤ 200
+pub text_short : (edited number : ℕ) → number < FILE_LIMIT → length (numbered_bytes edited number) ≤ 200
 text_short edited zero low = omega (arith, length-append bench_head bench_body, head_length, body_length)
 text_short edited (suc before) low = package_short (suc before) (suc before == edited) low
 
 module _ (edited : ℕ) where
-  all_bytes : (numbers : List ℕ) → All (λ number. number < FILE_LIMIT) numbers → sum_by (λ (text : List ℕ). length text) (map (numbered_text edited) numbers) ≤ 200 * length numbers
+  all_bytes : (numbers : List ℕ) → All (λ number. number < FILE_LIMIT) numbers → sum_by (λ (text : List ℕ). length text) (map (numbered_bytes edited) numbers) ≤ 200 * length numbers
   all_bytes [] low = omega arith
   all_bytes (number ∷ numbers) low =
-      omega (arith, sum_by-cons (λ (text : List ℕ). length text) (numbered_text edited number) (map (numbered_text edited) numbers), text_short edited number (All-head (λ number. number < FILE_LIMIT) number numbers low), all_bytes numbers (All-tail (λ number. number < FILE_LIMIT) number numbers low))
+      omega (arith, sum_by-cons (λ (text : List ℕ). length text) (numbered_bytes edited number) (map (numbered_bytes edited) numbers), text_short edited number (All-head (λ number. number < FILE_LIMIT) number numbers low), all_bytes numbers (All-tail (λ number. number < FILE_LIMIT) number numbers low))
 
-  pub texts_small : (numbers : List ℕ) → All (λ number. number < FILE_LIMIT) numbers → length numbers ≤ FILE_LIMIT → AreSmall (map (numbered_text edited) numbers)
+  pub texts_small : (numbers : List ℕ) → All (λ number. number < FILE_LIMIT) numbers → length numbers ≤ FILE_LIMIT → AreSmall (map (numbered_bytes edited) numbers)
   texts_small numbers low few = record {
-    short = All-map (λ (text : List ℕ). length text ≤ TEXT_LIMIT) (numbered_text edited) numbers (λ k d lt. omega (arith, text_short edited (get_or numbers k d) (low k d lt)));
+    short = All-map (λ (text : List ℕ). length text ≤ TEXT_LIMIT) (numbered_bytes edited) numbers (λ k d lt. omega (arith, text_short edited (get_or numbers k d) (low k d lt)));
     few_bytes = omega (arith, all_bytes numbers low, few);
   }

@@ -16,7 +16,7 @@ use Rattle.order_spec.specs.BuildOrder.{AreEdges, IsBuildOrder}
 use Rattle.order_spec.specs.LinkedGraph.{FitTexts, closure_of, linked_entry}
 use Rattle.order_spec.proofs.Cycles.{ordered_is}
 use Rattle.project_graph.proofs.LinkedGraphs.{get_or-linked, length-linked, linked_is_graph, no_file}
-use Rattle.generated_links.specs.NumberedFiles.{numbered_edges, numbered_file, numbered_project, numbered_text}
+use Rattle.generated_links.specs.NumberedFiles.{numbered_edges, numbered_file, numbered_project, numbered_bytes}
 use Rattle.generated_links.proofs.Orders.{are_edges, edge_count}
 use Rattle.generated_builds.specs.NumberedGraphs.{AreInOrder, IsEntryOfNumber, numbered_graph, numbered_name, ordered_number}
 use Rattle.generated_builds.proofs.Counted.{number_count}
@@ -84,11 +84,11 @@ module _ (count : ℕ) (command : List (List ℕ)) (numbers order : List ℕ) (a
     graph = numbered_graph command edited numbers order
 
     abbrev texts : List (List ℕ)
-    texts = map (numbered_text edited) numbers
+    texts = map (numbered_bytes edited) numbers
 
     texts_fit : FitTexts (map (numbered_file command) numbers) texts
     texts_fit = record {
-      each = length-map numbers (numbered_text edited) ∙ sym (length-map numbers (numbered_file command));
+      each = length-map numbers (numbered_bytes edited) ∙ sym (length-map numbers (numbered_file command));
       small = texts_small edited numbers number_low few_files;
     }
 
@@ -103,7 +103,7 @@ module _ (count : ℕ) (command : List (List ℕ)) (numbers order : List ℕ) (a
     entry_of position = record {
       name = numbered_name (ordered_number numbers order position);
       command = command;
-      text = numbered_text edited (ordered_number numbers order position);
+      text = numbered_bytes edited (ordered_number numbers order position);
       deps = closure_of (numbered_edges numbers) order (slice_index order position);
     }
 
@@ -111,7 +111,7 @@ module _ (count : ℕ) (command : List (List ℕ)) (numbers order : List ℕ) (a
     entry_is position lt =
         ap (linked_entry (numbered_edges numbers) order texts (slice_index order position)) (get_or-map (numbered_file command) numbers (slice_index order position) 0 no_file (file_within position lt))
         ∙ ap (λ (text : List ℕ). record { name = numbered_name (ordered_number numbers order position); command = command; text = text; deps = closure_of (numbered_edges numbers) order (slice_index order position) })
-        (get_or-map (numbered_text edited) numbers (slice_index order position) 0 [] (file_within position lt))
+        (get_or-map (numbered_bytes edited) numbers (slice_index order position) 0 [] (file_within position lt))
 
     pub found_at : (position : ℕ) → position < count + 1 → slice_get graph position ≡ Some (entry_of position)
     found_at position lt =

@@ -7,7 +7,7 @@ use Rattle.base.specs.Names.{FitsCommand}
 use Rattle.order_spec.specs.BuildOrder.{Ordered, file_order}
 use Rattle.order_spec.specs.LinkedGraph.{linked}
 use Rattle.generated_texts.specs.PackageLinks.{used_library}
-use Rattle.generated_links.specs.NumberedFiles.{AreAllNumbers, numbered_edges, numbered_file, numbered_path, numbered_text}
+use Rattle.generated_links.specs.NumberedFiles.{AreAllNumbers, numbered_edges, numbered_file, numbered_path, numbered_bytes}
 
 -- The bench and so many packages, fewer than a graph has files, with a command that compiles them and the order in which
 -- they are compiled.
@@ -20,7 +20,7 @@ pub record AreInOrder (count : ℕ) (command : List (List ℕ)) (numbers order :
 
 -- their graph, where the package of a number is edited, or none
 abbrev pub numbered_graph : (command : List (List ℕ)) → (edited : ℕ) → (numbers order : List ℕ) → List Entry
-numbered_graph command edited numbers order = linked (map (numbered_file command) numbers) (map (numbered_text edited) numbers) (numbered_edges numbers) order
+numbered_graph command edited numbers order = linked (map (numbered_file command) numbers) (map (numbered_bytes edited) numbers) (numbered_edges numbers) order
 
 -- the number of the file at a position of the graph
 abbrev pub ordered_number : (numbers order : List ℕ) → (position : ℕ) → ℕ
@@ -33,4 +33,4 @@ numbered_name number = record { library = used_library; path = numbered_path num
 pub record IsEntryOfNumber (command : List (List ℕ)) (edited number : ℕ) (entry : Entry) : Type 0 where
   pub name_is : entry.name ≡ numbered_name number
   pub command_is : entry.command ≡ command
-  pub text_is : entry.text ≡ numbered_text edited number
+  pub text_is : entry.text ≡ numbered_bytes edited number

@@ -1,15 +1,15 @@
 -- The files that the edit of a package touches, by their numbers.
 use Rattle.std.specs.Prelude.{ℕ, zero, suc, ◌+◌, ◌/◌, ◌==◌, ◌&&◌, ◌||◌, Bool, if◌then◌else◌, nat_lt, count_by}
 use Rattle.base.specs.PresentGraph.{below}
-use Rattle.generated_links.specs.NumberedFiles.{is_bench}
+use Rattle.generated_links.specs.NumberedFiles.{is_bench_number}
 
 -- a file uses another one: each but the first package does
 abbrev pub has_used : ℕ → Bool
-has_used number = is_bench number || nat_lt 1 number
+has_used number = is_bench_number number || nat_lt 1 number
 
 -- the number of that which it uses
 abbrev pub used_of : ℕ → ℕ
-used_of number = if is_bench number then 1 else number / 2
+used_of number = if is_bench_number number then 1 else number / 2
 
 -- a file is that of the edited package, or comes to it in at most so many steps to what is used
 unfoldable pub comes_to : (steps : ℕ) → (edited number : ℕ) → Bool

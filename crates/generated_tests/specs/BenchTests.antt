@@ -8,7 +8,7 @@ use Rattle.test_select.specs.Patterns.{pieces_of}
 use Rattle.test_select.specs.Selection.{selection}
 use Rattle.test_spec.specs.declared.runs.TestRun.{TestRun}
 use Rattle.test_spec.specs.Runs.{test_runs}
-use Rattle.generated_links.specs.NumberedFiles.{numbered_file, numbered_scan, numbered_text}
+use Rattle.generated_links.specs.NumberedFiles.{numbered_file, numbered_scan, numbered_bytes}
 use Rattle.generated_texts.specs.BenchScans.{bench_name}
 use Rattle.generated_texts.specs.PackageLinks.{used_library}
 use Rattle.generated_tests.specs.TestedBench.{first_case, second_case}
@@ -24,7 +24,7 @@ generated_bench position = record { library = used_library; name = bench_name; a
 
 -- the files of these numbers, in this order, with their texts and scans, where the package of a number is edited
 abbrev pub numbered_sources : (command : List (List ℕ)) → (edited : ℕ) → (numbers : List ℕ) → ScannedFiles
-numbered_sources command edited numbers = record { files = map (numbered_file command) numbers; texts = map (numbered_text edited) numbers; scans = map (numbered_scan edited) numbers }
+numbered_sources command edited numbers = record { files = map (numbered_file command) numbers; texts = map (numbered_bytes edited) numbers; scans = map (numbered_scan edited) numbers }
 
 -- distinct numbers, of which the one at a position is that of the bench
 pub record HasBenchAt (numbers : List ℕ) (position : ℕ) : Type 0 where
