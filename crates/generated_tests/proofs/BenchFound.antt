@@ -17,7 +17,7 @@ use Rattle.vhdl_benches.specs.declared.bench.TestCase.{TestCase}
 use Rattle.vhdl_benches.specs.declared.bench.TestFault.{TestFault}
 use Rattle.vhdl_runs.specs.Calls.{asks_same_sim, called_cases, cases_or, whole_case}
 use Rattle.vhdl_runs.specs.Runs.{is_bench_unit}
-use Rattle.test_scan.specs.Benches.{ScannedFiles, architectures_of, bench_at, bench_numbers, bench_of, bench_with, design_unit, file_units, is_architecture_of, is_bench_number, no_design_unit, no_scan, no_source, tests_found, tests_of, unit_number, unit_numbers}
+use Rattle.test_scan.specs.Benches.{ScannedFiles, architectures_of, bench_at, bench_numbers, bench_of, bench_with, design_unit, file_units, is_architecture_of, is_bench, no_design_unit, no_scan, no_source, tests_found, tests_of, unit_number, unit_numbers}
 use Rattle.test_spec.specs.Runs.{path_at}
 use Rattle.generated_project.specs.Files.{bench_body, bench_head, bench_path}
 use Rattle.generated_links.proofs.Members.{one_place}
@@ -86,7 +86,7 @@ abbrev units_with : ScannedFiles → (UnitId → Bool) → ℕ → List UnitId
 units_with sources test k = filter test (file_units sources.scans k)
 
 module _ (sources : ScannedFiles) (k : ℕ) (number : ℕ) (noted : Bool) (is : slice_index_or sources.scans k no_scan ≡ package_scan number noted) where
-  no_bench_in : units_with sources (is_bench_number sources) k ≡ []
+  no_bench_in : units_with sources (is_bench sources) k ≡ []
   unfolding below
   no_bench_in = rw is (rw is refl)
 
@@ -96,20 +96,20 @@ module _ (sources : ScannedFiles) (k : ℕ) (number : ℕ) (noted : Bool) (is : 
 
 module _ (sources : ScannedFiles) (position : ℕ) (scan_is : slice_index_or sources.scans position no_scan ≡ bench_scan) (text_is : slice_index_or sources.texts position [] ≡ bench_head ++ bench_body)
     (library_is : (slice_index_or sources.files position no_source).name.library ≡ used_library) where
-  entity_is : is_bench_number sources (unit_number position 0) ≡ true
+  entity_is : is_bench sources (unit_number position 0) ≡ true
   entity_is =
       ap (λ (scan : Scan). is_bench_unit (slice_index_or sources.texts position []) scan.tokens.list (slice_index_or scan.units 0 no_design_unit)) scan_is
       ∙ ap (λ (text : List ℕ). is_bench_unit text bench_tokens bench_entity) text_is
       ∙ bench_is
 
-  architecture_isnt : is_bench_number sources (unit_number position 1) ≡ false
+  architecture_isnt : is_bench sources (unit_number position 1) ≡ false
   architecture_isnt = ap (λ (scan : Scan). is_bench_unit (slice_index_or sources.texts position []) scan.tokens.list (slice_index_or scan.units 1 no_design_unit)) scan_is
 
-  bench_in : units_with sources (is_bench_number sources) position ≡ unit_number position 0 ∷ []
+  bench_in : units_with sources (is_bench sources) position ≡ unit_number position 0 ∷ []
   unfolding below
   bench_in =
-      ap (λ (scan : Scan). filter (is_bench_number sources) (map (unit_number position) (below (length scan.units)))) scan_is
-      ∙ first_kept (is_bench_number sources) (unit_number position 0) (unit_number position 1) entity_is architecture_isnt
+      ap (λ (scan : Scan). filter (is_bench sources) (map (unit_number position) (below (length scan.units)))) scan_is
+      ∙ first_kept (is_bench sources) (unit_number position 0) (unit_number position 1) entity_is architecture_isnt
 
   architecture_in : units_with sources (is_architecture_of used_library bench_name sources) position ≡ unit_number position 1 ∷ []
   unfolding below used_library bench_name
@@ -168,7 +168,7 @@ module _ (command : List (List ℕ)) (edited : ℕ) (numbers : List ℕ) (positi
       (λ k less apart. let one = package_there k (subst (λ (n : ℕ). k < n) count_is less) apart in none k one.0 one.1 one.2)
 
   benches_are : bench_numbers sources ≡ unit_number position 0 ∷ []
-  benches_are = only_in_bench (is_bench_number sources) (unit_number position 0 ∷ []) (bench_in sources position bench_scanned bench_text bench_library) (λ k number noted is. no_bench_in sources k number noted is)
+  benches_are = only_in_bench (is_bench sources) (unit_number position 0 ∷ []) (bench_in sources position bench_scanned bench_text bench_library) (λ k number noted is. no_bench_in sources k number noted is)
 
   architectures_are : architectures_of sources used_library bench_name ≡ unit_number position 1 ∷ []
   architectures_are =
