@@ -14,5 +14,5 @@ unfolding text_at counting generation_of is_live payload_at payloads payloads_in
 image_payloads = record { none = refl; no_payloads = refl; of_a = refl; of_b = refl; higher = refl; other = refl }
 
 pub side_headers : SideHeaders
-unfolding generation_of is_live
-side_headers = record { header = refl; no_header = refl; placed = refl }
+unfolding text_bytes text_at block generation_of is_live payload_at
+side_headers = record { header = refl; no_header = refl; counted = refl; first = refl; last = refl }
