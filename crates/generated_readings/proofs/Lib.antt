@@ -1,0 +1,3 @@
+-- The lemmas.
+pub mod ReadTexts
+pub mod Readings
