@@ -21,11 +21,11 @@ use Rattle.run_spec.proofs.FoldLaws.{by_all_below}
 use Rattle.run_laws.proofs.CleanPlaces.{clean_at}
 use Rattle.run_tested_laws.specs.Libraries.{libraries}
 use Rattle.generated_project.specs.Files.{unedited}
-use Rattle.generated_links.specs.NumberedFiles.{numbered_edges, uses_number}
+use Rattle.generated_links.specs.NumberedFiles.{numbered_edges, numbered_graph, uses_number}
 use Rattle.generated_links.proofs.Members.{contains_had, has_contained, has_mapped}
 use Rattle.generated_laws.specs.Edits.{ChangesFile, MakesAll, clean_file}
 use Rattle.generated_builds.specs.NumberedBuilds.{HasNumberBuilt, IsMadeBy, IsNumberAsked, MakesNumbered, numbered_built}
-use Rattle.generated_builds.specs.NumberedGraphs.{AreInOrder, numbered_graph, numbered_name, ordered_number}
+use Rattle.generated_builds.specs.NumberedGraphs.{AreInOrder, numbered_name, ordered_number}
 use Rattle.generated_builds.proofs.Edits.{is_edit}
 use Rattle.generated_builds.proofs.Fitting.{name_fits}
 use Rattle.generated_builds.proofs.Graphs.{entry_of, found_at, found_is, found_within, graph_count, is_graph, numbered_entry, order_count, ordered_within}

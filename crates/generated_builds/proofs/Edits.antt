@@ -5,9 +5,9 @@ use Rattle.std.proofs.lemmas.Bool.{cases_lt, ne_eqb}
 use Rattle.std.proofs.lemmas.Option.{slice_get_past}
 use Rattle.order_spec.specs.LinkedGraph.{closure_of}
 use Rattle.generated_project.specs.Files.{package_text, unedited}
-use Rattle.generated_links.specs.NumberedFiles.{numbered_edges, numbered_bytes}
+use Rattle.generated_links.specs.NumberedFiles.{numbered_bytes, numbered_edges, numbered_graph}
 use Rattle.generated_laws.specs.Edits.{IsEdit}
-use Rattle.generated_builds.specs.NumberedGraphs.{AreInOrder, numbered_graph, numbered_name, ordered_number}
+use Rattle.generated_builds.specs.NumberedGraphs.{AreInOrder, numbered_name, ordered_number}
 use Rattle.generated_builds.proofs.Graphs.{entry_of, found_at, graph_count}
 use Rattle.generated_builds.proofs.Uses.{one_position}
 

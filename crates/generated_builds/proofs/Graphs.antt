@@ -16,9 +16,9 @@ use Rattle.order_spec.specs.BuildOrder.{AreEdges, IsBuildOrder}
 use Rattle.order_spec.specs.LinkedGraph.{FitTexts, closure_of, linked_entry}
 use Rattle.order_spec.proofs.Cycles.{ordered_is}
 use Rattle.project_graph.proofs.LinkedGraphs.{get_or-linked, length-linked, linked_is_graph, no_file}
-use Rattle.generated_links.specs.NumberedFiles.{numbered_edges, numbered_file, numbered_project, numbered_bytes}
+use Rattle.generated_links.specs.NumberedFiles.{numbered_bytes, numbered_edges, numbered_file, numbered_graph, numbered_project}
 use Rattle.generated_links.proofs.Orders.{are_edges, edge_count}
-use Rattle.generated_builds.specs.NumberedGraphs.{AreInOrder, IsEntryOfNumber, numbered_graph, numbered_name, ordered_number}
+use Rattle.generated_builds.specs.NumberedGraphs.{AreInOrder, IsEntryOfNumber, numbered_name, ordered_number}
 use Rattle.generated_builds.proofs.Counted.{number_count}
 use Rattle.generated_builds.proofs.Fitting.{name_fits, same_path, texts_small}
 

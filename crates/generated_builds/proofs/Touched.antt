@@ -16,11 +16,11 @@ use Rattle.order_spec.specs.LinkedGraph.{closure_of, reaches}
 use Rattle.order_spec.proofs.Finds.{below_bounded, in_below}
 use Rattle.order_spec.proofs.Reaching.{any_there, dep_reaching, reached_before, reaches_dep, some_there, way_reaches}
 use Rattle.generated_project.specs.Files.{unedited}
-use Rattle.generated_links.specs.NumberedFiles.{numbered_edges, uses_at, uses_number}
+use Rattle.generated_links.specs.NumberedFiles.{numbered_edges, numbered_graph, uses_at, uses_number}
 use Rattle.generated_links.proofs.Members.{contains_had, has_contained, has_mapped, map_had, one_place, same_tests}
 use Rattle.generated_links.proofs.Orders.{edge_count}
 use Rattle.generated_laws.specs.Edits.{is_touched, touched_files}
-use Rattle.generated_builds.specs.NumberedGraphs.{AreInOrder, numbered_graph, ordered_number}
+use Rattle.generated_builds.specs.NumberedGraphs.{AreInOrder, ordered_number}
 use Rattle.generated_builds.specs.TouchedNumbers.{comes_to, has_used, touched_numbers, used_of}
 use Rattle.generated_builds.proofs.Graphs.{build_order, edges_are, file_within, found_at, graph_count, order_count, ordered_within}
 use Rattle.generated_builds.proofs.Lists.{kept_there}

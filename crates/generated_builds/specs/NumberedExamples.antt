@@ -2,8 +2,7 @@
 use Rattle.std.specs.Prelude.{◌≡◌, ℕ, List, [], ◌∷◌, map}
 use Rattle.base.specs.declared.graph.Entry.{Entry}
 use Rattle.order_spec.specs.BuildOrder.{Ordered, file_order}
-use Rattle.generated_links.specs.NumberedFiles.{numbered_edges}
-use Rattle.generated_builds.specs.NumberedGraphs.{numbered_graph}
+use Rattle.generated_links.specs.NumberedFiles.{numbered_edges, numbered_graph}
 use Rattle.generated_builds.specs.TouchedNumbers.{touched_numbers}
 
 -- three packages, and then the bench

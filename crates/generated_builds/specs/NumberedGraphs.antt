@@ -1,13 +1,12 @@
 -- The graph of the generated project, whatever order its files come in.
-use Rattle.std.specs.Prelude.{◌≡◌, ℕ, ◌<◌, ◌≤◌, List, map, slice_index}
+use Rattle.std.specs.Prelude.{◌≡◌, ℕ, ◌<◌, ◌≤◌, List, slice_index}
 use Rattle.base.specs.declared.file.FileName.{FileName}
 use Rattle.base.specs.declared.graph.Entry.{Entry}
 use Rattle.base.specs.declared.limits.TheConstants.{FILE_LIMIT}
 use Rattle.base.specs.Names.{FitsCommand}
 use Rattle.order_spec.specs.BuildOrder.{Ordered, file_order}
-use Rattle.order_spec.specs.LinkedGraph.{linked}
 use Rattle.generated_texts.specs.PackageLinks.{used_library}
-use Rattle.generated_links.specs.NumberedFiles.{AreAllNumbers, numbered_edges, numbered_file, numbered_path, numbered_bytes}
+use Rattle.generated_links.specs.NumberedFiles.{AreAllNumbers, numbered_bytes, numbered_edges, numbered_path}
 
 -- The bench and so many packages, fewer than a graph has files, with a command that compiles them and the order in which
 -- they are compiled.
@@ -17,10 +16,6 @@ pub record AreInOrder (count : ℕ) (command : List (List ℕ)) (numbers order :
   pub fits : FitsCommand command
   pub all : AreAllNumbers count numbers
   pub ordered : file_order (numbered_edges numbers) ≡ Ordered order
-
--- their graph, where the package of a number is edited, or none
-abbrev pub numbered_graph : (command : List (List ℕ)) → (edited : ℕ) → (numbers order : List ℕ) → List Entry
-numbered_graph command edited numbers order = linked (map (numbered_file command) numbers) (map (numbered_bytes edited) numbers) (numbered_edges numbers) order
 
 -- the number of the file at a position of the graph
 abbrev pub ordered_number : (numbers order : List ℕ) → (position : ℕ) → ℕ

@@ -7,11 +7,11 @@ ghost use Rattle.base.specs.declared.graph.Entry.{Entry};
 ghost use Rattle.base.specs.Graphs.{IsGraph};
 ghost use Rattle.run_tested_laws.specs.Libraries.{libraries};
 ghost use Rattle.generated_project.specs.Files.{unedited};
-ghost use Rattle.generated_links.specs.NumberedFiles.{uses_number};
+ghost use Rattle.generated_links.specs.NumberedFiles.{numbered_graph, uses_number};
 ghost use Rattle.generated_laws.specs.Edits.{ChangesFile, IsEdit, MakesAll, clean_file, is_touched, touched_files};
 ghost use Rattle.generated_builds.specs.NumberedBuilds.{MakesNumbered, numbered_built};
 ghost use Rattle.generated_builds.specs.NumberedExamples.{NumberedExamples};
-ghost use Rattle.generated_builds.specs.NumberedGraphs.{AreInOrder, IsEntryOfNumber, numbered_graph, ordered_number};
+ghost use Rattle.generated_builds.specs.NumberedGraphs.{AreInOrder, IsEntryOfNumber, ordered_number};
 ghost use Rattle.generated_builds.specs.TouchedNumbers.{comes_to, touched_numbers};
 
 /// The files of the generated project, edited or not, are a graph, whatever order they come in.

@@ -11,4 +11,3 @@ pub mod BothBuilds
 pub mod TestsEnded
 pub mod PassedCases
 pub mod GeneratedCounts
-pub mod TextArtefacts

@@ -15,7 +15,7 @@ use Rattle.run_spec.specs.declared.marks.Mark.TheVariants as mark
 use Rattle.run_spec.specs.CleanBuild.{built_below, is_free, clean_build, RecordsClean}
 use Rattle.run_spec.specs.Marks.{steady_mark, is_compiled}
 use Rattle.run_spec.specs.Settled as settled
-use Rattle.run_spec.specs.Settled.{Settled, settle, settled_by, settled_by_exit}
+use Rattle.run_spec.specs.Settled.{settle, settled_by}
 use Rattle.run_laws.proofs.CleanSettled.{settle_is_clean}
 use Rattle.generated_laws.specs.Edits.{AcceptsAll}
 use Rattle.generated_laws.proofs.MadeFiles.{asks, free, good}

@@ -4,8 +4,6 @@ ghost use Rattle.std.specs.Prelude.{◌≡◌, ℕ, true, List, length, Ok};
 ghost use Rattle.base.specs.declared.child.Request.{Request};
 ghost use Rattle.base.specs.declared.child.Exit.{Exit};
 ghost use Rattle.base.specs.declared.child.Event.{Event};
-ghost use Rattle.base.specs.declared.graph.Entry.{Entry};
-ghost use Rattle.base.specs.Graphs.{IsGraph};
 ghost use Rattle.run_spec.specs.JournalParts.{compile_part};
 ghost use Rattle.run_spec.specs.Marks.{marks_of};
 ghost use Rattle.run_tested_laws.specs.Libraries.{libraries};
@@ -17,8 +15,7 @@ ghost use Rattle.generated_runs.specs.Sources.{first_work, first_records, second
 ghost use Rattle.generated_runs.specs.Said.{tests_of};
 ghost use Rattle.generated_runs.specs.Ran.{RanGenerated};
 ghost use Rattle.generated_laws.specs.Compiled.{CompilesOnly};
-ghost use Rattle.generated_laws.specs.Edits.{MakesAll, IsEdit, ChangesFile, is_touched, touched_files};
-ghost use Rattle.generated_laws.specs.Texts.{AllByText};
+ghost use Rattle.generated_laws.specs.Edits.{MakesAll, ChangesFile, is_touched, touched_files};
 ghost use Rattle.generated_laws.specs.Passes.{PassesAll};
 ghost use Rattle.generated_laws.specs.Counted.{HavePassed, passed_said};
 
@@ -65,18 +62,4 @@ pub fn laws_of_counts()
         reading ≡ Found read → changed ≡ Found again →
         RanGenerated answer options reading changed (Ok said) events →
         said ≡ passed_said options edited read again }
-{}
-
-/// What a clean build makes where the artefact of each file is that of its text alone.
-pub fn laws_of_texts()
-    // All files of the graph are made.
-    ensures makes { (answer : Request → Exit) (artefact_of : List ℕ → List ℕ) (graph : List Entry) →
-        IsGraph graph → AllByText answer artefact_of graph → MakesAll answer graph }
-    // An edit changes the file whose text it changes, if the new text has another artefact.
-    ensures changes { (answer : Request → Exit) (artefact_of : List ℕ → List ℕ) (edited : ℕ)
-        (before after : List Entry) → IsGraph before → IsGraph after →
-        AllByText answer artefact_of before → AllByText answer artefact_of after →
-        (edit : IsEdit edited before after) →
-        (artefact_of edit.entry.text ≡ artefact_of edit.text → ⊥) →
-        ChangesFile answer edited before after }
 {}

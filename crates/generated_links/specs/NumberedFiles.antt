@@ -1,9 +1,11 @@
 -- The generated project with its files in any order. A file is named by a number: that of its package, or 0 for the bench.
 use Rattle.std.specs.Prelude.{◌≡◌, ◌≢◌, zero, suc, ℕ, ◌/◌, ◌^◌, ◌<◌, ◌≤◌, ◌==◌, ◌&&◌, nat_lt, Bool, true, false, if◌then◌else◌, List, [], ◌++◌, length, map, filter, slice_index, All, AllPairs, Contains}
 use Rattle.base.specs.declared.design.Scan.{Scan}
+use Rattle.base.specs.declared.graph.Entry.{Entry}
 use Rattle.base.specs.declared.project.Project.{Project}
 use Rattle.base.specs.declared.project.ProjectFile.{ProjectFile}
 use Rattle.base.specs.PresentGraph.{below}
+use Rattle.order_spec.specs.LinkedGraph.{linked}
 use Rattle.generated_project.specs.Files.{bench_body, bench_head, bench_path, package_path, package_text}
 use Rattle.generated_texts.specs.BenchScans.{bench_scan}
 use Rattle.generated_texts.specs.PackageLinks.{used_library}
@@ -64,3 +66,7 @@ uses_at numbers user used = uses_number (slice_index numbers user) (slice_index 
 -- of each file the positions of those that it uses, rising
 abbrev pub numbered_edges : List ℕ → List (List ℕ)
 numbered_edges numbers = map (λ user. filter (uses_at numbers user) (below (length numbers))) (below (length numbers))
+
+-- the graph of the files in an order, where the package of a number is edited, or none
+abbrev pub numbered_graph : (command : List (List ℕ)) → (edited : ℕ) → (numbers order : List ℕ) → List Entry
+numbered_graph command edited numbers order = linked (map (numbered_file command) numbers) (map (numbered_bytes edited) numbers) (numbered_edges numbers) order

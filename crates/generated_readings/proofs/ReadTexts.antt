@@ -1,29 +1,27 @@
 -- The texts of the generated files, as they are found in their tree, and their scans.
-use Rattle.std.proofs.Common.{◌≡◌, ◌≢◌, zero, suc, ℕ, ◌+◌, ◌*◌, ◌/◌, ◌^◌, ◌<◌, ◌≤◌, ◌⊎◌, ⊎_elim, inl, inr, Bool, true, false, List, [], ◌∷◌, ◌++◌, length, map, nat_eq, Some, None, Option, refl, sym, ap, subst, ◌∙◌, arith, length-append}
-use Rattle.std.specs.Prelude.{◌==◌, nat_le, codes, if◌then◌else◌, Result, Ok, Err}
+use Rattle.std.proofs.Common.{◌≡◌, ◌≢◌, zero, suc, ℕ, ◌+◌, ◌*◌, ◌/◌, ◌^◌, ◌<◌, ◌≤◌, ◌⊎◌, ⊎_elim, inl, inr, Bool, true, false, List, [], ◌∷◌, ◌++◌, length, map, nat_eq, Some, Option, refl, sym, ap, subst, ◌∙◌, arith, length-append}
+use Rattle.std.specs.Prelude.{◌==◌, nat_le, if◌then◌else◌, Ok}
 use Rattle.std.specs.Cmp.Lexicographic.{pointwise}
 use Rattle.std.specs.Fmt.{decimal}
 use Rattle.std.specs.List.{AllByRecursion}
 use Rattle.std.proofs.lemmas.Bool.{cases_Bool, cond-true, cond-false, false≢true, le-leb}
 use Rattle.std.proofs.lemmas.Fmt.{decimal_injective, length-decimal-le}
 use Rattle.std.proofs.lemmas.List.{append_cancel_left, append_cancel_right}
-use Rattle.base.specs.declared.design.Scan.{Scan}
 use Rattle.base.specs.declared.file.NamedText.{NamedText}
 use Rattle.base.specs.declared.limits.TheConstants.{GRAPH_TEXT_LIMIT, TEXT_LIMIT}
 use Rattle.base.specs.declared.project.ProjectFile.{ProjectFile}
 use Rattle.base.specs.PresentGraph.{below}
 use Rattle.memory_outside.specs.Trees.{file_at}
 use Rattle.outside.specs.Trees.{read_end}
-use Rattle.outside.specs.declared.tree.ReadEnd.{ReadEnd}
 use Rattle.outside.specs.declared.tree.ReadEnd.TheVariants as read
-use Rattle.vhdl_spec.specs.Scans.{Clean, Finding, IsScanner}
-use Rattle.project_reading.specs.Reading.{SourceReading, and_others, before_others, scan_of, scans_of, text_after, text_of, texts_of}
+use Rattle.vhdl_spec.specs.Scans.{Finding, IsScanner}
+use Rattle.project_reading.specs.Reading.{and_others, before_others, scan_of, scans_of, text_of, texts_of}
 use Rattle.generated_project.specs.Files.{all_words, bench_body, bench_file, bench_head, bench_path, constant_words, end_words, generated_files, library_words, note_line, package_file, package_path, package_text, package_words, packages, source_end, source_folder, toml_file, toml_path}
 use Rattle.generated_texts.proofs.PackageParts.{file_text}
 use Rattle.generated_texts.specs.PackageScans.{is_alone}
 use Rattle.generated_links.proofs.Linked.{numbered_found}
 use Rattle.generated_links.proofs.Members.{Has, contains_had, has_contained, has_mapped, map_had}
-use Rattle.generated_links.proofs.Naming.{bytes_same, same_bytes, other_bytes}
+use Rattle.generated_links.proofs.Naming.{bytes_same, same_bytes}
 use Rattle.generated_links.specs.NumberedFiles.{numbered_bytes, numbered_file, numbered_path, numbered_scan}
 use Rattle.order_spec.proofs.Finds.{below_bounded, in_below}
 

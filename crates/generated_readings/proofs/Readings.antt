@@ -1,28 +1,20 @@
 -- What is read of the generated project.
-use Rattle.std.proofs.Common.{◌≡◌, zero, suc, ℕ, ◌+◌, ◌*◌, ◌^◌, ◌<◌, ◌≤◌, Bool, true, false, List, [], ◌∷◌, ◌++◌, length, map, Some, None, Option, refl, sym, ap, subst, ◌∙◌, arith, length-append}
-use Rattle.std.specs.Prelude.{nat_le, codes, Result, Ok, Err}
+use Rattle.std.proofs.Common.{◌≡◌, ℕ, ◌+◌, ◌^◌, ◌<◌, ◌≤◌, true, false, List, [], ◌∷◌, ◌++◌, length, map, Some, Option, refl, ap, ◌∙◌, arith, length-append}
+use Rattle.std.specs.Prelude.{nat_le, codes, Ok}
 use Rattle.std.specs.List.{AllByRecursion}
 use Rattle.std.proofs.lemmas.Bool.{cond-true, le-leb}
 use Rattle.std.proofs.lemmas.List.{length-map}
 use Rattle.std.proofs.lemmas.List.Elements.{recursion_from_All}
 use Rattle.vhdl_benches.specs.declared.bench.Bench.{Bench}
-use Rattle.base.specs.declared.design.Scan.{Scan}
-use Rattle.base.specs.declared.limits.TheConstants.{FILE_LIMIT, GRAPH_TEXT_LIMIT, NAME_LIMIT, TEXT_LIMIT}
-use Rattle.base.specs.declared.linking.Linked.{Linked}
-use Rattle.base.specs.declared.linking.LinkFault.{LinkFault}
-use Rattle.base.specs.declared.project.Project.{Project}
-use Rattle.base.specs.declared.project.ProjectFault.{ProjectFault}
+use Rattle.base.specs.declared.limits.TheConstants.{FILE_LIMIT, NAME_LIMIT, TEXT_LIMIT}
 use Rattle.memory_outside.specs.Trees.{file_at, listed_of}
 use Rattle.order_spec.specs.BuildOrder.{FileOrder, Ordered, file_order}
-use Rattle.outside.specs.Trees.{names_end, read_end}
-use Rattle.outside.specs.declared.tree.NamesEnd.{NamesEnd}
+use Rattle.outside.specs.Trees.{read_end}
 use Rattle.outside.specs.declared.tree.NamesEnd.TheVariants as names
-use Rattle.outside.specs.declared.tree.ReadEnd.{ReadEnd}
 use Rattle.outside.specs.declared.tree.ReadEnd.TheVariants as read
 use Rattle.vhdl_spec.specs.Scans.{Finding, IsScanner}
 use Rattle.project_file.specs.Csv.{listed_command, listed_simulator}
-use Rattle.project_file.specs.Toml.{toml_project}
-use Rattle.project_reading.specs.Reading.{SourceReading, Found, linked_or, linked_reading, links_of, order_or, order_reading, ordered_reading, project_in, project_or, project_reading, project_said, scanned_reading, scans_of, sources_reading, texts_of, texts_reading, then_read, toml_said, wanted_tests}
+use Rattle.project_reading.specs.Reading.{Found, linked_or, linked_reading, links_of, order_or, order_reading, ordered_reading, project_in, project_or, project_reading, project_said, scanned_reading, sources_reading, texts_of, texts_reading, then_read, toml_said, wanted_tests}
 use Rattle.project_reading.specs.Wishes.{wants_tests}
 use Rattle.project_reading.specs.declared.wish.Extent.TheVariants.{Graph}
 use Rattle.project_reading.specs.declared.wish.Wish.{Wish}

@@ -4,9 +4,8 @@ use Rattle.base.specs.declared.design.Scan.{Scan}
 use Rattle.base.specs.declared.graph.Entry.{Entry}
 use Rattle.base.specs.declared.linking.Linked.{Linked}
 use Rattle.base.specs.declared.project.Project.{Project}
-use Rattle.order_spec.specs.LinkedGraph.{linked}
 use Rattle.project_file.specs.Csv.{listed_command, listed_simulator}
-use Rattle.generated_links.specs.NumberedFiles.{numbered_bytes, numbered_edges, numbered_project, numbered_scan}
+use Rattle.generated_links.specs.NumberedFiles.{numbered_bytes, numbered_edges, numbered_graph, numbered_project, numbered_scan}
 use Rattle.generated_listing.specs.ListedNumbers.{listed_numbers}
 
 -- its project
@@ -26,4 +25,4 @@ found_links count = record { edges = numbered_edges (listed_numbers count); warn
 
 -- its graph in an order
 abbrev pub read_graph : (count edited : ℕ) → (order : List ℕ) → List Entry
-read_graph count edited order = linked (read_project count).files (read_texts count edited) (numbered_edges (listed_numbers count)) order
+read_graph count edited order = numbered_graph listed_command edited (listed_numbers count) order

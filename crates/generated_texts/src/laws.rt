@@ -1,6 +1,6 @@
 //! Laws of the files of packages, as functions with empty bodies: a caller cites one by calling it.
 
-ghost use Rattle.std.specs.Prelude.{◌≡◌, ◌<◌, ◌^◌, ℕ, Bool, List, ◌∷◌, ◌++◌};
+ghost use Rattle.std.specs.Prelude.{◌≡◌, ◌<◌, ◌^◌, ℕ, Bool, List, ◌++◌};
 ghost use Rattle.std.specs.Fmt.{decimal};
 ghost use Rattle.base.specs.declared.project.ProjectFile.{ProjectFile};
 ghost use Rattle.vhdl_spec.specs.Dependencies.{link_unit};

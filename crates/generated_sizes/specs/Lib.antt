@@ -1,0 +1,3 @@
+-- The definitions.
+pub mod SaidOfSizes
+pub mod SizeExamples
