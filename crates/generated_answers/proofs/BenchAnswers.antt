@@ -22,7 +22,7 @@ use Rattle.child_tools.specs.Exports.{exported_by, exports, exports_unit, first_
 use Rattle.child_tools.specs.declared.names.UnitName.{UnitName}
 use Rattle.generated_project.specs.Files.{bench_body, bench_head, bench_path}
 use Rattle.generated_texts.proofs.BenchFindings.{bench_found}
-use Rattle.generated_texts.specs.BenchScans.{bench_architecture, bench_entity, bench_name, bench_scan, bench_tokens, entity_ref}
+use Rattle.generated_texts.specs.BenchScans.{bench_architecture, bench_entity, bench_entity_name, bench_scan, bench_file_tokens, entity_ref}
 use Rattle.generated_texts.specs.PackageLinks.{used_library, used_ref}
 use Rattle.generated_texts.specs.PackageScans.{package_name}
 use Rattle.memory_children.specs.Answers.{loop_answer}
@@ -40,15 +40,15 @@ text = bench_head ++ bench_body
 -- ## The artefact
 
 artefact_is : artefact_of text bench_scan ≡ bench_artefact
-unfolding artefact_of unit_line kind_word of_entity bench_name bench_artefact
+unfolding artefact_of unit_line kind_word of_entity bench_entity_name bench_artefact
 artefact_is = refl
 
 pub artefact_small : length bench_artefact ≤ ARTEFACT_LIMIT
 unfolding bench_artefact
 artefact_small = omega arith
 
-own_export : exports_unit bench_artefact bench_name ≡ true
-unfolding bench_artefact bench_name exported_by after_word
+own_export : exports_unit bench_artefact bench_entity_name ≡ true
+unfolding bench_artefact bench_entity_name exported_by after_word
 own_export = refl
 
 -- ## What it wants: the first package, and its own entity
@@ -60,16 +60,16 @@ first_named : package_name 1 ≡ first_name
 unfolding digits
 first_named = refl
 
-entity_refs : refs_of text bench_tokens bench_entity ≡ used_ref first_name ∷ []
-unfolding bench_head bench_body bench_name used_library word_role reserved_words
+entity_refs : refs_of text bench_file_tokens bench_entity ≡ used_ref first_name ∷ []
+unfolding bench_head bench_body bench_entity_name used_library word_role reserved_words
 entity_refs = refl
 
-architecture_refs : refs_of text bench_tokens bench_architecture ≡ entity_ref ∷ []
-unfolding bench_head bench_body bench_name used_library word_role reserved_words
+architecture_refs : refs_of text bench_file_tokens bench_architecture ≡ entity_ref ∷ []
+unfolding bench_head bench_body bench_entity_name used_library word_role reserved_words
 architecture_refs = refl
 
 abbrev wanted : List UnitName
-wanted = lib_unit first_name ∷ lib_unit bench_name ∷ []
+wanted = lib_unit first_name ∷ lib_unit bench_entity_name ∷ []
 
 strict_are : strict_units used_library (used_ref first_name ∷ []) ++ (strict_units used_library (entity_ref ∷ []) ++ []) ≡ wanted
 unfolding strict_unit used_library
@@ -78,7 +78,7 @@ strict_are = refl
 wants : wanted_units used_library text bench_scan ≡ wanted
 unfolding wanted_units
 wants =
-    ap (λ (refs : List Ref). strict_units used_library refs ++ (strict_units used_library (refs_of text bench_tokens bench_architecture) ++ [])) entity_refs
+    ap (λ (refs : List Ref). strict_units used_library refs ++ (strict_units used_library (refs_of text bench_file_tokens bench_architecture) ++ [])) entity_refs
     ∙ ap (λ (refs : List Ref). strict_units used_library (used_ref first_name ∷ []) ++ (strict_units used_library refs ++ [])) architecture_refs
     ∙ strict_are
 
@@ -99,13 +99,13 @@ module _ (deps : List BuiltFile) (has : HasPackage 1 deps) where
   first_exported : exports (deps ++ own ∷ []) (lib_unit first_name) ≡ true
   first_exported = before_export (lib_unit first_name) deps (own ∷ []) (ap (λ (name : List ℕ). exports deps (lib_unit name)) (sym first_named) ∙ package_is_exported 1 deps (omega arith) has)
 
-  own_exported : exports (deps ++ own ∷ []) (lib_unit bench_name) ≡ true
-  own_exported = after_export (lib_unit bench_name) deps (own ∷ []) (ap (λ (test : Bool). test || false) (one_exports (lib_unit bench_name) own refl own_export))
+  own_exported : exports (deps ++ own ∷ []) (lib_unit bench_entity_name) ≡ true
+  own_exported = after_export (lib_unit bench_entity_name) deps (own ∷ []) (ap (λ (test : Bool). test || false) (one_exports (lib_unit bench_entity_name) own refl own_export))
 
   links : first_missing (with_own (lib_job bench_path text deps) bench_artefact) wanted ≡ None
   links =
-      missing_more (deps ++ own ∷ []) (lib_unit first_name) (lib_unit bench_name ∷ []) first_exported
-      ∙ missing_more (deps ++ own ∷ []) (lib_unit bench_name) [] own_exported
+      missing_more (deps ++ own ∷ []) (lib_unit first_name) (lib_unit bench_entity_name ∷ []) first_exported
+      ∙ missing_more (deps ++ own ∷ []) (lib_unit bench_entity_name) [] own_exported
 
   bench_clean : IsClean bench_path text deps bench_scan bench_artefact wanted
   bench_clean = record { accepted = refl; artefact_is = artefact_is; small = artefact_small; wants = wants; links = links }

@@ -12,7 +12,7 @@ use Rattle.base.specs.PresentGraph.{below}
 use Rattle.vhdl_spec.proofs.SomeTests.{and_both, and_cases, or_cases, or_first}
 use Rattle.vhdl_spec.specs.Dependencies.{LinkUnit, depends_on, edges_of, names_unit, refers_to}
 use Rattle.generated_texts.proofs.Digits.{same_number}
-use Rattle.generated_texts.specs.BenchScans.{bench_name}
+use Rattle.generated_texts.specs.BenchScans.{bench_entity_name}
 use Rattle.generated_texts.specs.PackageScans.{is_alone, package_name}
 use Rattle.generated_links.specs.NumberedFiles.{AreNumbers, numbered_edges, numbered_file, numbered_project, uses_at, uses_number}
 use Rattle.generated_links.proofs.Members.{Has, any_had, contains_had, had_any, has_mapped, map_had, one_place, same_filter, same_map, same_tests}
@@ -33,7 +33,7 @@ place_is command place (package_after before) = refl
 
 -- a name that a unit refers to means the file that its number uses, or the unit's own file
 used_or_own : (member named : Member) → has_ref member ≡ true → number_of member < 2 ^ 64 → number_of named < 2 ^ 64 → primary_by (target member) named ≡ true → (uses_number (number_of member) (number_of named) ≡ true) ⊎ (number_of member ≡ number_of named)
-unfolding bench_name
+unfolding bench_entity_name
 used_or_own entity entity uses small few is = inr refl
 used_or_own entity architecture uses small few is = inr refl
 used_or_own entity (package_after before) uses small few is =

@@ -9,7 +9,7 @@ use Rattle.base.specs.declared.refs.Ref.{Ref}
 use Rattle.vhdl_spec.proofs.Seeing.{closed}
 use Rattle.vhdl_spec.specs.Dependencies.{LinkUnit, is_primary, is_seen, library_of, names_unit}
 use Rattle.vhdl_spec.specs.Visibility.{is_implicit, is_own, sees}
-use Rattle.generated_texts.specs.BenchScans.{bench_name, entity_ref}
+use Rattle.generated_texts.specs.BenchScans.{bench_entity_name, entity_ref}
 use Rattle.generated_texts.specs.PackageLinks.{file_libraries, file_refs, used_library, used_ref}
 use Rattle.generated_texts.specs.PackageScans.{is_alone, package_name}
 use Rattle.generated_links.specs.NumberedFiles.{numbered_project}
@@ -40,7 +40,7 @@ other_bytes x y other =
 -- the name that a unit refers to, if it refers to one
 abbrev pub target : Member → List ℕ
 target entity = 112 ∷ 49 ∷ []
-target architecture = bench_name
+target architecture = bench_entity_name
 target (package_after before) = package_name (suc before / 2)
 
 abbrev pub ref_of : Member → Ref
@@ -100,7 +100,7 @@ module _ (command : List (List ℕ)) (place : ℕ) where
 -- ## What a name means
 
 abbrev pub primary_by : List ℕ → Member → Bool
-primary_by name entity = bytes_eq bench_name name
+primary_by name entity = bytes_eq bench_entity_name name
 primary_by name architecture = false
 primary_by name (package_after before) = bytes_eq (package_name (suc before)) name
 

@@ -15,7 +15,7 @@ use Rattle.base.specs.declared.project.Project.{Project}
 use Rattle.base.specs.declared.refs.Ref.{Ref}
 use Rattle.vhdl_spec.specs.Dependencies.{LinkUnit, duplicate_of, edges_of, first_duplicate, first_missing, first_some, is_alike, is_primary, library_of, link_of, missing_of, warnings_of}
 use Rattle.generated_texts.proofs.Digits.{same_number}
-use Rattle.generated_texts.specs.BenchScans.{bench_name}
+use Rattle.generated_texts.specs.BenchScans.{bench_entity_name}
 use Rattle.generated_texts.specs.PackageLinks.{used_library}
 use Rattle.generated_texts.specs.PackageScans.{is_alone, package_name}
 use Rattle.generated_links.specs.NumberedFiles.{AreNumbers, numbered_project, uses_number}
@@ -45,7 +45,7 @@ first_name = ap (λ (digits : List ℕ). 112 ∷ digits) (decimal_digit 1 (omega
 
 main_primary : (member : Member) → has_ref member ≡ true → primary_by (target member) (main_member (used_by member)) ≡ true
 main_primary entity uses = same_bytes (package_name 1) (112 ∷ 49 ∷ []) first_name
-main_primary architecture uses = same_bytes bench_name bench_name refl
+main_primary architecture uses = same_bytes bench_entity_name bench_entity_name refl
 main_primary (package_after before) uses = main_named (suc before / 2) (half_some before uses)
 
 -- ## Lists
@@ -170,7 +170,7 @@ Below member = number_of member < 2 ^ 64
 
 module _ (command : List (List ℕ)) (place other : ℕ) where
   unlike_by : (member named : Member) → Below member → Below named → number_of member ≢ number_of named → is_alike (unit_by command place member) (unit_by command other named) ≡ false
-  unfolding used_library bench_name
+  unfolding used_library bench_entity_name
   unlike_by entity entity small few apart = absurd (apart refl)
   unlike_by entity architecture small few apart = absurd (apart refl)
   unlike_by entity (package_after before) small few apart = refl
@@ -184,7 +184,7 @@ module _ (command : List (List ℕ)) (place other : ℕ) where
       (other_bytes (package_name (suc before)) (package_name (suc after)) (λ same. apart (same_number (suc after) (suc before) small few (sym same))))
 
   body_unlike : is_alike (unit_by command place architecture) (unit_by command other entity) ≡ false
-  unfolding used_library bench_name
+  unfolding used_library bench_entity_name
   body_unlike = refl
 
 pub small_had : (numbers : List ℕ) (number : ℕ) → AllByRecursion (λ n. n < 2 ^ 64) numbers → Has numbers number → number < 2 ^ 64

@@ -17,30 +17,30 @@ use Rattle.test_select.specs.Patterns.{first_piece, pieces_after, pieces_of}
 use Rattle.test_select.specs.Selection.{selection}
 use Rattle.test_spec.specs.Runs.{bench_runs, path_at}
 use Rattle.generated_project.specs.Files.{bench_body, bench_head, bench_path}
-use Rattle.generated_texts.specs.BenchScans.{bench_architecture, bench_entity, bench_name, bench_tokens}
+use Rattle.generated_texts.specs.BenchScans.{bench_architecture, bench_entity, bench_entity_name, bench_file_tokens}
 use Rattle.generated_texts.specs.PackageLinks.{used_library}
 use Rattle.generated_texts.specs.PackageScans.{package_unit}
 use Rattle.generated_tests.specs.BenchTests.{runs_of_all, bench_cases, generated_bench}
 use Rattle.generated_tests.specs.TestedBench.{both_runs, first_case, second_case}
 
-pub bench_is : is_bench_unit (bench_head ++ bench_body) bench_tokens bench_entity ≡ true
+pub bench_is : is_bench_unit (bench_head ++ bench_body) bench_file_tokens bench_entity ≡ true
 unfolding bench_head bench_body word_role reserved_words
 bench_is = refl
 
 pub no_bench : (text : List ℕ) (tokens : List Token) (number : ℕ) → is_bench_unit text tokens (package_unit number) ≡ false
 no_bench text tokens number = refl
 
-pub cases_are : (position : ℕ) → called_cases position (bench_head ++ bench_body) bench_tokens bench_architecture ≡ bench_cases position
+pub cases_are : (position : ℕ) → called_cases position (bench_head ++ bench_body) bench_file_tokens bench_architecture ≡ bench_cases position
 unfolding bench_head bench_body word_role reserved_words unquoted first_case second_case
 cases_are position = refl
 
 -- nothing is wrong with its names
 pub names_right : (position : ℕ) → tests_found (Ok (generated_bench position) ∷ []) ≡ Ok (generated_bench position ∷ [])
-unfolding encode_utf8 chars is_utf8 used_library bench_name first_case second_case
+unfolding encode_utf8 chars is_utf8 used_library bench_entity_name first_case second_case
 names_right position = refl
 
 all_selected : (position : ℕ) → selection (map pieces_of (codes "*" ∷ [])) (generated_bench position ∷ []) ≡ generated_bench position ∷ []
-unfolding first_piece pieces_after fits_pieces used_library bench_name first_case second_case
+unfolding first_piece pieces_after fits_pieces used_library bench_entity_name first_case second_case
 all_selected position = refl
 
 runs_of : (files : List ProjectFile) (position : ℕ) → path_at files position ≡ bench_path → bench_runs files (generated_bench position) ++ [] ≡ both_runs

@@ -22,7 +22,7 @@ use Rattle.test_spec.specs.Runs.{path_at}
 use Rattle.generated_project.specs.Files.{bench_body, bench_head, bench_path}
 use Rattle.generated_links.proofs.Members.{one_place}
 use Rattle.generated_links.specs.NumberedFiles.{numbered_file, numbered_scan, numbered_bytes}
-use Rattle.generated_texts.specs.BenchScans.{bench_entity, bench_name, bench_scan, bench_tokens}
+use Rattle.generated_texts.specs.BenchScans.{bench_entity, bench_entity_name, bench_scan, bench_file_tokens}
 use Rattle.generated_texts.specs.PackageLinks.{used_library}
 use Rattle.generated_texts.specs.PackageScans.{package_scan}
 use Rattle.generated_tests.specs.BenchTests.{HasBenchAt, runs_of_all, generated_bench, numbered_sources}
@@ -99,7 +99,7 @@ module _ (sources : ScannedFiles) (position : ℕ) (scan_is : slice_index_or sou
   entity_is : is_bench sources (unit_number position 0) ≡ true
   entity_is =
       ap (λ (scan : Scan). is_bench_unit (slice_index_or sources.texts position []) scan.tokens.list (slice_index_or scan.units 0 no_design_unit)) scan_is
-      ∙ ap (λ (text : List ℕ). is_bench_unit text bench_tokens bench_entity) text_is
+      ∙ ap (λ (text : List ℕ). is_bench_unit text bench_file_tokens bench_entity) text_is
       ∙ bench_is
 
   architecture_isnt : is_bench sources (unit_number position 1) ≡ false
@@ -111,8 +111,8 @@ module _ (sources : ScannedFiles) (position : ℕ) (scan_is : slice_index_or sou
       ap (λ (scan : Scan). filter (is_bench sources) (map (unit_number position) (below (length scan.units)))) scan_is
       ∙ first_kept (is_bench sources) (unit_number position 0) (unit_number position 1) entity_is architecture_isnt
 
-  architecture_in : units_with sources (is_architecture_of used_library bench_name sources) position ≡ unit_number position 1 ∷ []
-  unfolding below used_library bench_name
+  architecture_in : units_with sources (is_architecture_of used_library bench_entity_name sources) position ≡ unit_number position 1 ∷ []
+  unfolding below used_library bench_entity_name
   architecture_in = rw scan_is (rw (scan_is, library_is) refl)
 
   bench_made : bench_of sources (unit_number position 0) (unit_number position 1) ≡ generated_bench position
@@ -170,12 +170,12 @@ module _ (command : List (List ℕ)) (edited : ℕ) (numbers : List ℕ) (positi
   benches_are : bench_numbers sources ≡ unit_number position 0 ∷ []
   benches_are = only_in_bench (is_bench sources) (unit_number position 0 ∷ []) (bench_in sources position bench_scanned bench_text bench_library) (λ k number noted is. no_bench_in sources k number noted is)
 
-  architectures_are : architectures_of sources used_library bench_name ≡ unit_number position 1 ∷ []
+  architectures_are : architectures_of sources used_library bench_entity_name ≡ unit_number position 1 ∷ []
   architectures_are =
-      only_in_bench (is_architecture_of used_library bench_name sources) (unit_number position 1 ∷ []) (architecture_in sources position bench_scanned bench_text bench_library)
-      (λ k number noted is. no_architecture_in sources k number noted is used_library bench_name)
+      only_in_bench (is_architecture_of used_library bench_entity_name sources) (unit_number position 1 ∷ []) (architecture_in sources position bench_scanned bench_text bench_library)
+      (λ k number noted is. no_architecture_in sources k number noted is used_library bench_entity_name)
 
-  name_is : (design_unit sources (unit_number position 0)).name ≡ bench_name
+  name_is : (design_unit sources (unit_number position 0)).name ≡ bench_entity_name
   name_is = rw bench_scanned refl
 
   bench_at_is : bench_at sources (unit_number position 0) ≡ Ok (generated_bench position)

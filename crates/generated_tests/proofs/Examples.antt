@@ -3,12 +3,12 @@ use Rattle.std.proofs.Common.{refl}
 use Rattle.std.specs.Fmt.{digits}
 use Rattle.test_spec.specs.Runs.{escaped_byte, output_path, results_path, run_name}
 use Rattle.child_benches.specs.Benches.{is_failure}
-use Rattle.generated_texts.specs.BenchScans.{bench_name}
+use Rattle.generated_texts.specs.BenchScans.{bench_entity_name}
 use Rattle.generated_texts.specs.PackageLinks.{used_library}
 use Rattle.generated_tests.specs.TestExamples.{TestExamples}
 use Rattle.generated_tests.specs.TestedBench.{first_case, second_case}
 use Rattle.generated_answers.specs.CompiledTexts.{bench_artefact, package_line_words, script_words}
 
 pub test_examples : TestExamples
-unfolding digits escaped_byte output_path results_path run_name is_failure bench_name used_library bench_artefact package_line_words script_words first_case second_case
+unfolding digits escaped_byte output_path results_path run_name is_failure bench_entity_name used_library bench_artefact package_line_words script_words first_case second_case
 test_examples = record { bench = refl; edited = refl; plain = refl; fails = refl; other = refl; results = refl; name = refl; names = refl; folder = refl }

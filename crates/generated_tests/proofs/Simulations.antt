@@ -21,14 +21,14 @@ use Rattle.child_lines.specs.Lines.{lines}
 use Rattle.child_benches.specs.Benches.{all_done, bench_answer, cases_from, done_line, fails, full_name, has_bench, is_bench_file, is_entity_line, is_failure, simulation, start_line}
 use Rattle.memory_children.specs.Answers.{child_end, loop_answer, second_word, taken_exit}
 use Rattle.generated_project.specs.Files.{bench_path}
-use Rattle.generated_texts.specs.BenchScans.{bench_name}
+use Rattle.generated_texts.specs.BenchScans.{bench_entity_name}
 use Rattle.generated_texts.specs.PackageLinks.{used_library}
 use Rattle.generated_tests.specs.TestedBench.{AreTestable, IsBuiltBench, case_run, first_case, second_case, passing_exit, lets_pass}
 use Rattle.generated_answers.specs.CompiledTexts.{bench_artefact}
 
 -- a run of a case fits
 case_fits : (name : List ℕ) → length name ≤ 100 → FitsRun (case_run name)
-unfolding used_library bench_name bench_path
+unfolding used_library bench_entity_name bench_path
 case_fits name short = record { library = omega arith; bench = omega arith; architecture = omega arith; few = omega arith; cases = omega (arith, short); path = omega arith }
 
 -- the word chooses the simulator
@@ -43,7 +43,7 @@ run_answered run simulator built fits is = ap (λ (job : Option BenchJob). optio
 
 module _ (built : List BuiltFile) (are : AreTestable built) where
   file_has : (name : List ℕ) (file : BuiltFile) → IsBuiltBench file → is_bench_file (bench_job (case_run name) built) file ≡ true
-  unfolding bench_artefact bench_name used_library is_entity_line
+  unfolding bench_artefact bench_entity_name used_library is_entity_line
   file_has name file is = rw (is.library, is.artefact) refl
 
   found : (name : List ℕ) → has_bench (bench_job (case_run name) built) ≡ true

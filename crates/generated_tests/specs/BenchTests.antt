@@ -9,7 +9,7 @@ use Rattle.test_select.specs.Selection.{selection}
 use Rattle.test_spec.specs.declared.runs.TestRun.{TestRun}
 use Rattle.test_spec.specs.Runs.{test_runs}
 use Rattle.generated_links.specs.NumberedFiles.{numbered_file, numbered_scan, numbered_bytes}
-use Rattle.generated_texts.specs.BenchScans.{bench_name}
+use Rattle.generated_texts.specs.BenchScans.{bench_entity_name}
 use Rattle.generated_texts.specs.PackageLinks.{used_library}
 use Rattle.generated_tests.specs.TestedBench.{first_case, second_case}
 
@@ -20,7 +20,7 @@ bench_cases position =
 
 -- the bench, whose cases run one by one
 abbrev pub generated_bench : (position : ℕ) → Bench
-generated_bench position = record { library = used_library; name = bench_name; architecture = 97 ∷ []; file = position; cases = bench_cases position; whole = false; same_sim = false }
+generated_bench position = record { library = used_library; name = bench_entity_name; architecture = 97 ∷ []; file = position; cases = bench_cases position; whole = false; same_sim = false }
 
 -- the files of these numbers, in this order, with their texts and scans, where the package of a number is edited
 abbrev pub numbered_sources : (command : List (List ℕ)) → (edited : ℕ) → (numbers : List ℕ) → ScannedFiles

@@ -15,7 +15,7 @@ use Rattle.child_benches.specs.Benches.{is_failure}
 use Rattle.report_verdicts.specs.declared.tally.Tally.{Tally}
 use Rattle.memory_children.specs.Answers.{second_word}
 use Rattle.generated_project.specs.Files.{bench_path}
-use Rattle.generated_texts.specs.BenchScans.{bench_name}
+use Rattle.generated_texts.specs.BenchScans.{bench_entity_name}
 use Rattle.generated_answers.specs.CompiledTexts.{bench_artefact, package_artefact}
 use Rattle.generated_texts.specs.PackageLinks.{used_library}
 
@@ -29,7 +29,7 @@ second_case = codes "two"
 
 -- the run of a case of the bench `tb` of `lib`
 abbrev pub case_run : List ℕ → TestRun
-case_run name = record { library = used_library; bench = bench_name; architecture = 97 ∷ []; cases = name ∷ []; whole = false; same_sim = false; path = bench_path }
+case_run name = record { library = used_library; bench = bench_entity_name; architecture = 97 ∷ []; cases = name ∷ []; whole = false; same_sim = false; path = bench_path }
 
 -- the runs of all tests, in order
 abbrev pub both_runs : List TestRun

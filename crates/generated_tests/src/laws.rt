@@ -25,7 +25,7 @@ ghost use Rattle.report_verdicts.specs.Counts.{all_verdicts, tally, tests_outcom
 ghost use Rattle.memory_children.specs.Answers.{loop_answer, second_word};
 ghost use Rattle.memory_children.specs.OneAnswer.{IsLoopAnswer};
 ghost use Rattle.generated_project.specs.Files.{bench_body, bench_head, bench_path};
-ghost use Rattle.generated_texts.specs.BenchScans.{bench_architecture, bench_entity, bench_tokens};
+ghost use Rattle.generated_texts.specs.BenchScans.{bench_architecture, bench_entity, bench_file_tokens};
 ghost use Rattle.generated_texts.specs.PackageScans.{package_unit};
 ghost use Rattle.generated_tests.specs.BenchTests.{HasBenchAt, runs_of_all, bench_cases, generated_bench, numbered_sources};
 ghost use Rattle.generated_tests.specs.TestExamples.{TestExamples};
@@ -76,11 +76,11 @@ pub fn laws_of_whole_tests()
 /// `two`, which run one by one.
 pub fn laws_of_tests()
     // The entity is a bench, and its architecture calls two cases. No package is a bench, whatever its text.
-    ensures bench { is_bench_unit (bench_head ++ bench_body) bench_tokens bench_entity ≡ true }
+    ensures bench { is_bench_unit (bench_head ++ bench_body) bench_file_tokens bench_entity ≡ true }
     ensures package { (text : List ℕ) (tokens : List Token) (number : ℕ) →
         is_bench_unit text tokens (package_unit number) ≡ false }
     ensures cases { (position : ℕ) →
-        called_cases position (bench_head ++ bench_body) bench_tokens bench_architecture
+        called_cases position (bench_head ++ bench_body) bench_file_tokens bench_architecture
         ≡ bench_cases position }
     ensures found { (command : List (List ℕ)) (edited : ℕ) (numbers : List ℕ) (position : ℕ) →
         HasBenchAt numbers position →

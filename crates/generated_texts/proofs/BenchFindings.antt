@@ -15,7 +15,7 @@ use Rattle.generated_texts.proofs.PackageOutlines.{first_semicolon, quiet_items}
 use Rattle.generated_texts.proofs.PackageParts.{blank, sign, word}
 use Rattle.generated_texts.proofs.Parts.{Part, quoted, are_parts, joined, pieces_from}
 use Rattle.generated_texts.proofs.Pieces.{parts_cut}
-use Rattle.generated_texts.specs.BenchScans.{architecture_link, bench_architecture, bench_elements, bench_entity, bench_name, bench_roles, bench_scan, bench_tokens, entity_link}
+use Rattle.generated_texts.specs.BenchScans.{architecture_link, bench_architecture, bench_elements, bench_entity, bench_entity_name, bench_roles, bench_scan, bench_file_tokens, entity_link}
 use Rattle.generated_texts.specs.PackageLinks.{used_library}
 
 abbrev string : List ℕ → Part
@@ -46,7 +46,7 @@ fits = refl
 bench_cut : IsCut (bench_head ++ bench_body) (pieces_from 0 bench_parts)
 bench_cut = parts_cut (bench_head ++ bench_body) bench_parts text_is fits
 
-tokens_are : bench_tokens ≡ tokens_of (pieces_from 0 bench_parts)
+tokens_are : bench_file_tokens ≡ tokens_of (pieces_from 0 bench_parts)
 unfolding bench_parts
 tokens_are = refl
 
@@ -54,7 +54,7 @@ no_comments : [] ≡ comments_of (pieces_from 0 bench_parts)
 unfolding bench_parts
 no_comments = refl
 
-pub bench_roles_are : roles_of (bench_head ++ bench_body) bench_tokens ≡ bench_roles
+pub bench_roles_are : roles_of (bench_head ++ bench_body) bench_file_tokens ≡ bench_roles
 unfolding bench_head bench_body word_role reserved_words
 bench_roles_are = refl
 
@@ -82,8 +82,8 @@ outline = (
   ),
 )
 
-units_are : bench_entity ∷ bench_architecture ∷ [] ≡ units_of (bench_head ++ bench_body) bench_tokens bench_elements
-unfolding bench_head bench_body bench_name
+units_are : bench_entity ∷ bench_architecture ∷ [] ≡ units_of (bench_head ++ bench_body) bench_file_tokens bench_elements
+unfolding bench_head bench_body bench_entity_name
 units_are = refl
 
 pub bench_is_scan : IsScanOf (bench_head ++ bench_body) bench_scan
@@ -98,9 +98,9 @@ pub bench_found : (scan : List ℕ → Finding) → IsScanner scan → scan (ben
 bench_found scan scans = one_finding (bench_head ++ bench_body) (scan (bench_head ++ bench_body)) (Clean bench_scan) (scans (bench_head ++ bench_body)) bench_is_scan
 
 pub entity_linked : (position : ℕ) (file : ProjectFile) → link_unit position file (bench_head ++ bench_body) bench_scan bench_entity ≡ entity_link position file
-unfolding bench_head bench_body bench_name used_library word_role reserved_words
+unfolding bench_head bench_body bench_entity_name used_library word_role reserved_words
 entity_linked position file = refl
 
 pub architecture_linked : (position : ℕ) (file : ProjectFile) → link_unit position file (bench_head ++ bench_body) bench_scan bench_architecture ≡ architecture_link position file
-unfolding bench_head bench_body bench_name used_library word_role reserved_words
+unfolding bench_head bench_body bench_entity_name used_library word_role reserved_words
 architecture_linked position file = refl

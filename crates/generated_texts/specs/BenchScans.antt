@@ -28,8 +28,8 @@ abbrev symbol : ℕ → Token
 symbol start = record { kind = Symbol; start = start; end = start + 1 }
 
 -- those of the lines that make the first package visible, of the entity, and of the architecture
-abbrev pub bench_tokens : List Token
-bench_tokens =
+abbrev pub bench_file_tokens : List Token
+bench_file_tokens =
     word 0 7 ∷ word 8 11 ∷ symbol 11 ∷ word 13 16 ∷ word 17 20 ∷ symbol 20 ∷ word 21 23 ∷ symbol 23 ∷ word 24 27 ∷
     symbol 27 ∷ word 29 35 ∷ word 36 38 ∷ word 39 41 ∷ word 42 49 ∷ symbol 50 ∷ word 51 61 ∷ symbol 62 ∷ word 64 70 ∷
     symbol 70 ∷ symbol 71 ∷ word 73 76 ∷ symbol 76 ∷ word 78 90 ∷ word 91 92 ∷ word 93 95 ∷ word 96 98 ∷
@@ -46,21 +46,21 @@ bench_roles =
 
 -- ## Units
 
-unfoldable pub bench_name : List ℕ
-bench_name = codes "tb"
+unfoldable pub bench_entity_name : List ℕ
+bench_entity_name = codes "tb"
 
 -- two context items, an entity and its architecture
 abbrev pub bench_elements : List Element
 bench_elements = item 2 ∷ item 9 ∷ plain Entity 21 ∷ owned Architecture 0 45 ∷ []
 
 abbrev pub bench_entity : DesignUnit
-bench_entity = record { kind = Entity; name = bench_name; owner = Nothing; lead = 0; first = 10; last = 21 }
+bench_entity = record { kind = Entity; name = bench_entity_name; owner = Nothing; lead = 0; first = 10; last = 21 }
 
 abbrev pub bench_architecture : DesignUnit
-bench_architecture = record { kind = Architecture; name = 97 ∷ []; owner = Given bench_name; lead = 22; first = 22; last = 45 }
+bench_architecture = record { kind = Architecture; name = 97 ∷ []; owner = Given bench_entity_name; lead = 22; first = 22; last = 45 }
 
 abbrev pub bench_scan : Scan
-bench_scan = record { tokens = record { list = bench_tokens; comments = [] }; units = bench_entity ∷ bench_architecture ∷ [] }
+bench_scan = record { tokens = record { list = bench_file_tokens; comments = [] }; units = bench_entity ∷ bench_architecture ∷ [] }
 
 -- ## References
 
@@ -76,7 +76,7 @@ entity_link position file = record {
 
 -- the architecture belongs to the entity
 abbrev pub entity_ref : Ref
-entity_ref = record { library = work; name = bench_name; architecture = Nothing; strict = true; at = 22 }
+entity_ref = record { library = work; name = bench_entity_name; architecture = Nothing; strict = true; at = 22 }
 
 abbrev pub architecture_link : (position : ℕ) → ProjectFile → LinkUnit
 architecture_link position file = record {
