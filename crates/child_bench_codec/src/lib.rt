@@ -11,7 +11,7 @@ pub use configuring::runner_cfg;
 pub use laws::laws_of_bench_jobs;
 pub use paths::results_path;
 pub use reading::read_bench_request;
-pub use writing::{BenchWriter, BuiltWriter, bench_request};
+pub use writing::{BenchWriter, bench_request};
 
 #[cfg(test)]
 mod tests;

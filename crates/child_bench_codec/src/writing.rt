@@ -1,6 +1,6 @@
 //! Writing what a simulator is asked.
 
-ghost use Rattle.std.specs.Prelude.{◌≡◌, ◌≤◌, ◌<◌, ◌^◌, ◌++◌, [], All, length, map, List, ℕ, IfOk, OnOk};
+ghost use Rattle.std.specs.Prelude.{◌≡◌, ◌≤◌, ◌<◌, ◌^◌, ◌++◌, All, length, IfOk, OnOk};
 ghost use Rattle.base.specs.Names.{FitsName};
 ghost use Rattle.base.specs.Graphs.{IsBuiltFile};
 ghost use Rattle.base.specs.Jobs.{built_bytes};
@@ -15,52 +15,6 @@ use base_bytes::ByteWriter;
 use std::alloc::Global;
 use std::marker::Model;
 use test_spec::TestRun;
-
-/// The bytes of files that were built, as they stand in a request, while they are added. Contracts see them.
-#[derive(Drop)]
-pub struct BuiltWriter {
-    out: ByteWriter,
-}
-
-impl Model for BuiltWriter {
-    ghost use Rattle.std.specs.Prelude.{List, ℕ};
-
-    ghost Value = { List ℕ };
-
-    ghost view = { λ a. a.out };
-}
-
-impl BuiltWriter {
-    /// No file is added yet.
-    pub fn new(alloc: Global) -> BuiltWriter
-        ensures { result ≡ [] }
-    {
-        BuiltWriter {
-            out: ByteWriter::new(alloc),
-        }
-    }
-
-    /// Adds a file that was built, with its artefact of at most 262,144 bytes, which is copied once.
-    #[tactic(auto, unfolding(base::specs::Jobs::built_bytes))]
-    pub fn add(&mut self, name: &FileName, artefact: &[u8]) -> Result<(), NoMemory>
-        requires name { FitsName name.now }
-        requires artefact { length artefact.now ≤ ARTEFACT_LIMIT }
-        ensures { OnOk result (self.new
-            ≡ self.old ++ built_bytes (record { name = name.now; artefact = artefact.now })) }
-    {
-        self.out.name(name)?;
-        self.out.text(artefact)?;
-        Ok(())
-    }
-
-    /// The bytes of all files that were added.
-    pub fn finish(self) -> Text
-        ensures { result ≡ self }
-    {
-        let BuiltWriter { out } = self;
-        out.into_text()
-    }
-}
 
 /// What a simulator is to be started with, while the files that were built are added. Contracts see the words, the
 /// input so far, and the results path.

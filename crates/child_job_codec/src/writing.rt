@@ -7,7 +7,8 @@ ghost use Rattle.base.specs.Jobs.{built_bytes, compile_request};
 ghost use Rattle.child_job_codec.specs.Written.{begun};
 
 use base::{
-    ARTEFACT_LIMIT, Built, Entry, FileName, MaybeText, NoMemory, Request, TEXT_LIMIT, TextList,
+    ARTEFACT_LIMIT, Built, Entry, FileName, MaybeText, NoMemory, Request, TEXT_LIMIT, Text,
+    TextList,
 };
 use base_bytes::ByteWriter;
 use std::alloc::Global;
@@ -58,6 +59,14 @@ impl BuiltBytes {
         self.out.plain(others.out.bytes())?;
         Ok(())
     }
+
+    /// The bytes as a text.
+    pub fn into_text(self) -> Text
+        ensures { result ≡ self }
+    {
+        let BuiltBytes { out } = self;
+        out.into_text()
+    }
 }
 
 /// What a compiler is to be started with, while the files that its file depends on are added to its input.
@@ -95,7 +104,7 @@ impl RequestWriter {
         let RequestWriter { command, input } = self;
         Request {
             command,
-            input: input.out.into_text(),
+            input: input.into_text(),
             results: MaybeText::Nothing,
         }
     }

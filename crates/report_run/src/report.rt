@@ -260,9 +260,16 @@ fn put_unit_name(out: &mut Vec<u8>, library: &[u8], unit: &[u8]) -> Result<(), N
 }
 
 #[tactic(auto, unfolding(crate::specs::Texts::missing_unit))]
-fn put_missing_unit(out: &mut Vec<u8>, library: &[u8], unit: &[u8]) -> Result<(), NoMemory>
-    ensures { OnOk result (out.new.items ≡ out.old.items ++ missing_unit library.now unit.now) }
+fn put_missing_unit(
+    out: &mut Vec<u8>,
+    file: &FileName,
+    library: &[u8],
+    unit: &[u8],
+) -> Result<(), NoMemory>
+    ensures { OnOk result (out.new.items ≡
+        out.old.items ++ (file_words file.now ++ missing_unit library.now unit.now)) }
 {
+    put_file_words(out, file)?;
     put(out, b": no unit ")?;
     put_unit_name(out, library, unit)?;
     Ok(())
@@ -278,13 +285,16 @@ fn put_no_architecture(out: &mut Vec<u8>) -> Result<(), NoMemory>
 #[tactic(auto, unfolding(crate::specs::Texts::missing_architecture))]
 fn put_missing_architecture(
     out: &mut Vec<u8>,
+    file: &FileName,
     library: &[u8],
     entity: &[u8],
     architecture: &[u8],
 ) -> Result<(), NoMemory>
     ensures { OnOk result (out.new.items ≡
-        out.old.items ++ missing_architecture library.now entity.now architecture.now) }
+        out.old.items
+        ++ (file_words file.now ++ missing_architecture library.now entity.now architecture.now)) }
 {
+    put_file_words(out, file)?;
     put_no_architecture(out)?;
     put(out, architecture)?;
     put(out, b" of ")?;
@@ -318,61 +328,99 @@ fn put_cycle_word(out: &mut Vec<u8>) -> Result<(), NoMemory>
     put(out, b"cycle")
 }
 
-#[tactic(auto, unfolding(crate::specs::Texts::no_project, crate::specs::Texts::is_absent))]
+#[tactic(auto, unfolding(crate::specs::Texts::is_absent))]
+fn put_absent(out: &mut Vec<u8>, file: &FileName) -> Result<(), NoMemory>
+    ensures { OnOk result (out.new.items ≡ out.old.items ++ (file_words file.now ++ is_absent)) }
+{
+    put_file_words(out, file)?;
+    put(out, b" is absent")?;
+    Ok(())
+}
+
+fn put_lex(
+    alloc: Global,
+    out: &mut Vec<u8>,
+    file: &FileName,
+    fault: &LexFault,
+) -> Result<(), NoMemory>
+    ensures { OnOk result
+        (out.new.items ≡ out.old.items ++ (file_words file.now ++ lex_words fault.now)) }
+{
+    put_file_words(out, file)?;
+    put_lex_fault(alloc, out, fault)?;
+    Ok(())
+}
+
+fn put_units(
+    alloc: Global,
+    out: &mut Vec<u8>,
+    file: &FileName,
+    fault: &UnitFault,
+) -> Result<(), NoMemory>
+    ensures { OnOk result
+        (out.new.items ≡ out.old.items ++ (file_words file.now ++ unit_words fault.now)) }
+{
+    put_file_words(out, file)?;
+    put_unit_fault(alloc, out, fault)?;
+    Ok(())
+}
+
+fn put_duplicate(
+    out: &mut Vec<u8>,
+    unit: &Text,
+    first: &FileName,
+    second: &FileName,
+) -> Result<(), NoMemory>
+    ensures { OnOk result
+        (out.new.items ≡ out.old.items ++ (unit.now ++ both_files first.now second.now)) }
+{
+    put(out, unit.bytes())?;
+    put_both_files(out, first, second)?;
+    Ok(())
+}
+
+fn put_cycle(out: &mut Vec<u8>, files: &[FileName]) -> Result<(), NoMemory>
+    ensures { OnOk result
+        (out.new.items ≡ out.old.items ++ (cycle_word ++ flat_map cycle_line files.now)) }
+{
+    put_cycle_word(out)?;
+    put_cycle_lines(out, files)?;
+    Ok(())
+}
+
+#[tactic(auto, unfolding(crate::specs::Texts::no_project))]
 fn put_refusal(alloc: Global, out: &mut Vec<u8>, refusal: &Refusal) -> Result<(), NoMemory>
     ensures { OnOk result (out.new.items ≡ out.old.items ++ refusal_words refusal.now) }
 {
     match refusal {
         Refusal::NoProject => put(out, b"no vunit.toml and no vunit.csv"),
         Refusal::Project { fault } => put_fault(alloc, out, fault),
-        Refusal::AbsentFile { file } => {
-            put_file_words(out, file)?;
-            put(out, b" is absent")?;
-            Ok(())
-        }
-        Refusal::Lex { file, fault } => {
-            put_file_words(out, file)?;
-            put_lex_fault(alloc, out, fault)?;
-            Ok(())
-        }
-        Refusal::Units { file, fault } => {
-            put_file_words(out, file)?;
-            put_unit_fault(alloc, out, fault)?;
-            Ok(())
-        }
+        Refusal::AbsentFile { file } => put_absent(out, file),
+        Refusal::Lex { file, fault } => put_lex(alloc, out, file, fault),
+        Refusal::Units { file, fault } => put_units(alloc, out, file, fault),
         Refusal::DuplicateUnit {
             unit,
             first,
             second,
-        } => {
-            put(out, unit.bytes())?;
-            put_both_files(out, first, second)?;
-            Ok(())
-        }
+        } => put_duplicate(out, unit, first, second),
         Refusal::MissingUnit {
             file,
             library,
             unit,
-        } => {
-            put_file_words(out, file)?;
-            put_missing_unit(out, library.bytes(), unit.bytes())?;
-            Ok(())
-        }
+        } => put_missing_unit(out, file, library.bytes(), unit.bytes()),
         Refusal::MissingArchitecture {
             file,
             library,
             entity,
             architecture,
-        } => {
-            put_file_words(out, file)?;
-            put_missing_architecture(out, library.bytes(), entity.bytes(), architecture.bytes())?;
-            Ok(())
-        }
-        Refusal::Cycle { files } => {
-            put_cycle_word(out)?;
-            put_cycle_lines(out, files.as_slice())?;
-            Ok(())
-        }
+        } => put_missing_architecture(
+            out,
+            file,
+            library.bytes(),
+            entity.bytes(),
+            architecture.bytes(),
+        ),
+        Refusal::Cycle { files } => put_cycle(out, files.as_slice()),
         Refusal::Tests { fault } => put_test_fault(out, fault),
         Refusal::Compiler { files: _ } => Ok(()),
     }

@@ -9,26 +9,27 @@ ghost use Rattle.test_spec.specs.BenchJobs.{bench_request};
 ghost use Rattle.test_loop.specs.Requests.{AreBuilt, lent_at, lent_files};
 
 use base::{FILE_LIMIT, Graph, NoMemory, Request, Text, TextList};
-use child_bench_codec::{BenchWriter, BuiltWriter};
+use child_bench_codec::BenchWriter;
+use child_job_codec::BuiltBytes;
 use outside::Records;
 use std::alloc::Global;
 use test_spec::TestRun;
 
 /// Adds the file at a position with the artefact that the store lends.
 fn add_lent<K: Records>(
-    writer: &mut BuiltWriter,
+    files: &mut BuiltBytes,
     graph: &Graph,
     at: u32,
     store: &K,
 ) -> Result<(), NoMemory>
     requires position { at < length graph.now }
     requires recorded { IsRecorded (K.latest_of store.now) graph.now at }
-    ensures { OnOk result (writer.new ≡ writer.old ++
+    ensures { OnOk result (files.new ≡ files.old ++
         flat_map built_bytes (filter_map (lent_at (K.latest_of store.now) graph.now) (at ∷ []))) }
 {
     let entry = graph.get(at as u64);
     match store.artefact(&entry.name) {
-        Some(artefact) => writer.add(&entry.name, artefact),
+        Some(artefact) => files.add(&entry.name, artefact),
         None => unreachable!(),
     }
 }
@@ -45,11 +46,11 @@ pub(crate) fn built_of<K: Records>(
 {
     prove!(graph.len() <= FILE_LIMIT as u64);
     let count = graph.len() as u32;
-    let mut writer = BuiltWriter::new(alloc);
+    let mut files = BuiltBytes::new(alloc);
     for at in 0..count {
-        add_lent(&mut writer, graph, at, store)?;
+        add_lent(&mut files, graph, at, store)?;
     }
-    Ok(writer.finish())
+    Ok(files.into_text())
 }
 
 /// What the simulator of a run is started with, over the bytes of all files of the graph.

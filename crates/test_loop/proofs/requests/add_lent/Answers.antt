@@ -14,5 +14,5 @@ returns g c =
     let file : BuiltFile = record { name = c.get-entry.result.now.name; artefact = c.in-Some.artefact.now } in
     let lent : lent_at (g.K.Records.latest_of c.args.store.now) c.args.graph.now c.args.at ≡ Some file = lent_of _ c.args.graph.now c.args.at c.get-entry.result.now c.in-Some.artefact.now c.get-entry.ensures.entry c.in-Some.ensures.bytes in
     on_ok_weaker c.add.result
-    (λ is. is ∙ ap (λ (l : List ℕ). c.args.writer.now ++ l) (sym (append-nil (built_bytes file)) ∙ sym (ap (λ (o : Option BuiltFile). flat_map built_bytes (cons_option o [])) lent)))
+    (λ is. is ∙ ap (λ (l : List ℕ). c.args.files.now ++ l) (sym (append-nil (built_bytes file)) ∙ sym (ap (λ (o : Option BuiltFile). flat_map built_bytes (cons_option o [])) lent)))
     c.add.ensures

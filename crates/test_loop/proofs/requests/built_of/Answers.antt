@@ -15,7 +15,7 @@ pub loop-at-init : goal.loop-at-init
 loop-at-init g c =
     let lent : List ℕ → List BuiltFile = filter_map (lent_at (g.K.Records.latest_of c.args.store.now) c.args.graph.now) in
     record {
-      input = c.new-writer.ensures ∙ ap (λ (l : List ℕ). flat_map built_bytes (lent l)) (sym below-zero);
+      input = c.new-files.ensures ∙ ap (λ (l : List ℕ). flat_map built_bytes (lent l)) (sym below-zero);
       each = ap (λ (l : List ℕ). length (lent l)) below-zero;
     }
 
@@ -37,5 +37,5 @@ returns g c =
     let all : c.loop-at.at ≡ length c.args.graph.now = omega arith in
     record {
       count = ap (λ (n : ℕ). length (lent n)) (sym all) ∙ c.loop-at.invariant.each ∙ all;
-      written = c.finish.ensures ∙ c.loop-at.invariant.input ∙ ap (λ (n : ℕ). flat_map built_bytes (lent n)) all;
+      written = c.into_text.ensures ∙ c.loop-at.invariant.input ∙ ap (λ (n : ℕ). flat_map built_bytes (lent n)) all;
     }

@@ -8,6 +8,6 @@ use Rattle.test_loop.proofs.requests.built_of.Given as goal
 
 abbrev pub invariant-loop-at : goal.invariant-loop-at
 invariant-loop-at g l = record {
-  input : l.writer ≡ flat_map built_bytes (filter_map (lent_at (g.K.Records.latest_of l.store) l.graph) (below l.at));
+  input : l.files ≡ flat_map built_bytes (filter_map (lent_at (g.K.Records.latest_of l.store) l.graph) (below l.at));
   each : length (filter_map (lent_at (g.K.Records.latest_of l.store) l.graph) (below l.at)) ≡ l.at;
 }
