@@ -3,9 +3,11 @@
 #![tactic(auto)]
 
 mod chains;
+mod generating;
 mod laws;
 
 pub use chains::{Outcomes, run_after_stop, run_twice};
+pub use generating::generate_project;
 pub use laws::laws_of_program;
 
 #[cfg(test)]
