@@ -1,7 +1,7 @@
 -- Both cases pass over what the second build makes.
 use Rattle.std.proofs.Common.{◌≡◌, ℕ, zero, suc, ◌+◌, ◌^◌, ◌<◌, ◌≤◌, ◌==◌, Bool, true, List, [], ◌∷◌, length, map, get_or, refl, sym, ap, subst, ◌∙◌, arith, inl, inr}
 use Rattle.std.specs.Prelude.{All, Contains, slice_index}
-use Rattle.std.specs.List.{Any, list_all}
+use Rattle.std.specs.List.{Any}
 use Rattle.std.proofs.lemmas.List.{get_or_default, length-map}
 use Rattle.std.proofs.lemmas.List.Elements.{All-cons, All-map, All-nil}
 use Rattle.base.specs.Graphs.{IsBuilt, IsBuiltFile}
@@ -12,8 +12,7 @@ use Rattle.memory_children.specs.OneAnswer.{IsLoopAnswer}
 use Rattle.project_file.specs.Csv.{listed_command, listed_simulator}
 use Rattle.run_tested_laws.specs.Libraries.{libraries}
 use Rattle.test_spec.specs.BenchJobs.{bench_request}
-use Rattle.test_spec.specs.Verdicts.{is_passed, is_passed_verdict}
-use Rattle.test_spec.specs.declared.ends.Verdict.{Verdict}
+use Rattle.test_spec.specs.Verdicts.{is_passed}
 use Rattle.test_spec.specs.declared.runs.TestRun.{TestRun}
 use Rattle.generated_links.specs.NumberedFiles.{numbered_graph}
 use Rattle.generated_listing.specs.ListedNumbers.{listed_numbers}
@@ -27,7 +26,7 @@ use Rattle.generated_laws.specs.Passes.{PassesAll, case_count}
 use Rattle.generated_runs.specs.Sources.{any_name, plan_of, runs_in}
 use Rattle.generated_tests.proofs.Artefacts.{testable}
 use Rattle.generated_tests.proofs.BenchFound.{all_are_both}
-use Rattle.generated_tests.proofs.Counted.{first_verdict, second_verdict}
+use Rattle.generated_tests.proofs.PassedExits.{first_is_passed, second_is_passed}
 use Rattle.generated_tests.proofs.Simulations.{first_passes, second_passes}
 use Rattle.generated_tests.specs.TestedBench.{AreTestable, IsBuiltBench, IsGenerated, both_runs, case_run, first_case, passing_exit, second_case}
 use Rattle.generated_sizes.specs.SaidOfSizes.{made_artefact}
@@ -83,12 +82,6 @@ module _ (answer : Request → Exit) (is : IsLoopAnswer answer) (count : ℕ) (n
   are_testable = testable made (subst IsBuilt (sym made_is) all_fit) has_bench (subst (λ (files : List BuiltFile). All (λ file. IsGenerated file.artefact) files) (sym made_is) all_generated)
 
 -- ## Both pass
-
-first_is_passed : is_passed (case_run first_case) (passing_exit first_case) ≡ true
-first_is_passed = ap (λ (all : List Verdict). list_all is_passed_verdict all) first_verdict
-
-second_is_passed : is_passed (case_run second_case) (passing_exit second_case) ≡ true
-second_is_passed = ap (λ (all : List Verdict). list_all is_passed_verdict all) second_verdict
 
 module _ (count : ℕ) (some : 1 ≤ count) (low : count ≤ 4095) where
   pub runs_are : runs_in (after_edit count some low) ≡ both_runs

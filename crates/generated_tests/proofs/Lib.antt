@@ -1,8 +1,7 @@
 -- The lemmas.
 pub mod Artefacts
 pub mod Simulations
-pub mod EndedRuns
-pub mod Counted
+pub mod PassedExits
 pub mod BenchCases
 pub mod BenchFound
 pub mod Examples

@@ -2,18 +2,13 @@
 use Rattle.std.specs.Prelude.{◌≡◌, ◌⊎◌, ℕ, ◌<◌, ◌^◌, Bool, true, false, not, List, [], ◌∷◌, ◌++◌, codes, All}
 use Rattle.std.specs.List.{Any, list_any}
 use Rattle.base.specs.declared.child.Exit.{Exit}
-use Rattle.base.specs.declared.child.Request.{Request}
 use Rattle.base.specs.declared.child.MaybeText.TheVariants.{Given}
 use Rattle.base.specs.declared.graph.BuiltFile.{BuiltFile}
 use Rattle.base.specs.Graphs.{IsBuilt}
 use Rattle.test_spec.specs.declared.runs.TestRun.{TestRun}
 use Rattle.test_spec.specs.Runs.{name_of_case}
-use Rattle.test_spec.specs.BenchJobs.{bench_request}
-use Rattle.test_journal.specs.TestJournal.{TestSetting}
 use Rattle.child_lines.specs.Lines.{lines}
 use Rattle.child_benches.specs.Benches.{is_failure}
-use Rattle.report_verdicts.specs.declared.tally.Tally.{Tally}
-use Rattle.memory_children.specs.Answers.{second_word}
 use Rattle.generated_project.specs.Files.{bench_path}
 use Rattle.generated_texts.specs.BenchScans.{bench_entity_name}
 use Rattle.generated_answers.specs.CompiledTexts.{bench_artefact, package_artefact}
@@ -66,22 +61,3 @@ passing_results name = codes "test_start:" ++ (name ++ (10 ∷ (codes "test_suit
 -- the simulator says nothing, and leaves these results
 abbrev pub passing_exit : List ℕ → Exit
 passing_exit name = record { code = 0; output = []; results = Given (passing_results name) }
-
--- what a run is started with, and the answer to that
-abbrev pub run_request : TestSetting → TestRun → Request
-run_request setting run = bench_request run setting.plan.simulator setting.built
-
-abbrev pub answer_to : (answer : Request → Exit) → TestSetting → TestRun → Exit
-answer_to answer setting run = answer (run_request setting run)
-
--- ## Whole runs of tests
-
--- both tests of the bench, over such files, by the simulator that is part of the program
-pub record TestsBench (setting : TestSetting) : Type 0 where
-  pub runs : setting.plan.runs ≡ both_runs
-  pub simulator : second_word setting.plan.simulator ≡ codes "child-bench"
-  pub built : AreTestable setting.built
-
--- two cases, and both have passed
-abbrev pub both_passed : Tally
-both_passed = record { total = 2; passed = 2; failed = 0; skipped = 0 }

@@ -4,4 +4,4 @@
 
 mod laws;
 
-pub use laws::{examples_of_tests, laws_of_simulations, laws_of_tests, laws_of_whole_tests};
+pub use laws::{examples_of_tests, laws_of_simulations, laws_of_tests};

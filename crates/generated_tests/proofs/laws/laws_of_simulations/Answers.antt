@@ -1,5 +1,6 @@
 -- What simulators answer.
 use Rattle.generated_tests.proofs.Artefacts.{bench_lets_pass, package_lets_pass, testable}
+use Rattle.generated_tests.proofs.PassedExits.{first_is_passed, second_is_passed}
 use Rattle.generated_tests.proofs.Simulations.{first_passes, second_passes}
 use Rattle.generated_tests.proofs.laws.laws_of_simulations.Goals as goal
 
@@ -8,6 +9,12 @@ returns-clause-first c = first_passes
 
 pub returns-clause-second : goal.returns-clause-second
 returns-clause-second c = second_passes
+
+pub returns-clause-first_passes : goal.returns-clause-first_passes
+returns-clause-first_passes c = first_is_passed
+
+pub returns-clause-second_passes : goal.returns-clause-second_passes
+returns-clause-second_passes c = second_is_passed
 
 pub returns-clause-bench : goal.returns-clause-bench
 returns-clause-bench c = bench_lets_pass
