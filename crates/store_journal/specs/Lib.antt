@@ -5,3 +5,4 @@ pub mod Headers
 pub mod Journals
 pub mod Steps
 pub mod Forms
+pub mod Finds

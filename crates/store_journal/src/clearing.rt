@@ -8,12 +8,12 @@ ghost use Rattle.store_journal.specs.Payloads.{counting, payloads, side_bytes};
 ghost use Rattle.store_journal.specs.Journals.{IsInStep, other_side};
 ghost use Rattle.store_journal.specs.Steps.{Went, emptying, last_moment};
 
-use crate::Journal;
 use crate::journal::other;
 use crate::layout::{empty_side, found_side};
 use crate::making::make_side;
 use crate::opening::{Opened, begin};
 use crate::sides::read_form_headers;
+use crate::{Journal, Payloads};
 use base::DiskFailed;
 use outside::{Disk, Side, StoreFault, cut_durably, write_durably};
 use std::alloc::Global;
@@ -70,7 +70,7 @@ fn empty_dead<D: Disk>(alloc: Global, disk: &mut D, newer: u8) -> Result<Journal
     let Opened {
         journal,
         payloads: _none,
-    } = begin(alloc, disk, newer)?;
+    } = begin(disk, newer, Payloads::new(alloc))?;
     Ok(journal)
 }
 

@@ -2,30 +2,42 @@
 
 ghost use Rattle.std.specs.Prelude.{◌≡◌, ◌≢◌, ◌≤◌, [], false, IfOk, IfSome, OnOk};
 ghost use Rattle.outside.specs.Counts.{StoreCounts};
-ghost use Rattle.outside.specs.Disks.{reads_of, settled_disk, AtAnyMoment, IsEither, OpensWith};
+ghost use Rattle.outside.specs.Disks.{reads_of, settled_disk, AtAnyMoment, OpensWith};
+ghost use Rattle.store_journal.specs.Finds.{found_journal, found_taken, IsOfFoundForm};
 ghost use Rattle.store_journal.specs.Forms.{HoldsForms, HoldsFormsOf, found_form, has_form};
 ghost use Rattle.store_journal.specs.Headers.{headers_in};
 ghost use Rattle.store_journal.specs.Journals.{IsInStep, IsHealthy, Rests, OpensAs};
 ghost use Rattle.store_journal.specs.Payloads.{payloads, side_bytes};
 
-use crate::Journal;
 use crate::layout::{FormHeaders, is_older};
 use crate::opening::{Opened, open_sides};
 use crate::sides::read_form_headers;
+use crate::{Journal, Taker};
 use outside::{Disk, StoreFault};
 use std::alloc::Global;
+
+/// An opened journal of the newer form, or of the older one.
+#[derive(Drop)]
+pub enum FoundForm<N, O> {
+    Newer(Opened<N>),
+    Older(Opened<O>),
+}
 
 impl Journal {
     /// Opens the journal of the newer one of two forms on a disk, or that of the older one where it alone is live; where
     /// neither is, an empty one of the newer form is made. It syncs both sides and reads how each begins, once for both
-    /// forms, and then reads the side that counts alone.
-    pub fn found_in<D: Disk>(
+    /// forms, and then reads the side that counts alone, whose payloads it hands to the taker for that form.
+    pub fn found_in<D: Disk, N: Taker + Drop, O: Taker + Drop>(
         alloc: Global,
         disk: &mut D,
         newer: u8,
         older: u8,
-    ) -> Result<Opened, StoreFault>
-        requires { older ≢ newer }
+        for_newer: N,
+        for_older: O,
+    ) -> Result<FoundForm<N, O>, StoreFault>
+        requires forms { older ≢ newer }
+        requires none_of_newer { N.taken for_newer ≡ [] }
+        requires none_of_older { O.taken for_older ≡ [] }
         // At any moment, after a fault too, a stop can leave of both forms what an image at entry held.
         ensures any_moment { D.tells →
             AtAnyMoment (D.moments disk.old) (D.moments disk.new)
@@ -41,14 +53,13 @@ impl Journal {
             Rests result (D.moments disk.old) (D.moments disk.new) }
         // It is the older form exactly where that alone is live,
         ensures found { D.tells →
-            IfOk result
-            (λ opened.
-            opened.journal.form ≡ found_form newer older (reads_of (D.moments disk.old).now)) }
+            let reads = reads_of (D.moments disk.old).now in
+            IfOk result (λ found. (found_journal found).form ≡ found_form newer older reads) }
         // and alone it stays, so that a side of the newer one can be made.
         ensures alone { D.tells →
             IfOk result
-            (λ opened.
-            opened.journal.form ≡ older →
+            (λ found.
+            (found_journal found).form ≡ older →
             has_form newer (reads_of (D.moments disk.new).now) ≡ false) }
         ensures stays { D.tells →
             IfOk result
@@ -56,19 +67,23 @@ impl Journal {
             HoldsForms newer older (reads_of (D.moments disk.old).now)
             (reads_of (D.moments disk.new).now)) }
         ensures in_step { D.tells →
-            IfOk result (λ opened. IsInStep opened.journal (D.moments disk.new).now) }
+            IfOk result (λ found. IsInStep (found_journal found) (D.moments disk.new).now) }
         ensures payloads { D.tells →
             let reads = reads_of (D.moments disk.old).now in
             IfOk result
-            (λ opened. opened.payloads ≡ payloads (found_form newer older reads) reads) }
+            (λ found.
+            found_taken N.taken O.taken found ≡ payloads (found_form newer older reads) reads) }
         ensures held { D.tells →
             let form = found_form newer older (reads_of (D.moments disk.old).now) in
             IfOk result
-            (λ opened. payloads form (reads_of (D.moments disk.new).now) ≡ opened.payloads) }
+            (λ found.
+            payloads form (reads_of (D.moments disk.new).now)
+            ≡ found_taken N.taken O.taken found) }
         // The side that counts goes on counting; where none does, it is A, of generation 1.
         ensures counts { D.tells →
             let reads = reads_of (D.moments disk.old).now in
-            IfOk result (λ opened. OpensAs (found_form newer older reads) reads opened.journal) }
+            IfOk result
+            (λ found. OpensAs (found_form newer older reads) reads (found_journal found)) }
         // Where neither form is live, A is made without payloads, and B stays.
         ensures fresh { D.tells →
             has_form newer (reads_of (D.moments disk.old).now) ≡ false →
@@ -76,25 +91,30 @@ impl Journal {
             OnOk result
             (reads_of (D.moments disk.new).now
             ≡ record { a = side_bytes newer 1 []; b = (reads_of (D.moments disk.old).now).b }) }
-        ensures form { IfOk result (λ opened. IsEither opened.journal.form newer older) }
-        ensures usable { IfOk result (λ opened. opened.journal.broken ≡ false) }
+        // The journal is of the form that it says.
+        ensures form { IfOk result (IsOfFoundForm newer older) }
+        ensures usable { IfOk result (λ found. (found_journal found).broken ≡ false) }
         ensures cause { StoreCounts result (D.failed_disk_calls disk.old)
             (D.failed_disk_calls disk.new) }
     {
         let headers = read_form_headers(alloc, disk, newer, older)?;
-        open_found(alloc, disk, newer, older, headers)
+        open_found(alloc, disk, newer, older, headers, for_newer, for_older)
     }
 }
 
 /// Opens the form that counts.
-fn open_found<D: Disk>(
+fn open_found<D: Disk, N: Taker + Drop, O: Taker + Drop>(
     alloc: Global,
     disk: &mut D,
     newer: u8,
     older: u8,
     headers: FormHeaders,
-) -> Result<Opened, StoreFault>
+    for_newer: N,
+    for_older: O,
+) -> Result<FoundForm<N, O>, StoreFault>
     requires forms { older ≢ newer }
+    requires none_of_newer { N.taken for_newer ≡ [] }
+    requires none_of_older { O.taken for_older ≡ [] }
     requires settled { D.tells →
         (D.moments disk.old).now ≡ settled_disk (reads_of (D.moments disk.old).now) }
     requires newer { D.tells →
@@ -113,31 +133,35 @@ fn open_found<D: Disk>(
         IsHealthy (found_form newer older reads) reads →
         Rests result (D.moments disk.old) (D.moments disk.new) }
     ensures found { D.tells →
-        IfOk result
-        (λ opened.
-        opened.journal.form ≡ found_form newer older (reads_of (D.moments disk.old).now)) }
+        let reads = reads_of (D.moments disk.old).now in
+        IfOk result (λ found. (found_journal found).form ≡ found_form newer older reads) }
     ensures in_step { D.tells →
-        IfOk result (λ opened. IsInStep opened.journal (D.moments disk.new).now) }
+        IfOk result (λ found. IsInStep (found_journal found) (D.moments disk.new).now) }
     ensures payloads { D.tells →
         let reads = reads_of (D.moments disk.old).now in
-        IfOk result (λ opened. opened.payloads ≡ payloads (found_form newer older reads) reads) }
+        IfOk result
+        (λ found.
+        found_taken N.taken O.taken found ≡ payloads (found_form newer older reads) reads) }
     ensures counts { D.tells →
         let reads = reads_of (D.moments disk.old).now in
-        IfOk result (λ opened. OpensAs (found_form newer older reads) reads opened.journal) }
+        IfOk result
+        (λ found. OpensAs (found_form newer older reads) reads (found_journal found)) }
     ensures fresh { D.tells →
         has_form newer (reads_of (D.moments disk.old).now) ≡ false →
         has_form older (reads_of (D.moments disk.old).now) ≡ false →
         OnOk result
         (reads_of (D.moments disk.new).now
         ≡ record { a = side_bytes newer 1 []; b = (reads_of (D.moments disk.old).now).b }) }
-    ensures form { IfOk result (λ opened. IsEither opened.journal.form newer older) }
-    ensures usable { IfOk result (λ opened. opened.journal.broken ≡ false) }
+    ensures form { IfOk result (IsOfFoundForm newer older) }
+    ensures usable { IfOk result (λ found. (found_journal found).broken ≡ false) }
     ensures cause { StoreCounts result (D.failed_disk_calls disk.old)
         (D.failed_disk_calls disk.new) }
 {
     let older_alone = is_older(headers);
     if older_alone {
-        return open_sides(alloc, disk, older, headers.older);
+        let opened = open_sides(alloc, disk, older, headers.older, for_older)?;
+        return Ok(FoundForm::Older(opened));
     }
-    open_sides(alloc, disk, newer, headers.newer)
+    let opened = open_sides(alloc, disk, newer, headers.newer, for_newer)?;
+    Ok(FoundForm::Newer(opened))
 }

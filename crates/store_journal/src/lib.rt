@@ -12,9 +12,12 @@ mod payloads;
 mod reading;
 mod ready;
 mod sides;
+mod taker;
 mod windows;
 
+pub use finding::FoundForm;
 pub use journal::{Journal, commit_both};
 pub use opening::Opened;
 pub use payloads::Payloads;
 pub use ready::{Ready, ReadySide};
+pub use taker::Taker;

@@ -13,21 +13,27 @@ use crate::layout::{Headers, Live, empty_side, live_side};
 use crate::making::make_side;
 use crate::reading::{Found, read_payloads};
 use crate::sides::read_headers;
-use crate::{Journal, Payloads};
+use crate::{Journal, Taker};
 use outside::{Disk, Side, StoreFault, write_durably};
 use std::alloc::Global;
 
-/// A journal, and the payloads that its disk held.
+/// A journal, and what took the payloads that its disk held.
 #[derive(Drop)]
-pub struct Opened {
+pub struct Opened<T> {
     pub journal: Journal,
-    pub payloads: Payloads,
+    pub payloads: T,
 }
 
 impl Journal {
     /// Opens the journal of a form on a disk, whatever the disk holds: that denotes some payloads, possibly none. It
-    /// reads how each side begins, and then the side that counts alone.
-    pub fn from_disk<D: Disk>(alloc: Global, disk: &mut D, form: u8) -> Result<Opened, StoreFault>
+    /// reads how each side begins, and then the side that counts alone, whose payloads it hands to a taker.
+    pub fn from_disk<D: Disk, T: Taker + Drop>(
+        alloc: Global,
+        disk: &mut D,
+        form: u8,
+        taker: T,
+    ) -> Result<Opened<T>, StoreFault>
+        requires { T.taken taker ≡ [] }
         // At any moment, after a fault too, a stop can leave the payloads of an image at entry.
         ensures any_moment { D.tells →
             AtAnyMoment (D.moments disk.old) (D.moments disk.new)
@@ -44,10 +50,12 @@ impl Journal {
             IfOk result (λ opened. IsInStep opened.journal (D.moments disk.new).now) }
         ensures payloads { D.tells →
             IfOk result
-            (λ opened. opened.payloads ≡ payloads form (reads_of (D.moments disk.old).now)) }
+            (λ opened.
+            T.taken opened.payloads ≡ payloads form (reads_of (D.moments disk.old).now)) }
         ensures held { D.tells →
             IfOk result
-            (λ opened. payloads form (reads_of (D.moments disk.new).now) ≡ opened.payloads) }
+            (λ opened.
+            payloads form (reads_of (D.moments disk.new).now) ≡ T.taken opened.payloads) }
         // The side that counts goes on counting; where none does, it is A, of generation 1.
         ensures counts { D.tells →
             IfOk result
@@ -64,17 +72,19 @@ impl Journal {
             (D.failed_disk_calls disk.new) }
     {
         let headers = read_headers(alloc, disk, form)?;
-        open_sides(alloc, disk, form, headers)
+        open_sides(alloc, disk, form, headers, taker)
     }
 }
 
 /// Opens the side that counts, or makes one.
-pub(crate) fn open_sides<D: Disk>(
+pub(crate) fn open_sides<D: Disk, T: Taker + Drop>(
     alloc: Global,
     disk: &mut D,
     form: u8,
     headers: Headers,
-) -> Result<Opened, StoreFault>
+    taker: T,
+) -> Result<Opened<T>, StoreFault>
+    requires none { T.taken taker ≡ [] }
     requires settled { D.tells →
         (D.moments disk.old).now ≡ settled_disk (reads_of (D.moments disk.old).now) }
     requires headers { D.tells → headers ≡ headers_in form (reads_of (D.moments disk.old).now) }
@@ -102,7 +112,8 @@ pub(crate) fn open_sides<D: Disk>(
         IfOk result (λ opened. IsInStep opened.journal (D.moments disk.new).now) }
     ensures payloads { D.tells →
         IfOk result
-        (λ opened. opened.payloads ≡ payloads form (reads_of (D.moments disk.old).now)) }
+        (λ opened.
+        T.taken opened.payloads ≡ payloads form (reads_of (D.moments disk.old).now)) }
     ensures counts { D.tells →
         IfOk result
         (λ opened. OpensAs form (reads_of (D.moments disk.old).now) opened.journal) }
@@ -117,13 +128,18 @@ pub(crate) fn open_sides<D: Disk>(
         (D.failed_disk_calls disk.new) }
 {
     match live_side(headers) {
-        None => begin(alloc, disk, form),
-        Some(live) => open(alloc, disk, form, live),
+        None => begin(disk, form, taker),
+        Some(live) => open(alloc, disk, form, live, taker),
     }
 }
 
 /// Makes side A, where no side counts.
-pub(crate) fn begin<D: Disk>(alloc: Global, disk: &mut D, form: u8) -> Result<Opened, StoreFault>
+pub(crate) fn begin<D: Disk, T: Taker + Drop>(
+    disk: &mut D,
+    form: u8,
+    taker: T,
+) -> Result<Opened<T>, StoreFault>
+    requires taken { T.taken taker ≡ [] }
     requires settled { D.tells →
         (D.moments disk.old).now ≡ settled_disk (reads_of (D.moments disk.old).now) }
     requires none { D.tells → counting form (reads_of (D.moments disk.old).now) ≡ None }
@@ -139,7 +155,8 @@ pub(crate) fn begin<D: Disk>(alloc: Global, disk: &mut D, form: u8) -> Result<Op
         IfOk result (λ opened. IsInStep opened.journal (D.moments disk.new).now) }
     ensures payloads { D.tells →
         IfOk result
-        (λ opened. opened.payloads ≡ payloads form (reads_of (D.moments disk.old).now)) }
+        (λ opened.
+        T.taken opened.payloads ≡ payloads form (reads_of (D.moments disk.old).now)) }
     ensures fresh { D.tells →
         OnOk result
         (reads_of (D.moments disk.new).now
@@ -153,13 +170,20 @@ pub(crate) fn begin<D: Disk>(alloc: Global, disk: &mut D, form: u8) -> Result<Op
     make_side(disk, Side::A, &empty_side(form))?;
     Ok(Opened {
         journal: Journal::of(form, Side::A, 1, 19),
-        payloads: Payloads::new(alloc),
+        payloads: taker,
     })
 }
 
 /// Reads the payloads of the side that counts, and opens it.
-fn open<D: Disk>(alloc: Global, disk: &mut D, form: u8, live: Live) -> Result<Opened, StoreFault>
+fn open<D: Disk, T: Taker + Drop>(
+    alloc: Global,
+    disk: &mut D,
+    form: u8,
+    live: Live,
+    taker: T,
+) -> Result<Opened<T>, StoreFault>
     requires size { 19 ≤ live.len }
+    requires none { T.taken taker ≡ [] }
     requires settled { D.tells →
         (D.moments disk.old).now ≡ settled_disk (reads_of (D.moments disk.old).now) }
     requires live { D.tells → IsLiveOf form (reads_of (D.moments disk.old).now) live }
@@ -176,30 +200,32 @@ fn open<D: Disk>(alloc: Global, disk: &mut D, form: u8, live: Live) -> Result<Op
         IfOk result (λ opened. IsInStep opened.journal (D.moments disk.new).now) }
     ensures payloads { D.tells →
         IfOk result
-        (λ opened. opened.payloads ≡ payloads form (reads_of (D.moments disk.old).now)) }
+        (λ opened.
+        T.taken opened.payloads ≡ payloads form (reads_of (D.moments disk.old).now)) }
     ensures counts { IfOk result (λ opened. CountsAs live.side live.generation opened.journal) }
     ensures form { IfOk result (λ opened. opened.journal.form ≡ form) }
     ensures usable { IfOk result (λ opened. opened.journal.broken ≡ false) }
     ensures cause { StoreCounts result (D.failed_disk_calls disk.old)
         (D.failed_disk_calls disk.new) }
 {
-    let found = read_payloads(alloc, disk, live)?;
+    let found = read_payloads(alloc, disk, live, taker)?;
     finish_opening(disk, form, live, found)
 }
 
 /// Opens the side that counts, of which this was found: closes the gate after its payloads where it is open.
-fn finish_opening<D: Disk>(
+fn finish_opening<D: Disk, T: Taker + Drop>(
     disk: &mut D,
     form: u8,
     live: Live,
-    found: Found,
-) -> Result<Opened, StoreFault>
+    found: Found<T>,
+) -> Result<Opened<T>, StoreFault>
     requires size { 19 ≤ found.len }
     requires settled { D.tells →
         (D.moments disk.old).now ≡ settled_disk (reads_of (D.moments disk.old).now) }
     requires live { D.tells → IsLiveOf form (reads_of (D.moments disk.old).now) live }
     requires end { D.tells →
-        EndsAt found.len found.payloads (image_side live.side (reads_of (D.moments disk.old).now)) }
+        let bytes = image_side live.side (reads_of (D.moments disk.old).now) in
+        EndsAt found.len (T.taken found.payloads) bytes }
     requires gate { D.tells →
         let bytes = image_side live.side (reads_of (D.moments disk.old).now) in
         IsTrue found.is_open ↔ (slice_index bytes (found.len - 1) ≡ 1) }
@@ -216,7 +242,8 @@ fn finish_opening<D: Disk>(
         IfOk result (λ opened. IsInStep opened.journal (D.moments disk.new).now) }
     ensures payloads { D.tells →
         IfOk result
-        (λ opened. opened.payloads ≡ payloads form (reads_of (D.moments disk.old).now)) }
+        (λ opened.
+        T.taken opened.payloads ≡ payloads form (reads_of (D.moments disk.old).now)) }
     ensures counts { IfOk result (λ opened. CountsAs live.side live.generation opened.journal) }
     ensures form { IfOk result (λ opened. opened.journal.form ≡ form) }
     ensures usable { IfOk result (λ opened. opened.journal.broken ≡ false) }
@@ -231,7 +258,7 @@ fn finish_opening<D: Disk>(
 }
 
 /// The journal of the side that counts, with the payloads that it holds.
-fn as_found(form: u8, live: Live, found: Found) -> Opened
+fn as_found<T>(form: u8, live: Live, found: Found<T>) -> Opened<T>
     requires { 19 ≤ found.len }
     ensures journal { result.journal
         ≡ record {

@@ -56,16 +56,6 @@ impl Payloads {
         self.list[i as usize].bytes()
     }
 
-    /// Adds a payload at the end, which is moved in. After `NoMemory` the list is unchanged.
-    pub(crate) fn put(&mut self, payload: Text) -> Result<(), NoMemory>
-        requires { length payload < 2 ^ 32 }
-        ensures ok { OnOk result (self.new ≡ self.old ++ payload ∷ []) }
-        ensures err { OnErr result (self.new ≡ self.old) }
-    {
-        self.list.push(payload)?;
-        Ok(())
-    }
-
     /// Adds a copy of a payload at the end. After `NoMemory` the list is unchanged.
     pub fn push(&mut self, alloc: Global, payload: &[u8]) -> Result<(), NoMemory>
         requires { length payload.now < 2 ^ 32 }
@@ -73,6 +63,7 @@ impl Payloads {
         ensures err { OnErr result (self.new ≡ self.old) }
     {
         let copy = Text::from_slice(alloc, payload)?;
-        self.put(copy)
+        self.list.push(copy)?;
+        Ok(())
     }
 }

@@ -1,34 +1,26 @@
-//! Reading the payloads of the side that counts, each into a buffer of its own.
+//! Reading the payloads of the side that counts, each of which is lent to a taker from the window that it was read into.
 
-ghost use Rattle.std.specs.Prelude.{◌≡◌, ℕ, List, ◌<◌, ◌≤◌, ◌+◌, ◌-◌, ◌^◌, ◌↔◌, ◌∷◌, length, take, drop, slice_index, IsTrue, IfOk, IfSome, OnOk};
+ghost use Rattle.std.specs.Prelude.{◌≡◌, ℕ, List, ◌<◌, ◌≤◌, ◌+◌, ◌-◌, ◌^◌, ◌↔◌, ◌++◌, [], ◌∷◌, length, take, drop, slice_index, IsTrue, IfOk, IfSome, OnOk};
 ghost use Rattle.base.specs.Bytes.{number_bytes};
 ghost use Rattle.outside.specs.Counts.{StoreCounts};
 ghost use Rattle.outside.specs.Disks.{side_of, bytes_at, Goes};
 ghost use Rattle.store_journal.specs.Journals.{EndsAt};
-ghost use Rattle.store_journal.specs.Windows.{IsCountOf, IsNextOf, IsWindowOf};
+ghost use Rattle.store_journal.specs.Windows.{IsCountOf, IsWindowOf};
 
-use crate::Payloads;
+use crate::Taker;
 use crate::layout::{FIRST_GATE, Live};
 use crate::sides::read_some;
 use crate::windows::{Span, WINDOW, Window, cover};
-use base::Text;
 use outside::{Disk, StoreFault};
 use std::alloc::Global;
 
 /// The payloads of a side, the number of its bytes up to and with the gate after which none follows, and whether that
 /// gate is open.
 #[derive(Drop)]
-pub struct Found {
-    pub payloads: Payloads,
+pub struct Found<T> {
+    pub payloads: T,
     pub len: u64,
     pub is_open: bool,
-}
-
-/// The payloads of a side, and the offset of the gate after which none follows.
-#[derive(Drop)]
-struct Parts {
-    payloads: Payloads,
-    gate: u64,
 }
 
 /// A gate, and the number of bytes of the payload after it.
@@ -65,25 +57,26 @@ fn count_after(head: Head, left: u64) -> Option<u32>
     Some(head.count)
 }
 
-/// The payload of so many bytes at an offset. One that is longer than a window is read into its own buffer at once.
-fn read_payload<D: Disk>(
+/// Hands the payload of so many bytes at an offset to a taker. One that is longer than a window is read into a buffer of its
+/// own at once.
+fn read_payload<D: Disk, T: Taker>(
     alloc: Global,
     disk: &mut D,
     live: Live,
     window: &mut Window,
     span: Span,
-) -> Result<Text, StoreFault>
+    taker: &mut T,
+) -> Result<(), StoreFault>
     requires within { span.start + span.count ≤ live.len }
+    requires small { span.count < 2 ^ 32 }
     requires len { D.tells →
         live.len ≡ length (side_of live.side (D.moments disk.old).now).reads }
     requires window { D.tells →
         IsWindowOf (side_of live.side (D.moments disk.old).now).reads window.old }
-    ensures is { D.tells →
-        IfOk result
-        (λ payload.
-        payload
-        ≡ bytes_at span.start span.count (side_of live.side (D.moments disk.old).now).reads) }
-    ensures long { IfOk result (λ payload. length payload ≡ span.count) }
+    ensures taken { D.tells →
+        let reads = (side_of live.side (D.moments disk.old).now).reads in
+        OnOk result
+        (T.taken taker.new ≡ T.taken taker.old ++ bytes_at span.start span.count reads ∷ []) }
     ensures window { D.tells →
         OnOk result (IsWindowOf (side_of live.side (D.moments disk.old).now).reads window.new) }
     ensures same { D.tells → OnOk result ((D.moments disk.new).now ≡ (D.moments disk.old).now) }
@@ -94,10 +87,12 @@ fn read_payload<D: Disk>(
 {
     if span.count > WINDOW {
         let bytes = read_some(alloc, disk, live.side, span.start, span.count)?;
-        return Ok(Text::from_vec(bytes));
+        taker.take(alloc, &bytes)?;
+        return Ok(());
     }
     cover(disk, live, window, span)?;
-    Ok(Text::from_slice(alloc, window.slice(span))?)
+    taker.take(alloc, window.slice(span))?;
+    Ok(())
 }
 
 /// How many bytes the payload has that the gate at an offset opens, if it opens one.
@@ -137,43 +132,6 @@ fn next_count<D: Disk>(
     Ok(count_after(head, left))
 }
 
-/// The payload that the gate at an offset opens, if it opens one.
-fn next_payload<D: Disk>(
-    alloc: Global,
-    disk: &mut D,
-    live: Live,
-    window: &mut Window,
-    gate: u64,
-) -> Result<Option<Text>, StoreFault>
-    requires gate { gate < live.len }
-    requires len { D.tells →
-        live.len ≡ length (side_of live.side (D.moments disk.old).now).reads }
-    requires window { D.tells →
-        IsWindowOf (side_of live.side (D.moments disk.old).now).reads window.old }
-    ensures is { D.tells →
-        IfOk result (IsNextOf (drop gate (side_of live.side (D.moments disk.old).now).reads)) }
-    ensures within { IfOk result
-        (λ next. IfSome next (λ payload. gate + 5 + length payload < live.len)) }
-    ensures small { IfOk result (λ next. IfSome next (λ payload. length payload < 2 ^ 32)) }
-    ensures window { D.tells →
-        OnOk result (IsWindowOf (side_of live.side (D.moments disk.old).now).reads window.new) }
-    ensures same { D.tells → OnOk result ((D.moments disk.new).now ≡ (D.moments disk.old).now) }
-    ensures moments { D.tells →
-        Goes (D.moments disk.old).now (D.moments disk.old) (D.moments disk.new) }
-    ensures cause { StoreCounts result (D.failed_disk_calls disk.old)
-        (D.failed_disk_calls disk.new) }
-{
-    let Some(count) = next_count(disk, live, window, gate)? else {
-        return Ok(None);
-    };
-    let span = Span {
-        start: gate + 5,
-        count: count as u64,
-    };
-    let payload = read_payload(alloc, disk, live, window, span)?;
-    Ok(Some(payload))
-}
-
 /// Whether the gate at an offset is open.
 fn is_open<D: Disk>(
     disk: &mut D,
@@ -203,23 +161,24 @@ fn is_open<D: Disk>(
     Ok(window.slice(span)[0] == 1)
 }
 
-/// The payloads of a side, part by part, and where they end.
-fn read_parts<D: Disk>(
+/// Hands the payloads of a side to a taker, part by part, and says at which offset the gate is after which none follows.
+fn read_parts<D: Disk, T: Taker>(
     alloc: Global,
     disk: &mut D,
     live: Live,
     window: &mut Window,
-) -> Result<Parts, StoreFault>
+    taker: &mut T,
+) -> Result<u64, StoreFault>
     requires size { 19 ≤ live.len }
+    requires none { T.taken taker.old ≡ [] }
     requires len { D.tells →
         live.len ≡ length (side_of live.side (D.moments disk.old).now).reads }
     requires window { D.tells →
         IsWindowOf (side_of live.side (D.moments disk.old).now).reads window.old }
     ensures end { D.tells →
-        IfOk result
-        (λ parts.
-        EndsAt (parts.gate + 1) parts.payloads (side_of live.side (D.moments disk.old).now).reads) }
-    ensures gate { IfOk result (λ parts. (18 ≤ parts.gate) × (parts.gate < live.len)) }
+        let reads = (side_of live.side (D.moments disk.old).now).reads in
+        IfOk result (λ gate. EndsAt (gate + 1) (T.taken taker.new) reads) }
+    ensures gate { IfOk result (λ gate. (18 ≤ gate) × (gate < live.len)) }
     ensures window { D.tells →
         OnOk result (IsWindowOf (side_of live.side (D.moments disk.old).now).reads window.new) }
     ensures same { D.tells → OnOk result ((D.moments disk.new).now ≡ (D.moments disk.old).now) }
@@ -228,24 +187,32 @@ fn read_parts<D: Disk>(
     ensures cause { StoreCounts result (D.failed_disk_calls disk.old)
         (D.failed_disk_calls disk.new) }
 {
-    let mut payloads = Payloads::new(alloc);
     let mut gate = FIRST_GATE as u64;
-    while let Some(payload) = next_payload(alloc, disk, live, window, gate)? {
-        gate = gate + 5 + payload.bytes().len() as u64;
-        payloads.put(payload)?;
+    while let Some(count) = next_count(disk, live, window, gate)? {
+        let span = Span {
+            start: gate + 5,
+            count: count as u64,
+        };
+        read_payload(alloc, disk, live, window, span, taker)?;
+        gate = gate + 5 + count as u64;
     }
-    Ok(Parts { payloads, gate })
+    Ok(gate)
 }
 
-/// The payloads of a side that has a first gate. It is read from that gate on, a window at a time.
-pub fn read_payloads<D: Disk>(alloc: Global, disk: &mut D, live: Live) -> Result<Found, StoreFault>
+/// Hands the payloads of a side that has a first gate to a taker. It is read from that gate on, a window at a time.
+pub fn read_payloads<D: Disk, T: Taker + Drop>(
+    alloc: Global,
+    disk: &mut D,
+    live: Live,
+    taker: T,
+) -> Result<Found<T>, StoreFault>
     requires size { 19 ≤ live.len }
+    requires none { T.taken taker ≡ [] }
     requires len { D.tells →
         live.len ≡ length (side_of live.side (D.moments disk.old).now).reads }
     ensures end { D.tells →
-        IfOk result
-        (λ found.
-        EndsAt found.len found.payloads (side_of live.side (D.moments disk.old).now).reads) }
+        let reads = (side_of live.side (D.moments disk.old).now).reads in
+        IfOk result (λ found. EndsAt found.len (T.taken found.payloads) reads) }
     ensures gate { D.tells →
         let reads = (side_of live.side (D.moments disk.old).now).reads in
         IfOk result
@@ -257,8 +224,9 @@ pub fn read_payloads<D: Disk>(alloc: Global, disk: &mut D, live: Live) -> Result
     ensures cause { StoreCounts result (D.failed_disk_calls disk.old)
         (D.failed_disk_calls disk.new) }
 {
+    let mut payloads = taker;
     let mut window = Window::new(alloc);
-    let Parts { payloads, gate } = read_parts(alloc, disk, live, &mut window)?;
+    let gate = read_parts(alloc, disk, live, &mut window, &mut payloads)?;
     let is_open = is_open(disk, live, &mut window, gate)?;
     Ok(Found {
         payloads,

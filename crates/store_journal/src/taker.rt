@@ -1,0 +1,27 @@
+//! What takes the payloads of a journal as they are read.
+
+ghost use Rattle.std.specs.Prelude.{◌≡◌, ℕ, List, ◌<◌, ◌^◌, ◌++◌, [], ◌∷◌, length, OnOk};
+
+use crate::Payloads;
+use base::NoMemory;
+use std::alloc::Global;
+
+/// What takes the payloads of a journal as they are read, one after the other.
+pub trait Taker: Sized {
+    /// The payloads that it has taken.
+    ghost taken: { Self → List (List ℕ) };
+
+    /// Takes the next payload, which is lent for this call.
+    fn take(&mut self, alloc: Global, payload: &[u8]) -> Result<(), NoMemory>
+        requires { length payload.now < 2 ^ 32 }
+        ensures { OnOk result (taken self.new ≡ taken self.old ++ payload.now ∷ []) };
+}
+
+/// A copy of each.
+impl Taker for Payloads {
+    ghost taken = { λ payloads. payloads };
+
+    fn take(&mut self, alloc: Global, payload: &[u8]) -> Result<(), NoMemory> {
+        self.push(alloc, payload)
+    }
+}
