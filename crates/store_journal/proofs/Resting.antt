@@ -1,5 +1,5 @@
 -- Opening that writes nothing.
-use Rattle.std.proofs.Common.{◌≡◌, ◌≢◌, ℕ, Bool, true, false, not, ◌+◌, ◌-◌, List, [], get_or, length, None, refl, sym, ap, subst, ◌∙◌}
+use Rattle.std.proofs.Common.{◌≡◌, ◌≢◌, ℕ, Bool, true, false, ◌+◌, ◌-◌, List, [], get_or, length, None, refl, sym, ap, subst, ◌∙◌}
 use Rattle.std.specs.Prelude.{Result, Ok, Err, OnOk}
 use Rattle.std.specs.List.{flat_map}
 use Rattle.std.proofs.lemmas.List.{append-nil}
@@ -61,11 +61,7 @@ read_then form old middle new goes same settled moments =
     let later = subst (λ (d : DiskState). AtAnyMoment middle new (λ image. payloads form image ≡ payloads form (reads_of d))) same moments in
     joined_moments old middle new P (read_only form old middle goes settled) later
 
--- what a negated test says
-pub opened : (test : Bool) → not test ≡ false → test ≡ true
-opened true e = refl
-opened false e = absurd cc
-
-pub unopened : (test : Bool) → not test ≡ true → test ≡ true → ⊥
+-- a test has one answer
+pub unopened : (test : Bool) → test ≡ false → test ≡ true → ⊥
 unopened true e holds = cc
 unopened false e holds = cc

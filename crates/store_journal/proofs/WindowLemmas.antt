@@ -15,7 +15,7 @@ use Rattle.outside.specs.declared.disk.Side.TheVariants.{A, B}
 use Rattle.outside.specs.Disks.{DiskState, bytes_at, image_side, reads_of, side_of}
 use Rattle.store_journal.specs.Payloads.{block, gated, payload_at}
 use Rattle.store_journal.specs.Journals.{EndsAt}
-use Rattle.store_journal.specs.Windows.{AreReadTo, IsNextOf}
+use Rattle.store_journal.specs.Windows.{AreReadTo, IsCountOf, IsNextOf}
 use Rattle.store_journal.proofs.Spelled.{closed_gate}
 
 -- ## Windows
@@ -88,7 +88,7 @@ long_none (first ∷ rest) gate count is opened small few =
     rw (eq-eqb first 1 one, number) (taken_none count (drop 4 rest) (omega (arith, size, few)))
 
 -- the payload of that number of bytes
-pub next_is : (bytes payload : List ℕ) (count : ℕ) → take 5 bytes ≡ 1 ∷ number_bytes count → payload ≡ take count (drop 5 bytes) → length payload ≡ count → bytes ≡ block payload ++ drop (5 + length payload) bytes
+next_is : (bytes payload : List ℕ) (count : ℕ) → take 5 bytes ≡ 1 ∷ number_bytes count → payload ≡ take count (drop 5 bytes) → length payload ≡ count → bytes ≡ block payload ++ drop (5 + length payload) bytes
 unfolding block text_bytes
 next_is bytes payload count head is size =
     let after : drop 5 bytes ≡ payload ++ drop (5 + length payload) bytes =
@@ -108,7 +108,7 @@ read_begins_at bytes long = record {
   next = omega arith;
 }
 
-pub read_on : (bytes : List ℕ) (payloads : List (List ℕ)) (gate next : ℕ) (payload : List ℕ) → AreReadTo bytes payloads gate → IsNextOf (drop gate bytes) (Some payload) → length payload < 2 ^ 32 → next ≡ gate + 5 + length payload → next < length bytes → AreReadTo bytes (payloads ++ payload ∷ []) next
+read_on : (bytes : List ℕ) (payloads : List (List ℕ)) (gate next : ℕ) (payload : List ℕ) → AreReadTo bytes payloads gate → IsNextOf (drop gate bytes) (Some payload) → length payload < 2 ^ 32 → next ≡ gate + 5 + length payload → next < length bytes → AreReadTo bytes (payloads ++ payload ∷ []) next
 read_on bytes payloads gate next payload so_far is small next_is within =
     let left : drop (5 + length payload) (drop gate bytes) ≡ drop next bytes = drop-drop (5 + length payload) gate bytes ∙ ap (λ (n : ℕ). drop n bytes) (omega (arith, next_is)) in
     let blocks : flat_map block payloads ++ drop gate bytes ≡ flat_map block (payloads ++ payload ∷ []) ++ drop next bytes =
@@ -122,6 +122,14 @@ read_on bytes payloads gate next payload so_far is small next_is within =
       small = All-append (λ p. length p < 2 ^ 32) payloads (payload ∷ []) so_far.small (All-cons (λ p. length p < 2 ^ 32) payload [] small (All-nil (λ p. length p < 2 ^ 32)));
       next = within;
     }
+
+-- one payload more, of that number of bytes
+pub read_next : (bytes : List ℕ) (payloads : List (List ℕ)) (gate count : ℕ) → AreReadTo bytes payloads gate → take 5 (drop gate bytes) ≡ 1 ∷ number_bytes count → count < 2 ^ 32 → gate + 5 + count < length bytes → AreReadTo bytes (payloads ++ bytes_at (gate + 5) count bytes ∷ []) (gate + 5 + count)
+read_next bytes payloads gate count so_far head small within =
+    let payload : List ℕ = bytes_at (gate + 5) count bytes in
+    let size : length payload ≡ count = length-take-le count (drop (gate + 5) bytes) (omega (arith, length-drop (gate + 5) bytes, within)) in
+    let is : payload ≡ take count (drop 5 (drop gate bytes)) = ap (take count) (sym (drop-drop 5 gate bytes)) in
+    read_on bytes payloads gate (gate + 5 + count) payload so_far (next_is (drop gate bytes) payload count head is size) (omega (arith, size, small)) (omega (arith, size)) within
 
 pub read_to_end : (bytes : List ℕ) (payloads : List (List ℕ)) (gate count : ℕ) → AreReadTo bytes payloads gate → payload_at (drop gate bytes) ≡ None → count ≡ gate + 1 → EndsAt count payloads bytes
 read_to_end bytes payloads gate count so_far none is =
@@ -140,10 +148,10 @@ read_to_end bytes payloads gate count so_far none is =
       none = ap payload_at (sym there) ∙ none;
     }
 
--- what isn't a payload
-pub none_next : (bytes : List ℕ) (next : Option (List ℕ)) → IsNextOf bytes next → ((payload : List ℕ) → next ≡ Some payload → ⊥) → payload_at bytes ≡ None
+-- where no payload follows
+pub none_next : (bytes : List ℕ) (next : Option ℕ) → IsCountOf bytes next → ((count : ℕ) → next ≡ Some count → ⊥) → payload_at bytes ≡ None
 none_next bytes None is gone = is
-none_next bytes (Some payload) is gone = absurd (gone payload refl)
+none_next bytes (Some count) is gone = absurd (gone count refl)
 
 -- what reads give of a side
 pub side_reads : (side : Side) (disk : DiskState) → image_side side (reads_of disk) ≡ (side_of side disk).reads

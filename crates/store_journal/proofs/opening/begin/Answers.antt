@@ -22,7 +22,7 @@ returns-clause-in_step g c = λ told.
 
 pub returns-clause-payloads : goal.returns-clause-payloads
 returns-clause-payloads g c = λ told.
-    c.new.ensures ∙ sym (payloads_none c.args.form (reads_of (g.D.Disk.moments c.args.disk.now).now) (c.requires.none told))
+    c.requires.taken ∙ sym (payloads_none c.args.form (reads_of (g.D.Disk.moments c.args.disk.now).now) (c.requires.none told))
 
 pub returns-in_err-make_side-clause-apart : goal.returns-in_err-make_side-clause-apart
 returns-in_err-make_side-clause-apart g c = λ told other differs none.

@@ -1,6 +1,7 @@
 use Rattle.std.proofs.Common.{◌≡◌, [], false, inl, inr, sym, ap, subst, ◌∙◌}
 use Rattle.std.specs.Prelude.{IfOk, OnOk}
 use Rattle.outside.specs.Disks.{Image, reads_of}
+use Rattle.store_journal.specs.Finds.{found_journal, found_taken}
 use Rattle.store_journal.specs.Forms.{HoldsForms, found_form, has_form}
 use Rattle.store_journal.specs.Journals.{IsHealthy, IsInStep, OpensAs}
 use Rattle.store_journal.specs.Payloads.{payloads, side_bytes}
@@ -33,8 +34,8 @@ returns-clause-held g c = λ told.
     let new = moments c.open_found.new.disk in
     let at = found_form c.args.newer c.args.older in
     let same = ap reads_of (c.in_ok-headers.ensures.settled told) in
-    ok_both c.open_found.result (λ opened. IsInStep opened.journal new.now) (λ opened. opened.payloads ≡ payloads (at (reads_of middle.now)) (reads_of middle.now)) (λ opened. payloads (at old) (reads_of new.now) ≡ opened.payloads)
-    (λ opened in_step is. ap (λ (image : Image). payloads (at image) (reads_of new.now)) (sym same) ∙ present_found c.args.newer c.args.older middle new (c.open_found.ensures.holds told) in_step.settled ∙ sym is)
+    ok_both c.open_found.result (λ found. IsInStep (found_journal found) new.now) (λ found. found_taken g.N.Taker.taken g.O.Taker.taken found ≡ payloads (at (reads_of middle.now)) (reads_of middle.now)) (λ found. payloads (at old) (reads_of new.now) ≡ found_taken g.N.Taker.taken g.O.Taker.taken found)
+    (λ found in_step is. ap (λ (image : Image). payloads (at image) (reads_of new.now)) (sym same) ∙ present_found c.args.newer c.args.older middle new (c.open_found.ensures.holds told) in_step.settled ∙ sym is)
     (c.open_found.ensures.in_step told) (c.open_found.ensures.payloads told)
 
 pub returns-clause-stays : goal.returns-clause-stays
@@ -45,8 +46,8 @@ returns-clause-stays g c = λ told.
     let new = moments c.open_found.new.disk in
     let P = HoldsForms c.args.newer c.args.older in
     let same = ap reads_of (c.in_ok-headers.ensures.settled told) in
-    ok_both c.open_found.result (λ opened. IsInStep opened.journal new.now) (λ opened. IsInStep opened.journal new.now) (λ _. P old (reads_of new.now))
-    (λ opened in_step again. subst (λ (image : Image). P image (reads_of new.now)) same (present_forms c.args.newer c.args.older middle new (c.open_found.ensures.holds told) in_step.settled))
+    ok_both c.open_found.result (λ found. IsInStep (found_journal found) new.now) (λ found. IsInStep (found_journal found) new.now) (λ _. P old (reads_of new.now))
+    (λ found in_step again. subst (λ (image : Image). P image (reads_of new.now)) same (present_forms c.args.newer c.args.older middle new (c.open_found.ensures.holds told) in_step.settled))
     (c.open_found.ensures.in_step told) (c.open_found.ensures.in_step told)
 
 pub returns-clause-alone : goal.returns-clause-alone
@@ -54,8 +55,8 @@ returns-clause-alone g c = λ told.
     let middle = g.D.Disk.moments c.read_form_headers.new.disk in
     let new = g.D.Disk.moments c.open_found.new.disk in
     let at = found_form c.args.newer c.args.older in
-    ok_both c.open_found.result (λ opened. IsInStep opened.journal new.now) (λ opened. opened.journal.form ≡ at (reads_of middle.now)) (λ opened. opened.journal.form ≡ c.args.older → has_form c.args.newer (reads_of new.now) ≡ false)
-    (λ opened in_step is older. present_alone c.args.newer c.args.older middle new c.requires (sym is ∙ older) (c.open_found.ensures.holds told) in_step.settled)
+    ok_both c.open_found.result (λ found. IsInStep (found_journal found) new.now) (λ found. (found_journal found).form ≡ at (reads_of middle.now)) (λ found. (found_journal found).form ≡ c.args.older → has_form c.args.newer (reads_of new.now) ≡ false)
+    (λ found in_step is older. present_alone c.args.newer c.args.older middle new c.requires.forms (sym is ∙ older) (c.open_found.ensures.holds told) in_step.settled)
     (c.open_found.ensures.in_step told) (c.open_found.ensures.found told)
 
 pub returns-clause-rests : goal.returns-clause-rests
@@ -69,17 +70,17 @@ returns-clause-rests g c = λ told healthy.
 pub returns-clause-found : goal.returns-clause-found
 returns-clause-found g c = λ told.
     let same = ap reads_of (c.in_ok-headers.ensures.settled told) in
-    subst (λ (image : Image). IfOk c.open_found.result (λ opened. opened.journal.form ≡ found_form c.args.newer c.args.older image)) same (c.open_found.ensures.found told)
+    subst (λ (image : Image). IfOk c.open_found.result (λ found. (found_journal found).form ≡ found_form c.args.newer c.args.older image)) same (c.open_found.ensures.found told)
 
 pub returns-clause-payloads : goal.returns-clause-payloads
 returns-clause-payloads g c = λ told.
     let same = ap reads_of (c.in_ok-headers.ensures.settled told) in
-    subst (λ (image : Image). IfOk c.open_found.result (λ opened. opened.payloads ≡ payloads (found_form c.args.newer c.args.older image) image)) same (c.open_found.ensures.payloads told)
+    subst (λ (image : Image). IfOk c.open_found.result (λ found. found_taken g.N.Taker.taken g.O.Taker.taken found ≡ payloads (found_form c.args.newer c.args.older image) image)) same (c.open_found.ensures.payloads told)
 
 pub returns-clause-counts : goal.returns-clause-counts
 returns-clause-counts g c = λ told.
     let same = ap reads_of (c.in_ok-headers.ensures.settled told) in
-    subst (λ (image : Image). IfOk c.open_found.result (λ opened. OpensAs (found_form c.args.newer c.args.older image) image opened.journal)) same (c.open_found.ensures.counts told)
+    subst (λ (image : Image). IfOk c.open_found.result (λ found. OpensAs (found_form c.args.newer c.args.older image) image (found_journal found))) same (c.open_found.ensures.counts told)
 
 pub returns-clause-fresh : goal.returns-clause-fresh
 returns-clause-fresh g c = λ told none gone.
