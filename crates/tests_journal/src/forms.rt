@@ -12,16 +12,16 @@ use memory_outside::MemDisk;
 use outside::{Side, StoreFault, write_durably};
 use std::alloc::Global;
 use std::test::Fail;
-use store_journal::{Journal, Opened, Payloads};
+use store_journal::{FoundForm, Journal, Opened, Payloads};
 
 const LONG: u64 = (1 << 63) - 1;
 
-const OLDER: u8 = 2;
+pub const OLDER: u8 = 2;
 
-const NEWER: u8 = 3;
+pub const NEWER: u8 = 3;
 
 /// A side of the older form and generation 1 with the payload `ab`.
-static OLD_AB: [u8; 26] = [
+pub static OLD_AB: [u8; 26] = [
     1, b'V', b'U', b'N', b'I', b'T', b'R', b'E', b'C', 2, 1, 0, 0, 0, 0, 0, 0, 0, 1, 2, 0, 0, 0,
     b'a', b'b', 0,
 ];
@@ -45,7 +45,7 @@ static OLD_CD: [u8; 26] = [
 ];
 
 /// A side of the newer form and generation 1 with the payload `cd`.
-static NEW_CD: [u8; 26] = [
+pub static NEW_CD: [u8; 26] = [
     1, b'V', b'U', b'N', b'I', b'T', b'R', b'E', b'C', 3, 1, 0, 0, 0, 0, 0, 0, 0, 1, 2, 0, 0, 0,
     b'c', b'd', 0,
 ];
@@ -62,10 +62,13 @@ const CHANGING: u64 = 9;
 
 const EMPTYING: u64 = 4;
 
-/// What was found, as a letter: `o` is `ab` of the older form, `c` is `cd` of it, `n` is `cd` of the newer one, and `-` none
+/// What was found of a form, as a letter: `o` is `ab` of the older form, `c` is `cd` of it, `n` is `cd` of the newer one, and `-` none
 /// of that.
-fn letter_of(journal: &Journal, payloads: &Payloads) -> u8 {
-    let form = journal.form();
+fn letter_of(form: u8, opened: &Opened<Payloads>) -> u8 {
+    let payloads = &opened.payloads;
+    if opened.journal.form() != form {
+        return b'?';
+    }
     if form == OLDER && are(payloads, b'a') {
         return b'o';
     }
@@ -83,8 +86,18 @@ fn letter_of(journal: &Journal, payloads: &Payloads) -> u8 {
 
 /// What opening a disk finds.
 fn find(alloc: Global, disk: &mut MemDisk) -> Result<u8, StoreFault> {
-    let Opened { journal, payloads } = Journal::found_in(alloc, disk, NEWER, OLDER)?;
-    Ok(letter_of(&journal, &payloads))
+    let found = Journal::found_in(
+        alloc,
+        disk,
+        NEWER,
+        OLDER,
+        Payloads::new(alloc),
+        Payloads::new(alloc),
+    )?;
+    match found {
+        FoundForm::Newer(opened) => Ok(letter_of(NEWER, &opened)),
+        FoundForm::Older(opened) => Ok(letter_of(OLDER, &opened)),
+    }
 }
 
 /// Whether opening a disk of two sides finds this, and leaves these.
@@ -161,10 +174,18 @@ fn change_to_cd(alloc: Global, journal: &mut Journal, disk: &mut MemDisk) -> Res
 
 /// Whether a disk has the older form, which the newer one then takes the place of.
 fn changes(alloc: Global, disk: &mut MemDisk) -> Result<bool, StoreFault> {
-    let Opened { mut journal, .. } = Journal::found_in(alloc, disk, NEWER, OLDER)?;
-    if journal.form() != OLDER {
+    let FoundForm::Older(opened) = Journal::found_in(
+        alloc,
+        disk,
+        NEWER,
+        OLDER,
+        Payloads::new(alloc),
+        Payloads::new(alloc),
+    )?
+    else {
         return Ok(false);
-    }
+    };
+    let Opened { mut journal, .. } = opened;
     change_to_cd(alloc, &mut journal, disk)?;
     Ok(true)
 }

@@ -51,7 +51,7 @@ pub fn are(payloads: &Payloads, letter: u8) -> bool {
 
 /// Whether a disk has the payloads of a letter.
 fn holds(alloc: Global, disk: &mut MemDisk, letter: u8) -> Result<bool, StoreFault> {
-    let Opened { payloads, .. } = Journal::from_disk(alloc, disk, 1)?;
+    let Opened { payloads, .. } = Journal::from_disk(alloc, disk, 1, Payloads::new(alloc))?;
     Ok(are(&payloads, letter))
 }
 
@@ -129,7 +129,7 @@ fn with_ab(alloc: Global, disk: &mut MemDisk) -> Result<Journal, StoreFault>
     ensures form { IfOk result (λ journal. journal.form ≡ 1) }
     ensures in_step { IfOk result (λ journal. IsInStep journal (moments_of disk.new.log).now) }
 {
-    let Opened { mut journal, .. } = Journal::from_disk(alloc, disk, 1)?;
+    let Opened { mut journal, .. } = Journal::from_disk(alloc, disk, 1, Payloads::new(alloc))?;
     let ready = journal.prepare(alloc, b"ab")?;
     journal.commit(disk, &ready)?;
     Ok(journal)
@@ -232,7 +232,7 @@ fn opening_makes_a_side(rt: HostRuntime) -> Result<(), Fail> {
 fn stays_on(alloc: Global, disk: &mut MemDisk, a: &[u8], b: &[u8]) -> Result<bool, StoreFault> {
     write_durably(disk, Side::A, 0, a)?;
     write_durably(disk, Side::B, 0, b)?;
-    Journal::from_disk(alloc, disk, 1)?;
+    Journal::from_disk(alloc, disk, 1, Payloads::new(alloc))?;
     Ok(disk.reads(Side::A) == a && disk.reads(Side::B) == b)
 }
 

@@ -10,4 +10,6 @@ mod journals;
 #[cfg(test)]
 mod objects;
 #[cfg(test)]
+mod takers;
+#[cfg(test)]
 mod windows;

@@ -18,18 +18,23 @@ fn byte_at(number: usize, place: usize) -> u8 {
     (number.wrapping_mul(7).wrapping_add(place) % 251) as u8
 }
 
-/// Puts an open gate, the length of a payload, and its bytes.
-fn put_payload(side: &mut Vec<u8>, number: usize, length: u32) -> Result<(), NoMemory> {
-    side.push(1)?;
-    side.extend_from_slice(&length.to_le_bytes())?;
+/// Puts the bytes of a payload.
+pub fn put_bytes(side: &mut Vec<u8>, number: usize, length: u32) -> Result<(), NoMemory> {
     for place in 0..length as usize {
         side.push(byte_at(number, place))?;
     }
     Ok(())
 }
 
+/// Puts an open gate, the length of a payload, and its bytes.
+fn put_payload(side: &mut Vec<u8>, number: usize, length: u32) -> Result<(), NoMemory> {
+    side.push(1)?;
+    side.extend_from_slice(&length.to_le_bytes())?;
+    put_bytes(side, number, length)
+}
+
 /// A side with payloads of these lengths, without so many of its last bytes, of which the very last is a closed gate.
-fn side_of(alloc: Global, lengths: &[u32], dropped: usize) -> Result<Vec<u8>, NoMemory> {
+pub fn side_of(alloc: Global, lengths: &[u32], dropped: usize) -> Result<Vec<u8>, NoMemory> {
     let mut side = Vec::from_slice(alloc, &HEAD)?;
     for number in 0..lengths.len() {
         put_payload(&mut side, number, lengths[number])?;
@@ -40,7 +45,7 @@ fn side_of(alloc: Global, lengths: &[u32], dropped: usize) -> Result<Vec<u8>, No
 }
 
 /// Whether a payload is the one of this number and length.
-fn is_payload(payload: &[u8], number: usize, length: u32) -> bool {
+pub fn is_payload(payload: &[u8], number: usize, length: u32) -> bool {
     if payload.len() != length as usize {
         return false;
     }
@@ -72,7 +77,7 @@ fn opens_to(
     lengths: &[u32],
     whole: usize,
 ) -> Result<bool, StoreFault> {
-    let Opened { payloads, .. } = Journal::from_disk(alloc, disk, 1)?;
+    let Opened { payloads, .. } = Journal::from_disk(alloc, disk, 1, Payloads::new(alloc))?;
     Ok(are_first(&payloads, lengths, whole))
 }
 

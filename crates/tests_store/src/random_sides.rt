@@ -214,7 +214,7 @@ fn listed(alloc: Global, payloads: Payloads) -> Result<Vec<u8>, NoMemory> {
 }
 
 fn listed_on<D: Disk>(alloc: Global, disk: &mut D) -> Result<Vec<u8>, StoreFault> {
-    let Opened { payloads, .. } = Journal::from_disk(alloc, disk, 3)?;
+    let Opened { payloads, .. } = Journal::from_disk(alloc, disk, 3, Payloads::new(alloc))?;
     Ok(listed(alloc, payloads)?)
 }
 

@@ -24,7 +24,7 @@ fn letter_of(payloads: &Payloads) -> u8 {
 }
 
 fn held<D: Disk>(alloc: Global, disk: &mut D) -> Result<u8, StoreFault> {
-    let Opened { payloads, .. } = Journal::from_disk(alloc, disk, 3)?;
+    let Opened { payloads, .. } = Journal::from_disk(alloc, disk, 3, Payloads::new(alloc))?;
     Ok(letter_of(&payloads))
 }
 
