@@ -98,6 +98,7 @@ fn keeps_on(
 }
 
 /// Payloads of a side, by their lengths, the number of the known one, and what is kept of each. The window has 131,072 bytes.
+#[derive(Clone, Copy)]
 struct Row {
     lengths: [u32; 3],
     known: usize,
@@ -149,8 +150,8 @@ fn is_kept(alloc: Global, row: &Row) -> Result<bool, StoreFault> {
 
 #[test]
 fn a_taker_keeps_what_it_wants_of_each_payload(rt: HostRuntime) -> Result<(), Fail> {
-    for row in &ROWS {
-        assert!(rt; is_kept(rt.alloc(), row)?);
+    for row in ROWS {
+        assert!(rt; is_kept(rt.alloc(), &row)?);
     }
     Ok(())
 }
