@@ -74,8 +74,8 @@ unfolding request_shelf_of
 shelf_kept payloads = from_kept bare_shelf payloads (record { products = All-nil IsKeptProduct; records = All-nil IsKeptRequest })
 
 -- so a shelf that was taken up can be carried
-pub to_carry : (payloads : List (List ℕ)) (shelf : PlacedShelf) → IsShelfPlaced payloads shelf → placed_shelf payloads shelf ≡ request_shelf_of payloads → IsShelfToCarry payloads shelf
-to_carry payloads shelf placed is = record {
+pub to_carry : (pieces payloads : List (List ℕ)) (shelf : PlacedShelf) → IsShelfPlaced pieces shelf → placed_shelf pieces shelf ≡ request_shelf_of payloads → IsShelfToCarry pieces shelf
+to_carry pieces payloads shelf placed is = record {
   placed = placed;
   once = subst AreNumberedOnce (sym is) (once_in_all payloads);
   kept = subst IsKeptShelf (sym is) (shelf_kept payloads);

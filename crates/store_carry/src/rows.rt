@@ -23,10 +23,10 @@ fn name_at(shelf: &PlacedShelf, name: usize) -> &FileName
 }
 
 /// The artefact of a product.
-fn artefact_of<'a>(held: &'a HeldPayloads, shelf: &PlacedShelf, product: usize) -> &'a [u8]
-    requires shelf { IsShelfToCarry held.now.payloads shelf.now }
+fn artefact_of<'a>(held: &'a HeldPayloads<'_>, shelf: &PlacedShelf, product: usize) -> &'a [u8]
+    requires shelf { IsShelfToCarry held.now.pieces shelf.now }
     requires product { product < length shelf.now.products.keys }
-    ensures { let there = placed_shelf held.now.payloads shelf.now in
+    ensures { let there = placed_shelf held.now.pieces shelf.now in
         result.now ≡ (product_at there.products product).artefact }
 {
     text_at(held, &shelf.texts, shelf.products.key(product).text)
@@ -34,14 +34,14 @@ fn artefact_of<'a>(held: &'a HeldPayloads, shelf: &PlacedShelf, product: usize) 
 
 /// The parts of the payload of a product.
 pub fn product_parts<'a>(
-    held: &'a HeldPayloads,
+    held: &'a HeldPayloads<'_>,
     shelf: &'a PlacedShelf,
     step: ProductStep,
 ) -> ProductParts<'a>
-    requires shelf { IsShelfToCarry held.now.payloads shelf.now }
+    requires shelf { IsShelfToCarry held.now.pieces shelf.now }
     requires there { step.product < length shelf.now.products.keys }
     ensures is { product_of_parts result
-        ≡ product_step_draft (placed_shelf held.now.payloads shelf.now) step }
+        ≡ product_step_draft (placed_shelf held.now.pieces shelf.now) step }
     ensures sizes { HasProductSizes result }
 {
     let row = shelf.products.key(step.product);
@@ -55,12 +55,12 @@ pub fn product_parts<'a>(
 }
 
 /// The numbers of the products that a record depends on.
-pub fn deps_of<'a>(held: &'a HeldPayloads, shelf: &PlacedShelf, number: usize) -> Numbers<'a>
-    requires shelf { IsShelfToCarry held.now.payloads shelf.now }
+pub fn deps_of<'a>(held: &'a HeldPayloads<'_>, shelf: &PlacedShelf, number: usize) -> Numbers<'a>
+    requires shelf { IsShelfToCarry held.now.pieces shelf.now }
     requires number { number < length shelf.now.rows.items }
     ensures there { All (λ dep. dep < length shelf.now.products.keys) result }
     ensures few { length result < FILE_LIMIT }
-    ensures below { let there = placed_shelf held.now.payloads shelf.now in
+    ensures below { let there = placed_shelf held.now.pieces shelf.now in
         map (product_at there.products) result
         ≡ (shelf_record_at there.records number).asked.below }
 {
@@ -70,18 +70,18 @@ pub fn deps_of<'a>(held: &'a HeldPayloads, shelf: &PlacedShelf, number: usize) -
 
 /// The parts of the payload of a record, over products of these numbers.
 pub fn request_parts<'a>(
-    held: &'a HeldPayloads,
+    held: &'a HeldPayloads<'_>,
     shelf: &'a PlacedShelf,
     step: RequestStep,
     deps: &'a [usize],
 ) -> RequestParts<'a>
-    requires shelf { IsShelfToCarry held.now.payloads shelf.now }
+    requires shelf { IsShelfToCarry held.now.pieces shelf.now }
     requires there { step.row < length shelf.now.rows.items }
     requires few { length deps.now < FILE_LIMIT }
-    ensures is { let there = placed_shelf held.now.payloads shelf.now in
+    ensures is { let there = placed_shelf held.now.pieces shelf.now in
         let kept = shelf_record_at there.records step.row in
         request_of_parts kept.asked.command result ≡ draft_over kept deps.now step }
-    ensures words { let there = placed_shelf held.now.payloads shelf.now in
+    ensures words { let there = placed_shelf held.now.pieces shelf.now in
         result.words.now ≡ command_bytes (shelf_record_at there.records step.row).asked.command }
     ensures sizes { HasRequestSizes result }
 {

@@ -67,11 +67,11 @@ fn request_size(parts: RequestParts<'_>, deps: usize) -> u64
 }
 
 /// The bytes of the payload of a step, behind its gate and its length.
-pub fn step_size(held: &HeldPayloads, shelf: &PlacedShelf, step: CarryStep) -> u64
-    requires shelf { IsShelfToCarry held.now.payloads shelf.now }
+pub fn step_size(held: &HeldPayloads<'_>, shelf: &PlacedShelf, step: CarryStep) -> u64
+    requires shelf { IsShelfToCarry held.now.pieces shelf.now }
     requires step { (numbers : List ℕ) ×
-        IsPlanStep (placed_shelf held.now.payloads shelf.now) numbers step }
-    ensures { let there = placed_shelf held.now.payloads shelf.now in
+        IsPlanStep (placed_shelf held.now.pieces shelf.now) numbers step }
+    ensures { let there = placed_shelf held.now.pieces shelf.now in
         (numbers : List ℕ) →
         result ≡ length (block (request_payload_bytes (step_payload there numbers step))) }
 {

@@ -17,10 +17,10 @@ use std::alloc::Global;
 use store_shelf::{HeldPayloads, PlacedShelf};
 
 /// Whether a record is the latest of its name.
-fn is_latest(held: &HeldPayloads, shelf: &PlacedShelf, number: usize) -> bool
-    requires shelf { IsShelfToCarry held.now.payloads shelf.now }
+fn is_latest(held: &HeldPayloads<'_>, shelf: &PlacedShelf, number: usize) -> bool
+    requires shelf { IsShelfToCarry held.now.pieces shelf.now }
     requires number { number < length shelf.now.rows.items }
-    ensures { let records = (placed_shelf held.now.payloads shelf.now).records in
+    ensures { let records = (placed_shelf held.now.pieces shelf.now).records in
         result ≡ not (is_overtaken (drop (number + 1) records) (shelf_record_at records number)) }
 {
     match shelf.latest.last(shelf.rows[number].name as u64) {
@@ -40,22 +40,22 @@ fn is_planned(plan: &CarryPlan, product: usize) -> bool
 /// Adds a step to a plan.
 fn add_step(
     plan: &mut CarryPlan,
-    held: &HeldPayloads,
+    held: &HeldPayloads<'_>,
     shelf: &PlacedShelf,
     step: CarryStep,
 ) -> Result<(), NoMemory>
-    requires shelf { IsShelfToCarry held.now.payloads shelf.now }
-    requires plan { IsPlanIn (placed_shelf held.now.payloads shelf.now) plan.old }
-    requires step { IsPlanStep (placed_shelf held.now.payloads shelf.now)
+    requires shelf { IsShelfToCarry held.now.pieces shelf.now }
+    requires plan { IsPlanIn (placed_shelf held.now.pieces shelf.now) plan.old }
+    requires step { IsPlanStep (placed_shelf held.now.pieces shelf.now)
         plan.old.products.numbers step }
-    ensures plan { OnOk result (IsPlanIn (placed_shelf held.now.payloads shelf.now) plan.new) }
+    ensures plan { OnOk result (IsPlanIn (placed_shelf held.now.pieces shelf.now) plan.new) }
     ensures products { plan.new.products ≡ plan.old.products }
-    ensures carried { let there = placed_shelf held.now.payloads shelf.now in
+    ensures carried { let there = placed_shelf held.now.pieces shelf.now in
         OnOk result
         (carried_by there plan.new
         ≡ with_carried_payload (carried_by there plan.old)
         (step_payload there plan.old.products.numbers step)) }
-    ensures counted { let there = placed_shelf held.now.payloads shelf.now in
+    ensures counted { let there = placed_shelf held.now.pieces shelf.now in
         IsCounted there plan.old → OnOk result (IsCounted there plan.new) }
 {
     plan.add(step, step_size(held, shelf, step))?;
@@ -65,22 +65,22 @@ fn add_step(
 /// Plans a product alone, where it isn't there yet.
 fn plan_product(
     plan: &mut CarryPlan,
-    held: &HeldPayloads,
+    held: &HeldPayloads<'_>,
     shelf: &PlacedShelf,
     product: usize,
 ) -> Result<(), NoMemory>
-    requires shelf { IsShelfToCarry held.now.payloads shelf.now }
-    requires plan { IsPlanIn (placed_shelf held.now.payloads shelf.now) plan.old }
+    requires shelf { IsShelfToCarry held.now.pieces shelf.now }
+    requires plan { IsPlanIn (placed_shelf held.now.pieces shelf.now) plan.old }
     requires product { product < length shelf.now.products.keys }
-    ensures plan { OnOk result (IsPlanIn (placed_shelf held.now.payloads shelf.now) plan.new) }
+    ensures plan { OnOk result (IsPlanIn (placed_shelf held.now.pieces shelf.now) plan.new) }
     ensures more { OnOk result
         (HasMoreNumbers plan.old.products.numbers plan.new.products.numbers) }
     ensures has { OnOk result (Contains plan.new.products.numbers product) }
-    ensures carried { let there = placed_shelf held.now.payloads shelf.now in
+    ensures carried { let there = placed_shelf held.now.pieces shelf.now in
         OnOk result
         (carried_by there plan.new
         ≡ carry_product (carried_by there plan.old) (product_at there.products product)) }
-    ensures counted { let there = placed_shelf held.now.payloads shelf.now in
+    ensures counted { let there = placed_shelf held.now.pieces shelf.now in
         IsCounted there plan.old → OnOk result (IsCounted there plan.new) }
 {
     if is_planned(plan, product) {
@@ -94,24 +94,24 @@ fn plan_product(
 /// Plans the products that a record depends on, in order.
 fn plan_below(
     plan: &mut CarryPlan,
-    held: &HeldPayloads,
+    held: &HeldPayloads<'_>,
     shelf: &PlacedShelf,
     number: usize,
 ) -> Result<(), NoMemory>
-    requires shelf { IsShelfToCarry held.now.payloads shelf.now }
-    requires plan { IsPlanIn (placed_shelf held.now.payloads shelf.now) plan.old }
+    requires shelf { IsShelfToCarry held.now.pieces shelf.now }
+    requires plan { IsPlanIn (placed_shelf held.now.pieces shelf.now) plan.old }
     requires number { number < length shelf.now.rows.items }
-    ensures plan { OnOk result (IsPlanIn (placed_shelf held.now.payloads shelf.now) plan.new) }
-    ensures has { let there = placed_shelf held.now.payloads shelf.now in
+    ensures plan { OnOk result (IsPlanIn (placed_shelf held.now.pieces shelf.now) plan.new) }
+    ensures has { let there = placed_shelf held.now.pieces shelf.now in
         OnOk result
         (All (Contains (carried_by there plan.new).products)
         (shelf_record_at there.records number).asked.below) }
-    ensures carried { let there = placed_shelf held.now.payloads shelf.now in
+    ensures carried { let there = placed_shelf held.now.pieces shelf.now in
         OnOk result
         (carried_by there plan.new
         ≡ fold carry_product (carried_by there plan.old)
         (shelf_record_at there.records number).asked.below) }
-    ensures counted { let there = placed_shelf held.now.payloads shelf.now in
+    ensures counted { let there = placed_shelf held.now.pieces shelf.now in
         IsCounted there plan.old → OnOk result (IsCounted there plan.new) }
 {
     let deps = deps_of(held, shelf, number);
@@ -124,22 +124,22 @@ fn plan_below(
 /// Plans a record over products that were planned.
 fn plan_own(
     plan: &mut CarryPlan,
-    held: &HeldPayloads,
+    held: &HeldPayloads<'_>,
     shelf: &PlacedShelf,
     number: usize,
 ) -> Result<(), NoMemory>
-    requires shelf { IsShelfToCarry held.now.payloads shelf.now }
-    requires plan { IsPlanIn (placed_shelf held.now.payloads shelf.now) plan.old }
+    requires shelf { IsShelfToCarry held.now.pieces shelf.now }
+    requires plan { IsPlanIn (placed_shelf held.now.pieces shelf.now) plan.old }
     requires number { number < length shelf.now.rows.items }
-    requires below { let there = placed_shelf held.now.payloads shelf.now in
+    requires below { let there = placed_shelf held.now.pieces shelf.now in
         All (Contains (carried_by there plan.old).products)
         (shelf_record_at there.records number).asked.below }
-    ensures plan { OnOk result (IsPlanIn (placed_shelf held.now.payloads shelf.now) plan.new) }
-    ensures carried { let there = placed_shelf held.now.payloads shelf.now in
+    ensures plan { OnOk result (IsPlanIn (placed_shelf held.now.pieces shelf.now) plan.new) }
+    ensures carried { let there = placed_shelf held.now.pieces shelf.now in
         OnOk result
         (carried_by there plan.new
         ≡ carry_own (carried_by there plan.old) (shelf_record_at there.records number)) }
-    ensures counted { let there = placed_shelf held.now.payloads shelf.now in
+    ensures counted { let there = placed_shelf held.now.pieces shelf.now in
         IsCounted there plan.old → OnOk result (IsCounted there plan.new) }
 {
     let step = take_request(plan, shelf, shelf.rows[number], number)?;
@@ -150,19 +150,19 @@ fn plan_own(
 /// Plans a record: the products that it depends on, in its order, and then itself.
 fn plan_request(
     plan: &mut CarryPlan,
-    held: &HeldPayloads,
+    held: &HeldPayloads<'_>,
     shelf: &PlacedShelf,
     number: usize,
 ) -> Result<(), NoMemory>
-    requires shelf { IsShelfToCarry held.now.payloads shelf.now }
-    requires plan { IsPlanIn (placed_shelf held.now.payloads shelf.now) plan.old }
+    requires shelf { IsShelfToCarry held.now.pieces shelf.now }
+    requires plan { IsPlanIn (placed_shelf held.now.pieces shelf.now) plan.old }
     requires number { number < length shelf.now.rows.items }
-    ensures plan { OnOk result (IsPlanIn (placed_shelf held.now.payloads shelf.now) plan.new) }
-    ensures carried { let there = placed_shelf held.now.payloads shelf.now in
+    ensures plan { OnOk result (IsPlanIn (placed_shelf held.now.pieces shelf.now) plan.new) }
+    ensures carried { let there = placed_shelf held.now.pieces shelf.now in
         OnOk result
         (carried_by there plan.new
         ≡ carry_request (carried_by there plan.old) (shelf_record_at there.records number)) }
-    ensures counted { let there = placed_shelf held.now.payloads shelf.now in
+    ensures counted { let there = placed_shelf held.now.pieces shelf.now in
         IsCounted there plan.old → OnOk result (IsCounted there plan.new) }
 {
     plan_below(plan, held, shelf, number)?;
@@ -173,20 +173,20 @@ fn plan_request(
 /// Plans a record where it is the latest of its name.
 fn plan_next(
     plan: &mut CarryPlan,
-    held: &HeldPayloads,
+    held: &HeldPayloads<'_>,
     shelf: &PlacedShelf,
     number: usize,
 ) -> Result<(), NoMemory>
-    requires shelf { IsShelfToCarry held.now.payloads shelf.now }
-    requires plan { IsPlanIn (placed_shelf held.now.payloads shelf.now) plan.old }
+    requires shelf { IsShelfToCarry held.now.pieces shelf.now }
+    requires plan { IsPlanIn (placed_shelf held.now.pieces shelf.now) plan.old }
     requires number { number < length shelf.now.rows.items }
-    ensures plan { OnOk result (IsPlanIn (placed_shelf held.now.payloads shelf.now) plan.new) }
-    ensures carried { let there = placed_shelf held.now.payloads shelf.now in
+    ensures plan { OnOk result (IsPlanIn (placed_shelf held.now.pieces shelf.now) plan.new) }
+    ensures carried { let there = placed_shelf held.now.pieces shelf.now in
         OnOk result
         (carried_from (carried_by there plan.new)
         (latest_requests (drop (number + 1) there.records))
         ≡ carried_from (carried_by there plan.old) (latest_requests (drop number there.records))) }
-    ensures counted { let there = placed_shelf held.now.payloads shelf.now in
+    ensures counted { let there = placed_shelf held.now.pieces shelf.now in
         IsCounted there plan.old → OnOk result (IsCounted there plan.new) }
 {
     if !is_latest(held, shelf, number) {
@@ -197,14 +197,14 @@ fn plan_next(
 }
 
 /// Plans the latest record of each name, in order.
-fn plan_all(alloc: Global, held: &HeldPayloads, shelf: &PlacedShelf) -> Result<CarryPlan, NoMemory>
-    requires shelf { IsShelfToCarry held.now.payloads shelf.now }
-    ensures plan { IfOk result (IsPlanIn (placed_shelf held.now.payloads shelf.now)) }
-    ensures carried { let there = placed_shelf held.now.payloads shelf.now in
+fn plan_all(alloc: Global, held: &HeldPayloads<'_>, shelf: &PlacedShelf) -> Result<CarryPlan, NoMemory>
+    requires shelf { IsShelfToCarry held.now.pieces shelf.now }
+    ensures plan { IfOk result (IsPlanIn (placed_shelf held.now.pieces shelf.now)) }
+    ensures carried { let there = placed_shelf held.now.pieces shelf.now in
         IfOk result
         (λ plan. carried_by there plan
         ≡ carried_from none_carried (latest_requests there.records)) }
-    ensures counted { IfOk result (IsCounted (placed_shelf held.now.payloads shelf.now)) }
+    ensures counted { IfOk result (IsCounted (placed_shelf held.now.pieces shelf.now)) }
 {
     let mut plan = CarryPlan::new(alloc, shelf.products.len(), shelf.texts.places.len())?;
     for number in 0..shelf.rows.len() {
@@ -216,11 +216,11 @@ fn plan_all(alloc: Global, held: &HeldPayloads, shelf: &PlacedShelf) -> Result<C
 /// Plans what keeps the latest record of each name, and nothing else.
 pub fn plan_latest(
     alloc: Global,
-    held: &HeldPayloads,
+    held: &HeldPayloads<'_>,
     shelf: &PlacedShelf,
 ) -> Result<CarryPlan, NoMemory>
-    requires shelf { IsShelfPlaced held.now.payloads shelf.now }
-    requires is { placed_shelf held.now.payloads shelf.now ≡ request_shelf_of held.now.payloads }
+    requires shelf { IsShelfPlaced held.now.pieces shelf.now }
+    requires is { placed_shelf held.now.pieces shelf.now ≡ request_shelf_of held.now.payloads }
     ensures { IfOk result (KeepsLatestRequests held.now.payloads) }
 {
     let plan = plan_all(alloc, held, shelf)?;

@@ -52,16 +52,16 @@ fn new_numbers(
 /// The payload of a product alone.
 fn payload_of_product(
     alloc: Global,
-    held: &HeldPayloads,
+    held: &HeldPayloads<'_>,
     shelf: &PlacedShelf,
     step: ProductStep,
 ) -> Result<Text, NoMemory>
-    requires shelf { IsShelfToCarry held.now.payloads shelf.now }
-    requires step { IsProductStep (placed_shelf held.now.payloads shelf.now) step }
-    ensures bytes { let there = placed_shelf held.now.payloads shelf.now in
+    requires shelf { IsShelfToCarry held.now.pieces shelf.now }
+    requires step { IsProductStep (placed_shelf held.now.pieces shelf.now) step }
+    ensures bytes { let there = placed_shelf held.now.pieces shelf.now in
         (numbers : List ℕ) → IfOk result
         (λ bytes. bytes ≡ request_payload_bytes (step_payload there numbers (OfProduct step))) }
-    ensures spelled { let there = placed_shelf held.now.payloads shelf.now in
+    ensures spelled { let there = placed_shelf held.now.pieces shelf.now in
         (numbers : List ℕ) → IsSpellable (step_payload there numbers (OfProduct step)) }
     ensures small { IfOk result (λ bytes. length bytes < 2 ^ 32) }
 {
@@ -71,20 +71,20 @@ fn payload_of_product(
 /// The payload of a record.
 fn payload_of_request(
     alloc: Global,
-    held: &HeldPayloads,
+    held: &HeldPayloads<'_>,
     shelf: &PlacedShelf,
     products: &NumberSet,
     step: RequestStep,
 ) -> Result<Text, NoMemory>
-    requires shelf { IsShelfToCarry held.now.payloads shelf.now }
+    requires shelf { IsShelfToCarry held.now.pieces shelf.now }
     requires products { AreNumbers (length shelf.now.products.keys) products.now }
-    requires step { IsRequestStep (placed_shelf held.now.payloads shelf.now)
+    requires step { IsRequestStep (placed_shelf held.now.pieces shelf.now)
         products.now.numbers step }
-    ensures bytes { let there = placed_shelf held.now.payloads shelf.now in
+    ensures bytes { let there = placed_shelf held.now.pieces shelf.now in
         IfOk result
         (λ bytes.
         bytes ≡ request_payload_bytes (step_payload there products.now.numbers (OfRequest step))) }
-    ensures spelled { let there = placed_shelf held.now.payloads shelf.now in
+    ensures spelled { let there = placed_shelf held.now.pieces shelf.now in
         IfOk result
         (λ _. IsSpellable (step_payload there products.now.numbers (OfRequest step))) }
     ensures small { IfOk result (λ bytes. length bytes < 2 ^ 32) }
@@ -96,19 +96,19 @@ fn payload_of_request(
 /// The payload of a step.
 fn payload_of(
     alloc: Global,
-    held: &HeldPayloads,
+    held: &HeldPayloads<'_>,
     shelf: &PlacedShelf,
     products: &NumberSet,
     step: CarryStep,
 ) -> Result<Text, NoMemory>
-    requires shelf { IsShelfToCarry held.now.payloads shelf.now }
+    requires shelf { IsShelfToCarry held.now.pieces shelf.now }
     requires products { AreNumbers (length shelf.now.products.keys) products.now }
-    requires step { IsPlanStep (placed_shelf held.now.payloads shelf.now)
+    requires step { IsPlanStep (placed_shelf held.now.pieces shelf.now)
         products.now.numbers step }
-    ensures bytes { let there = placed_shelf held.now.payloads shelf.now in
+    ensures bytes { let there = placed_shelf held.now.pieces shelf.now in
         IfOk result
         (λ bytes. bytes ≡ request_payload_bytes (step_payload there products.now.numbers step)) }
-    ensures spelled { let there = placed_shelf held.now.payloads shelf.now in
+    ensures spelled { let there = placed_shelf held.now.pieces shelf.now in
         IfOk result (λ _. IsSpellable (step_payload there products.now.numbers step)) }
     ensures small { IfOk result (λ bytes. length bytes < 2 ^ 32) }
 {
@@ -121,16 +121,16 @@ fn payload_of(
 /// The payloads of a plan, in order.
 fn payloads_by(
     alloc: Global,
-    held: &HeldPayloads,
+    held: &HeldPayloads<'_>,
     shelf: &PlacedShelf,
     plan: &CarryPlan,
 ) -> Result<Payloads, NoMemory>
-    requires shelf { IsShelfToCarry held.now.payloads shelf.now }
-    requires plan { IsPlanIn (placed_shelf held.now.payloads shelf.now) plan.now }
-    ensures is { let there = placed_shelf held.now.payloads shelf.now in
+    requires shelf { IsShelfToCarry held.now.pieces shelf.now }
+    requires plan { IsPlanIn (placed_shelf held.now.pieces shelf.now) plan.now }
+    ensures is { let there = placed_shelf held.now.pieces shelf.now in
         IfOk result
         (λ payloads. payloads ≡ map request_payload_bytes (carried_by there plan.now).payloads) }
-    ensures spelled { let there = placed_shelf held.now.payloads shelf.now in
+    ensures spelled { let there = placed_shelf held.now.pieces shelf.now in
         IfOk result (λ _. All IsSpellable (carried_by there plan.now).payloads) }
 {
     let mut payloads = Payloads::new(alloc);
@@ -144,12 +144,12 @@ fn payloads_by(
 /// The payloads that keep the latest record of each name, and nothing else, by a plan of these.
 pub fn carried_payloads(
     alloc: Global,
-    held: &HeldPayloads,
+    held: &HeldPayloads<'_>,
     shelf: &PlacedShelf,
     plan: &CarryPlan,
 ) -> Result<Payloads, NoMemory>
-    requires shelf { IsShelfPlaced held.now.payloads shelf.now }
-    requires is { placed_shelf held.now.payloads shelf.now ≡ request_shelf_of held.now.payloads }
+    requires shelf { IsShelfPlaced held.now.pieces shelf.now }
+    requires is { placed_shelf held.now.pieces shelf.now ≡ request_shelf_of held.now.payloads }
     requires plan { KeepsLatestRequests held.now.payloads plan.now }
     ensures is { IfOk result
         (λ payloads.

@@ -23,7 +23,8 @@ use Rattle.store_shelf.proofs.Takes.{shelf_more, took_payload, took_request}
 use Rattle.store_holdings.specs.declared.additions.RequestAddition.{RequestAddition}
 use Rattle.store_holdings.specs.declared.seats.Seat.{Seat}
 use Rattle.store_holdings.specs.Additions.{AddsRequest, no_entry}
-use Rattle.store_holdings.specs.Held.{IsHeld, IsLatestRow}
+use Rattle.store_holdings.specs.Held.{IsLatestRow}
+use Rattle.store_shelf.specs.Placed.{IsHeld}
 use Rattle.store_holdings.specs.Seated.{AreSeats, HasSeat, IsSeat}
 
 -- the payload adds the record
@@ -34,9 +35,9 @@ adds_shelf payloads names piece addition adds =
     shelf_more payloads piece ∙ sym (took_payload shelf piece (OfRequest draft) adds.read) ∙ sym (took_request shelf draft adds.request)
 
 -- there are as many rows as records
-pub rows_are_records : (payloads : List (List ℕ)) (shelf : PlacedShelf) → IsHeld payloads shelf → length shelf.rows.items ≡ length (request_shelf_of payloads).records
-rows_are_records payloads shelf is =
-    sym (length-map shelf.rows.items (row_record payloads shelf.names.keys (placed_texts payloads shelf.texts) (row_products shelf.names.keys (placed_texts payloads shelf.texts) shelf.products.keys))) ∙ ap (λ (s : RequestShelf). length s.records) is.is
+pub rows_are_records : (pieces payloads : List (List ℕ)) (shelf : PlacedShelf) → IsHeld pieces payloads shelf → length shelf.rows.items ≡ length (request_shelf_of payloads).records
+rows_are_records pieces payloads shelf is =
+    sym (length-map shelf.rows.items (row_record pieces shelf.names.keys (placed_texts pieces shelf.texts) (row_products shelf.names.keys (placed_texts pieces shelf.texts) shelf.products.keys))) ∙ ap (λ (s : RequestShelf). length s.records) is.is
 
 push_by : (b : Bool) (r : RequestRecord) (rest later : Option RequestRecord) (other : Option RequestRecord) → later ≡ (if b then Some r else rest) → option_or later other ≡ (if b then Some r else option_or rest other)
 push_by true r rest later other e = ap (λ (o : Option RequestRecord). option_or o other) e

@@ -2,6 +2,5 @@
 pub mod Latest
 pub mod Fits
 pub mod Here
-pub mod Longer
 pub mod Adding
 pub mod Asked

@@ -8,7 +8,7 @@ use Rattle.store_codec.specs.Ranges.{counted_words}
 use Rattle.store_codec.specs.Shelves.{request_shelf_of}
 use Rattle.store_shelf.specs.declared.shelf.PlacedShelf.{PlacedShelf}
 use Rattle.store_shelf.specs.declared.shelf.RecordRow.{RecordRow}
-use Rattle.store_shelf.specs.Placed.{HeldList, IsShelfPlaced, nth_payload, placed_shelf, row_deps, text_room}
+use Rattle.store_shelf.specs.Placed.{HeldList, nth_payload, row_deps, text_room}
 use Rattle.store_holdings.specs.declared.seats.Seat.{Seat}
 use Rattle.store_holdings.specs.Seated.{seated_product}
 
@@ -20,11 +20,6 @@ pub record HeldState : Type 0 where
 
 abbrev pub held_room : HeldList → PlacedShelf → ℕ
 held_room held shelf = min held.room (min (text_room shelf.texts - 1) (min shelf.products.room (min (vec_capacity shelf.rows - vec_len shelf.rows) shelf.latest.room)))
-
--- A shelf is what payloads stand for.
-pub record IsHeld (payloads : List (List ℕ)) (shelf : PlacedShelf) : Type 0 where
-  pub are : IsShelfPlaced payloads shelf
-  pub is : placed_shelf payloads shelf ≡ request_shelf_of payloads
 
 -- the latest record of a name
 abbrev pub latest_held : List (List ℕ) → FileName → Option RequestRecord

@@ -1,9 +1,8 @@
 //! What one more payload adds.
 
 ghost use Rattle.std.specs.Prelude.{◌≡◌, ◌<◌, ◌≤◌, ◌++◌, ◌∷◌, [], length};
-ghost use Rattle.store_shelf.specs.Placed.{HasRowRoom};
+ghost use Rattle.store_shelf.specs.Placed.{HasRowRoom, IsHeld};
 ghost use Rattle.store_holdings.specs.Additions.{AddsRequest};
-ghost use Rattle.store_holdings.specs.Held.{IsHeld};
 
 use base::Text;
 use store_codec::RequestRanges;
@@ -29,7 +28,7 @@ pub struct NextRequest {
 
 /// Puts the payload of a record at the end, with what it stands for. It takes no memory.
 pub fn put_held(
-    held: &mut HeldPayloads,
+    held: &mut HeldPayloads<'_>,
     shelf: &mut PlacedShelf,
     addition: RequestAddition,
     piece: Ready,
@@ -37,9 +36,9 @@ pub fn put_held(
     requires ready { AddsRequest held.old.payloads shelf.old.names.keys piece addition }
     requires room { 0 < held.old.room }
     requires row_room { HasRowRoom shelf.old }
-    requires is { IsHeld held.old.payloads shelf.old }
+    requires is { IsHeld held.old.pieces held.old.payloads shelf.old }
     ensures payloads { held.new.payloads ≡ held.old.payloads ++ piece ∷ [] }
-    ensures is { IsHeld held.new.payloads shelf.new }
+    ensures is { IsHeld held.new.pieces held.new.payloads shelf.new }
 {
     let at = held.len();
     held.put(piece);

@@ -52,13 +52,13 @@ pub fn seated_products(
 
 /// The number of a text after a new one, if it is there.
 fn find_after_text(
-    held: &HeldPayloads,
+    held: &HeldPayloads<'_>,
     texts: &PlacedTexts,
     new: &[u8],
     text: &[u8],
 ) -> Option<usize>
-    requires { AreTextsPlaced held.now.payloads texts.now }
-    ensures { IsPlaceOf (placed_texts held.now.payloads texts.now ++ new.now ∷ []) text.now result }
+    requires { AreTextsPlaced held.now.pieces texts.now }
+    ensures { IsPlaceOf (placed_texts held.now.pieces texts.now ++ new.now ∷ []) text.now result }
 {
     if new == text {
         return Some(texts.places.len());
@@ -68,15 +68,15 @@ fn find_after_text(
 
 /// The number of an artefact after a text that may be new, if it is there.
 fn find_after(
-    held: &HeldPayloads,
+    held: &HeldPayloads<'_>,
     texts: &PlacedTexts,
     source: Option<usize>,
     text: &[u8],
     artefact: &[u8],
 ) -> Option<usize>
-    requires { AreTextsPlaced held.now.payloads texts.now }
+    requires { AreTextsPlaced held.now.pieces texts.now }
     ensures { IsPlaceOf
-        (with_text (placed_texts held.now.payloads texts.now) (ref_or source text.now))
+        (with_text (placed_texts held.now.pieces texts.now) (ref_or source text.now))
         artefact.now result }
 {
     match source {
@@ -97,9 +97,9 @@ fn count_after(texts: &PlacedTexts, source: Option<usize>) -> usize
 }
 
 /// The numbers of a text and of an artefact.
-pub fn text_refs(held: &HeldPayloads, texts: &PlacedTexts, text: &[u8], artefact: &[u8]) -> TextRefs
-    requires { AreTextsPlaced held.now.payloads texts.now }
-    ensures { AreRefs (placed_texts held.now.payloads texts.now) text.now artefact.now result }
+pub fn text_refs(held: &HeldPayloads<'_>, texts: &PlacedTexts, text: &[u8], artefact: &[u8]) -> TextRefs
+    requires { AreTextsPlaced held.now.pieces texts.now }
+    ensures { AreRefs (placed_texts held.now.pieces texts.now) text.now artefact.now result }
 {
     let source = find_text(held, texts, text);
     let known = find_after(held, texts, source, text, artefact);

@@ -41,19 +41,19 @@ fn are_seated(seats: &Seats, numbers: &Numbers<'_>, positions: &[u32]) -> bool
 /// Whether the words, the text and the products of a record are those of a file. It takes no memory, and a time that goes by
 /// the text and the dependencies of the file alone.
 pub fn is_asked(
-    held: &HeldPayloads,
+    held: &HeldPayloads<'_>,
     shelf: &PlacedShelf,
     row: RecordRow,
     entry: &Entry,
     seats: &Seats,
 ) -> bool
-    requires shelf { IsShelfPlaced held.now.payloads shelf.now }
-    requires row { IsRecordRow held.now.payloads shelf.now.names.keys
-        (placed_texts held.now.payloads shelf.now.texts) shelf.now.products.keys row }
+    requires shelf { IsShelfPlaced held.now.pieces shelf.now }
+    requires row { IsRecordRow held.now.pieces shelf.now.names.keys
+        (placed_texts held.now.pieces shelf.now.texts) shelf.now.products.keys row }
     requires command { 0 < length entry.now.command }
     requires deps { All (λ dep. dep < length seats.now) entry.now.deps }
     ensures { IsTrue result
-        ↔ IsAskedRow held.now.payloads (placed_texts held.now.payloads shelf.now.texts) row
+        ↔ IsAskedRow held.now.pieces (placed_texts held.now.pieces shelf.now.texts) row
         entry.now seats.now }
 {
     let bytes = held.get(row.payload);

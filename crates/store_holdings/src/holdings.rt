@@ -7,6 +7,7 @@ ghost use Rattle.outside.specs.Records.{Record as RequestRecord, latest_alone as
 ghost use Rattle.store_codec.specs.Carrying.{compacted_requests};
 ghost use Rattle.store_carry.specs.Plans.{KeepsLatestRequests};
 ghost use Rattle.store_shelf.specs.Checked.{IsNameNumber};
+ghost use Rattle.store_shelf.specs.Placed.{IsHeld};
 ghost use Rattle.store_codec.specs.Ranges.{request_in_ranges};
 ghost use Rattle.store_codec.specs.Shelves.{drafted_record, request_shelf_of};
 ghost use Rattle.outside.specs.Records.{IsRecorded as FitsLatest, HasLatest};
@@ -30,29 +31,38 @@ use store_shelf::{HeldPayloads, PlacedShelf, number_name, taken_up, text_at};
 /// Payloads, in order, with what they stand for. Contracts see the payloads, the names that are numbered, and for how many more
 /// payloads there is room.
 #[derive(Drop)]
-pub struct RequestHoldings {
-    held: HeldPayloads,
+pub struct RequestHoldings<'g> {
+    held: HeldPayloads<'g>,
     shelf: PlacedShelf,
 }
 
-impl Model for RequestHoldings {
-    ghost use Rattle.store_holdings.specs.Held.{HeldState, IsHeld, held_room};
+impl<'g> Model for RequestHoldings<'g> {
+    ghost use Rattle.store_shelf.specs.Placed.{IsHeld};
+    ghost use Rattle.store_holdings.specs.Held.{HeldState, held_room};
 
     ghost Value = { HeldState };
 
     ghost view = { λ a. record { payloads = a.held.payloads; names = a.shelf.names.keys; room = held_room a.held a.shelf } };
 
-    ghost invariant = { λ a. IsHeld a.held.payloads a.shelf };
+    ghost invariant = { λ a. IsHeld a.held.pieces a.held.payloads a.shelf };
 }
 
-impl RequestHoldings {
+impl<'g> RequestHoldings<'g> {
     /// What payloads stand for.
-    pub fn of(alloc: Global, opened: Payloads) -> Result<RequestHoldings, NoMemory>
+    pub fn of(alloc: Global, opened: Payloads) -> Result<RequestHoldings<'g>, NoMemory>
         ensures { IfOk result (λ held. held.payloads ≡ opened) }
     {
         let held = HeldPayloads::of(alloc, opened);
         let shelf = taken_up(alloc, &held)?;
         Ok(RequestHoldings { held, shelf })
+    }
+
+    /// Payloads that make up pieces, with a shelf that is what they stand for.
+    pub(crate) fn of_parts(held: HeldPayloads<'g>, shelf: PlacedShelf) -> RequestHoldings<'g>
+        requires { IsHeld held.pieces held.payloads shelf }
+        ensures { result.payloads ≡ held.entry.payloads }
+    {
+        RequestHoldings { held, shelf }
     }
 
     /// The number of the latest record of a name.

@@ -7,7 +7,9 @@ mod asking;
 mod fitting;
 mod holdings;
 mod seats;
+mod taking;
 
 pub use additions::{NextRequest, RequestAddition};
 pub use holdings::RequestHoldings;
 pub use seats::{Seat, Seats};
+pub use taking::RequestTaker;

@@ -5,3 +5,8 @@ pub mod RowProducts
 pub mod Deps
 pub mod Puts
 pub mod Takes
+pub mod Longer
+pub mod Cuts
+pub mod OverText
+pub mod CutParts
+pub mod CutTaken

@@ -2,3 +2,4 @@
 pub mod ProductRows
 pub mod Placed
 pub mod Checked
+pub mod Cuts

@@ -1,22 +1,70 @@
 -- Texts, products and records as places in payloads.
-use Rattle.std.specs.Prelude.{◌≡◌, ◌≢◌, ℕ, ◌<◌, ◌≤◌, ◌-◌, List, [], length, map, min, All, AllPairs, slice_index_or}
+use Rattle.std.specs.Prelude.{◌≡◌, ◌≢◌, ℕ, ◌<◌, ◌≤◌, ◌-◌, List, [], ◌++◌, length, map, take, drop, min, All, AllPairs, slice_index_or}
 use Rattle.std.specs.Vec.{vec_len, vec_capacity}
 use Rattle.base.specs.declared.file.FileName.{FileName}
 use Rattle.base.specs.declared.graph.BuiltFile.{BuiltFile}
+use Rattle.base.specs.declared.graph.Entry.{Entry}
 use Rattle.base_text_index.specs.Splits.{AreSplit}
 use Rattle.outside.specs.Records.{Record as RequestRecord}
 use Rattle.store_codec.specs.Ranges.{counted_numbers, counted_words, ranged}
-use Rattle.store_codec.specs.Shelves.{RequestShelf, product_at}
+use Rattle.store_codec.specs.Shelves.{RequestShelf, product_at, request_shelf_of}
+use Rattle.store_shelf.specs.declared.held.CutPayload.{CutPayload}
+use Rattle.store_shelf.specs.declared.held.FirstPieces.{FirstPieces}
+use Rattle.store_shelf.specs.declared.held.FirstPieces.TheVariants.{OfFiles, OfPayloads}
+use Rattle.store_shelf.specs.declared.held.HeldPayload.{HeldPayload}
+use Rattle.store_shelf.specs.declared.held.HeldPayload.TheVariants.{Whole, Cut, Written}
 use Rattle.store_shelf.specs.declared.products.ProductRow.{ProductRow}
 use Rattle.store_shelf.specs.declared.texts.PlacedText.{PlacedText}
 use Rattle.store_shelf.specs.declared.texts.PlacedTexts.{PlacedTexts}
 use Rattle.store_shelf.specs.declared.shelf.RecordRow.{RecordRow}
 use Rattle.store_shelf.specs.declared.shelf.PlacedShelf.{PlacedShelf}
 
--- payloads in order, and for how many more there is room
+-- The pieces of bytes that are held or lent, of which so many are texts of files; the payloads that they make up, in order; and
+-- for how many more payloads there is room.
 pub record HeldList : Type 0 where
+  pub pieces : List (List ℕ)
   pub payloads : List (List ℕ)
+  pub files : ℕ
   pub room : ℕ
+
+-- the bytes of a payload that are held
+abbrev pub held_piece : HeldPayload → List ℕ
+held_piece (Whole payload) = payload
+held_piece (Cut cut) = cut.rest
+held_piece (Written payload) = payload
+
+-- a payload from which a text was cut, with that text
+abbrev pub with_cut : List ℕ → CutPayload → List ℕ
+with_cut text cut = take cut.at cut.rest ++ (text ++ drop cut.at cut.rest)
+
+-- a payload, by the texts of files
+abbrev pub held_payload : List (List ℕ) → HeldPayload → List ℕ
+held_payload texts (Whole payload) = payload
+held_payload texts (Cut cut) = with_cut (slice_index_or texts cut.file []) cut
+held_payload texts (Written payload) = payload
+
+abbrev pub file_texts : List Entry → List (List ℕ)
+file_texts files = map (λ file. file.text) files
+
+abbrev pub texts_of_files : FirstPieces → List (List ℕ)
+texts_of_files (OfFiles files) = file_texts files.now
+texts_of_files (OfPayloads opened) = []
+
+abbrev pub first_pieces : FirstPieces → List (List ℕ)
+first_pieces (OfFiles files) = file_texts files.now
+first_pieces (OfPayloads opened) = opened
+
+-- the payloads that a store was opened with
+abbrev pub first_payloads : FirstPieces → List (List ℕ)
+first_payloads (OfFiles files) = []
+first_payloads (OfPayloads opened) = opened
+
+-- the first pieces, and then one for each payload that came later
+abbrev pub held_pieces : FirstPieces → List HeldPayload → List (List ℕ)
+held_pieces first more = first_pieces first ++ map held_piece more
+
+abbrev pub held_payloads : FirstPieces → List HeldPayload → List (List ℕ)
+held_payloads first more = first_payloads first ++ map (held_payload (texts_of_files first)) more
 
 abbrev pub nth_payload : List (List ℕ) → ℕ → List ℕ
 nth_payload payloads number = slice_index_or payloads number []
@@ -85,6 +133,11 @@ pub record IsShelfPlaced (payloads : List (List ℕ)) (shelf : PlacedShelf) : Ty
   pub rows : AreRowsPlaced payloads shelf.names.keys (placed_texts payloads shelf.texts) shelf.products.keys shelf.rows.items
   pub names_once : AllPairs (λ a b. a ≢ b) shelf.names.keys
   pub latest : shelf.latest.marks ≡ map (λ row. row.name) shelf.rows.items
+
+-- Pieces make up payloads, and a shelf that is placed in the pieces is what the payloads stand for.
+pub record IsHeld (pieces payloads : List (List ℕ)) (shelf : PlacedShelf) : Type 0 where
+  pub are : IsShelfPlaced pieces shelf
+  pub is : placed_shelf pieces shelf ≡ request_shelf_of payloads
 
 -- for how many more texts, and for how many more products and records, there is room
 abbrev pub text_room : PlacedTexts → ℕ

@@ -33,9 +33,9 @@ fn number_below(number: u64, bound: usize) -> Option<usize>
 }
 
 /// The number that a new text will have, where it isn't there.
-fn new_number(held: &HeldPayloads, texts: &PlacedTexts, text: &[u8]) -> Option<usize>
-    requires { AreTextsPlaced held.now.payloads texts.now }
-    ensures { SomeIff result (¬ Contains (placed_texts held.now.payloads texts.now) text.now)
+fn new_number(held: &HeldPayloads<'_>, texts: &PlacedTexts, text: &[u8]) -> Option<usize>
+    requires { AreTextsPlaced held.now.pieces texts.now }
+    ensures { SomeIff result (¬ Contains (placed_texts held.now.pieces texts.now) text.now)
         (length texts.now.places.items) }
 {
     match find_text(held, texts, text) {
@@ -46,13 +46,13 @@ fn new_number(held: &HeldPayloads, texts: &PlacedTexts, text: &[u8]) -> Option<u
 
 /// The number of a text, where it is there or new as it says.
 pub fn number_of_ref(
-    held: &HeldPayloads,
+    held: &HeldPayloads<'_>,
     texts: &PlacedTexts,
     bytes: &[u8],
     source: TextRange,
 ) -> Option<usize>
-    requires { AreTextsPlaced held.now.payloads texts.now }
-    ensures { IsRefNumber (placed_texts held.now.payloads texts.now) (ref_in_range bytes.now source)
+    requires { AreTextsPlaced held.now.pieces texts.now }
+    ensures { IsRefNumber (placed_texts held.now.pieces texts.now) (ref_in_range bytes.now source)
         result }
 {
     match source {
@@ -63,17 +63,17 @@ pub fn number_of_ref(
 
 /// The text that is meant, where it is there or new as it says.
 fn told<'a>(
-    held: &'a HeldPayloads,
+    held: &'a HeldPayloads<'_>,
     texts: &PlacedTexts,
     bytes: &'a [u8],
     source: TextRange,
 ) -> &'a [u8]
-    requires texts { AreTextsPlaced held.now.payloads texts.now }
-    requires source { is_text_ref (placed_texts held.now.payloads texts.now)
+    requires texts { AreTextsPlaced held.now.pieces texts.now }
+    requires source { is_text_ref (placed_texts held.now.pieces texts.now)
         (ref_in_range bytes.now source)
         ≡ true }
     ensures { result.now
-        ≡ told_text (placed_texts held.now.payloads texts.now) (ref_in_range bytes.now source) }
+        ≡ told_text (placed_texts held.now.pieces texts.now) (ref_in_range bytes.now source) }
 {
     match source {
         TextRange::Known(number) => text_at(held, texts, number as usize),
@@ -83,14 +83,14 @@ fn told<'a>(
 
 /// The number that a new text will have after another new one, where it isn't there.
 fn number_of_second(
-    held: &HeldPayloads,
+    held: &HeldPayloads<'_>,
     texts: &PlacedTexts,
     new: &[u8],
     text: &[u8],
 ) -> Option<usize>
-    requires { AreTextsPlaced held.now.payloads texts.now }
+    requires { AreTextsPlaced held.now.pieces texts.now }
     ensures { SomeIff result
-        (¬ Contains (placed_texts held.now.payloads texts.now ++ new.now ∷ []) text.now)
+        (¬ Contains (placed_texts held.now.pieces texts.now ++ new.now ∷ []) text.now)
         (length texts.now.places.items + 1) }
 {
     if new == text {
@@ -104,14 +104,14 @@ fn number_of_second(
 
 /// The number of a text after a new one, where it is there or new as it says.
 fn number_after_text(
-    held: &HeldPayloads,
+    held: &HeldPayloads<'_>,
     texts: &PlacedTexts,
     bytes: &[u8],
     new: &[u8],
     source: TextRange,
 ) -> Option<usize>
-    requires { AreTextsPlaced held.now.payloads texts.now }
-    ensures { IsRefNumber (placed_texts held.now.payloads texts.now ++ new.now ∷ [])
+    requires { AreTextsPlaced held.now.pieces texts.now }
+    ensures { IsRefNumber (placed_texts held.now.pieces texts.now ++ new.now ∷ [])
         (ref_in_range bytes.now source) result }
 {
     match source {
@@ -122,15 +122,15 @@ fn number_after_text(
 
 /// The number of a text after one that may be new, where it is there or new as it says.
 fn number_after(
-    held: &HeldPayloads,
+    held: &HeldPayloads<'_>,
     texts: &PlacedTexts,
     bytes: &[u8],
     first: TextRange,
     second: TextRange,
 ) -> Option<usize>
-    requires { AreTextsPlaced held.now.payloads texts.now }
+    requires { AreTextsPlaced held.now.pieces texts.now }
     ensures { IsRefNumber
-        (with_text (placed_texts held.now.payloads texts.now) (ref_in_range bytes.now first))
+        (with_text (placed_texts held.now.pieces texts.now) (ref_in_range bytes.now first))
         (ref_in_range bytes.now second) result }
 {
     match first {
@@ -143,15 +143,15 @@ fn number_after(
 
 /// The text of a number among those that are there and a new one.
 fn text_or<'a>(
-    held: &'a HeldPayloads,
+    held: &'a HeldPayloads<'_>,
     texts: &PlacedTexts,
     new: &'a [u8],
     number: usize,
 ) -> &'a [u8]
-    requires texts { AreTextsPlaced held.now.payloads texts.now }
+    requires texts { AreTextsPlaced held.now.pieces texts.now }
     requires number { number < length texts.now.places.items + 1 }
     ensures { result.now
-        ≡ slice_index_or (placed_texts held.now.payloads texts.now ++ new.now ∷ []) number [] }
+        ≡ slice_index_or (placed_texts held.now.pieces texts.now ++ new.now ∷ []) number [] }
 {
     if number < texts.places.len() {
         text_at(held, texts, number)
@@ -162,18 +162,18 @@ fn text_or<'a>(
 
 /// The text that is meant after a new one.
 fn told_after_text<'a>(
-    held: &'a HeldPayloads,
+    held: &'a HeldPayloads<'_>,
     texts: &PlacedTexts,
     bytes: &'a [u8],
     new: &'a [u8],
     source: TextRange,
 ) -> &'a [u8]
-    requires texts { AreTextsPlaced held.now.payloads texts.now }
-    requires source { is_text_ref (placed_texts held.now.payloads texts.now ++ new.now ∷ [])
+    requires texts { AreTextsPlaced held.now.pieces texts.now }
+    requires source { is_text_ref (placed_texts held.now.pieces texts.now ++ new.now ∷ [])
         (ref_in_range bytes.now source)
         ≡ true }
     ensures { result.now
-        ≡ told_text (placed_texts held.now.payloads texts.now ++ new.now ∷ [])
+        ≡ told_text (placed_texts held.now.pieces texts.now ++ new.now ∷ [])
         (ref_in_range bytes.now source) }
 {
     match source {
@@ -184,20 +184,20 @@ fn told_after_text<'a>(
 
 /// The text that is meant after one that may be new.
 fn told_after<'a>(
-    held: &'a HeldPayloads,
+    held: &'a HeldPayloads<'_>,
     texts: &PlacedTexts,
     bytes: &'a [u8],
     first: TextRange,
     second: TextRange,
 ) -> &'a [u8]
-    requires texts { AreTextsPlaced held.now.payloads texts.now }
+    requires texts { AreTextsPlaced held.now.pieces texts.now }
     requires second { is_text_ref
-        (with_text (placed_texts held.now.payloads texts.now) (ref_in_range bytes.now first))
+        (with_text (placed_texts held.now.pieces texts.now) (ref_in_range bytes.now first))
         (ref_in_range bytes.now second)
         ≡ true }
     ensures { result.now
         ≡ told_text
-        (with_text (placed_texts held.now.payloads texts.now) (ref_in_range bytes.now first))
+        (with_text (placed_texts held.now.pieces texts.now) (ref_in_range bytes.now first))
         (ref_in_range bytes.now second) }
 {
     match first {
@@ -210,13 +210,13 @@ fn told_after<'a>(
 
 /// The numbers of the texts of a draft of a record, where they are there or new as it says, and have the sizes of one.
 fn request_texts(
-    held: &HeldPayloads,
+    held: &HeldPayloads<'_>,
     texts: &PlacedTexts,
     bytes: &[u8],
     draft: RequestRanges,
 ) -> Option<TextNumbers>
-    requires { AreTextsPlaced held.now.payloads texts.now }
-    ensures { AreRequestTexts (placed_texts held.now.payloads texts.now)
+    requires { AreTextsPlaced held.now.pieces texts.now }
+    ensures { AreRequestTexts (placed_texts held.now.pieces texts.now)
         (request_in_ranges bytes.now draft) result }
 {
     let Some(text) = number_of_ref(held, texts, bytes, draft.source) else {
@@ -294,26 +294,23 @@ fn deps_fit(
     are_apart(set, &shelf.products, name, deps)
 }
 
-/// The numbers of the texts of a draft of a record, where it is one, by the number of its name, which has the sizes of one.
+/// The numbers of the texts of a draft of a record in some bytes, where it is one, by the number of its name, which has the sizes
+/// of one.
 pub fn checked_request(
     set: &mut NumberSet,
-    held: &HeldPayloads,
+    held: &HeldPayloads<'_>,
     shelf: &PlacedShelf,
-    at: usize,
+    bytes: &[u8],
     draft: RequestRanges,
     name: usize,
 ) -> Result<Option<TextNumbers>, NoMemory>
-    requires at { at < length held.now.payloads }
-    requires shelf { IsShelfPlaced held.now.payloads shelf.now }
-    requires name { IsNameNumber shelf.now.names.keys
-        (request_in_ranges (nth_payload held.now.payloads at) draft).name name }
-    requires fits { FitsName
-        (request_in_ranges (nth_payload held.now.payloads at) draft).name }
+    requires shelf { IsShelfPlaced held.now.pieces shelf.now }
+    requires name { IsNameNumber shelf.now.names.keys (request_in_ranges bytes.now draft).name name }
+    requires fits { FitsName (request_in_ranges bytes.now draft).name }
     ensures { IfOk result
-        (IsCheckedRequest (placed_shelf held.now.payloads shelf.now)
-        (request_in_ranges (nth_payload held.now.payloads at) draft)) }
+        (IsCheckedRequest (placed_shelf held.now.pieces shelf.now)
+        (request_in_ranges bytes.now draft)) }
 {
-    let bytes = held.get(at);
     if !has_word_sizes(bytes, draft.words) {
         return Ok(None);
     }
@@ -329,20 +326,20 @@ pub fn checked_request(
 /// The number of the artefact of a draft of a product, where it is a new one, by the number of its name, which has the sizes
 /// of one.
 pub fn checked_product(
-    held: &HeldPayloads,
+    held: &HeldPayloads<'_>,
     shelf: &PlacedShelf,
     at: usize,
     draft: ProductRanges,
     name: usize,
 ) -> Option<usize>
-    requires at { at < length held.now.payloads }
-    requires shelf { IsShelfPlaced held.now.payloads shelf.now }
+    requires at { at < length held.now.pieces }
+    requires shelf { IsShelfPlaced held.now.pieces shelf.now }
     requires name { IsNameNumber shelf.now.names.keys
-        (product_in_ranges (nth_payload held.now.payloads at) draft).name name }
+        (product_in_ranges (nth_payload held.now.pieces at) draft).name name }
     requires fits { FitsName
-        (product_in_ranges (nth_payload held.now.payloads at) draft).name }
-    ensures { IsCheckedProduct (placed_shelf held.now.payloads shelf.now)
-        (product_in_ranges (nth_payload held.now.payloads at) draft) result }
+        (product_in_ranges (nth_payload held.now.pieces at) draft).name }
+    ensures { IsCheckedProduct (placed_shelf held.now.pieces shelf.now)
+        (product_in_ranges (nth_payload held.now.pieces at) draft) result }
 {
     let bytes = held.get(at);
     let Some(text) = number_of_ref(held, &shelf.texts, bytes, draft.artefact) else {

@@ -3,6 +3,7 @@
 #![tactic(auto)]
 
 mod checking;
+mod cutting;
 mod held;
 mod products;
 mod putting;
@@ -11,9 +12,10 @@ mod taking;
 mod texts;
 
 pub use checking::TextNumbers;
-pub use held::HeldPayloads;
+pub use cutting::{CutRequest, take_payload};
+pub use held::{CutPayload, FirstPieces, HeldPayload, HeldPayloads};
 pub use products::ProductRow;
 pub use putting::put_request;
 pub use shelf::{PlacedShelf, RecordRow};
-pub use taking::{number_name, taken_up};
+pub use taking::{number_name, number_names, take_up, taken_up};
 pub use texts::{PlacedText, PlacedTexts, find_text, text_at};

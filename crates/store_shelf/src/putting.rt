@@ -14,17 +14,17 @@ use base_numbering::Numbered;
 use store_codec::{ProductRanges, RequestRanges, TextRange};
 
 /// Puts a text at the end, where it is new.
-fn put_ref(texts: &mut PlacedTexts, held: &HeldPayloads, at: usize, source: TextRange)
+fn put_ref(texts: &mut PlacedTexts, held: &HeldPayloads<'_>, at: usize, source: TextRange)
     requires room { 0 < text_room texts.old }
-    requires at { at < length held.now.payloads }
-    requires texts { AreTextsPlaced held.now.payloads texts.old }
-    requires source { is_text_ref (placed_texts held.now.payloads texts.old)
-        (ref_in_range (nth_payload held.now.payloads at) source)
+    requires at { at < length held.now.pieces }
+    requires texts { AreTextsPlaced held.now.pieces texts.old }
+    requires source { is_text_ref (placed_texts held.now.pieces texts.old)
+        (ref_in_range (nth_payload held.now.pieces at) source)
         ≡ true }
-    ensures are { AreTextsPlaced held.now.payloads texts.new }
-    ensures is { placed_texts held.now.payloads texts.new
-        ≡ with_text (placed_texts held.now.payloads texts.old)
-        (ref_in_range (nth_payload held.now.payloads at) source) }
+    ensures are { AreTextsPlaced held.now.pieces texts.new }
+    ensures is { placed_texts held.now.pieces texts.new
+        ≡ with_text (placed_texts held.now.pieces texts.old)
+        (ref_in_range (nth_payload held.now.pieces at) source) }
     ensures room { text_room texts.old ≤ text_room texts.new + 1 }
 {
     match source {
@@ -51,25 +51,25 @@ fn put_row(products: &mut Numbered<ProductRow>, row: ProductRow) -> usize
 /// Puts a record, which a payload has, with its texts and its product where these aren't there.
 pub fn put_request(
     shelf: &mut PlacedShelf,
-    held: &HeldPayloads,
+    held: &HeldPayloads<'_>,
     at: usize,
     draft: RequestRanges,
     name: usize,
     numbers: TextNumbers,
 )
     requires room { HasRowRoom shelf.old }
-    requires at { at < length held.now.payloads }
-    requires shelf { IsShelfPlaced held.now.payloads shelf.old }
+    requires at { at < length held.now.pieces }
+    requires shelf { IsShelfPlaced held.now.pieces shelf.old }
     requires name { IsNameNumber shelf.old.names.keys
-        (request_in_ranges (nth_payload held.now.payloads at) draft).name name }
-    requires request { IsRequest (placed_shelf held.now.payloads shelf.old)
-        (request_in_ranges (nth_payload held.now.payloads at) draft) }
-    requires numbers { AreTextNumbers (placed_texts held.now.payloads shelf.old.texts)
-        (request_in_ranges (nth_payload held.now.payloads at) draft) numbers }
-    ensures are { IsShelfPlaced held.now.payloads shelf.new }
-    ensures is { placed_shelf held.now.payloads shelf.new
-        ≡ with_request (placed_shelf held.now.payloads shelf.old)
-        (request_in_ranges (nth_payload held.now.payloads at) draft) }
+        (request_in_ranges (nth_payload held.now.pieces at) draft).name name }
+    requires request { IsRequest (placed_shelf held.now.pieces shelf.old)
+        (request_in_ranges (nth_payload held.now.pieces at) draft) }
+    requires numbers { AreTextNumbers (placed_texts held.now.pieces shelf.old.texts)
+        (request_in_ranges (nth_payload held.now.pieces at) draft) numbers }
+    ensures are { IsShelfPlaced held.now.pieces shelf.new }
+    ensures is { placed_shelf held.now.pieces shelf.new
+        ≡ with_request (placed_shelf held.now.pieces shelf.old)
+        (request_in_ranges (nth_payload held.now.pieces at) draft) }
     ensures names { shelf.new.names.keys ≡ shelf.old.names.keys }
 {
     put_ref(&mut shelf.texts, held, at, draft.source);
@@ -95,26 +95,26 @@ pub fn put_request(
 /// Puts a new product, which a payload has, with its artefact where that isn't there.
 pub fn put_product(
     shelf: &mut PlacedShelf,
-    held: &HeldPayloads,
+    held: &HeldPayloads<'_>,
     at: usize,
     draft: ProductRanges,
     name: usize,
     text: usize,
 )
     requires room { HasRowRoom shelf.old }
-    requires at { at < length held.now.payloads }
-    requires shelf { IsShelfPlaced held.now.payloads shelf.old }
+    requires at { at < length held.now.pieces }
+    requires shelf { IsShelfPlaced held.now.pieces shelf.old }
     requires name { IsNameNumber shelf.old.names.keys
-        (product_in_ranges (nth_payload held.now.payloads at) draft).name name }
-    requires product { IsNewProduct (placed_shelf held.now.payloads shelf.old)
-        (product_in_ranges (nth_payload held.now.payloads at) draft) }
+        (product_in_ranges (nth_payload held.now.pieces at) draft).name name }
+    requires product { IsNewProduct (placed_shelf held.now.pieces shelf.old)
+        (product_in_ranges (nth_payload held.now.pieces at) draft) }
     requires text { text
-        ≡ ref_number (placed_texts held.now.payloads shelf.old.texts)
-        (product_in_ranges (nth_payload held.now.payloads at) draft).artefact }
-    ensures are { IsShelfPlaced held.now.payloads shelf.new }
-    ensures is { placed_shelf held.now.payloads shelf.new
-        ≡ with_product (placed_shelf held.now.payloads shelf.old)
-        (product_in_ranges (nth_payload held.now.payloads at) draft) }
+        ≡ ref_number (placed_texts held.now.pieces shelf.old.texts)
+        (product_in_ranges (nth_payload held.now.pieces at) draft).artefact }
+    ensures are { IsShelfPlaced held.now.pieces shelf.new }
+    ensures is { placed_shelf held.now.pieces shelf.new
+        ≡ with_product (placed_shelf held.now.pieces shelf.old)
+        (product_in_ranges (nth_payload held.now.pieces at) draft) }
     ensures names { shelf.new.names.keys ≡ shelf.old.names.keys }
 {
     put_ref(&mut shelf.texts, held, at, draft.artefact);

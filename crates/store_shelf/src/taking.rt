@@ -11,7 +11,7 @@ ghost use Rattle.store_shelf.specs.Checked.{IsNameNumber, Took};
 use crate::checking::{checked_product, checked_request};
 use crate::putting::{put_product, put_request};
 use crate::{HeldPayloads, PlacedShelf};
-use base::{FileName, NoMemory};
+use base::{Entry, FileName, NoMemory};
 use base_numbering::NumberSet;
 use std::alloc::Global;
 use store_codec::{PayloadRanges, ProductRanges, RequestRanges, name_in, read_request_payload};
@@ -29,26 +29,44 @@ pub fn number_name(shelf: &mut PlacedShelf, name: FileName) -> Result<usize, NoM
     Ok(number)
 }
 
+/// Numbers the names of files, in their order, of those that have no number. What is placed stands for what it stood for.
+pub fn number_names(
+    alloc: Global,
+    shelf: &mut PlacedShelf,
+    files: &[Entry],
+) -> Result<(), NoMemory>
+    ensures are { (payloads : List (List ℕ)) →
+        IsShelfPlaced payloads shelf.old → IsShelfPlaced payloads shelf.new }
+    ensures is { (payloads : List (List ℕ)) → IsShelfPlaced payloads shelf.old →
+        placed_shelf payloads shelf.new ≡ placed_shelf payloads shelf.old }
+{
+    for file in files {
+        let name = file.name.copy(alloc)?;
+        let _number = number_name(shelf, name)?;
+    }
+    Ok(())
+}
+
 /// Takes up a draft of a record, where it is one, by the number of its name.
 fn take_named_request(
     shelf: &mut PlacedShelf,
     set: &mut NumberSet,
-    held: &HeldPayloads,
+    held: &HeldPayloads<'_>,
     at: usize,
     draft: RequestRanges,
     name: usize,
 ) -> Result<(), NoMemory>
-    requires at { at < length held.now.payloads }
-    requires shelf { IsShelfPlaced held.now.payloads shelf.old }
+    requires at { at < length held.now.pieces }
+    requires shelf { IsShelfPlaced held.now.pieces shelf.old }
     requires name { IsNameNumber shelf.old.names.keys
-        (request_in_ranges (nth_payload held.now.payloads at) draft).name name }
+        (request_in_ranges (nth_payload held.now.pieces at) draft).name name }
     requires fits { FitsName
-        (request_in_ranges (nth_payload held.now.payloads at) draft).name }
+        (request_in_ranges (nth_payload held.now.pieces at) draft).name }
     ensures { OnOk result
-        (Took held.now.payloads (placed_shelf held.now.payloads shelf.old) shelf.new
-        (OfRequest (request_in_ranges (nth_payload held.now.payloads at) draft))) }
+        (Took held.now.pieces (placed_shelf held.now.pieces shelf.old) shelf.new
+        (OfRequest (request_in_ranges (nth_payload held.now.pieces at) draft))) }
 {
-    let Some(texts) = checked_request(set, held, shelf, at, draft, name)? else {
+    let Some(texts) = checked_request(set, held, shelf, held.get(at), draft, name)? else {
         return Ok(());
     };
     shelf.reserve()?;
@@ -61,15 +79,15 @@ fn take_request(
     alloc: Global,
     shelf: &mut PlacedShelf,
     set: &mut NumberSet,
-    held: &HeldPayloads,
+    held: &HeldPayloads<'_>,
     at: usize,
     draft: RequestRanges,
 ) -> Result<(), NoMemory>
-    requires at { at < length held.now.payloads }
-    requires shelf { IsShelfPlaced held.now.payloads shelf.old }
+    requires at { at < length held.now.pieces }
+    requires shelf { IsShelfPlaced held.now.pieces shelf.old }
     ensures { OnOk result
-        (Took held.now.payloads (placed_shelf held.now.payloads shelf.old) shelf.new
-        (OfRequest (request_in_ranges (nth_payload held.now.payloads at) draft))) }
+        (Took held.now.pieces (placed_shelf held.now.pieces shelf.old) shelf.new
+        (OfRequest (request_in_ranges (nth_payload held.now.pieces at) draft))) }
 {
     let name = name_in(alloc, held.get(at), draft.library, draft.path)?;
     if !name.fits() {
@@ -82,20 +100,20 @@ fn take_request(
 /// Takes up a draft of a product, where it is a new one, by the number of its name.
 fn take_named_product(
     shelf: &mut PlacedShelf,
-    held: &HeldPayloads,
+    held: &HeldPayloads<'_>,
     at: usize,
     draft: ProductRanges,
     name: usize,
 ) -> Result<(), NoMemory>
-    requires at { at < length held.now.payloads }
-    requires shelf { IsShelfPlaced held.now.payloads shelf.old }
+    requires at { at < length held.now.pieces }
+    requires shelf { IsShelfPlaced held.now.pieces shelf.old }
     requires name { IsNameNumber shelf.old.names.keys
-        (product_in_ranges (nth_payload held.now.payloads at) draft).name name }
+        (product_in_ranges (nth_payload held.now.pieces at) draft).name name }
     requires fits { FitsName
-        (product_in_ranges (nth_payload held.now.payloads at) draft).name }
+        (product_in_ranges (nth_payload held.now.pieces at) draft).name }
     ensures { OnOk result
-        (Took held.now.payloads (placed_shelf held.now.payloads shelf.old) shelf.new
-        (OfProduct (product_in_ranges (nth_payload held.now.payloads at) draft))) }
+        (Took held.now.pieces (placed_shelf held.now.pieces shelf.old) shelf.new
+        (OfProduct (product_in_ranges (nth_payload held.now.pieces at) draft))) }
 {
     let Some(text) = checked_product(held, shelf, at, draft, name) else {
         return Ok(());
@@ -109,15 +127,15 @@ fn take_named_product(
 fn take_product(
     alloc: Global,
     shelf: &mut PlacedShelf,
-    held: &HeldPayloads,
+    held: &HeldPayloads<'_>,
     at: usize,
     draft: ProductRanges,
 ) -> Result<(), NoMemory>
-    requires at { at < length held.now.payloads }
-    requires shelf { IsShelfPlaced held.now.payloads shelf.old }
+    requires at { at < length held.now.pieces }
+    requires shelf { IsShelfPlaced held.now.pieces shelf.old }
     ensures { OnOk result
-        (Took held.now.payloads (placed_shelf held.now.payloads shelf.old) shelf.new
-        (OfProduct (product_in_ranges (nth_payload held.now.payloads at) draft))) }
+        (Took held.now.pieces (placed_shelf held.now.pieces shelf.old) shelf.new
+        (OfProduct (product_in_ranges (nth_payload held.now.pieces at) draft))) }
 {
     let name = name_in(alloc, held.get(at), draft.library, draft.path)?;
     if !name.fits() {
@@ -127,21 +145,21 @@ fn take_product(
     take_named_product(shelf, held, at, draft, number)
 }
 
-/// Takes up a payload.
-fn take_up(
+/// Takes up the payload that is a piece.
+pub fn take_up(
     alloc: Global,
     shelf: &mut PlacedShelf,
     set: &mut NumberSet,
-    held: &HeldPayloads,
+    held: &HeldPayloads<'_>,
     at: usize,
 ) -> Result<(), NoMemory>
-    requires at { at < length held.now.payloads }
-    requires shelf { IsShelfPlaced held.now.payloads shelf.old }
-    ensures are { OnOk result (IsShelfPlaced held.now.payloads shelf.new) }
+    requires at { at < length held.now.pieces }
+    requires shelf { IsShelfPlaced held.now.pieces shelf.old }
+    ensures are { OnOk result (IsShelfPlaced held.now.pieces shelf.new) }
     ensures is { OnOk result
-        (placed_shelf held.now.payloads shelf.new
-        ≡ after_request_payload (placed_shelf held.now.payloads shelf.old)
-        (nth_payload held.now.payloads at)) }
+        (placed_shelf held.now.pieces shelf.new
+        ≡ after_request_payload (placed_shelf held.now.pieces shelf.old)
+        (nth_payload held.now.pieces at)) }
 {
     match read_request_payload(held.get(at)) {
         Some(PayloadRanges::OfRequest(draft)) => take_request(alloc, shelf, set, held, at, draft),
@@ -151,11 +169,11 @@ fn take_up(
 }
 
 /// What payloads stand for, taken up one after the other.
-pub fn taken_up(alloc: Global, held: &HeldPayloads) -> Result<PlacedShelf, NoMemory>
-    ensures are { IfOk result (IsShelfPlaced held.now.payloads) }
+pub fn taken_up(alloc: Global, held: &HeldPayloads<'_>) -> Result<PlacedShelf, NoMemory>
+    ensures are { IfOk result (IsShelfPlaced held.now.pieces) }
     ensures is { IfOk result
         (λ shelf.
-        placed_shelf held.now.payloads shelf ≡ request_shelf_of held.now.payloads) }
+        placed_shelf held.now.pieces shelf ≡ request_shelf_of held.now.pieces) }
 {
     let mut shelf = PlacedShelf::new(alloc);
     let mut set = NumberSet::new(alloc);

@@ -62,26 +62,26 @@ impl PlacedTexts {
 }
 
 /// The bytes of a place.
-fn place_bytes(held: &HeldPayloads, place: PlacedText) -> &[u8]
-    requires { place.payload < length held.now.payloads }
-    ensures { result.now ≡ placed_text held.now.payloads place }
+fn place_bytes<'a>(held: &'a HeldPayloads<'_>, place: PlacedText) -> &'a [u8]
+    requires { place.payload < length held.now.pieces }
+    ensures { result.now ≡ placed_text held.now.pieces place }
 {
     bytes_in(held.get(place.payload), place.range)
 }
 
 /// The text of a number.
-pub fn text_at<'a>(held: &'a HeldPayloads, texts: &PlacedTexts, number: usize) -> &'a [u8]
-    requires texts { AreTextsPlaced held.now.payloads texts.now }
+pub fn text_at<'a>(held: &'a HeldPayloads<'_>, texts: &PlacedTexts, number: usize) -> &'a [u8]
+    requires texts { AreTextsPlaced held.now.pieces texts.now }
     requires number { number < length texts.now.places.items }
-    ensures { result.now ≡ slice_index_or (placed_texts held.now.payloads texts.now) number [] }
+    ensures { result.now ≡ slice_index_or (placed_texts held.now.pieces texts.now) number [] }
 {
     place_bytes(held, texts.places[number])
 }
 
 /// The number of a text, if it is there. It is compared with one text alone.
-pub fn find_text(held: &HeldPayloads, texts: &PlacedTexts, text: &[u8]) -> Option<usize>
-    requires { AreTextsPlaced held.now.payloads texts.now }
-    ensures { IsPlaceOf (placed_texts held.now.payloads texts.now) text.now result }
+pub fn find_text(held: &HeldPayloads<'_>, texts: &PlacedTexts, text: &[u8]) -> Option<usize>
+    requires { AreTextsPlaced held.now.pieces texts.now }
+    ensures { IsPlaceOf (placed_texts held.now.pieces texts.now) text.now result }
 {
     if texts.index.len() == 0 {
         return None;
@@ -95,12 +95,12 @@ pub fn find_text(held: &HeldPayloads, texts: &PlacedTexts, text: &[u8]) -> Optio
 }
 
 /// The split of a text that isn't there.
-fn new_split(held: &HeldPayloads, texts: &PlacedTexts, text: &[u8]) -> Split
-    requires texts { AreTextsPlaced held.now.payloads texts.now }
-    requires new { ¬ Contains (placed_texts held.now.payloads texts.now) text.now }
+fn new_split(held: &HeldPayloads<'_>, texts: &PlacedTexts, text: &[u8]) -> Split
+    requires texts { AreTextsPlaced held.now.pieces texts.now }
+    requires new { ¬ Contains (placed_texts held.now.pieces texts.now) text.now }
     ensures of { 0 < length texts.now.index.splits →
         result.of < length texts.now.index.splits }
-    ensures split { AreSplit (placed_texts held.now.payloads texts.now ++ text.now ∷ [])
+    ensures split { AreSplit (placed_texts held.now.pieces texts.now ++ text.now ∷ [])
         (texts.now.index.splits ++ result ∷ []) }
 {
     if texts.index.len() == 0 {
@@ -115,16 +115,16 @@ fn new_split(held: &HeldPayloads, texts: &PlacedTexts, text: &[u8]) -> Split
 }
 
 /// Puts a text that isn't there, of a payload, at the end.
-pub fn put_text(texts: &mut PlacedTexts, held: &HeldPayloads, at: usize, range: ByteRange)
+pub fn put_text(texts: &mut PlacedTexts, held: &HeldPayloads<'_>, at: usize, range: ByteRange)
     requires room { 0 < text_room texts.old }
-    requires at { at < length held.now.payloads }
-    requires texts { AreTextsPlaced held.now.payloads texts.old }
-    requires new { ¬ Contains (placed_texts held.now.payloads texts.old)
-        (ranged (nth_payload held.now.payloads at) range) }
-    ensures are { AreTextsPlaced held.now.payloads texts.new }
-    ensures is { placed_texts held.now.payloads texts.new
-        ≡ placed_texts held.now.payloads texts.old
-        ++ ranged (nth_payload held.now.payloads at) range ∷ [] }
+    requires at { at < length held.now.pieces }
+    requires texts { AreTextsPlaced held.now.pieces texts.old }
+    requires new { ¬ Contains (placed_texts held.now.pieces texts.old)
+        (ranged (nth_payload held.now.pieces at) range) }
+    ensures are { AreTextsPlaced held.now.pieces texts.new }
+    ensures is { placed_texts held.now.pieces texts.new
+        ≡ placed_texts held.now.pieces texts.old
+        ++ ranged (nth_payload held.now.pieces at) range ∷ [] }
     ensures room { text_room texts.old ≤ text_room texts.new + 1 }
 {
     let place = PlacedText { payload: at, range };

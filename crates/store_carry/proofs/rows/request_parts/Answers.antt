@@ -12,17 +12,17 @@ use Rattle.store_carry.proofs.rows.request_parts.Goals as goal
 
 pub spelled_in-requires : goal.spelled_in-requires
 spelled_in-requires c =
-    let payloads = c.args.held.now.payloads in
+    let payloads = c.args.held.now.pieces in
     subst FitsCommand (command_here payloads c.args.shelf.now c.requires.shelf.placed c.args.step.row c.requires.there c.index-row.result.now c.get.result.now c.index-row.ensures c.get.ensures)
     (kept_here payloads c.args.shelf.now c.requires.shelf.placed c.args.step.row c.requires.there c.requires.shelf.kept).command
 
 pub returns-clause-words : goal.returns-clause-words
 returns-clause-words c =
-    c.spelled_in.ensures.is ∙ ap command_bytes (sym (command_here c.args.held.now.payloads c.args.shelf.now c.requires.shelf.placed c.args.step.row c.requires.there c.index-row.result.now c.get.result.now c.index-row.ensures c.get.ensures))
+    c.spelled_in.ensures.is ∙ ap command_bytes (sym (command_here c.args.held.now.pieces c.args.shelf.now c.requires.shelf.placed c.args.step.row c.requires.there c.index-row.result.now c.get.result.now c.index-row.ensures c.get.ensures))
 
 pub returns-clause-sizes : goal.returns-clause-sizes
 returns-clause-sizes c =
-    let payloads = c.args.held.now.payloads in
+    let payloads = c.args.held.now.pieces in
     let shelf = c.args.shelf.now in
     let there = placed_shelf payloads shelf in
     let n = c.args.step.row in

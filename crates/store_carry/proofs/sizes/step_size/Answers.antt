@@ -12,14 +12,14 @@ use Rattle.store_carry.proofs.sizes.step_size.Goals as goal
 
 pub returns-in-OfProduct : goal.returns-in-OfProduct
 returns-in-OfProduct c = λ numbers.
-    let there = placed_shelf c.args.held.now.payloads c.args.shelf.now in
+    let there = placed_shelf c.args.held.now.pieces c.args.shelf.now in
     c.product_size.ensures
     ∙ ap (λ (d : ProductDraft). length (block (request_payload_bytes (OfProduct d)))) c.product_parts.ensures.is
     ∙ ap (λ (s : CarryStep). length (block (request_payload_bytes (step_payload there numbers s)))) (sym c.in-OfProduct.is)
 
 pub returns-in-OfRequest : goal.returns-in-OfRequest
 returns-in-OfRequest c = λ numbers.
-    let there = placed_shelf c.args.held.now.payloads c.args.shelf.now in
+    let there = placed_shelf c.args.held.now.pieces c.args.shelf.now in
     let kept = shelf_record_at there.records c.in-OfRequest.step.row in
     let deps : List ℕ = map (number_of_built (numbered_products there numbers)) kept.asked.below in
     let count : length (map (number_of_built (numbered_products there numbers)) kept.asked.below) ≡ c.len.result =

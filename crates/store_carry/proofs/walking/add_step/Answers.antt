@@ -6,5 +6,5 @@ use Rattle.store_carry.proofs.walking.add_step.Goals as goal
 
 pub returns-clause-counted : goal.returns-clause-counted
 returns-clause-counted c = λ counted.
-    let there = placed_shelf c.args.held.now.payloads c.args.shelf.now in
+    let there = placed_shelf c.args.held.now.pieces c.args.shelf.now in
     added_counted there c.args.plan.now c.add.new.self c.args.step c.step_size.result (ap (λ (set : NumbersBelow). set.numbers) c.add.ensures.products) c.in_ok-add.ensures.steps c.in_ok-add.ensures.len (c.step_size.ensures c.args.plan.now.products.numbers) counted

@@ -7,7 +7,7 @@ use Rattle.store_carry.proofs.walking.is_latest.Goals as goal
 
 pub returns-in-Some : goal.returns-in-Some
 returns-in-Some c =
-    let payloads = c.args.held.now.payloads in
+    let payloads = c.args.held.now.pieces in
     let shelf = c.args.shelf.now in
     let marks = shelf.latest.marks in
     let mark : c.index.result.now.name ≡ get_or marks c.args.number 0 = ap (λ (r : RecordRow). r.name) (row_here payloads shelf c.requires.shelf.placed c.args.number c.requires.number c.index.result.now c.index.ensures) ∙ sym (mark_at payloads shelf c.requires.shelf.placed c.args.number c.requires.number c.args.number c.requires.number) in
@@ -16,7 +16,7 @@ returns-in-Some c =
 
 pub returns-in-None : goal.returns-in-None
 returns-in-None c =
-    let payloads = c.args.held.now.payloads in
+    let payloads = c.args.held.now.pieces in
     let shelf = c.args.shelf.now in
     let marks = shelf.latest.marks in
     let mark : c.index.result.now.name ≡ get_or marks c.args.number 0 = ap (λ (r : RecordRow). r.name) (row_here payloads shelf c.requires.shelf.placed c.args.number c.requires.number c.index.result.now c.index.ensures) ∙ sym (mark_at payloads shelf c.requires.shelf.placed c.args.number c.requires.number c.args.number c.requires.number) in

@@ -3,4 +3,4 @@ use Rattle.store_carry.proofs.Walked.{WalksRecords}
 use Rattle.store_carry.proofs.walking.plan_all.Given as goal
 
 abbrev pub invariant-loop-number : goal.invariant-loop-number
-invariant-loop-number l = WalksRecords (placed_shelf l.held.payloads l.shelf) l.plan l.number
+invariant-loop-number l = WalksRecords (placed_shelf l.held.pieces l.shelf) l.plan l.number

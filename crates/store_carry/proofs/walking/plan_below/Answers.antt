@@ -10,11 +10,11 @@ use Rattle.store_carry.proofs.Walked.{below_carried, below_has, below_more, belo
 use Rattle.store_carry.proofs.walking.plan_below.Goals as goal
 
 pub loop-k-init : goal.loop-k-init
-loop-k-init c = below_none (placed_shelf c.args.held.now.payloads c.args.shelf.now) c.deps_of-deps.result c.args.plan.now c.requires.plan
+loop-k-init c = below_none (placed_shelf c.args.held.now.pieces c.args.shelf.now) c.deps_of-deps.result c.args.plan.now c.requires.plan
 
 pub loop-k-preserved : goal.loop-k-preserved
 loop-k-preserved c =
-    let there = placed_shelf c.args.held.now.payloads c.args.shelf.now in
+    let there = placed_shelf c.args.held.now.pieces c.args.shelf.now in
     let found = c.in_ok-plan_product.ensures in
     below_more there c.deps_of-deps.result c.args.plan.now c.loop-k.plan c.plan_product.new.plan c.loop-k.k c.loop-k.invariant (omega (arith, c.loop-k-test.true, c.len-k-end.ensures)) found.plan found.more
     (subst (Contains c.plan_product.new.plan.products.numbers) c.get.ensures found.has)
@@ -23,13 +23,13 @@ loop-k-preserved c =
 
 pub returns-clause-has : goal.returns-clause-has
 returns-clause-has c =
-    let there = placed_shelf c.args.held.now.payloads c.args.shelf.now in
-    let low : All (λ dep. dep < length there.products) c.deps_of-deps.result = λ k d l. (let b = c.deps_of-deps.ensures.there k d l in omega (arith, b, products_count c.args.held.now.payloads c.args.shelf.now c.requires.shelf.placed)) in
+    let there = placed_shelf c.args.held.now.pieces c.args.shelf.now in
+    let low : All (λ dep. dep < length there.products) c.deps_of-deps.result = λ k d l. (let b = c.deps_of-deps.ensures.there k d l in omega (arith, b, products_count c.args.held.now.pieces c.args.shelf.now c.requires.shelf.placed)) in
     subst (All (Contains (carried_by there c.loop-k.plan).products)) c.deps_of-deps.ensures.below
     (below_has there c.requires.shelf.once c.deps_of-deps.result c.args.plan.now c.loop-k.plan c.loop-k.k (omega (arith, c.loop-k-test.false, c.len-k-end.ensures)) low c.loop-k.invariant)
 
 pub returns-clause-carried : goal.returns-clause-carried
 returns-clause-carried c =
-    let there = placed_shelf c.args.held.now.payloads c.args.shelf.now in
+    let there = placed_shelf c.args.held.now.pieces c.args.shelf.now in
     below_carried there c.deps_of-deps.result c.args.plan.now c.loop-k.plan c.loop-k.k (omega (arith, c.loop-k-test.false, c.len-k-end.ensures)) c.loop-k.invariant
     ∙ ap (fold carry_product (carried_by there c.args.plan.now)) c.deps_of-deps.ensures.below

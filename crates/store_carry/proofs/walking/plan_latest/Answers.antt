@@ -7,7 +7,7 @@ use Rattle.store_carry.proofs.KeptShelves.{to_carry}
 use Rattle.store_carry.proofs.walking.plan_latest.Goals as goal
 
 pub plan_all-requires : goal.plan_all-requires
-plan_all-requires c = record { shelf = to_carry c.args.held.now.payloads c.args.shelf.now c.requires.shelf c.requires.is }
+plan_all-requires c = record { shelf = to_carry c.args.held.now.pieces c.args.held.now.payloads c.args.shelf.now c.requires.shelf c.requires.is }
 
 pub returns : goal.returns
 returns c =

@@ -8,13 +8,13 @@ use Rattle.store_carry.proofs.walking.plan_product.Goals as goal
 
 pub returns-then-is_planned-clause-carried : goal.returns-then-is_planned-clause-carried
 returns-then-is_planned-clause-carried c =
-    let there = placed_shelf c.args.held.now.payloads c.args.shelf.now in
-    let low : c.args.product < length there.products = omega (arith, c.requires.product, products_count c.args.held.now.payloads c.args.shelf.now c.requires.shelf.placed) in
+    let there = placed_shelf c.args.held.now.pieces c.args.shelf.now in
+    let low : c.args.product < length there.products = omega (arith, c.requires.product, products_count c.args.held.now.pieces c.args.shelf.now c.requires.shelf.placed) in
     again there c.requires.shelf.once c.args.plan.now c.requires.plan c.args.product low (c.is_planned.ensures.0 c.if-is_planned.true)
 
 pub add_step-requires-clause-plan : goal.add_step-requires-clause-plan
 add_step-requires-clause-plan c =
-    let payloads = c.args.held.now.payloads in
+    let payloads = c.args.held.now.pieces in
     let shelf = c.args.shelf.now in
     let there = placed_shelf payloads shelf in
     let low : c.args.product < length there.products = omega (arith, c.requires.product, products_count payloads shelf c.requires.shelf.placed) in
@@ -23,7 +23,7 @@ add_step-requires-clause-plan c =
 
 pub returns-clause-has : goal.returns-clause-has
 returns-clause-has c =
-    let payloads = c.args.held.now.payloads in
+    let payloads = c.args.held.now.pieces in
     let shelf = c.args.shelf.now in
     let there = placed_shelf payloads shelf in
     let low : c.args.product < length there.products = omega (arith, c.requires.product, products_count payloads shelf c.requires.shelf.placed) in
@@ -33,7 +33,7 @@ returns-clause-has c =
 
 pub returns-clause-carried : goal.returns-clause-carried
 returns-clause-carried c =
-    let payloads = c.args.held.now.payloads in
+    let payloads = c.args.held.now.pieces in
     let shelf = c.args.shelf.now in
     let there = placed_shelf payloads shelf in
     let low : c.args.product < length there.products = omega (arith, c.requires.product, products_count payloads shelf c.requires.shelf.placed) in
@@ -43,7 +43,7 @@ returns-clause-carried c =
 
 pub returns-clause-counted : goal.returns-clause-counted
 returns-clause-counted c = λ counted.
-    let payloads = c.args.held.now.payloads in
+    let payloads = c.args.held.now.pieces in
     let shelf = c.args.shelf.now in
     let there = placed_shelf payloads shelf in
     let low : c.args.product < length there.products = omega (arith, c.requires.product, products_count payloads shelf c.requires.shelf.placed) in

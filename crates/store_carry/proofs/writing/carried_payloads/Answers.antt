@@ -12,7 +12,7 @@ use Rattle.store_carry.proofs.Standing.{spelled_records}
 use Rattle.store_carry.proofs.writing.carried_payloads.Goals as goal
 
 pub payloads_by-requires-clause-shelf : goal.payloads_by-requires-clause-shelf
-payloads_by-requires-clause-shelf c = to_carry c.args.held.now.payloads c.args.shelf.now c.requires.shelf c.requires.is
+payloads_by-requires-clause-shelf c = to_carry c.args.held.now.pieces c.args.held.now.payloads c.args.shelf.now c.requires.shelf c.requires.is
 
 pub returns-clause-is : goal.returns-clause-is
 unfolding compacted_requests

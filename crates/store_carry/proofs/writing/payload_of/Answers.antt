@@ -8,5 +8,5 @@ use Rattle.store_carry.proofs.writing.payload_of.Goals as goal
 
 pub returns-in-OfProduct-clause-bytes : goal.returns-in-OfProduct-clause-bytes
 returns-in-OfProduct-clause-bytes c =
-    let there = placed_shelf c.args.held.now.payloads c.args.shelf.now in
+    let there = placed_shelf c.args.held.now.pieces c.args.shelf.now in
     subst (λ (s : CarryStep). IfOk c.payload_of_product.result (λ bytes. bytes ≡ request_payload_bytes (step_payload there c.args.products.now.numbers s))) (sym c.in-OfProduct.is) (c.payload_of_product.ensures.bytes c.args.products.now.numbers)

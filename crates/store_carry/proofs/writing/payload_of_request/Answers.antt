@@ -12,7 +12,7 @@ use Rattle.store_carry.proofs.writing.payload_of_request.Goals as goal
 
 pub new_numbers-requires-clause-there : goal.new_numbers-requires-clause-there
 new_numbers-requires-clause-there c =
-    let payloads = c.args.held.now.payloads in
+    let payloads = c.args.held.now.pieces in
     let shelf = c.args.shelf.now in
     let there = placed_shelf payloads shelf in
     let count = products_count payloads shelf c.requires.shelf.placed in
@@ -20,9 +20,9 @@ new_numbers-requires-clause-there c =
     let low : All (λ dep. dep < length there.products) c.deps_of.result = λ k d l. (let b = c.deps_of.ensures.there k d l in omega (arith, b, count)) in
     deps_planned there c.requires.shelf.once c.args.products.now are c.deps_of.result low (shelf_record_at there.records c.args.step.row).asked.below c.deps_of.ensures.below c.requires.step.below
 
-numbers_are : (c : goal.After-drop-deps-inside) → c.as_slice.result.now ≡ map (number_of_built (numbered_products (placed_shelf c.args.held.now.payloads c.args.shelf.now) c.args.products.now.numbers)) (shelf_record_at (placed_shelf c.args.held.now.payloads c.args.shelf.now).records c.args.step.row).asked.below
+numbers_are : (c : goal.After-drop-deps-inside) → c.as_slice.result.now ≡ map (number_of_built (numbered_products (placed_shelf c.args.held.now.pieces c.args.shelf.now) c.args.products.now.numbers)) (shelf_record_at (placed_shelf c.args.held.now.pieces c.args.shelf.now).records c.args.step.row).asked.below
 numbers_are c =
-    let payloads = c.args.held.now.payloads in
+    let payloads = c.args.held.now.pieces in
     let shelf = c.args.shelf.now in
     let there = placed_shelf payloads shelf in
     let count = products_count payloads shelf c.requires.shelf.placed in
@@ -32,14 +32,14 @@ numbers_are c =
 
 pub returns-clause-bytes : goal.returns-clause-bytes
 returns-clause-bytes c =
-    let there = placed_shelf c.args.held.now.payloads c.args.shelf.now in
+    let there = placed_shelf c.args.held.now.pieces c.args.shelf.now in
     let kept = shelf_record_at there.records c.args.step.row in
     subst (λ (d : RequestDraft). IfOk c.request_payload.result (λ bytes. bytes ≡ request_payload_bytes (OfRequest d))) (c.request_parts.ensures.is ∙ ap (λ (ns : List ℕ). draft_over kept ns c.args.step) (numbers_are c))
     (c.request_payload.ensures.bytes kept.asked.command c.request_parts.ensures.words)
 
 pub returns-clause-spelled : goal.returns-clause-spelled
 returns-clause-spelled c =
-    let payloads = c.args.held.now.payloads in
+    let payloads = c.args.held.now.pieces in
     let shelf = c.args.shelf.now in
     let there = placed_shelf payloads shelf in
     let kept = shelf_record_at there.records c.args.step.row in

@@ -8,7 +8,7 @@ use Rattle.store_carry.proofs.writing.payloads_by.Goals as goal
 
 pub loop-step-preserved : goal.loop-step-preserved
 loop-step-preserved c =
-    let shelf = placed_shelf c.args.held.now.payloads c.args.shelf.now in
+    let shelf = placed_shelf c.args.held.now.pieces c.args.shelf.now in
     let items = c.args.plan.now.steps.items in
     let i = c.loop-step.step-index in
     let value = c.as_slice-step-items.ensures.value in

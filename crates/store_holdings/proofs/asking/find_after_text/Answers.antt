@@ -8,14 +8,14 @@ use Rattle.store_holdings.proofs.asking.find_after_text.Goals as goal
 
 pub returns-then-eq : goal.returns-then-eq
 returns-then-eq c =
-    let texts : List (List ℕ) = placed_texts c.args.held.now.payloads c.args.texts.now in
+    let texts : List (List ℕ) = placed_texts c.args.held.now.pieces c.args.texts.now in
     let new : List ℕ = c.args.new.now in
     let same : c.args.new.now ≡ c.args.text.now = (bytes_eq-Decides c.args.new.now c.args.text.now).0 (sym c.if-eq.ensures) in
-    let size : c.len.result ≡ length texts = omega (arith, c.len.ensures, length-map c.args.texts.now.places.items (placed_text c.args.held.now.payloads)) in
+    let size : c.len.result ≡ length texts = omega (arith, c.len.ensures, length-map c.args.texts.now.places.items (placed_text c.args.held.now.pieces)) in
     slice_get-get_or (texts ++ new ∷ []) c.len.result [] (omega (arith, size, length-append texts (new ∷ []))) ∙ ap (λ (t : List ℕ). Some t) (get_or_at texts new [] [] c.len.result (sym size) ∙ same)
 
 pub returns : goal.returns
 returns c =
-    let texts : List (List ℕ) = placed_texts c.args.held.now.payloads c.args.texts.now in
+    let texts : List (List ℕ) = placed_texts c.args.held.now.pieces c.args.texts.now in
     let other : c.args.new.now ≢ c.args.text.now = λ same. true≢false (sym ((bytes_eq-Decides c.args.new.now c.args.text.now).1 same) ∙ sym c.eq.ensures ∙ c.if-eq.false) in
     place_after texts c.args.new.now c.args.text.now c.find_text.result other c.find_text.ensures

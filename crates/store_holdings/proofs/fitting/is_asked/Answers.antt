@@ -9,7 +9,7 @@ use Rattle.store_holdings.proofs.fitting.is_asked.Goals as goal
 
 pub returns : goal.returns
 returns c =
-    let payloads = c.args.held.now.payloads in
+    let payloads = c.args.held.now.pieces in
     let bytes : c.get-bytes.result.now ≡ nth_payload payloads c.args.row.payload = sym (get_or_from_slice_get payloads c.args.row.payload c.get-bytes.result.now [] c.get-bytes.ensures) in
     let numbers : c.numbers_of.result ≡ row_deps payloads c.args.row = c.numbers_of.ensures ∙ ap (λ (bs : List ℕ). counted_numbers bs c.args.row.deps) bytes in (
       λ e. record {

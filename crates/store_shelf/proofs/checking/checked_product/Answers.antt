@@ -12,7 +12,7 @@ use Rattle.store_shelf.proofs.checking.checked_product.Goals as goal
 
 pub returns-in-Some-number : goal.returns-in-Some-number
 returns-in-Some-number c =
-    let payloads = c.args.held.now.payloads in
+    let payloads = c.args.held.now.pieces in
     let shelf = c.args.shelf.now in
     let texts : List (List ℕ) = placed_texts payloads shelf.texts in
     let bytes : c.get-bytes.result.now ≡ nth_payload payloads c.args.at = sym (get_or_from_slice_get payloads c.args.at c.get-bytes.result.now [] c.get-bytes.ensures) in
@@ -23,7 +23,7 @@ returns-in-Some-number c =
 
 pub returns-in-None : goal.returns-in-None
 returns-in-None c =
-    let payloads = c.args.held.now.payloads in
+    let payloads = c.args.held.now.pieces in
     let shelf = c.args.shelf.now in
     let texts : List (List ℕ) = placed_texts payloads shelf.texts in
     let bytes : c.get-bytes.result.now ≡ nth_payload payloads c.args.at = sym (get_or_from_slice_get payloads c.args.at c.get-bytes.result.now [] c.get-bytes.ensures) in

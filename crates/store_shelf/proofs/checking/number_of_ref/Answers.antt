@@ -8,7 +8,7 @@ use Rattle.store_shelf.proofs.checking.number_of_ref.Goals as goal
 
 pub returns-in-Full : goal.returns-in-Full
 returns-in-Full c =
-    let texts : List (List ℕ) = placed_texts c.args.held.now.payloads c.args.texts.now in
+    let texts : List (List ℕ) = placed_texts c.args.held.now.pieces c.args.texts.now in
     rw c.in-Full.is
-    (new_ref texts (ranged c.args.bytes.now c.in-Full.range) c.new_number.result (length c.args.texts.now.places.items) (sym (length-map c.args.texts.now.places.items (placed_text c.args.held.now.payloads)))
+    (new_ref texts (ranged c.args.bytes.now c.in-Full.range) c.new_number.result (length c.args.texts.now.places.items) (sym (length-map c.args.texts.now.places.items (placed_text c.args.held.now.pieces)))
     (subst (λ (t : List ℕ). SomeIff c.new_number.result (¬ Contains texts t) (length c.args.texts.now.places.items)) c.bytes_in.ensures c.new_number.ensures))

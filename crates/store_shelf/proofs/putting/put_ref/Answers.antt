@@ -8,5 +8,5 @@ use Rattle.store_shelf.proofs.putting.put_ref.Goals as goal
 
 pub put_text-requires-clause-new : goal.put_text-requires-clause-new
 put_text-requires-clause-new c =
-    is_new (placed_texts c.args.held.now.payloads c.args.texts.now) (ranged (nth_payload c.args.held.now.payloads c.args.at) c.in-Full.range)
-    (subst (λ (s : TextRange). is_text_ref (placed_texts c.args.held.now.payloads c.args.texts.now) (ref_in_range (nth_payload c.args.held.now.payloads c.args.at) s) ≡ true) c.in-Full.is c.requires.source)
+    is_new (placed_texts c.args.held.now.pieces c.args.texts.now) (ranged (nth_payload c.args.held.now.pieces c.args.at) c.in-Full.range)
+    (subst (λ (s : TextRange). is_text_ref (placed_texts c.args.held.now.pieces c.args.texts.now) (ref_in_range (nth_payload c.args.held.now.pieces c.args.at) s) ≡ true) c.in-Full.is c.requires.source)

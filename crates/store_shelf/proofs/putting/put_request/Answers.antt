@@ -12,7 +12,7 @@ use Rattle.store_shelf.proofs.putting.put_request.Goals as goal
 
 pub returns-clause-are : goal.returns-clause-are
 returns-clause-are c =
-    let payloads = c.args.held.now.payloads in
+    let payloads = c.args.held.now.pieces in
     let shelf = c.args.shelf.now in
     let draft : RequestDraft = request_in_ranges (nth_payload payloads c.args.at) c.args.draft in
     let row : RecordRow = record { payload = c.args.at; words = c.args.draft.words; deps = c.args.draft.deps; name = c.args.name; text = c.args.numbers.text; product = c.put_row-product.result } in
@@ -31,7 +31,7 @@ returns-clause-are c =
 
 pub returns-clause-is : goal.returns-clause-is
 returns-clause-is c =
-    let payloads = c.args.held.now.payloads in
+    let payloads = c.args.held.now.pieces in
     let shelf = c.args.shelf.now in
     let draft : RequestDraft = request_in_ranges (nth_payload payloads c.args.at) c.args.draft in
     let row : RecordRow = record { payload = c.args.at; words = c.args.draft.words; deps = c.args.draft.deps; name = c.args.name; text = c.args.numbers.text; product = c.put_row-product.result } in

@@ -9,8 +9,8 @@ use Rattle.store_shelf.proofs.taking.take_named_product.Goals as goal
 
 pub returns-in_default : goal.returns-in_default
 returns-in_default c =
-    let shelf : RequestShelf = placed_shelf c.args.held.now.payloads c.args.shelf.now in
-    let draft : ProductDraft = product_in_ranges (nth_payload c.args.held.now.payloads c.args.at) c.args.draft in
+    let shelf : RequestShelf = placed_shelf c.args.held.now.pieces c.args.shelf.now in
+    let draft : ProductDraft = product_in_ranges (nth_payload c.args.held.now.pieces c.args.at) c.args.draft in
     record {
       are = record { texts = c.requires.shelf.texts; rows = c.requires.shelf.rows; names_once = c.requires.shelf.names_once; latest = c.requires.shelf.latest };
       is = took_no_product shelf draft (subst (IsCheckedProduct shelf draft) c.in_default.is c.checked_product.ensures);
@@ -18,7 +18,7 @@ returns-in_default c =
 
 pub returns : goal.returns
 returns c =
-    let payloads = c.args.held.now.payloads in
+    let payloads = c.args.held.now.pieces in
     let shelf : RequestShelf = placed_shelf payloads c.args.shelf.now in
     let draft : ProductDraft = product_in_ranges (nth_payload payloads c.args.at) c.args.draft in
     let checked = subst (IsCheckedProduct shelf draft) c.in-Some.is c.checked_product.ensures in

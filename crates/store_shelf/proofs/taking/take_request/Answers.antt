@@ -12,7 +12,7 @@ use Rattle.store_shelf.proofs.taking.take_request.Goals as goal
 
 pub returns-then-not-fits : goal.returns-then-not-fits
 returns-then-not-fits c =
-    let payloads = c.args.held.now.payloads in
+    let payloads = c.args.held.now.pieces in
     let shelf : RequestShelf = placed_shelf payloads c.args.shelf.now in
     let draft : RequestDraft = request_in_ranges (nth_payload payloads c.args.at) c.args.draft in
     let bytes : c.get.result.now ≡ nth_payload payloads c.args.at = sym (get_or_from_slice_get payloads c.args.at c.get.result.now [] c.get.ensures) in
@@ -24,14 +24,14 @@ returns-then-not-fits c =
 
 pub take_named_request-requires-clause-name : goal.take_named_request-requires-clause-name
 take_named_request-requires-clause-name c =
-    let payloads = c.args.held.now.payloads in
+    let payloads = c.args.held.now.pieces in
     let bytes : c.get.result.now ≡ nth_payload payloads c.args.at = sym (get_or_from_slice_get payloads c.args.at c.get.result.now [] c.get.ensures) in
     let named = c.in_ok-name.ensures ∙ ap (λ (bs : List ℕ). record { library = ranged bs c.args.draft.library; path = ranged bs c.args.draft.path }) bytes in
     subst (λ (n : FileName). IsNameNumber c.number_name.new.shelf.names.keys n c.in_ok-number.number) named c.in_ok-number.ensures.named
 
 pub take_named_request-requires-clause-fits : goal.take_named_request-requires-clause-fits
 take_named_request-requires-clause-fits c =
-    let payloads = c.args.held.now.payloads in
+    let payloads = c.args.held.now.pieces in
     let bytes : c.get.result.now ≡ nth_payload payloads c.args.at = sym (get_or_from_slice_get payloads c.args.at c.get.result.now [] c.get.ensures) in
     let named = c.in_ok-name.ensures ∙ ap (λ (bs : List ℕ). record { library = ranged bs c.args.draft.library; path = ranged bs c.args.draft.path }) bytes in
     subst FitsName named (c.fits.ensures.0 c.if-not-fits.false)

@@ -13,7 +13,7 @@ use Rattle.store_shelf.proofs.taking.take_up.Goals as goal
 
 pub returns-in-Some-OfRequest-clause-is : goal.returns-in-Some-OfRequest-clause-is
 returns-in-Some-OfRequest-clause-is c =
-    let payloads = c.args.held.now.payloads in
+    let payloads = c.args.held.now.pieces in
     let shelf : RequestShelf = placed_shelf payloads c.args.shelf.now in
     let bytes : c.get.result.now ≡ nth_payload payloads c.args.at = sym (get_or_from_slice_get payloads c.args.at c.get.result.now [] c.get.ensures) in
     let found = subst (λ (r : Option PayloadRanges). ReadsAll (payload_in_ranges c.get.result.now) r (request_payload_in c.get.result.now)) (c.in-Some-OfRequest.is ∙ ap (λ (r : PayloadRanges). Some r) c.in-Some-OfRequest.field-0-is) c.read_request_payload.ensures in
@@ -23,7 +23,7 @@ returns-in-Some-OfRequest-clause-is c =
 
 pub returns-in-Some-OfProduct-clause-is : goal.returns-in-Some-OfProduct-clause-is
 returns-in-Some-OfProduct-clause-is c =
-    let payloads = c.args.held.now.payloads in
+    let payloads = c.args.held.now.pieces in
     let shelf : RequestShelf = placed_shelf payloads c.args.shelf.now in
     let bytes : c.get.result.now ≡ nth_payload payloads c.args.at = sym (get_or_from_slice_get payloads c.args.at c.get.result.now [] c.get.ensures) in
     let found = subst (λ (r : Option PayloadRanges). ReadsAll (payload_in_ranges c.get.result.now) r (request_payload_in c.get.result.now)) (c.in-Some-OfProduct.is ∙ ap (λ (r : PayloadRanges). Some r) c.in-Some-OfProduct.field-0-is) c.read_request_payload.ensures in
@@ -33,7 +33,7 @@ returns-in-Some-OfProduct-clause-is c =
 
 pub returns-in-None-clause-is : goal.returns-in-None-clause-is
 returns-in-None-clause-is c =
-    let payloads = c.args.held.now.payloads in
+    let payloads = c.args.held.now.pieces in
     let shelf : RequestShelf = placed_shelf payloads c.args.shelf.now in
     let bytes : c.get.result.now ≡ nth_payload payloads c.args.at = sym (get_or_from_slice_get payloads c.args.at c.get.result.now [] c.get.ensures) in
     let found = subst (λ (r : Option PayloadRanges). ReadsAll (payload_in_ranges c.get.result.now) r (request_payload_in c.get.result.now)) c.in-None.is c.read_request_payload.ensures in

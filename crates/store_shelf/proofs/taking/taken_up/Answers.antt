@@ -7,15 +7,15 @@ use Rattle.store_shelf.proofs.taking.taken_up.Goals as goal
 
 pub loop-at-init : goal.loop-at-init
 loop-at-init c = record {
-  are = c.new-shelf.ensures.are c.args.held.now.payloads;
-  is = c.new-shelf.ensures.is c.args.held.now.payloads ∙ sym shelf_none;
+  are = c.new-shelf.ensures.are c.args.held.now.pieces;
+  is = c.new-shelf.ensures.is c.args.held.now.pieces ∙ sym shelf_none;
 }
 
 pub loop-at-preserved : goal.loop-at-preserved
 loop-at-preserved c =
-    let payloads : List (List ℕ) = c.args.held.now.payloads in
+    let payloads : List (List ℕ) = c.args.held.now.pieces in
     let at : ℕ = c.loop-at.at in
-    let low : c.loop-at.at < length c.args.held.now.payloads = omega (arith, c.loop-at-test.true, c.len-at-end.ensures) in
+    let low : c.loop-at.at < length c.args.held.now.pieces = omega (arith, c.loop-at-test.true, c.len-at-end.ensures) in
     record {
       are = c.in_ok-take_up.ensures.are;
       is = c.in_ok-take_up.ensures.is

@@ -5,6 +5,6 @@ use Rattle.store_shelf.proofs.taking.taken_up.Given as goal
 
 abbrev pub invariant-loop-at : goal.invariant-loop-at
 invariant-loop-at l = record {
-  are : IsShelfPlaced l.held.payloads l.shelf;
-  is : placed_shelf l.held.payloads l.shelf ≡ request_shelf_of (take l.at l.held.payloads);
+  are : IsShelfPlaced l.held.pieces l.shelf;
+  is : placed_shelf l.held.pieces l.shelf ≡ request_shelf_of (take l.at l.held.pieces);
 }

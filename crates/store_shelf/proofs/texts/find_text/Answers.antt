@@ -7,13 +7,13 @@ use Rattle.store_shelf.proofs.texts.find_text.Goals as goal
 
 pub returns-then-eq : goal.returns-then-eq
 returns-then-eq c =
-    let texts : List (List ℕ) = placed_texts c.args.held.now.payloads c.args.texts.now in
+    let texts : List (List ℕ) = placed_texts c.args.held.now.pieces c.args.texts.now in
     let are : AreSplit texts c.args.texts.now.index.splits = record { as_many = c.requires.split.as_many; each = c.requires.split.each } in
     found_there texts c.args.texts.now.index.splits are c.args.text.now c.candidate-number.result c.candidate-number.ensures.there (sym c.text_at.ensures ∙ (bytes_eq-Decides c.text_at.result.now c.args.text.now).0 (sym c.if-eq.ensures))
 
 pub returns-else-eq : goal.returns-else-eq
 returns-else-eq c =
-    let texts : List (List ℕ) = placed_texts c.args.held.now.payloads c.args.texts.now in
+    let texts : List (List ℕ) = placed_texts c.args.held.now.pieces c.args.texts.now in
     let are : AreSplit texts c.args.texts.now.index.splits = record { as_many = c.requires.split.as_many; each = c.requires.split.each } in
     let other : get_or texts c.candidate-number.result [] ≢ c.args.text.now = λ same. true≢false (sym ((bytes_eq-Decides c.text_at.result.now c.args.text.now).1 (c.text_at.ensures ∙ same)) ∙ sym c.eq.ensures ∙ c.if-eq.false) in
     not_there texts c.args.texts.now.index.splits are c.args.text.now c.candidate-number.result c.candidate-number.ensures.is other

@@ -7,11 +7,11 @@ use Rattle.store_shelf.proofs.texts.new_split.Goals as goal
 
 pub returns-then-len-eq0-clause-split : goal.returns-then-len-eq0-clause-split
 returns-then-len-eq0-clause-split c =
-    split_none (placed_texts c.args.held.now.payloads c.args.texts.now) c.args.texts.now.index.splits c.requires.texts.split c.args.text.now (record { of = 0; point = 0; value = 16 }) (sym c.len.ensures ∙ c.if-len-eq0.true)
+    split_none (placed_texts c.args.held.now.pieces c.args.texts.now) c.args.texts.now.index.splits c.requires.texts.split c.args.text.now (record { of = 0; point = 0; value = 16 }) (sym c.len.ensures ∙ c.if-len-eq0.true)
 
 pub returns-clause-split : goal.returns-clause-split
 returns-clause-split c =
-    let texts : List (List ℕ) = placed_texts c.args.held.now.payloads c.args.texts.now in
+    let texts : List (List ℕ) = placed_texts c.args.held.now.pieces c.args.texts.now in
     let old : c.text_at.result.now ≡ get_or texts c.split_between.result.of [] = c.text_at.ensures ∙ ap (λ (n : ℕ). get_or texts n []) (sym c.split_between.ensures.of) in
     more_splits texts c.args.texts.now.index.splits c.args.text.now c.split_between.result c.requires.texts.split (c.split_between.ensures.of ∙ c.candidate-of.ensures.is)
     (subst (λ (t : List ℕ). Parts t c.args.text.now c.split_between.result) old c.split_between.ensures.parts)

@@ -22,11 +22,11 @@ returns-clause-adds c =
     let draft : RequestDraft = asked_draft c.args.entry.now c.text_refs-refs.result.source c.args.deps.now c.text_refs-refs.result.known c.args.artefact.now in
     let ranged : request_payload_in c.in_ok-bytes.bytes ≡ Some (OfRequest (request_in_ranges c.in_ok-bytes.bytes c.spelled_ranges-draft.result)) = subst (λ (bs : List ℕ). request_payload_in bs ≡ Some (OfRequest (request_in_ranges bs c.spelled_ranges-draft.result))) c.bytes-2.ensures c.spelled_ranges-draft.ensures in
     let same : request_in_ranges c.in_ok-bytes.bytes c.spelled_ranges-draft.result ≡ draft = same_draft c.in_ok-bytes.bytes (request_in_ranges c.in_ok-bytes.bytes c.spelled_ranges-draft.result) draft ranged c.in_ok-bytes.ensures.read in
-    let whole : placed_shelf c.self.inside.held.payloads c.self.inside.shelf ≡ request_shelf_of c.args.self.now.payloads = c.self.invariant.is ∙ ap (λ (s : HeldState). request_shelf_of s.payloads) c.self.view_is in
-    let told : AreRefs (placed_texts c.self.inside.held.payloads c.self.inside.shelf.texts) c.bytes.result.now c.args.artefact.now c.text_refs-refs.result = record { source = c.text_refs-refs.ensures.source; known = c.text_refs-refs.ensures.known; source_fits = c.text_refs-refs.ensures.source_fits; known_fits = c.text_refs-refs.ensures.known_fits; text_is = c.text_refs-refs.ensures.text_is; artefact_is = c.text_refs-refs.ensures.artefact_is } in
+    let whole : placed_shelf c.self.inside.held.pieces c.self.inside.shelf ≡ request_shelf_of c.args.self.now.payloads = c.self.invariant.is ∙ ap (λ (s : HeldState). request_shelf_of s.payloads) c.self.view_is in
+    let told : AreRefs (placed_texts c.self.inside.held.pieces c.self.inside.shelf.texts) c.bytes.result.now c.args.artefact.now c.text_refs-refs.result = record { source = c.text_refs-refs.ensures.source; known = c.text_refs-refs.ensures.known; source_fits = c.text_refs-refs.ensures.source_fits; known_fits = c.text_refs-refs.ensures.known_fits; text_is = c.text_refs-refs.ensures.text_is; artefact_is = c.text_refs-refs.ensures.artefact_is } in
     let texts : AreRefs (request_shelf_of c.args.self.now.payloads).texts c.args.entry.now.text c.args.artefact.now c.text_refs-refs.result =
     subst (λ (s : RequestShelf). AreRefs s.texts c.args.entry.now.text c.args.artefact.now c.text_refs-refs.result) whole
-    (subst (λ (t : List ℕ). AreRefs (placed_texts c.self.inside.held.payloads c.self.inside.shelf.texts) t c.args.artefact.now c.text_refs-refs.result) c.bytes.ensures told) in
+    (subst (λ (t : List ℕ). AreRefs (placed_texts c.self.inside.held.pieces c.self.inside.shelf.texts) t c.args.artefact.now c.text_refs-refs.result) c.bytes.ensures told) in
     record {
       read = ranged;
       request = subst (IsRequest (request_shelf_of c.args.self.now.payloads)) (sym same) (request (request_shelf_of c.args.self.now.payloads) c.args.entry.now c.args.deps.now c.args.artefact.now over c.text_refs-refs.result texts);
@@ -40,9 +40,9 @@ returns-clause-is c =
     let draft : RequestDraft = asked_draft c.args.entry.now c.text_refs-refs.result.source c.args.deps.now c.text_refs-refs.result.known c.args.artefact.now in
     let ranged : request_payload_in c.in_ok-bytes.bytes ≡ Some (OfRequest (request_in_ranges c.in_ok-bytes.bytes c.spelled_ranges-draft.result)) = subst (λ (bs : List ℕ). request_payload_in bs ≡ Some (OfRequest (request_in_ranges bs c.spelled_ranges-draft.result))) c.bytes-2.ensures c.spelled_ranges-draft.ensures in
     let same : request_in_ranges c.in_ok-bytes.bytes c.spelled_ranges-draft.result ≡ draft = same_draft c.in_ok-bytes.bytes (request_in_ranges c.in_ok-bytes.bytes c.spelled_ranges-draft.result) draft ranged c.in_ok-bytes.ensures.read in
-    let whole : placed_shelf c.self.inside.held.payloads c.self.inside.shelf ≡ request_shelf_of c.args.self.now.payloads = c.self.invariant.is ∙ ap (λ (s : HeldState). request_shelf_of s.payloads) c.self.view_is in
-    let told : AreRefs (placed_texts c.self.inside.held.payloads c.self.inside.shelf.texts) c.bytes.result.now c.args.artefact.now c.text_refs-refs.result = record { source = c.text_refs-refs.ensures.source; known = c.text_refs-refs.ensures.known; source_fits = c.text_refs-refs.ensures.source_fits; known_fits = c.text_refs-refs.ensures.known_fits; text_is = c.text_refs-refs.ensures.text_is; artefact_is = c.text_refs-refs.ensures.artefact_is } in
+    let whole : placed_shelf c.self.inside.held.pieces c.self.inside.shelf ≡ request_shelf_of c.args.self.now.payloads = c.self.invariant.is ∙ ap (λ (s : HeldState). request_shelf_of s.payloads) c.self.view_is in
+    let told : AreRefs (placed_texts c.self.inside.held.pieces c.self.inside.shelf.texts) c.bytes.result.now c.args.artefact.now c.text_refs-refs.result = record { source = c.text_refs-refs.ensures.source; known = c.text_refs-refs.ensures.known; source_fits = c.text_refs-refs.ensures.source_fits; known_fits = c.text_refs-refs.ensures.known_fits; text_is = c.text_refs-refs.ensures.text_is; artefact_is = c.text_refs-refs.ensures.artefact_is } in
     let texts : AreRefs (request_shelf_of c.args.self.now.payloads).texts c.args.entry.now.text c.args.artefact.now c.text_refs-refs.result =
     subst (λ (s : RequestShelf). AreRefs s.texts c.args.entry.now.text c.args.artefact.now c.text_refs-refs.result) whole
-    (subst (λ (t : List ℕ). AreRefs (placed_texts c.self.inside.held.payloads c.self.inside.shelf.texts) t c.args.artefact.now c.text_refs-refs.result) c.bytes.ensures told) in
+    (subst (λ (t : List ℕ). AreRefs (placed_texts c.self.inside.held.pieces c.self.inside.shelf.texts) t c.args.artefact.now c.text_refs-refs.result) c.bytes.ensures told) in
     ap (drafted_record (request_shelf_of c.args.self.now.payloads)) same ∙ recorded (request_shelf_of c.args.self.now.payloads) c.args.entry.now c.args.deps.now c.args.artefact.now over c.text_refs-refs.result texts

@@ -19,8 +19,8 @@ index-requires c =
     omega (
       arith,
       c.len-row.ensures,
-      rows_are_records payloads c.self.inside.shelf c.self.invariant,
-      rows_are_records c.put_held.new.held.payloads c.put_held.new.shelf c.put_held.ensures.is,
+      rows_are_records c.self.inside.held.pieces payloads c.self.inside.shelf c.self.invariant,
+      rows_are_records c.put_held.new.held.pieces c.put_held.new.held.payloads c.put_held.new.shelf c.put_held.ensures.is,
       ap (λ (s : RequestShelf). length s.records) whole,
       length-append (request_shelf_of payloads).records (drafted_record (request_shelf_of payloads) draft ∷ []),
     )
@@ -28,7 +28,7 @@ index-requires c =
 pub returns-clause-seats : goal.returns-clause-seats
 returns-clause-seats c = λ graph is are named.
     let payloads : List (List ℕ) = c.self.inside.held.payloads in
-    let now : List (List ℕ) = c.put_held.new.held.payloads in
+    let now : List (List ℕ) = c.put_held.new.held.pieces in
     let new = c.put_held.new.shelf in
     let shelf : RequestShelf = request_shelf_of c.self.inside.held.payloads in
     let draft : RequestDraft = request_in_ranges c.args.piece c.args.addition.draft in
@@ -36,9 +36,9 @@ returns-clause-seats c = λ graph is are named.
     let whole : request_shelf_of c.put_held.new.held.payloads ≡ with_request (request_shelf_of c.self.inside.held.payloads) (request_in_ranges c.args.piece c.args.addition.draft) = ap request_shelf_of c.put_held.ensures.payloads ∙ adds_shelf payloads c.self.inside.shelf.names.keys c.args.piece c.args.addition adds in
     let placed = c.put_held.ensures.is.is ∙ whole in
     let seats : AreSeats (request_shelf_of c.self.inside.held.payloads) graph c.args.seats.now = subst (λ (s : HeldState). AreSeats (request_shelf_of s.payloads) graph c.args.seats.now) (sym c.self.view_is) are in
-    let at : c.len-row.result ≡ length (request_shelf_of c.self.inside.held.payloads).records = omega (arith, c.len-row.ensures, rows_are_records payloads c.self.inside.shelf c.self.invariant) in
+    let at : c.len-row.result ≡ length (request_shelf_of c.self.inside.held.payloads).records = omega (arith, c.len-row.ensures, rows_are_records c.self.inside.held.pieces payloads c.self.inside.shelf c.self.invariant) in
     let latest : IsLatestRow (with_request shelf draft).records draft.name (Some c.len-row.result) = subst (λ (n : ℕ). IsLatestRow (with_request shelf draft).records draft.name (Some n)) (sym at) (own_row shelf draft) in
-    let here = seat_is now new.names.keys (placed_texts now new.texts) new.products.keys new.rows.items c.put_held.ensures.is.are.rows c.len-row.result c.index.result.now (omega (arith, latest.0, rows_are_records now new c.put_held.ensures.is, ap (λ (s : RequestShelf). length s.records) whole)) c.index.ensures draft.name (subst (λ (s : RequestShelf). IsLatestRow s.records draft.name (Some c.len-row.result)) (sym placed) latest) in
+    let here = seat_is now new.names.keys (placed_texts now new.texts) new.products.keys new.rows.items c.put_held.ensures.is.are.rows c.len-row.result c.index.result.now (omega (arith, latest.0, rows_are_records now c.put_held.new.held.payloads new c.put_held.ensures.is, ap (λ (s : RequestShelf). length s.records) whole)) c.index.ensures draft.name (subst (λ (s : RequestShelf). IsLatestRow s.records draft.name (Some c.len-row.result)) (sym placed) latest) in
     let has = subst (λ (s : RequestShelf). HasSeat s draft.name (record { row = c.len-row.result; product = c.index.result.now.product })) placed here in
     let all = seats_added shelf draft graph c.args.seats.now c.args.addition.at (record { row = c.len-row.result; product = c.index.result.now.product }) is seats c.requires.seat named has in
     subst (λ (s : RequestShelf). AreSeats s graph c.set.new.self) (sym whole) (subst (AreSeats (with_request shelf draft) graph) (sym c.set.ensures) all)

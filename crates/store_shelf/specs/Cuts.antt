@@ -1,0 +1,55 @@
+-- Payloads that are taken up without the text of a file.
+use Rattle.std.specs.Prelude.{◌≡◌, ℕ, ◌≤◌, Bool, true, false, List, [], ◌∷◌, ◌++◌, length, take, drop}
+use Rattle.store_codec.specs.declared.reading.ByteRange.{ByteRange}
+use Rattle.store_codec.specs.declared.reading.RequestRanges.{RequestRanges}
+use Rattle.store_codec.specs.declared.reading.TextRange.TheVariants.{Known}
+use Rattle.store_codec.specs.Forms.{RequestDraft, TextRef}
+use Rattle.store_codec.specs.Forms.TextRef.{ByNumber}
+use Rattle.store_codec.specs.Ranges.{counted_numbers, range_end, ranged, ref_in_range, request_in_ranges}
+use Rattle.store_codec.specs.Shelves.{RequestShelf}
+use Rattle.store_shelf.specs.declared.cutting.CutRequest.{CutRequest}
+use Rattle.store_shelf.specs.declared.shelf.PlacedShelf.{PlacedShelf}
+use Rattle.store_shelf.specs.Placed.{HeldList, IsHeld, with_cut}
+
+-- the bytes without those of a range
+pub record IsWithout (bytes : List ℕ) (range : ByteRange) (rest : List ℕ) : Type 0 where
+  pub within : range_end range ≤ length bytes
+  pub is : rest ≡ take range.start bytes ++ drop (range_end range) bytes
+
+-- The parts of a record that aren't words nor its text are the same in what is left of its payload.
+pub record AreSameParts (bytes : List ℕ) (draft : RequestRanges) (rest : List ℕ) (new : RequestRanges) : Type 0 where
+  pub library : ranged rest new.library ≡ ranged bytes draft.library
+  pub path : ranged rest new.path ≡ ranged bytes draft.path
+  pub deps : counted_numbers rest new.deps ≡ counted_numbers bytes draft.deps
+  pub artefact : ref_in_range rest new.artefact ≡ ref_in_range bytes draft.artefact
+
+-- a draft with another source
+abbrev pub with_source : TextRef → RequestDraft → RequestDraft
+with_source source draft = record { name = draft.name; command = draft.command; source = source; deps = draft.deps; artefact = draft.artefact }
+
+-- A payload of a record without the text that it has in a range: what is left with that text is the payload, and its parts are
+-- those of the record, whose text has a number.
+pub record IsCutOf (bytes : List ℕ) (draft : RequestRanges) (range : ByteRange) (number : ℕ) (file : ℕ) (cut : CutRequest) : Type 0 where
+  pub whole : bytes ≡ with_cut (ranged bytes range) cut.payload
+  pub parts : request_in_ranges cut.payload.rest cut.draft ≡ with_source (ByNumber number) (request_in_ranges bytes draft)
+  pub source : cut.draft.source ≡ Known number
+  pub file_is : cut.payload.file ≡ file
+
+-- one more text
+abbrev pub with_new_text : RequestShelf → List ℕ → RequestShelf
+with_new_text shelf text = record { texts = shelf.texts ++ text ∷ []; products = shelf.products; records = shelf.records }
+
+-- A payload was added at the end, with what it stands for.
+pub record HasTaken (old new : HeldList) (shelf : PlacedShelf) (payload : List ℕ) : Type 0 where
+  pub held : IsHeld new.pieces new.payloads shelf
+  pub payloads : new.payloads ≡ old.payloads ++ payload ∷ []
+
+-- Nothing was added.
+pub record HasLeft (old new : HeldList) (shelf : PlacedShelf) : Type 0 where
+  pub held : IsHeld new.pieces new.payloads shelf
+  pub same : new.payloads ≡ old.payloads
+
+-- a payload was added, or none was, as it says
+abbrev pub TookOrLeft : Bool → (old new : HeldList) → PlacedShelf → List ℕ → Type 0
+TookOrLeft true old new shelf payload = HasTaken old new shelf payload
+TookOrLeft false old new shelf payload = HasLeft old new shelf
