@@ -13,7 +13,7 @@ use base::{Graph, SLOT_LIMIT};
 use build_loop::BuildFault;
 use memory_outside::MemDisk;
 use outside::Procs;
-use run_build::{BuildOptions, build_over};
+use run_build::{AsStored, BuildOptions, build_over};
 use run_spec::MarkList;
 use std::alloc::Global;
 use store_requests::RequestStore;
@@ -80,7 +80,9 @@ pub fn build_first<P: Procs>(
         keep_going: false,
         clean: true,
     };
-    match build_over::<RequestStore, MemDisk, P>(alloc, graph, orders, disk, procs) {
+    match build_over::<RequestStore, AsStored, MemDisk, P>(
+        alloc, graph, orders, &AsStored, disk, procs,
+    ) {
         Ok(marks) => Ok(marks),
         Err(fault) => Err(own_fault(fault)),
     }

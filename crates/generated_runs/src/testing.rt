@@ -19,7 +19,7 @@ use build_loop::BuildFault;
 use memory_outside::MemDisk;
 use outside::Procs;
 use project_reading::{Extent, ReadProject};
-use run_build::BuildOptions;
+use run_build::{AsStored, BuildOptions};
 use run_tested::{Tested, test_over};
 use std::alloc::Global;
 use store_requests::RequestStore;
@@ -89,13 +89,14 @@ pub fn test_second<P: Procs>(
         keep_going: false,
         clean: false,
     };
-    match test_over::<RequestStore, MemDisk, P>(
+    match test_over::<RequestStore, AsStored, MemDisk, P>(
         alloc,
         &read.graph,
         orders,
         runs,
         &read.project.simulator,
         false,
+        &AsStored,
         disk,
         procs,
     ) {

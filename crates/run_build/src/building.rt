@@ -15,6 +15,7 @@ ghost use Rattle.build_loop.specs.Faults.{Explains, NoneFell, fault_of};
 ghost use Rattle.run_build.specs.Building.{OpensStore, BuildsOver, has_risen, marks_in};
 ghost use Rattle.run_build.specs.Orders.{order_by};
 
+use crate::opener::Opener;
 use base::{FILE_LIMIT, Graph, SLOT_LIMIT};
 use build_loop::{BuildFault, build_marks};
 use outside::{Disk, Procs, Records, StoreFault};
@@ -37,9 +38,10 @@ pub struct Kept<K> {
     pub store: K,
 }
 
-/// Opens the store of a disk: with what it holds, or empty.
-fn open_store<K: Records + Drop, D: Disk>(
+/// Opens the store of a disk: with what it holds, by what opens it, or empty.
+fn open_store<K: Records + Drop, O: Opener<K>, D: Disk>(
     alloc: Global,
+    opener: &O,
     disk: &mut D,
     clean: bool,
 ) -> Result<K, StoreFault>
@@ -53,14 +55,15 @@ fn open_store<K: Records + Drop, D: Disk>(
     if clean {
         return K::emptied(alloc, disk);
     }
-    K::from_disk(alloc, disk)
+    opener.open(alloc, disk)
 }
 
 /// Opens the store of a disk, builds over its records, and keeps the store, which lends the artefacts of all files that are made.
-pub fn build_kept<K: Records + Drop, D: Disk, P: Procs>(
+pub fn build_kept<K: Records + Drop, O: Opener<K>, D: Disk, P: Procs>(
     alloc: Global,
     graph: &Graph,
     options: BuildOptions,
+    opener: &O,
     disk: &mut D,
     procs: &mut P,
 ) -> Result<Kept<K>, BuildFault>
@@ -113,7 +116,7 @@ pub fn build_kept<K: Records + Drop, D: Disk, P: Procs>(
         }) }
 {
     prove!(graph.len() <= FILE_LIMIT as u64);
-    match open_store::<K, D>(alloc, disk, options.clean) {
+    match open_store::<K, O, D>(alloc, opener, disk, options.clean) {
         Ok(mut store) => match build_marks(
             alloc,
             graph,
@@ -132,10 +135,11 @@ pub fn build_kept<K: Records + Drop, D: Disk, P: Procs>(
 }
 
 /// Opens the store of a disk, and builds over its records.
-pub fn build_over<K: Records + Drop, D: Disk, P: Procs>(
+pub fn build_over<K: Records + Drop, O: Opener<K>, D: Disk, P: Procs>(
     alloc: Global,
     graph: &Graph,
     options: BuildOptions,
+    opener: &O,
     disk: &mut D,
     procs: &mut P,
 ) -> Result<MarkList, BuildFault>
@@ -177,7 +181,7 @@ pub fn build_over<K: Records + Drop, D: Disk, P: Procs>(
           disks = D.failed_disk_calls disk.new;
         }) }
 {
-    match build_kept::<K, D, P>(alloc, graph, options, disk, procs) {
+    match build_kept::<K, O, D, P>(alloc, graph, options, opener, disk, procs) {
         Ok(
             Kept {
                 marks,

@@ -2,5 +2,7 @@
 #![tactic(auto)]
 
 mod building;
+mod opener;
 
 pub use building::{BuildOptions, Kept, build_kept, build_over};
+pub use opener::{AsStored, Opener};

@@ -17,7 +17,7 @@ ghost use Rattle.run_tested.specs.Tested.{RanBuilt, TestsOver};
 use base::{CASE_LIMIT, Graph, SLOT_LIMIT, TextList};
 use build_loop::BuildFault;
 use outside::{Disk, Procs, Records};
-use run_build::{BuildOptions, Kept, build_kept};
+use run_build::{BuildOptions, Kept, Opener, build_kept};
 use run_spec::{Mark, MarkList};
 use std::alloc::Global;
 use test_loop::{TestRunFault, run_tests};
@@ -119,13 +119,14 @@ fn test_built<K: Records + Drop, P: Procs>(
 /// runs tests over exactly what was built: in order, each by one child of the simulator, with as many children at once
 /// as the build has. With `fail_fast` nothing more is started after the first run of which not all cases passed. After a
 /// fault nothing more is started; the first fault is answered. No child runs in the end.
-pub fn test_over<K: Records + Drop, D: Disk, P: Procs>(
+pub fn test_over<K: Records + Drop, O: Opener<K>, D: Disk, P: Procs>(
     alloc: Global,
     graph: &Graph,
     options: BuildOptions,
     runs: &TestRunList,
     simulator: &TextList,
     fail_fast: bool,
+    opener: &O,
     disk: &mut D,
     procs: &mut P,
 ) -> Result<Tested, BuildFault>
@@ -168,7 +169,7 @@ pub fn test_over<K: Records + Drop, D: Disk, P: Procs>(
           disks = D.failed_disk_calls disk.new;
         }) }
 {
-    match build_kept::<K, D, P>(alloc, graph, options, disk, procs) {
+    match build_kept::<K, O, D, P>(alloc, graph, options, opener, disk, procs) {
         Ok(kept) => test_built(
             alloc,
             graph,

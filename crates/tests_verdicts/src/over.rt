@@ -7,7 +7,7 @@ use crate::way::{Way, way_of};
 use base::{Graph, NoMemory, TextList};
 use build_loop::BuildFault;
 use memory_outside::{MemDisk, ScriptProcs};
-use run_build::BuildOptions;
+use run_build::{AsStored, BuildOptions};
 use run_tested::{Tested, test_over};
 use std::alloc::Global;
 use std::process::Abort;
@@ -42,13 +42,14 @@ fn test_disk(
         keep_going: false,
         clean: false,
     };
-    test_over::<RequestStore, MemDisk, ScriptProcs>(
+    test_over::<RequestStore, AsStored, MemDisk, ScriptProcs>(
         alloc,
         graph,
         options,
         runs,
         words,
         way.fail_fast,
+        &AsStored,
         disk,
         procs,
     )

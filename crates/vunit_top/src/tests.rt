@@ -27,6 +27,7 @@ use outside::{Disk, Procs, ReportFault, Reports, Sink, SinkFault};
 use project_reading::{ReadProject, Wish};
 use report_run::warning_text;
 use report_tested::{RunSaid, TestWords, said_of_run};
+use run_build::AsStored;
 use run_tested::{Tested, test_over};
 use std::alloc::Global;
 use store_requests::RequestStore;
@@ -191,6 +192,7 @@ fn test_planned<D: Disk, P: Procs, O: Sink, R: Reports>(
     planned: Planned,
     read: &ReadProject,
     options: &RunOptions,
+    opener: &AsStored,
     disk: &mut D,
     procs: &mut P,
     out: &mut O,
@@ -229,13 +231,14 @@ fn test_planned<D: Disk, P: Procs, O: Sink, R: Reports>(
         (R.failed_reports reports.new) input) }
 {
     let Planned { warnings, runs } = planned;
-    match test_over::<RequestStore, D, P>(
+    match test_over::<RequestStore, AsStored, D, P>(
         alloc,
         &read.graph,
         options.build,
         &runs,
         &read.project.simulator,
         options.fail_fast,
+        opener,
         disk,
         procs,
     ) {
@@ -260,6 +263,7 @@ pub fn test_project<D: Disk, P: Procs, O: Sink, R: Reports>(
     alloc: Global,
     read: &ReadProject,
     options: &RunOptions,
+    opener: &AsStored,
     disk: &mut D,
     procs: &mut P,
     out: &mut O,
@@ -296,7 +300,9 @@ pub fn test_project<D: Disk, P: Procs, O: Sink, R: Reports>(
         (R.failed_reports reports.new) input) }
 {
     match plan_runs(alloc, read, &options.wish) {
-        Ok(planned) => test_planned(alloc, planned, read, options, disk, procs, out, reports),
+        Ok(planned) => test_planned(
+            alloc, planned, read, options, opener, disk, procs, out, reports,
+        ),
         Err(_) => Outcome::NoMemory,
     }
 }

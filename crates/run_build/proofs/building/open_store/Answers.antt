@@ -11,5 +11,5 @@ returns-then-clean-clause-opens g c = λ tells.
 pub returns-clause-opens : goal.returns-clause-opens
 returns-clause-opens g c = λ tells.
     rw c.if-clean.false
-    (opens_store _ g.K.Records.records_of (g.D.Disk.moments c.args.disk.now) (g.D.Disk.moments c.from_disk.new.disk) c.from_disk.result
-    (c.from_disk.ensures.any_moment tells).follows (c.from_disk.ensures.opens tells) (c.from_disk.ensures.records tells) (IfOk-weaker c.from_disk.result _ _ (λ store in_step. g.met.K.Records.durable _ _ in_step) (c.from_disk.ensures.in_step tells)))
+    (opens_store _ g.K.Records.records_of (g.D.Disk.moments c.args.disk.now) (g.D.Disk.moments c.open.new.disk) c.open.result
+    (c.open.ensures.any_moment tells).follows (c.open.ensures.opens tells) (c.open.ensures.records tells) (IfOk-weaker c.open.result _ _ (λ store in_step. g.met.K.Records.durable _ _ in_step) (c.open.ensures.in_step tells)))
