@@ -80,7 +80,7 @@ pub fn build_first<P: Procs>(
         keep_going: false,
         clean: true,
     };
-    match build_over::<RequestStore, AsStored, MemDisk, P>(
+    match build_over::<RequestStore<'_>, AsStored, MemDisk, P>(
         alloc, graph, orders, &AsStored, disk, procs,
     ) {
         Ok(marks) => Ok(marks),

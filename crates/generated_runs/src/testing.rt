@@ -89,7 +89,7 @@ pub fn test_second<P: Procs>(
         keep_going: false,
         clean: false,
     };
-    match test_over::<RequestStore, AsStored, MemDisk, P>(
+    match test_over::<RequestStore<'_>, AsStored, MemDisk, P>(
         alloc,
         &read.graph,
         orders,

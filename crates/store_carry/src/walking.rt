@@ -197,7 +197,11 @@ fn plan_next(
 }
 
 /// Plans the latest record of each name, in order.
-fn plan_all(alloc: Global, held: &HeldPayloads<'_>, shelf: &PlacedShelf) -> Result<CarryPlan, NoMemory>
+fn plan_all(
+    alloc: Global,
+    held: &HeldPayloads<'_>,
+    shelf: &PlacedShelf,
+) -> Result<CarryPlan, NoMemory>
     requires shelf { IsShelfToCarry held.now.pieces shelf.now }
     ensures plan { IfOk result (IsPlanIn (placed_shelf held.now.pieces shelf.now)) }
     ensures carried { let there = placed_shelf held.now.pieces shelf.now in

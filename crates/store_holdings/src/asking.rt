@@ -97,7 +97,12 @@ fn count_after(texts: &PlacedTexts, source: Option<usize>) -> usize
 }
 
 /// The numbers of a text and of an artefact.
-pub fn text_refs(held: &HeldPayloads<'_>, texts: &PlacedTexts, text: &[u8], artefact: &[u8]) -> TextRefs
+pub fn text_refs(
+    held: &HeldPayloads<'_>,
+    texts: &PlacedTexts,
+    text: &[u8],
+    artefact: &[u8],
+) -> TextRefs
     requires { AreTextsPlaced held.now.pieces texts.now }
     ensures { AreRefs (placed_texts held.now.pieces texts.now) text.now artefact.now result }
 {

@@ -75,7 +75,13 @@ impl<'g> Taker for RequestTaker<'g> {
         // The names of files are numbered first, so that the number of a record's name is that of its file.
         number_names(alloc, &mut self.shelf, self.unnamed)?;
         self.unnamed = &[];
-        take_payload(alloc, &mut self.shelf, &mut self.set, &mut self.held, payload)?;
+        take_payload(
+            alloc,
+            &mut self.shelf,
+            &mut self.set,
+            &mut self.held,
+            payload,
+        )?;
         self.is_whole = true;
         Ok(())
     }

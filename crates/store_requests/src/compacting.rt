@@ -28,15 +28,15 @@ const DEAD_LIMIT: u64 = 1_048_576;
 
 /// What compaction keeps: what is held, and the side that is to be written.
 #[derive(Drop)]
-struct Compacted {
-    held: RequestHoldings,
+struct Compacted<'g> {
+    held: RequestHoldings<'g>,
     side: ReadySide,
 }
 
 /// Compacts where there is a next generation.
-pub fn compact_all<D: Disk>(
+pub fn compact_all<'g, D: Disk>(
     journal: &mut Journal,
-    held: &mut RequestHoldings,
+    held: &mut RequestHoldings<'g>,
     alloc: Global,
     disk: &mut D,
 ) -> Result<(), StoreFault>
@@ -86,9 +86,9 @@ pub fn compact_all<D: Disk>(
 }
 
 /// Puts the side that keeps the latest records in the place of the one that counts.
-fn replace_by<D: Disk>(
+fn replace_by<'g, D: Disk>(
     journal: &mut Journal,
-    held: &mut RequestHoldings,
+    held: &mut RequestHoldings<'g>,
     alloc: Global,
     disk: &mut D,
     plan: &CarryPlan,
@@ -142,12 +142,12 @@ fn replace_by<D: Disk>(
 }
 
 /// The side that keeps the latest records, and what it holds.
-fn carry_latest(
+fn carry_latest<'g>(
     journal: &Journal,
-    held: &RequestHoldings,
+    held: &RequestHoldings<'_>,
     alloc: Global,
     plan: &CarryPlan,
-) -> Result<Compacted, NoMemory>
+) -> Result<Compacted<'g>, NoMemory>
     requires next { journal.now.generation + 1 < 2 ^ 64 }
     requires form { journal.now.form ≡ 3 }
     requires plan { KeepsLatestRequests held.now.payloads plan.now }
@@ -184,9 +184,9 @@ fn is_asked(journal: &Journal, plan: &CarryPlan) -> bool
 }
 
 /// Compacts where what is held asks for it.
-pub fn compact_where_asked<D: Disk>(
+pub fn compact_where_asked<'g, D: Disk>(
     journal: &mut Journal,
-    held: &mut RequestHoldings,
+    held: &mut RequestHoldings<'g>,
     alloc: Global,
     disk: &mut D,
 ) -> Result<(), StoreFault>
@@ -233,8 +233,8 @@ pub fn compact_where_asked<D: Disk>(
 }
 
 /// Holds what was made in place of what was held.
-fn hold(held: &mut RequestHoldings, made: RequestHoldings)
-    ensures { held.new ≡ made }
+fn hold<'g>(held: &mut RequestHoldings<'g>, made: RequestHoldings<'g>)
+    ensures { held.new ≡ made.entry }
 {
     discard(mem::replace(held, made));
 }
@@ -251,4 +251,4 @@ fn asks(len: u64, live: u64) -> bool
 }
 
 /// Lets go of what is held.
-fn discard(_held: RequestHoldings) {}
+fn discard(_held: RequestHoldings<'_>) {}

@@ -10,10 +10,11 @@ ghost use Rattle.store_codec.specs.Carrying.{compacted_requests};
 ghost use Rattle.store_codec.specs.Shelves.{requests_among};
 ghost use Rattle.store_requests.specs.Stored.{AreAllOrLatest, AsksCarrying, HasRequestsOf, ImageAsksCarrying, IsRequestStoreInStep, kept_payloads, requests_in, store_of};
 
+use base::{Entry, NoMemory};
 use outside::{Disk, StoreFault};
 use std::alloc::Global;
-use store_holdings::RequestHoldings;
-use store_journal::{Journal, Opened, Payloads};
+use store_holdings::{RequestHoldings, RequestTaker};
+use store_journal::{FoundForm, Journal, Opened, Payloads};
 use store_takeover::taken_over;
 
 /// The form of the payloads of this store.
@@ -24,14 +25,18 @@ pub const EARLIER_FORM: u8 = 2;
 
 /// A journal, and what its payloads stand for.
 #[derive(Drop)]
-pub struct Parts {
+pub struct Parts<'g> {
     pub journal: Journal,
-    pub held: RequestHoldings,
+    pub held: RequestHoldings<'g>,
 }
 
 /// Opens the records of a disk as they are. Where a store of the earlier form counts, its records are first put in a side of
-/// their own, beside it.
-pub fn read<D: Disk>(alloc: Global, disk: &mut D) -> Result<Parts, StoreFault>
+/// their own, beside it. A text that one of some files has is lent from there.
+pub fn read<'g, D: Disk>(
+    alloc: Global,
+    disk: &mut D,
+    files: &'g [Entry],
+) -> Result<Parts<'g>, StoreFault>
     ensures any_moment { D.tells →
         AtAnyMoment (D.moments disk.old) (D.moments disk.new)
         (HasRequestsOf (D.moments disk.old).now) }
@@ -65,23 +70,40 @@ pub fn read<D: Disk>(alloc: Global, disk: &mut D) -> Result<Parts, StoreFault>
     ensures cause { StoreCounts result (D.failed_disk_calls disk.old)
         (D.failed_disk_calls disk.new) }
 {
-    let Opened { journal, payloads } = Journal::found_in(alloc, disk, FORM, EARLIER_FORM)?;
-    if journal.form() == FORM {
-        let held = RequestHoldings::of(alloc, payloads)?;
-        return Ok(Parts { journal, held });
+    let own = RequestTaker::over(alloc, files);
+    let earlier = Payloads::new(alloc);
+    let found = Journal::found_in(alloc, disk, FORM, EARLIER_FORM, own, earlier)?;
+    match found {
+        FoundForm::Newer(opened) => {
+            let parts = parts_of(opened)?;
+            Ok(parts)
+        }
+        FoundForm::Older(opened) => {
+            let Opened { journal, payloads } = opened;
+            let parts = take_over(alloc, disk, journal, payloads)?;
+            Ok(parts)
+        }
     }
-    let parts = take_over(alloc, disk, journal, payloads)?;
-    Ok(parts)
+}
+
+/// The journal, and what the payloads that were taken stand for.
+fn parts_of<'g>(opened: Opened<RequestTaker<'g>>) -> Result<Parts<'g>, NoMemory>
+    ensures journal { IfOk result (λ parts. parts.journal ≡ opened.entry.journal) }
+    ensures payloads { IfOk result (λ parts. parts.held.payloads ≡ opened.entry.payloads) }
+{
+    let Opened { journal, payloads } = opened;
+    let held = payloads.into_holdings()?;
+    Ok(Parts { journal, held })
 }
 
 /// Puts the records of a store of the earlier form in a side of their own, beside it. It takes all its memory before it
 /// writes.
-fn take_over<D: Disk>(
+fn take_over<'g, D: Disk>(
     alloc: Global,
     disk: &mut D,
     mut journal: Journal,
     opened: Payloads,
-) -> Result<Parts, StoreFault>
+) -> Result<Parts<'g>, StoreFault>
     requires usable { journal.broken ≡ false }
     requires form { journal.form ≡ 2 }
     requires in_step { D.tells → IsInStep journal (D.moments disk.old).now }

@@ -12,7 +12,7 @@ use outside::{Disk, Records, StoreFault};
 use std::alloc::Global;
 use store_holdings::Seats;
 
-impl Records for RequestStore {
+impl<'g> Records for RequestStore<'g> {
     type Prepared = PreparedRequest;
 
     type Seats = Seats;
@@ -34,11 +34,11 @@ impl Records for RequestStore {
     ghost is_seated = { λ store graph seats.
         AreSeats (request_shelf_of store.held.payloads) graph seats };
 
-    fn from_disk<D: Disk>(alloc: Global, disk: &mut D) -> Result<RequestStore, StoreFault> {
-        RequestStore::open(alloc, disk)
+    fn from_disk<D: Disk>(alloc: Global, disk: &mut D) -> Result<RequestStore<'g>, StoreFault> {
+        RequestStore::open(alloc, disk, &[])
     }
 
-    fn emptied<D: Disk>(alloc: Global, disk: &mut D) -> Result<RequestStore, StoreFault> {
+    fn emptied<D: Disk>(alloc: Global, disk: &mut D) -> Result<RequestStore<'g>, StoreFault> {
         RequestStore::emptied(alloc, disk)
     }
 

@@ -20,7 +20,7 @@ ghost use Rattle.store_requests.specs.Stored.{AreAllOrLatest, HasCarriedOver, Ha
 
 use crate::compacting::{compact_all, compact_where_asked};
 use crate::reading::{EARLIER_FORM, FORM, Parts, read};
-use base::{DiskFailed, FileName, Graph, NoMemory, Text};
+use base::{DiskFailed, Entry, FileName, Graph, NoMemory, Text};
 use outside::{Disk, StoreFault};
 use std::alloc::Global;
 use std::marker::Model;
@@ -31,12 +31,12 @@ use store_journal::{Journal, Payloads, Ready};
 /// depends on as they were built, and the artefact that it gave. The last record of a name counts. After `DiskFailed` a store is
 /// broken until it is opened again. Contracts see what its journal knows of the disk, and what it holds.
 #[derive(Drop)]
-pub struct RequestStore {
+pub struct RequestStore<'g> {
     journal: Journal,
-    held: RequestHoldings,
+    held: RequestHoldings<'g>,
 }
 
-impl Model for RequestStore {
+impl<'g> Model for RequestStore<'g> {
     ghost use Rattle.std.specs.Prelude.{◌≡◌};
     ghost use Rattle.store_requests.specs.Stored.{RequestStoreState};
 
@@ -62,11 +62,16 @@ impl Model for PreparedRequest {
     ghost view = { λ a. record { payload = a.ready; addition = a.addition } };
 }
 
-impl RequestStore {
+impl<'g> RequestStore<'g> {
     /// Opens the records of a disk, whatever the disk holds; where it has a store of the earlier form alone, those of its records
     /// are taken over that stand as requests. It first syncs both sides. It compacts them where dead bytes are
-    /// more than live ones and more than 1,048,576, and there is a next generation.
-    pub fn open<D: Disk>(alloc: Global, disk: &mut D) -> Result<RequestStore, StoreFault>
+    /// more than live ones and more than 1,048,576, and there is a next generation. A text that one of some files has isn't held
+    /// once more: it is lent from there.
+    pub fn open<D: Disk>(
+        alloc: Global,
+        disk: &mut D,
+        files: &'g [Entry],
+    ) -> Result<RequestStore<'g>, StoreFault>
         // At any moment, after a fault too, a stop can leave the records of an image at entry, or the latest of these.
         ensures any_moment { D.tells →
             AtAnyMoment (D.moments disk.old) (D.moments disk.new)
@@ -107,14 +112,16 @@ impl RequestStore {
         let Parts {
             mut journal,
             mut held,
-        } = read(alloc, disk)?;
-        compact_where_asked(&mut journal, &mut held, alloc, disk)?;
-        Ok(RequestStore { journal, held })
+        } = read(alloc, disk, files)?;
+        match compact_where_asked(&mut journal, &mut held, alloc, disk) {
+            Ok(()) => Ok(RequestStore { journal, held }),
+            Err(fault) => Err(fault),
+        }
     }
 
     /// Opens a disk without records, whatever it holds, also of the earlier form. It first syncs both sides, and takes up nothing
     /// of what they hold.
-    pub fn emptied<D: Disk>(alloc: Global, disk: &mut D) -> Result<RequestStore, StoreFault>
+    pub fn emptied<D: Disk>(alloc: Global, disk: &mut D) -> Result<RequestStore<'g>, StoreFault>
         // Once both sides are synced, a stop can leave the records of what reads gave at entry, or none.
         ensures opens { D.tells →
             let before = requests_in (reads_of (D.moments disk.old).now) in

@@ -30,11 +30,7 @@ pub fn number_name(shelf: &mut PlacedShelf, name: FileName) -> Result<usize, NoM
 }
 
 /// Numbers the names of files, in their order, of those that have no number. What is placed stands for what it stood for.
-pub fn number_names(
-    alloc: Global,
-    shelf: &mut PlacedShelf,
-    files: &[Entry],
-) -> Result<(), NoMemory>
+pub fn number_names(alloc: Global, shelf: &mut PlacedShelf, files: &[Entry]) -> Result<(), NoMemory>
     ensures are { (payloads : List (List ℕ)) →
         IsShelfPlaced payloads shelf.old → IsShelfPlaced payloads shelf.new }
     ensures is { (payloads : List (List ℕ)) → IsShelfPlaced payloads shelf.old →

@@ -48,7 +48,7 @@ pub fn entry_of(
 }
 
 /// The product that the latest record of the name of a node built.
-fn product_of(held: &RequestHoldings, table: &NodeTable, node: usize) -> usize
+fn product_of(held: &RequestHoldings<'_>, table: &NodeTable, node: usize) -> usize
     requires within { node < length table.now.nodes }
     requires built { let records = (request_shelf_of held.now.payloads).records in
         latest (named_by table.now.nodes node) records ≢ None }
@@ -67,7 +67,7 @@ fn product_of(held: &RequestHoldings, table: &NodeTable, node: usize) -> usize
 /// The products that the latest records of the names of nodes built.
 pub fn products_of(
     alloc: Global,
-    held: &RequestHoldings,
+    held: &RequestHoldings<'_>,
     table: &NodeTable,
     nodes: &[usize],
 ) -> Result<Items<usize>, NoMemory>

@@ -23,7 +23,7 @@ use store_node_shelf::{Pieces, ShelfPlaces, shelf_of};
 fn add_row(
     alloc: Global,
     journal: &Journal,
-    held: &mut RequestHoldings,
+    held: &mut RequestHoldings<'_>,
     pieces: &Pieces,
     shelf: &ShelfPlaces,
     number: usize,
@@ -47,13 +47,13 @@ fn add_row(
 }
 
 /// The requests that stand for some records, one after the other.
-fn requests_of(
+fn requests_of<'g>(
     alloc: Global,
     journal: &Journal,
     pieces: &Pieces,
     shelf: &ShelfPlaces,
     rows: &[usize],
-) -> Result<RequestHoldings, NoMemory>
+) -> Result<RequestHoldings<'g>, NoMemory>
     requires shelf { IsShelf pieces.now.payloads shelf.now }
     requires nodes { AreNodes (texts_in pieces.now.payloads shelf.now.texts) shelf.now.table.nodes }
     requires rows { All (λ number. number < length shelf.now.records.places.items) rows.now }
@@ -74,12 +74,12 @@ fn requests_of(
 }
 
 /// The requests that stand for the latest records of a shelf of nodes.
-fn shelf_requests(
+fn shelf_requests<'g>(
     alloc: Global,
     journal: &Journal,
     pieces: &Pieces,
     shelf: &ShelfPlaces,
-) -> Result<RequestHoldings, NoMemory>
+) -> Result<RequestHoldings<'g>, NoMemory>
     requires shelf { IsShelf pieces.now.payloads shelf.now }
     requires is { shelf_in pieces.now.payloads shelf.now ≡ node_shelf_of pieces.now.payloads }
     ensures { IfOk result
@@ -95,7 +95,7 @@ fn shelf_requests(
 }
 
 /// The payloads that keep the latest records of what is held, and nothing else.
-fn payloads_of(alloc: Global, held: &RequestHoldings) -> Result<Payloads, NoMemory>
+fn payloads_of(alloc: Global, held: &RequestHoldings<'_>) -> Result<Payloads, NoMemory>
     ensures is { IfOk result
         (λ payloads.
         payloads ≡ compacted_requests (request_shelf_of held.now.payloads).records) }
@@ -110,11 +110,11 @@ fn payloads_of(alloc: Global, held: &RequestHoldings) -> Result<Payloads, NoMemo
 }
 
 /// The requests that stand for the latest records of payloads of the earlier form.
-fn requests_from(
+fn requests_from<'g>(
     alloc: Global,
     journal: &Journal,
     pieces: &Pieces,
-) -> Result<RequestHoldings, NoMemory>
+) -> Result<RequestHoldings<'g>, NoMemory>
     ensures { IfOk result
         (λ held.
         (request_shelf_of held.payloads).records

@@ -23,7 +23,7 @@ const OVER_EARLIER: [u8; 51] = [
 ];
 
 /// The payloads that compaction keeps.
-fn kept_of(alloc: Global, held: &RequestHoldings) -> Result<Payloads, NoMemory> {
+fn kept_of(alloc: Global, held: &RequestHoldings<'_>) -> Result<Payloads, NoMemory> {
     let plan = held.latest_plan(alloc)?;
     held.latest_payloads(alloc, &plan)
 }
@@ -35,7 +35,7 @@ fn compacted(alloc: Global, third: &[u8]) -> Result<Payloads, NoMemory> {
 }
 
 /// How many bytes compaction counts.
-fn count_of(alloc: Global, held: &RequestHoldings) -> Result<u64, NoMemory> {
+fn count_of(alloc: Global, held: &RequestHoldings<'_>) -> Result<u64, NoMemory> {
     let plan = held.latest_plan(alloc)?;
     Ok(plan.len)
 }

@@ -46,7 +46,7 @@ fn letter(artefact: Option<&[u8]>) -> u8 {
 }
 
 /// Of both files `f` where the latest record fits, and else `s`; and then the artefacts that are lent.
-fn letters(alloc: Global, held: &RequestHoldings, graph: &Graph) -> Result<[u8; 4], NoMemory> {
+fn letters(alloc: Global, held: &RequestHoldings<'_>, graph: &Graph) -> Result<[u8; 4], NoMemory> {
     let seats = held.seats(alloc, graph)?;
     if graph.len() != 2 {
         return Ok(*b"????");

@@ -33,7 +33,7 @@ pub(super) fn disk_of(alloc: Global, failing: &[u64], bytes: &[u8]) -> Result<Me
 /// Adds a record of a file, over seats that are of the records with it afterwards.
 fn keep<D: Disk>(
     alloc: Global,
-    store: &mut RequestStore,
+    store: &mut RequestStore<'_>,
     disk: &mut D,
     seats: &mut Seats,
     graph: &Graph,
@@ -62,7 +62,7 @@ fn keep<D: Disk>(
 /// Adds a record of the first file of a graph, with the artefact `y`.
 fn keep_first<D: Disk>(
     alloc: Global,
-    store: &mut RequestStore,
+    store: &mut RequestStore<'_>,
     disk: &mut D,
     seats: &mut Seats,
     graph: &Graph,
@@ -94,7 +94,7 @@ pub(super) fn mark(text: &[u8]) -> u8 {
 }
 
 /// The artefact of the file, or `-` where it has no record.
-fn letter(store: &RequestStore, name: &FileName) -> u8 {
+fn letter(store: &RequestStore<'_>, name: &FileName) -> u8 {
     match store.artefact(name) {
         Some(artefact) => mark(artefact),
         None => b'-',
@@ -137,7 +137,7 @@ fn is_first(deps: &[u32]) -> bool
 }
 
 /// Whether the second file of a graph depends on the first alone, which has a record of what would be asked now.
-fn may_follow(store: &RequestStore, seats: &Seats, graph: &Graph) -> bool
+fn may_follow(store: &RequestStore<'_>, seats: &Seats, graph: &Graph) -> bool
     requires both { 1 < length graph.now }
     requires seats { AreSeats (request_shelf_of store.now.held.payloads) graph.now seats.now }
     ensures { IsTrue result →
@@ -153,7 +153,7 @@ fn may_follow(store: &RequestStore, seats: &Seats, graph: &Graph) -> bool
 /// Adds a record of the second file, with the artefact `z`, where the first one has one.
 fn keep_second<D: Disk>(
     alloc: Global,
-    store: &mut RequestStore,
+    store: &mut RequestStore<'_>,
     disk: &mut D,
     seats: &mut Seats,
     graph: &Graph,
@@ -173,7 +173,7 @@ fn keep_second<D: Disk>(
 /// Adds a record of the first file, and then of both where that is asked for, over the same seats.
 fn keep_some<D: Disk>(
     alloc: Global,
-    store: &mut RequestStore,
+    store: &mut RequestStore<'_>,
     disk: &mut D,
     graph: &Graph,
     both: bool,
@@ -202,7 +202,7 @@ pub(super) enum Change {
 
 fn make_change<D: Disk>(
     alloc: Global,
-    store: &mut RequestStore,
+    store: &mut RequestStore<'_>,
     disk: &mut D,
     change: Change,
     graph: &Graph,
@@ -221,7 +221,7 @@ fn make_change<D: Disk>(
 }
 
 /// Of both files `f` where the latest record has what would be asked now, and else `s`; and then the artefacts that are lent.
-fn seen(alloc: Global, store: &RequestStore, graph: &Graph) -> Result<[u8; 4], NoMemory>
+fn seen(alloc: Global, store: &RequestStore<'_>, graph: &Graph) -> Result<[u8; 4], NoMemory>
     requires { 1 < length graph.now }
 {
     let seats = store.seats(alloc, graph)?;
@@ -240,7 +240,7 @@ fn seen(alloc: Global, store: &RequestStore, graph: &Graph) -> Result<[u8; 4], N
 /// The same after a change.
 fn seen_after<D: Disk>(
     alloc: Global,
-    store: &mut RequestStore,
+    store: &mut RequestStore<'_>,
     disk: &mut D,
     by: Change,
     graph: &Graph,
@@ -253,7 +253,8 @@ fn seen_after<D: Disk>(
     Ok(seen(alloc, store, graph)?)
 }
 
-/// Opens the store of a disk, and gives what is seen after a change. It alone owns a store.
+/// Opens the store of a disk, which lends from the files the texts that these have, and gives what is seen after a change. It
+/// alone owns a store.
 pub(super) fn seen_on<D: Disk>(
     alloc: Global,
     disk: &mut D,
@@ -262,12 +263,12 @@ pub(super) fn seen_on<D: Disk>(
 ) -> Result<[u8; 4], StoreFault>
     requires { 1 < length graph.now }
 {
-    let mut store = RequestStore::open(alloc, disk)?;
+    let mut store = RequestStore::open(alloc, disk, graph.as_slice())?;
     seen_after(alloc, &mut store, disk, by, graph)
 }
 
 /// What is seen in a store.
-fn seen_in(alloc: Global, store: &RequestStore, graph: &Graph) -> Result<[u8; 4], StoreFault>
+fn seen_in(alloc: Global, store: &RequestStore<'_>, graph: &Graph) -> Result<[u8; 4], StoreFault>
     requires { 1 < length graph.now }
 {
     Ok(seen(alloc, store, graph)?)

@@ -99,11 +99,11 @@ fn digit_of(number: u64) -> u8 {
 
 fn put_text(
     out: &mut Vec<u8>,
-    held: &HeldPayloads,
+    held: &HeldPayloads<'_>,
     shelf: &PlacedShelf,
     number: usize,
 ) -> Result<(), NoMemory>
-    requires { AreTextsPlaced held.now.payloads shelf.now.texts }
+    requires { AreTextsPlaced held.now.pieces shelf.now.texts }
 {
     if number < shelf.texts.places.len() {
         out.push(mark(text_at(held, &shelf.texts, number)))?;
@@ -121,8 +121,12 @@ fn put_name(out: &mut Vec<u8>, shelf: &PlacedShelf, number: usize) -> Result<(),
     Ok(())
 }
 
-fn put_texts(out: &mut Vec<u8>, held: &HeldPayloads, shelf: &PlacedShelf) -> Result<(), NoMemory>
-    requires { AreTextsPlaced held.now.payloads shelf.now.texts }
+fn put_texts(
+    out: &mut Vec<u8>,
+    held: &HeldPayloads<'_>,
+    shelf: &PlacedShelf,
+) -> Result<(), NoMemory>
+    requires { AreTextsPlaced held.now.pieces shelf.now.texts }
 {
     for number in 0..shelf.texts.places.len() {
         put_text(out, held, shelf, number)?;
@@ -133,11 +137,11 @@ fn put_texts(out: &mut Vec<u8>, held: &HeldPayloads, shelf: &PlacedShelf) -> Res
 
 fn put_product(
     out: &mut Vec<u8>,
-    held: &HeldPayloads,
+    held: &HeldPayloads<'_>,
     shelf: &PlacedShelf,
     number: usize,
 ) -> Result<(), NoMemory>
-    requires { AreTextsPlaced held.now.payloads shelf.now.texts }
+    requires { AreTextsPlaced held.now.pieces shelf.now.texts }
 {
     if number < shelf.products.len() {
         let row = *shelf.products.key(number);
@@ -147,8 +151,12 @@ fn put_product(
     Ok(())
 }
 
-fn put_products(out: &mut Vec<u8>, held: &HeldPayloads, shelf: &PlacedShelf) -> Result<(), NoMemory>
-    requires { AreTextsPlaced held.now.payloads shelf.now.texts }
+fn put_products(
+    out: &mut Vec<u8>,
+    held: &HeldPayloads<'_>,
+    shelf: &PlacedShelf,
+) -> Result<(), NoMemory>
+    requires { AreTextsPlaced held.now.pieces shelf.now.texts }
 {
     for number in 0..shelf.products.len() {
         put_product(out, held, shelf, number)?;
@@ -175,11 +183,11 @@ fn put_numbers(out: &mut Vec<u8>, numbers: &Numbers<'_>) -> Result<(), NoMemory>
 
 fn put_record(
     out: &mut Vec<u8>,
-    held: &HeldPayloads,
+    held: &HeldPayloads<'_>,
     shelf: &PlacedShelf,
     row: RecordRow,
 ) -> Result<(), NoMemory>
-    requires { AreTextsPlaced held.now.payloads shelf.now.texts }
+    requires { AreTextsPlaced held.now.pieces shelf.now.texts }
 {
     if row.payload < held.len() {
         let bytes = held.get(row.payload);
@@ -193,8 +201,12 @@ fn put_record(
     Ok(())
 }
 
-fn put_records(out: &mut Vec<u8>, held: &HeldPayloads, shelf: &PlacedShelf) -> Result<(), NoMemory>
-    requires { AreTextsPlaced held.now.payloads shelf.now.texts }
+fn put_records(
+    out: &mut Vec<u8>,
+    held: &HeldPayloads<'_>,
+    shelf: &PlacedShelf,
+) -> Result<(), NoMemory>
+    requires { AreTextsPlaced held.now.pieces shelf.now.texts }
 {
     for row in &shelf.rows {
         put_record(out, held, shelf, *row)?;

@@ -105,13 +105,17 @@ pub(super) fn disk_of(alloc: Global, stored: Stored) -> Result<MemDisk, StoreFau
 }
 
 /// Such a store.
-fn store_of(alloc: Global, stored: Stored) -> Result<RequestStore, StoreFault> {
+fn store_of(alloc: Global, stored: Stored) -> Result<RequestStore<'static>, StoreFault> {
     let mut disk = disk_of(alloc, stored)?;
-    RequestStore::open(alloc, &mut disk)
+    RequestStore::open(alloc, &mut disk, &[])
 }
 
 /// Whether each file of a graph has a record of what would be asked for it now.
-fn is_recorded_in(alloc: Global, graph: &Graph, store: &RequestStore) -> Result<bool, NoMemory> {
+fn is_recorded_in(
+    alloc: Global,
+    graph: &Graph,
+    store: &RequestStore<'_>,
+) -> Result<bool, NoMemory> {
     let seats = store.seats(alloc, graph)?;
     are_recorded(alloc, graph, store, &seats)
 }
@@ -306,7 +310,7 @@ fn told_by(
     rt: &impl Abort,
     alloc: Global,
     graph: &Graph,
-    store: &RequestStore,
+    store: &RequestStore<'_>,
     seats: &Seats,
     lines: &str,
     procs: &mut ScriptProcs,
@@ -324,7 +328,7 @@ fn told_over(
     rt: &impl Abort,
     alloc: Global,
     graph: &Graph,
-    store: &RequestStore,
+    store: &RequestStore<'_>,
     lines: &str,
     way: &Way,
 ) -> Result<Told, NoMemory> {

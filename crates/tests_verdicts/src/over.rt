@@ -42,7 +42,7 @@ fn test_disk(
         keep_going: false,
         clean: false,
     };
-    test_over::<RequestStore, AsStored, MemDisk, ScriptProcs>(
+    test_over::<RequestStore<'_>, AsStored, MemDisk, ScriptProcs>(
         alloc,
         graph,
         options,

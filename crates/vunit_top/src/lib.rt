@@ -4,6 +4,7 @@
 mod children;
 mod ends;
 mod generating;
+mod lending;
 mod tests;
 mod top;
 mod words;

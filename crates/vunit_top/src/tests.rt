@@ -19,6 +19,7 @@ ghost use Rattle.vunit_top.specs.Reading.{Runs, chosen, testing_with, testing_of
 ghost use Rattle.vunit_top.specs.Runs.{RunsAs, run_of};
 ghost use Rattle.vunit_top.specs.Said.{IsAccounted, IsSaid, Said, SaysRun, fault_counts, fault_outcome, plain_run};
 
+use crate::lending::LendsTexts;
 use crate::words::RunOptions;
 use base::{CASE_LIMIT, Graph, MaybeText, NoMemory, SLOT_LIMIT, Text};
 use base_outcomes::{Outcome, Which};
@@ -27,7 +28,6 @@ use outside::{Disk, Procs, ReportFault, Reports, Sink, SinkFault};
 use project_reading::{ReadProject, Wish};
 use report_run::warning_text;
 use report_tested::{RunSaid, TestWords, said_of_run};
-use run_build::AsStored;
 use run_tested::{Tested, test_over};
 use std::alloc::Global;
 use store_requests::RequestStore;
@@ -192,7 +192,6 @@ fn test_planned<D: Disk, P: Procs, O: Sink, R: Reports>(
     planned: Planned,
     read: &ReadProject,
     options: &RunOptions,
-    opener: &AsStored,
     disk: &mut D,
     procs: &mut P,
     out: &mut O,
@@ -231,14 +230,17 @@ fn test_planned<D: Disk, P: Procs, O: Sink, R: Reports>(
         (R.failed_reports reports.new) input) }
 {
     let Planned { warnings, runs } = planned;
-    match test_over::<RequestStore, AsStored, D, P>(
+    let opener = LendsTexts {
+        files: read.graph.as_slice(),
+    };
+    match test_over::<RequestStore<'_>, LendsTexts<'_>, D, P>(
         alloc,
         &read.graph,
         options.build,
         &runs,
         &read.project.simulator,
         options.fail_fast,
-        opener,
+        &opener,
         disk,
         procs,
     ) {
@@ -263,7 +265,6 @@ pub fn test_project<D: Disk, P: Procs, O: Sink, R: Reports>(
     alloc: Global,
     read: &ReadProject,
     options: &RunOptions,
-    opener: &AsStored,
     disk: &mut D,
     procs: &mut P,
     out: &mut O,
@@ -300,9 +301,7 @@ pub fn test_project<D: Disk, P: Procs, O: Sink, R: Reports>(
         (R.failed_reports reports.new) input) }
 {
     match plan_runs(alloc, read, &options.wish) {
-        Ok(planned) => test_planned(
-            alloc, planned, read, options, opener, disk, procs, out, reports,
-        ),
+        Ok(planned) => test_planned(alloc, planned, read, options, disk, procs, out, reports),
         Err(_) => Outcome::NoMemory,
     }
 }

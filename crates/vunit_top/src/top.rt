@@ -34,6 +34,7 @@ use crate::ends::{
     say, say_build, say_files, say_limit, say_refusal, say_tests, say_usage, write_report,
 };
 use crate::generating::{generated_by, say_generated};
+use crate::lending::LendsTexts;
 use crate::tests::test_project;
 use crate::words::{Job, begins_with, job_of, wish_of};
 use base::{FILE_LIMIT, Graph, NoMemory, SLOT_LIMIT, Text, TextList};
@@ -43,7 +44,7 @@ use outside::{Disk, Procs, Reports, Sink, Source, Tree};
 use project_reading::{ReadProject, ReadStop, chosen, read_project};
 use report_lists::export_json;
 use report_run::warning_text;
-use run_build::{AsStored, BuildOptions, build_over};
+use run_build::{BuildOptions, build_over};
 use run_command_line::{Setting, WordsFault, read_words};
 use std::alloc::Global;
 use store_requests::RequestStore;
@@ -54,7 +55,6 @@ fn build_graph<D: Disk, P: Procs, O: Sink>(
     warnings: Text,
     graph: &Graph,
     options: BuildOptions,
-    opener: &AsStored,
     disk: &mut D,
     procs: &mut P,
     out: &mut O,
@@ -92,7 +92,12 @@ fn build_graph<D: Disk, P: Procs, O: Sink>(
         (fault_counts tree (D.failed_disk_calls disk.new) (P.failed_starts procs.new)
         (P.lost_children procs.new) (O.failed_puts out.new) report input) }
 {
-    match build_over::<RequestStore, AsStored, D, P>(alloc, graph, options, opener, disk, procs) {
+    let opener = LendsTexts {
+        files: graph.as_slice(),
+    };
+    match build_over::<RequestStore<'_>, LendsTexts<'_>, D, P>(
+        alloc, graph, options, &opener, disk, procs,
+    ) {
         Ok(marks) => say_build(alloc, warnings, graph, &marks, out),
         Err(BuildFault::NoMemory) => Outcome::NoMemory,
         Err(BuildFault::StartFailed) => Outcome::OutsideFault(Which::Start),
@@ -106,7 +111,6 @@ fn build_project<D: Disk, P: Procs, O: Sink>(
     alloc: Global,
     read: &ReadProject,
     options: BuildOptions,
-    opener: &AsStored,
     disk: &mut D,
     procs: &mut P,
     out: &mut O,
@@ -147,16 +151,7 @@ fn build_project<D: Disk, P: Procs, O: Sink>(
         (P.lost_children procs.new) (O.failed_puts out.new) report input) }
 {
     match warning_text(alloc, &read.project, &read.warnings) {
-        Ok(warnings) => build_graph(
-            alloc,
-            warnings,
-            &read.graph,
-            options,
-            opener,
-            disk,
-            procs,
-            out,
-        ),
+        Ok(warnings) => build_graph(alloc, warnings, &read.graph, options, disk, procs, out),
         Err(_) => Outcome::NoMemory,
     }
 }
@@ -252,17 +247,12 @@ fn run_job<D: Disk, P: Procs, O: Sink, R: Reports>(
         (P.lost_children procs.new) (O.failed_puts out.new)
         (R.failed_reports reports.new) input) }
 {
-    let opener = AsStored;
     match job {
         Job::ListFiles(_wish) => say_files(alloc, &read.graph, out),
         Job::ListTests(wish) => list_chosen(alloc, read, &wish.patterns, out),
         Job::Export(path, wish) => export_chosen(alloc, read, &path, &wish.patterns, reports),
-        Job::Build(options, _wish) => {
-            build_project(alloc, read, options, &opener, disk, procs, out)
-        }
-        Job::Run(options) => {
-            test_project(alloc, read, &options, &opener, disk, procs, out, reports)
-        }
+        Job::Build(options, _wish) => build_project(alloc, read, options, disk, procs, out),
+        Job::Run(options) => test_project(alloc, read, &options, disk, procs, out, reports),
     }
 }
 

@@ -26,8 +26,8 @@ returns-in-Ok-clause-any_moment g c = λ told.
     change_leaves (reads_of old.now) c.args.opened c.in_ok-taken.taken (c.requires.none told) (in_step_form c.args.journal old.now 2 (c.requires.in_step told) c.requires.form) (c.requires.payloads told) c.in_ok-taken.ensures.records c.in_ok-taken.ensures.is
     old (g.D.Disk.moments c.change_form.new.disk) c.args.journal.form c.in_ok-side.side c.requires.form c.in_ok-side.ensures (c.change_form.ensures.any_moment told)
 
-pub returns-in-Err-clause-any_moment : goal.returns-in-Err-clause-any_moment
-returns-in-Err-clause-any_moment g c = λ told.
+pub returns-clause-any_moment : goal.returns-clause-any_moment
+returns-clause-any_moment g c = λ told.
     let old = g.D.Disk.moments c.args.disk.now in
     change_leaves (reads_of old.now) c.args.opened c.in_ok-taken.taken (c.requires.none told) (in_step_form c.args.journal old.now 2 (c.requires.in_step told) c.requires.form) (c.requires.payloads told) c.in_ok-taken.ensures.records c.in_ok-taken.ensures.is
     old (g.D.Disk.moments c.change_form.new.disk) c.args.journal.form c.in_ok-side.side c.requires.form c.in_ok-side.ensures (c.change_form.ensures.any_moment told)
