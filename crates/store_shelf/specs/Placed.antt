@@ -9,8 +9,6 @@ use Rattle.outside.specs.Records.{Record as RequestRecord}
 use Rattle.store_codec.specs.Ranges.{counted_numbers, counted_words, ranged}
 use Rattle.store_codec.specs.Shelves.{RequestShelf, product_at, request_shelf_of}
 use Rattle.store_shelf.specs.declared.held.CutPayload.{CutPayload}
-use Rattle.store_shelf.specs.declared.held.FirstPieces.{FirstPieces}
-use Rattle.store_shelf.specs.declared.held.FirstPieces.TheVariants.{OfFiles, OfPayloads}
 use Rattle.store_shelf.specs.declared.held.HeldPayload.{HeldPayload}
 use Rattle.store_shelf.specs.declared.held.HeldPayload.TheVariants.{Whole, Cut, Written}
 use Rattle.store_shelf.specs.declared.products.ProductRow.{ProductRow}
@@ -46,25 +44,12 @@ held_payload texts (Written payload) = payload
 abbrev pub file_texts : List Entry → List (List ℕ)
 file_texts files = map (λ file. file.text) files
 
-abbrev pub texts_of_files : FirstPieces → List (List ℕ)
-texts_of_files (OfFiles files) = file_texts files.now
-texts_of_files (OfPayloads opened) = []
+-- first the texts of files, then what a store was opened with, then each payload that came later
+abbrev pub held_pieces : List Entry → List (List ℕ) → List HeldPayload → List (List ℕ)
+held_pieces files opened more = file_texts files ++ (opened ++ map held_piece more)
 
-abbrev pub first_pieces : FirstPieces → List (List ℕ)
-first_pieces (OfFiles files) = file_texts files.now
-first_pieces (OfPayloads opened) = opened
-
--- the payloads that a store was opened with
-abbrev pub first_payloads : FirstPieces → List (List ℕ)
-first_payloads (OfFiles files) = []
-first_payloads (OfPayloads opened) = opened
-
--- the first pieces, and then one for each payload that came later
-abbrev pub held_pieces : FirstPieces → List HeldPayload → List (List ℕ)
-held_pieces first more = first_pieces first ++ map held_piece more
-
-abbrev pub held_payloads : FirstPieces → List HeldPayload → List (List ℕ)
-held_payloads first more = first_payloads first ++ map (held_payload (texts_of_files first)) more
+abbrev pub held_payloads : List Entry → List (List ℕ) → List HeldPayload → List (List ℕ)
+held_payloads files opened more = opened ++ map (held_payload (file_texts files)) more
 
 abbrev pub nth_payload : List (List ℕ) → ℕ → List ℕ
 nth_payload payloads number = slice_index_or payloads number []

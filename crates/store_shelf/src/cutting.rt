@@ -13,10 +13,11 @@ ghost use Rattle.store_shelf.specs.Cuts.{AreSameParts, HasTaken, IsCutOf, IsWith
 ghost use Rattle.store_shelf.specs.Placed.{HasRowRoom, IsHeld, IsShelfPlaced, nth_payload, placed_shelf, placed_texts, with_cut};
 
 use crate::checking::checked_request;
+use crate::held::CutPayload;
 use crate::putting::put_request;
 use crate::taking::take_up;
 use crate::texts::put_text;
-use crate::{CutPayload, HeldPayloads, PlacedShelf, TextNumbers, number_name};
+use crate::{HeldPayloads, PlacedShelf, TextNumbers, number_name};
 use base::{NoMemory, Text, TextList};
 use base_numbering::NumberSet;
 use std::alloc::Global;

@@ -12,10 +12,10 @@ mod taking;
 mod texts;
 
 pub use checking::TextNumbers;
-pub use cutting::{CutRequest, take_payload};
-pub use held::{CutPayload, FirstPieces, HeldPayload, HeldPayloads};
+pub use cutting::take_payload;
+pub use held::HeldPayloads;
 pub use products::ProductRow;
 pub use putting::put_request;
 pub use shelf::{PlacedShelf, RecordRow};
-pub use taking::{number_name, number_names, take_up, taken_up};
+pub use taking::{number_name, number_names, taken_up};
 pub use texts::{PlacedText, PlacedTexts, find_text, text_at};

@@ -142,7 +142,7 @@ fn take_product(
 }
 
 /// Takes up the payload that is a piece.
-pub fn take_up(
+pub(crate) fn take_up(
     alloc: Global,
     shelf: &mut PlacedShelf,
     set: &mut NumberSet,
