@@ -24,7 +24,8 @@ pub trait Opener<K: Records> {
         ensures records { D.tells →
             let before = K.records_of (reads_of (D.moments disk.old).now) in
             OnOk result (IsAllOrLatest before (K.records_of (reads_of (D.moments disk.new).now))) }
-        ensures in_step { D.tells → IfOk result (λ store. K.in_step store (D.moments disk.new).now) }
+        ensures in_step { D.tells →
+            IfOk result (λ store. K.in_step store (D.moments disk.new).now) }
         ensures usable { IfOk result (λ store. K.broken store ≡ false) }
         ensures cause { StoreCounts result (D.failed_disk_calls disk.old)
             (D.failed_disk_calls disk.new) };

@@ -305,7 +305,8 @@ pub fn checked_request(
     name: usize,
 ) -> Result<Option<TextNumbers>, NoMemory>
     requires shelf { IsShelfPlaced held.now.pieces shelf.now }
-    requires name { IsNameNumber shelf.now.names.keys (request_in_ranges bytes.now draft).name name }
+    requires name { IsNameNumber shelf.now.names.keys
+        (request_in_ranges bytes.now draft).name name }
     requires fits { FitsName (request_in_ranges bytes.now draft).name }
     ensures { IfOk result
         (IsCheckedRequest (placed_shelf held.now.pieces shelf.now)

@@ -238,7 +238,8 @@ fn take_cut(
     requires read { request_payload_in payload.now
         ≡ Some (OfRequest (request_in_ranges payload.now draft)) }
     requires source { draft.source ≡ Full range }
-    requires name { IsNameNumber shelf.old.names.keys (request_in_ranges payload.now draft).name name }
+    requires name { IsNameNumber shelf.old.names.keys
+        (request_in_ranges payload.now draft).name name }
     requires request { IsRequest (placed_shelf held.old.pieces shelf.old)
         (request_in_ranges payload.now draft) }
     requires numbers { AreTextNumbers (placed_texts held.old.pieces shelf.old.texts)
@@ -274,7 +275,8 @@ fn take_over_file(
     requires read { request_payload_in payload.now
         ≡ Some (OfRequest (request_in_ranges payload.now draft)) }
     requires source { draft.source ≡ Full range }
-    requires name { IsNameNumber shelf.old.names.keys (request_in_ranges payload.now draft).name name }
+    requires name { IsNameNumber shelf.old.names.keys
+        (request_in_ranges payload.now draft).name name }
     requires fits { FitsName (request_in_ranges payload.now draft).name }
     ensures { IfOk result (λ taken. TookOrLeft taken held.old held.new shelf.new payload.now) }
 {
