@@ -93,9 +93,13 @@ fn seen(
     Ok(seen_after(alloc, second, third, &A, &graph)?)
 }
 
-/// The payload that is prepared for the second file after two payloads, if that fits.
-fn prepared(alloc: Global, graph: &Graph, letter: u8) -> Result<Option<Text>, NoMemory> {
-    let mut held = RequestHoldings::of(alloc, opened(alloc, &A, &B, &[])?)?;
+/// The payload that is prepared for the second file, if that fits.
+fn prepared_in(
+    alloc: Global,
+    held: &mut RequestHoldings<'_>,
+    graph: &Graph,
+    letter: u8,
+) -> Result<Option<Text>, NoMemory> {
     if graph.len() != 2 {
         return Ok(None);
     }
@@ -106,6 +110,12 @@ fn prepared(alloc: Global, graph: &Graph, letter: u8) -> Result<Option<Text>, No
     let artefact = Text::from_slice(alloc, &[letter])?;
     let next = held.prepare(alloc, &seats, graph, 1, &artefact)?;
     Ok(Some(next.bytes))
+}
+
+/// The same after two payloads. This function alone owns what is held.
+fn prepared(alloc: Global, graph: &Graph, letter: u8) -> Result<Option<Text>, NoMemory> {
+    let mut held = RequestHoldings::of(alloc, opened(alloc, &A, &B, &[])?)?;
+    prepared_in(alloc, &mut held, graph, letter)
 }
 
 /// Whether it has these bytes.
