@@ -31,7 +31,7 @@ pub struct Parts<'g> {
 }
 
 /// Opens the records of a disk as they are. Where a store of the earlier form counts, its records are first put in a side of
-/// their own, beside it. A text that one of some files has is lent from there.
+/// their own, beside it. A file of a record's name, words and text lends that text.
 pub fn read<'g, D: Disk>(
     alloc: Global,
     disk: &mut D,

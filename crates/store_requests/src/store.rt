@@ -65,8 +65,8 @@ impl Model for PreparedRequest {
 impl<'g> RequestStore<'g> {
     /// Opens the records of a disk, whatever the disk holds; where it has a store of the earlier form alone, those of its records
     /// are taken over that stand as requests. It first syncs both sides. It compacts them where dead bytes are
-    /// more than live ones and more than 1,048,576, and there is a next generation. A text that one of some files has isn't held
-    /// once more: it is lent from there.
+    /// more than live ones and more than 1,048,576, and there is a next generation. Of some files, one that has the name, the
+    /// words and the text of a record lends that text, which isn't held once more, until the store is compacted.
     pub fn open<D: Disk>(
         alloc: Global,
         disk: &mut D,

@@ -360,8 +360,8 @@ fn take_whole(
     Ok(())
 }
 
-/// Takes up one more payload. The text that it has is lent from the file of its name, if that has the same; nothing else of it is
-/// lent for longer than this call.
+/// Takes up one more payload. The text that a record has is lent from the file of its name, if that has the same text and the
+/// same words, and else is copied with the payload, which is lent for this call alone.
 pub fn take_payload(
     alloc: Global,
     shelf: &mut PlacedShelf,

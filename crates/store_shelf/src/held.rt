@@ -1,5 +1,5 @@
-//! The payloads of a store: those that it was opened with, and each later one as it was written. A text that a file of the
-//! graph has isn't held once more: it is lent from there, and of its payload the other bytes alone are held.
+//! The payloads of a store: those that it was opened with, and each later one as it was written. Where the text of a record is
+//! lent from the file of its name, the other bytes of the payload alone are held.
 
 ghost use Rattle.std.specs.Prelude.{◌≡◌, ◌<◌, ◌++◌, ◌∷◌, [], length, map, slice_get, Some, IfSome, OnOk};
 ghost use Rattle.store_shelf.specs.Placed.{held_piece, nth_payload, with_cut};
