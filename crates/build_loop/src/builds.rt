@@ -77,8 +77,8 @@ fn begin<K: Records>(
     Ok(Begun { slots, marks, due })
 }
 
-/// The same over the seats of the files in the store.
-fn build_seated<K: Records, D: Disk, P: Procs>(
+/// Builds the graph as `build_marks` does, by where the store has its files, which is kept so.
+pub fn build_seated<K: Records, D: Disk, P: Procs>(
     alloc: Global,
     graph: &Graph,
     store: &mut K,

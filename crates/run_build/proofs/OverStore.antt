@@ -73,6 +73,15 @@ module _ (K : Type 0) (records_of : Image → List Record) (old new : Moments) w
       record { follows = opens_follows opens; phases = λ more. opened refl opening; opening = opening; base = none }
   empties_store (Err why) opens none durable = record { follows = opens_follows opens; phases = λ more. empty_failed records_of more old new opens; opening = tt; base = tt }
 
+-- what holds whatever is given holds of what is
+pub on_ok_any : {A B P : Type 0} (result : Result A B) → P → OnOk result P
+on_ok_any (Ok given) holds = holds
+on_ok_any (Err why) holds = tt
+
+pub if_ok_any : {A B P : Type 0} (result : Result A B) → P → IfOk result (λ given. P)
+if_ok_any (Ok given) holds = holds
+if_ok_any (Err why) holds = tt
+
 -- a build whose store could not be opened starts nothing
 pub not_opened : (records_of : Image → List Record) (answer : Request → Exit) (order : Order) (why : BuildFault) (failed : Bool) (old new : Moments) (events : List Event) → events ≡ [] → IsGraph order.graph → AreSound new → Follows old new
     → ((more : List Record) → HasPhases records_of order.clean 0 more old.now (added_since old new)) → BuildsOver records_of answer order (Err why) failed old new events

@@ -15,9 +15,9 @@ ghost use Rattle.build_loop.specs.Faults.{Explains, NoneFell, fault_of};
 ghost use Rattle.run_build.specs.Building.{OpensStore, BuildsOver, has_risen, marks_in};
 ghost use Rattle.run_build.specs.Orders.{order_by};
 
-use crate::opener::Opener;
+use crate::opener::{Opener, SeatedStore, seated};
 use base::{FILE_LIMIT, Graph, SLOT_LIMIT};
-use build_loop::{BuildFault, build_marks};
+use build_loop::{BuildFault, build_seated};
 use outside::{Disk, Procs, Records, StoreFault};
 use run_spec::MarkList;
 use std::alloc::Global;
@@ -38,30 +38,36 @@ pub struct Kept<K> {
     pub store: K,
 }
 
-/// Opens the store of a disk: with what it holds, by what opens it, or empty.
-fn open_store<K: Records + Drop, O: Opener<K>, D: Disk>(
+/// Opens the store of a disk for the build of a graph: with what it holds, by what opens it, or empty.
+fn open_store<'g, K: Records + Drop, O: Opener<'g, K>, D: Disk>(
     alloc: Global,
     opener: &O,
     disk: &mut D,
+    graph: &'g Graph,
     clean: bool,
-) -> Result<K, StoreFault>
+) -> Result<SeatedStore<K, K::Seats>, StoreFault>
     ensures opens { D.tells →
         OpensStore K.records_of clean result (D.moments disk.old) (D.moments disk.new) }
-    ensures in_step { D.tells → IfOk result (λ store. K.in_step store (D.moments disk.new).now) }
-    ensures usable { IfOk result (λ store. K.broken store ≡ false) }
+    ensures in_step { D.tells →
+        IfOk result (λ opened. K.in_step opened.store (D.moments disk.new).now) }
+    ensures usable { IfOk result (λ opened. K.broken opened.store ≡ false) }
+    ensures seated { IfOk result (λ opened. K.is_seated opened.store graph.now opened.seats) }
     ensures cause { StoreCounts result (D.failed_disk_calls disk.old)
         (D.failed_disk_calls disk.new) }
 {
     if clean {
-        return K::emptied(alloc, disk);
+        return match K::emptied(alloc, disk) {
+            Ok(store) => seated(alloc, store, graph),
+            Err(fault) => Err(fault),
+        };
     }
-    opener.open(alloc, disk)
+    opener.open(alloc, disk, graph)
 }
 
 /// Opens the store of a disk, builds over its records, and keeps the store, which lends the artefacts of all files that are made.
-pub fn build_kept<K: Records + Drop, O: Opener<K>, D: Disk, P: Procs>(
+pub fn build_kept<'g, K: Records + Drop, O: Opener<'g, K>, D: Disk, P: Procs>(
     alloc: Global,
-    graph: &Graph,
+    graph: &'g Graph,
     options: BuildOptions,
     opener: &O,
     disk: &mut D,
@@ -116,13 +122,19 @@ pub fn build_kept<K: Records + Drop, O: Opener<K>, D: Disk, P: Procs>(
         }) }
 {
     prove!(graph.len() <= FILE_LIMIT as u64);
-    match open_store::<K, O, D>(alloc, opener, disk, options.clean) {
-        Ok(mut store) => match build_marks(
+    match open_store::<K, O, D>(alloc, opener, disk, graph, options.clean) {
+        Ok(
+            SeatedStore {
+                mut store,
+                mut seats,
+            },
+        ) => match build_seated(
             alloc,
             graph,
             &mut store,
             disk,
             procs,
+            &mut seats,
             options.slots,
             options.keep_going,
         ) {
@@ -135,9 +147,9 @@ pub fn build_kept<K: Records + Drop, O: Opener<K>, D: Disk, P: Procs>(
 }
 
 /// Opens the store of a disk, and builds over its records.
-pub fn build_over<K: Records + Drop, O: Opener<K>, D: Disk, P: Procs>(
+pub fn build_over<'g, K: Records + Drop, O: Opener<'g, K>, D: Disk, P: Procs>(
     alloc: Global,
-    graph: &Graph,
+    graph: &'g Graph,
     options: BuildOptions,
     opener: &O,
     disk: &mut D,

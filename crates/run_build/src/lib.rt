@@ -5,4 +5,4 @@ mod building;
 mod opener;
 
 pub use building::{BuildOptions, Kept, build_kept, build_over};
-pub use opener::{AsStored, Opener};
+pub use opener::{AsStored, Opener, SeatedStore};

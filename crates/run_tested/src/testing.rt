@@ -119,9 +119,9 @@ fn test_built<K: Records + Drop, P: Procs>(
 /// runs tests over exactly what was built: in order, each by one child of the simulator, with as many children at once
 /// as the build has. With `fail_fast` nothing more is started after the first run of which not all cases passed. After a
 /// fault nothing more is started; the first fault is answered. No child runs in the end.
-pub fn test_over<K: Records + Drop, O: Opener<K>, D: Disk, P: Procs>(
+pub fn test_over<'g, K: Records + Drop, O: Opener<'g, K>, D: Disk, P: Procs>(
     alloc: Global,
-    graph: &Graph,
+    graph: &'g Graph,
     options: BuildOptions,
     runs: &TestRunList,
     simulator: &TextList,

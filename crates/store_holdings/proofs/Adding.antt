@@ -1,5 +1,5 @@
 -- Seats where one more record was added.
-use Rattle.std.proofs.Common.{◌≡◌, ◌≢◌, ℕ, ◌<◌, ◌≤◌, Bool, true, false, List, [], ◌∷◌, ◌++◌, length, get_or, set, None, Some, Option, refl, sym, ap, subst, ◌∙◌, arith, inl, inr, length-append}
+use Rattle.std.proofs.Common.{◌≡◌, ◌≢◌, ℕ, ◌<◌, ◌≤◌, Bool, true, false, List, [], ◌∷◌, ◌++◌, length, get_or, set, None, Some, Option, true≢false, refl, sym, ap, subst, ◌∙◌, arith, inl, inr, length-append}
 use Rattle.std.specs.Prelude.{slice_get, if◌then◌else◌}
 use Rattle.std.specs.List.{list_any}
 use Rattle.std.specs.Option.{option_or}
@@ -25,7 +25,7 @@ use Rattle.store_holdings.specs.declared.seats.Seat.{Seat}
 use Rattle.store_holdings.specs.Additions.{AddsRequest, no_entry}
 use Rattle.store_holdings.specs.Held.{IsLatestRow}
 use Rattle.store_shelf.specs.Placed.{IsHeld}
-use Rattle.store_holdings.specs.Seated.{AreSeats, HasSeat, IsSeat}
+use Rattle.store_holdings.specs.Seated.{AreSeats, HasSeat, HasTextSaid, IsSeat}
 
 -- the payload adds the record
 pub adds_shelf : (payloads : List (List ℕ)) (names : List FileName) (piece : List ℕ) (addition : RequestAddition) → AddsRequest payloads names piece addition → request_shelf_of (payloads ++ piece ∷ []) ≡ with_request (request_shelf_of payloads) (request_in_ranges piece addition.draft)
@@ -92,6 +92,15 @@ module _ (shelf : RequestShelf) (draft : RequestDraft) where
         built = λ x e. kept.same seat.product no_product has.product ∙ has.built x (row_same x e);
       }
 
+  -- what a seat says of a text is so still
+  text_stays : (entry : Entry) (seat : Option Seat) → IsSeat shelf entry.name seat → HasTextSaid shelf entry seat → HasTextSaid (with_request shelf draft) entry seat
+  text_stays entry None has says = tt
+  text_stays entry (Some seat) has says = λ told r e.
+      let new : RequestRecord = drafted_record shelf draft in
+      let there : slice_get (shelf.records ++ new ∷ []) seat.row ≡ slice_get shelf.records seat.row =
+      slice_get-get_or (shelf.records ++ new ∷ []) seat.row new (omega (arith, has.row, length-append shelf.records (new ∷ []))) ∙ ap (λ (x : RequestRecord). Some x) (get_or_append_left shelf.records (new ∷ []) new seat.row has.row) ∙ sym (slice_get-get_or shelf.records seat.row new has.row) in
+      says told r (sym there ∙ e)
+
   -- the row of the new record is the latest of its name
   pub own_row : IsLatestRow (with_request shelf draft).records draft.name (Some (length shelf.records))
   own_row = (
@@ -100,8 +109,8 @@ module _ (shelf : RequestShelf) (draft : RequestDraft) where
         ∙ sym (slice_get-get_or (shelf.records ++ drafted_record shelf draft ∷ []) (length shelf.records) (drafted_record shelf draft) (omega (arith, length-append shelf.records (drafted_record shelf draft ∷ []))) ∙ ap (λ (x : RequestRecord). Some x) (get_or_at shelf.records (drafted_record shelf draft) [] (drafted_record shelf draft) (length shelf.records) refl)),
   )
 
-  pub seats_added : (graph : List Entry) (seats : List (Option Seat)) (at : ℕ) (seat : Seat) → IsGraph graph → AreSeats shelf graph seats → at < length seats → (get_or graph at no_entry).name ≡ draft.name → HasSeat (with_request shelf draft) draft.name seat → AreSeats (with_request shelf draft) graph (set seats at (Some seat))
-  seats_added graph seats at seat is are low named has = record {
+  pub seats_added : (graph : List Entry) (seats : List (Option Seat)) (at : ℕ) (seat : Seat) → IsGraph graph → AreSeats shelf graph seats → at < length seats → seat.has_text ≡ false → (get_or graph at no_entry).name ≡ draft.name → HasSeat (with_request shelf draft) draft.name seat → AreSeats (with_request shelf draft) graph (set seats at (Some seat))
+  seats_added graph seats at seat is are low silent named has = record {
     each = length-set seats at (Some seat) ∙ are.each;
     is = λ k other l. elim (cases_eq k at) [
       | inl e ↦
@@ -113,6 +122,14 @@ module _ (shelf : RequestShelf) (draft : RequestDraft) where
           let at_low : at < length graph = omega (arith, low, are.each) in
           let other_name : draft.name ≢ (get_or graph k other).name = λ f. differ k other l e at_low (sym f ∙ sym named) in
           subst (λ (o : Option Seat). IsSeat (with_request shelf draft) (get_or graph k other).name o) (sym here) (seat_stays (get_or graph k other).name (get_or seats k None) other_name (are.is k other l))
+    ];
+    texts = λ k other l. elim (cases_eq k at) [
+      | inl e ↦
+          let here : get_or (set seats at (Some seat)) k None ≡ Some seat = ap (λ (n : ℕ). get_or (set seats at (Some seat)) n None) e ∙ get_or-set_same seats at (Some seat) None low in
+          subst (HasTextSaid (with_request shelf draft) (get_or graph k other)) (sym here) (λ says. absurd (true≢false (sym says ∙ silent)))
+      | inr e ↦
+          let here : get_or (set seats at (Some seat)) k None ≡ get_or seats k None = get_or-set_other seats at k (Some seat) None e in
+          subst (HasTextSaid (with_request shelf draft) (get_or graph k other)) (sym here) (text_stays (get_or graph k other) (get_or seats k None) (are.is k other l) (are.texts k other l))
     ];
   }
     where

@@ -1,5 +1,5 @@
 -- What is known of the seat of a file.
-use Rattle.std.proofs.Common.{◌≡◌, ℕ, ◌<◌, List, length, map, get_or, None, Some, Option, sym, ap, subst, ◌∙◌, arith}
+use Rattle.std.proofs.Common.{◌≡◌, ℕ, ◌<◌, List, length, map, get_or, None, Some, Option, false, sym, ap, subst, ◌∙◌, arith}
 use Rattle.std.specs.Prelude.{All, slice_get}
 use Rattle.std.proofs.lemmas.List.{get_or-map, length-map}
 use Rattle.std.proofs.lemmas.Option.{get_or_from_slice_get, same_Some, slice_get-get_or, slice_get_within}
@@ -14,12 +14,17 @@ use Rattle.store_shelf.specs.declared.shelf.RecordRow.{RecordRow}
 use Rattle.store_shelf.specs.Placed.{AreRowsPlaced, IsRecordRow, no_name, no_row, row_product, row_products, row_record, shelf_by}
 use Rattle.store_holdings.specs.declared.seats.Seat.{Seat}
 use Rattle.store_holdings.specs.Held.{IsLatestRow}
-use Rattle.store_holdings.specs.Seated.{AreSeats, HasSeat, IsSeat}
+use Rattle.store_holdings.specs.Seated.{AreSeats, HasSeat, HasTextSaid, IsSeat}
 
 pub seat_here : (shelf : RequestShelf) (graph : List Entry) (seats : List (Option Seat)) (at : ℕ) (entry : Entry) (seat : Option Seat) → AreSeats shelf graph seats → slice_get graph at ≡ Some entry → get_or seats at None ≡ seat → IsSeat shelf entry.name seat
 seat_here shelf graph seats at entry seat are found e =
     subst (IsSeat shelf entry.name) e
     (subst (λ (f : Entry). IsSeat shelf f.name (get_or seats at None)) (get_or_from_slice_get graph at entry entry found) (are.is at entry (slice_get_within graph at entry found)))
+
+pub text_here : (shelf : RequestShelf) (graph : List Entry) (seats : List (Option Seat)) (at : ℕ) (entry : Entry) (seat : Option Seat) → AreSeats shelf graph seats → slice_get graph at ≡ Some entry → get_or seats at None ≡ seat → HasTextSaid shelf entry seat
+text_here shelf graph seats at entry seat are found e =
+    subst (HasTextSaid shelf entry) e
+    (subst (λ (f : Entry). HasTextSaid shelf f (get_or seats at None)) (get_or_from_slice_get graph at entry entry found) (are.texts at entry (slice_get_within graph at entry found)))
 
 pub command_some : (graph : List Entry) (at : ℕ) (entry : Entry) → IsGraph graph → slice_get graph at ≡ Some entry → 0 < length entry.command
 command_some graph at entry is found =
@@ -56,7 +61,7 @@ module _ (payloads : List (List ℕ)) (names : List FileName) (texts : List (Lis
       ap (λ (k : FileName). record { name = k; artefact = (product_at (row_products names texts rows) row.product).artefact }) name
 
   -- the seat of a latest record
-  pub seat_is : (name : FileName) → IsLatestRow (shelf_by payloads names texts rows records).records name (Some n) → HasSeat (shelf_by payloads names texts rows records) name (record { row = n; product = row.product })
+  pub seat_is : (name : FileName) → IsLatestRow (shelf_by payloads names texts rows records).records name (Some n) → HasSeat (shelf_by payloads names texts rows records) name (record { row = n; product = row.product; has_text = false })
   seat_is name is = record {
     row = is.0;
     latest = is.1;

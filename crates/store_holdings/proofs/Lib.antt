@@ -4,3 +4,4 @@ pub mod Fits
 pub mod Here
 pub mod Adding
 pub mod Asked
+pub mod Lent

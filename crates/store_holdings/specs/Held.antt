@@ -12,11 +12,21 @@ use Rattle.store_shelf.specs.Placed.{HeldList, nth_payload, row_deps, text_room}
 use Rattle.store_holdings.specs.declared.seats.Seat.{Seat}
 use Rattle.store_holdings.specs.Seated.{seated_product}
 
--- payloads in order, the names that are numbered, and for how many more payloads there is room
+-- payloads in order, the names that are numbered, the texts of files that are lent, and for how many more payloads there is room
 pub record HeldState : Type 0 where
   pub payloads : List (List ℕ)
   pub names : List FileName
+  pub lent : List (List ℕ)
   pub room : ℕ
+
+-- payloads that were taken, in order, and the texts of files that are lent
+pub record TakenState : Type 0 where
+  pub taken : List (List ℕ)
+  pub lent : List (List ℕ)
+
+-- each text that is lent is that of the file of its number
+abbrev pub AreLentBy : List Entry → List (List ℕ) → Type 0
+AreLentBy files lent = (number : ℕ) (other : Entry) → number < length lent → slice_index_or lent number [] ≡ (slice_index_or files number other).text
 
 abbrev pub held_room : HeldList → PlacedShelf → ℕ
 held_room held shelf = min held.room (min (text_room shelf.texts - 1) (min shelf.products.room (min (vec_capacity shelf.rows - vec_len shelf.rows) shelf.latest.room)))

@@ -1,5 +1,5 @@
 -- The latest records of the files of a graph, and which of them have what would be asked now.
-use Rattle.std.specs.Prelude.{◌≡◌, ℕ, ◌<◌, List, length, slice_get, slice_index_or, Option, Some, None}
+use Rattle.std.specs.Prelude.{◌≡◌, ℕ, ◌<◌, List, length, slice_get, slice_index_or, Option, Some, None, true}
 use Rattle.std.specs.Option.{option_map}
 use Rattle.base.specs.declared.file.FileName.{FileName}
 use Rattle.base.specs.declared.graph.Entry.{Entry}
@@ -19,10 +19,16 @@ abbrev pub IsSeat : RequestShelf → FileName → Option Seat → Type 0
 IsSeat shelf name None = latest_request name shelf.records ≡ None
 IsSeat shelf name (Some seat) = HasSeat shelf name seat
 
+-- the record of a seat has the text of a file, where the seat says so
+abbrev pub HasTextSaid : RequestShelf → Entry → Option Seat → Type 0
+HasTextSaid shelf entry None = Unit {0}
+HasTextSaid shelf entry (Some seat) = seat.has_text ≡ true → (kept : RequestRecord) → slice_get shelf.records seat.row ≡ Some kept → kept.asked.text ≡ entry.text
+
 -- one for each file of a graph
 pub record AreSeats (shelf : RequestShelf) (graph : List Entry) (seats : List (Option Seat)) : Type 0 where
   pub each : length seats ≡ length graph
   pub is : (at : ℕ) (other : Entry) → at < length graph → IsSeat shelf (slice_index_or graph at other).name (slice_index_or seats at None)
+  pub texts : (at : ℕ) (other : Entry) → at < length graph → HasTextSaid shelf (slice_index_or graph at other) (slice_index_or seats at None)
 
 -- the number of the product of a position, if it has a seat
 abbrev pub seated_product : List (Option Seat) → ℕ → Option ℕ

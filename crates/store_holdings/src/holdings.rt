@@ -1,6 +1,6 @@
 //! Payloads, and the texts, products and records that they stand for.
 
-ghost use Rattle.std.specs.Prelude.{◌≡◌, All, ◌↔◌, ◌<◌, ◌≤◌, ◌^◌, ◌++◌, ◌∷◌, [], List, Some, length, slice_get, slice_index_or, IsTrue, IfOk, OnOk, option_map};
+ghost use Rattle.std.specs.Prelude.{◌≡◌, All, ◌↔◌, ◌<◌, ◌≤◌, ◌^◌, ◌++◌, ◌∷◌, [], List, Some, length, slice_get, slice_index_or, IsTrue, IfOk, IfSome, OnOk, option_map, true, false};
 ghost use Rattle.base.specs.declared.graph.Entry.{Entry};
 ghost use Rattle.base.specs.declared.limits.TheConstants.{ARTEFACT_LIMIT};
 ghost use Rattle.outside.specs.Records.{Record as RequestRecord, latest_alone as latest_requests};
@@ -11,11 +11,11 @@ ghost use Rattle.store_shelf.specs.Placed.{IsHeld};
 ghost use Rattle.store_codec.specs.Ranges.{request_in_ranges};
 ghost use Rattle.store_codec.specs.Shelves.{drafted_record, request_shelf_of};
 ghost use Rattle.outside.specs.Records.{IsRecorded as FitsLatest, HasLatest};
-ghost use Rattle.store_holdings.specs.Seated.{AreSeats, IsLatestProduct, IsSeat};
+ghost use Rattle.store_holdings.specs.Seated.{AreSeats, HasTextSaid, IsLatestProduct, IsSeat};
 ghost use Rattle.base.specs.Graphs.{IsGraph};
 ghost use Rattle.outside.specs.Records.{deps_at};
 ghost use Rattle.store_holdings.specs.Additions.{AddsAsked, AddsRequest, AreDeps, IsRequestOver, added_name, no_entry, record_over};
-ghost use Rattle.store_holdings.specs.Held.{IsLatestRow, latest_held};
+ghost use Rattle.store_holdings.specs.Held.{AreLentBy, IsLatestRow, latest_held};
 
 use crate::additions::put_held;
 use crate::asking::{asked_payload, seated_products, spelled_ranges, text_refs};
@@ -26,10 +26,10 @@ use std::alloc::Global;
 use std::marker::Model;
 use store_carry::{CarryPlan, carried_payloads, plan_latest};
 use store_journal::{Journal, Payloads, Ready};
-use store_shelf::{HeldPayloads, PlacedShelf, number_name, taken_up, text_at};
+use store_shelf::{HeldPayloads, PlacedShelf, is_lent_from, number_name, taken_up, text_at};
 
-/// Payloads, in order, with what they stand for. Contracts see the payloads, the names that are numbered, and for how many more
-/// payloads there is room.
+/// Payloads, in order, with what they stand for. Contracts see the payloads, the names that are numbered, the texts of files that
+/// are lent, and for how many more payloads there is room.
 #[derive(Drop)]
 pub struct RequestHoldings<'g> {
     held: HeldPayloads<'g>,
@@ -42,15 +42,21 @@ impl<'g> Model for RequestHoldings<'g> {
 
     ghost Value = { HeldState };
 
-    ghost view = { λ a. record { payloads = a.held.payloads; names = a.shelf.names.keys; room = held_room a.held a.shelf } };
+    ghost view = { λ a. record {
+      payloads = a.held.payloads;
+      names = a.shelf.names.keys;
+      lent = a.held.lent;
+      room = held_room a.held a.shelf;
+    } };
 
     ghost invariant = { λ a. IsHeld a.held.pieces a.held.payloads a.shelf };
 }
 
 impl<'g> RequestHoldings<'g> {
-    /// What payloads stand for.
+    /// What payloads stand for, where no text is lent.
     pub fn of(alloc: Global, opened: Payloads) -> Result<RequestHoldings<'g>, NoMemory>
-        ensures { IfOk result (λ held. held.payloads ≡ opened) }
+        ensures payloads { IfOk result (λ held. held.payloads ≡ opened) }
+        ensures lent { IfOk result (λ held. held.lent ≡ []) }
     {
         let held = HeldPayloads::of(alloc, opened);
         let shelf = taken_up(alloc, &held)?;
@@ -60,7 +66,8 @@ impl<'g> RequestHoldings<'g> {
     /// Payloads that make up pieces, with a shelf that is what they stand for.
     pub(crate) fn of_parts(held: HeldPayloads<'g>, shelf: PlacedShelf) -> RequestHoldings<'g>
         requires { IsHeld held.pieces held.payloads shelf }
-        ensures { result.payloads ≡ held.entry.payloads }
+        ensures payloads { result.payloads ≡ held.entry.payloads }
+        ensures lent { result.lent ≡ held.entry.lent }
     {
         RequestHoldings { held, shelf }
     }
@@ -101,7 +108,8 @@ impl<'g> RequestHoldings<'g> {
 
     /// The seat of the latest record of a name, if it has one.
     fn seat_of(&self, name: &FileName) -> Option<Seat>
-        ensures { IsSeat (request_shelf_of self.now.payloads) name.now result }
+        ensures is { IsSeat (request_shelf_of self.now.payloads) name.now result }
+        ensures silent { IfSome result (λ seat. seat.has_text ≡ false) }
     {
         let Some(row) = self.latest_row(name) else {
             return None;
@@ -109,18 +117,67 @@ impl<'g> RequestHoldings<'g> {
         Some(Seat {
             row,
             product: self.shelf.rows[row].product,
+            has_text: false,
         })
+    }
+
+    /// Whether the text of a record is in the place of the text that is lent from the file of a number.
+    fn is_lent(&self, row: usize, file: usize) -> bool
+        requires { row < length (request_shelf_of self.now.payloads).records }
+        ensures there { IsTrue result → file < length self.now.lent }
+        ensures text { IsTrue result → (kept : RequestRecord) →
+            slice_get (request_shelf_of self.now.payloads).records row ≡ Some kept →
+            kept.asked.text ≡ slice_index_or self.now.lent file [] }
+    {
+        let text = self.shelf.rows[row].text;
+        is_lent_from(&self.held, &self.shelf.texts, text, file)
+    }
+
+    /// The seat of the latest record of a file, if it has one, with what its place says of the text where that of the file is lent.
+    fn seat_in(&self, entry: &Entry, at: usize, lends: bool) -> Option<Seat>
+        requires { lends ≡ true → at < length self.now.lent →
+            slice_index_or self.now.lent at [] ≡ entry.now.text }
+        ensures is { IsSeat (request_shelf_of self.now.payloads) entry.now.name result }
+        ensures text { HasTextSaid (request_shelf_of self.now.payloads) entry.now result }
+    {
+        let Some(seat) = self.seat_of(&entry.name) else {
+            return None;
+        };
+        if !lends {
+            return Some(seat);
+        }
+        Some(Seat {
+            row: seat.row,
+            product: seat.product,
+            has_text: self.is_lent(seat.row, at),
+        })
+    }
+
+    /// For each file of a graph the seat of its latest record, if it has one, whether or not texts are lent from these files.
+    fn seats_in(&self, alloc: Global, graph: &Graph, lends: bool) -> Result<Seats, NoMemory>
+        requires { lends ≡ true → AreLentBy graph.now self.now.lent }
+        ensures { IfOk result (AreSeats (request_shelf_of self.now.payloads) graph.now) }
+    {
+        let mut seats = Seats::new(alloc);
+        for at in 0..graph.len() {
+            seats.push(self.seat_in(graph.get(at), at as usize, lends))?;
+        }
+        Ok(seats)
     }
 
     /// For each file of a graph the seat of its latest record, if it has one.
     pub fn seats(&self, alloc: Global, graph: &Graph) -> Result<Seats, NoMemory>
         ensures { IfOk result (AreSeats (request_shelf_of self.now.payloads) graph.now) }
     {
-        let mut seats = Seats::new(alloc);
-        for at in 0..graph.len() {
-            seats.push(self.seat_of(&graph.get(at).name))?;
-        }
-        Ok(seats)
+        self.seats_in(alloc, graph, false)
+    }
+
+    /// The same of a graph whose texts are lent, which aren't compared with themselves then.
+    pub fn lent_seats(&self, alloc: Global, graph: &Graph) -> Result<Seats, NoMemory>
+        requires { AreLentBy graph.now self.now.lent }
+        ensures { IfOk result (AreSeats (request_shelf_of self.now.payloads) graph.now) }
+    {
+        self.seats_in(alloc, graph, true)
     }
 
     /// Whether all files that a file depends on have a record, and its own latest record has what would be asked for it now. It
@@ -135,7 +192,7 @@ impl<'g> RequestHoldings<'g> {
             return false;
         };
         let row = self.shelf.rows[seat.row];
-        is_asked(&self.held, &self.shelf, row, entry, seats)
+        is_asked(&self.held, &self.shelf, row, entry, seat.has_text, seats)
     }
 
     /// What the compiler gave for a file by its latest record, lent; `None` exactly where it has no record. It takes no
@@ -308,7 +365,12 @@ impl<'g> RequestHoldings<'g> {
         let row = self.shelf.rows.len();
         put_held(&mut self.held, &mut self.shelf, addition, piece);
         let product = self.shelf.rows[row].product;
-        seats.set(addition.at as usize, Seat { row, product });
+        let seat = Seat {
+            row,
+            product,
+            has_text: false,
+        };
+        seats.set(addition.at as usize, seat);
     }
 
     /// The number of the product that the latest record of a name built, if it has one.

@@ -6,11 +6,13 @@ use base::NoMemory;
 use std::alloc::Global;
 use std::marker::Model;
 
-/// The number of a record, and that of the product of its file and its artefact.
+/// The number of a record, that of the product of its file and its artefact, and whether the record surely has the text of the
+/// file; where it doesn't say so, the texts are to be compared.
 #[derive(Clone, Copy)]
 pub struct Seat {
     pub row: usize,
     pub product: usize,
+    pub has_text: bool,
 }
 
 /// For each position of a graph the seat of the latest record of its file, if it has one. Contracts see their list.

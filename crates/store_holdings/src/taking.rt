@@ -1,6 +1,6 @@
 //! Taking up the payloads of a store as they are read.
 
-ghost use Rattle.std.specs.Prelude.{◌≡◌, ◌<◌, ◌^◌, ◌++◌, ◌∷◌, [], length, IfOk, OnOk};
+ghost use Rattle.std.specs.Prelude.{◌≡◌, ◌<◌, ◌^◌, ◌++◌, ◌∷◌, [], length, map, IfOk, OnOk};
 
 use crate::RequestHoldings;
 use base::{Entry, NoMemory};
@@ -11,7 +11,7 @@ use store_journal::Taker;
 use store_shelf::{HeldPayloads, PlacedShelf, number_names, take_payload};
 
 /// The payloads that were taken, over the files of a graph, whose texts are lent, and what they stand for. After `NoMemory`
-/// nothing more is taken. Contracts see the payloads.
+/// nothing more is taken. Contracts see the payloads, and the texts of the files.
 #[derive(Drop)]
 pub struct RequestTaker<'g> {
     unnamed: &'g [Entry],
@@ -22,12 +22,13 @@ pub struct RequestTaker<'g> {
 }
 
 impl<'g> Model for RequestTaker<'g> {
-    ghost use Rattle.std.specs.Prelude.{◌≡◌, List, ℕ, true};
+    ghost use Rattle.std.specs.Prelude.{◌≡◌, true};
     ghost use Rattle.store_shelf.specs.Placed.{IsHeld};
+    ghost use Rattle.store_holdings.specs.Held.{TakenState};
 
-    ghost Value = { List (List ℕ) };
+    ghost Value = { TakenState };
 
-    ghost view = { λ a. a.held.payloads };
+    ghost view = { λ a. record { taken = a.held.payloads; lent = a.held.lent } };
 
     ghost invariant = { λ a. a.is_whole ≡ true → IsHeld a.held.pieces a.held.payloads a.shelf };
 }
@@ -35,7 +36,8 @@ impl<'g> Model for RequestTaker<'g> {
 impl<'g> RequestTaker<'g> {
     /// Nothing yet, over the files of a graph, which takes no memory.
     pub fn over(alloc: Global, files: &'g [Entry]) -> RequestTaker<'g>
-        ensures { result ≡ [] }
+        ensures taken { result.taken ≡ [] }
+        ensures lent { result.lent ≡ map (λ file. file.text) files.now }
     {
         RequestTaker {
             unnamed: files,
@@ -48,7 +50,8 @@ impl<'g> RequestTaker<'g> {
 
     /// What the payloads stand for.
     pub fn into_holdings(self) -> Result<RequestHoldings<'g>, NoMemory>
-        ensures { IfOk result (λ holdings. holdings.payloads ≡ self.entry) }
+        ensures payloads { IfOk result (λ holdings. holdings.payloads ≡ self.entry.taken) }
+        ensures lent { IfOk result (λ holdings. holdings.lent ≡ self.entry.lent) }
     {
         let RequestTaker {
             unnamed: _files,
@@ -65,7 +68,9 @@ impl<'g> RequestTaker<'g> {
 }
 
 impl<'g> Taker for RequestTaker<'g> {
-    ghost taken = { λ taker. taker };
+    ghost taken = { λ taker. taker.taken };
+
+    ghost lends = { λ taker. taker.lent };
 
     fn take(&mut self, alloc: Global, payload: &[u8]) -> Result<(), NoMemory> {
         if !self.is_whole {

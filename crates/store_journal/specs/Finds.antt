@@ -18,3 +18,8 @@ found_taken newer older (Older opened) = older opened.payloads
 abbrev pub IsOfFoundForm : {N O : Type 0} → (newer older : ℕ) → FoundForm N O → Type 0
 IsOfFoundForm newer older (Newer opened) = opened.journal.form ≡ newer
 IsOfFoundForm newer older (Older opened) = opened.journal.form ≡ older
+
+-- what took its payloads lends these texts, what takes those of the newer form or of the older one
+abbrev pub LendsStill : {N O : Type 0} → (N → List (List ℕ)) → (O → List (List ℕ)) → (newer older : List (List ℕ)) → FoundForm N O → Type 0
+LendsStill of_newer of_older newer older (Newer opened) = of_newer opened.payloads ≡ newer
+LendsStill of_newer of_older newer older (Older opened) = of_older opened.payloads ≡ older

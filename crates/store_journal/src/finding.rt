@@ -3,7 +3,7 @@
 ghost use Rattle.std.specs.Prelude.{◌≡◌, ◌≢◌, ◌≤◌, [], false, IfOk, IfSome, OnOk};
 ghost use Rattle.outside.specs.Counts.{StoreCounts};
 ghost use Rattle.outside.specs.Disks.{reads_of, settled_disk, AtAnyMoment, OpensWith};
-ghost use Rattle.store_journal.specs.Finds.{found_journal, found_taken, IsOfFoundForm};
+ghost use Rattle.store_journal.specs.Finds.{found_journal, found_taken, IsOfFoundForm, LendsStill};
 ghost use Rattle.store_journal.specs.Forms.{HoldsForms, HoldsFormsOf, found_form, has_form};
 ghost use Rattle.store_journal.specs.Headers.{headers_in};
 ghost use Rattle.store_journal.specs.Journals.{IsInStep, IsHealthy, Rests, OpensAs};
@@ -79,6 +79,8 @@ impl Journal {
             (λ found.
             payloads form (reads_of (D.moments disk.new).now)
             ≡ found_taken N.taken O.taken found) }
+        ensures lends { IfOk result
+            (LendsStill N.lends O.lends (N.lends for_newer) (O.lends for_older)) }
         // The side that counts goes on counting; where none does, it is A, of generation 1.
         ensures counts { D.tells →
             let reads = reads_of (D.moments disk.old).now in
@@ -142,6 +144,8 @@ fn open_found<D: Disk, N: Taker + Drop, O: Taker + Drop>(
         IfOk result
         (λ found.
         found_taken N.taken O.taken found ≡ payloads (found_form newer older reads) reads) }
+    ensures lends { IfOk result
+        (LendsStill N.lends O.lends (N.lends for_newer) (O.lends for_older)) }
     ensures counts { D.tells →
         let reads = reads_of (D.moments disk.old).now in
         IfOk result

@@ -56,6 +56,7 @@ impl Journal {
             IfOk result
             (λ opened.
             payloads form (reads_of (D.moments disk.new).now) ≡ T.taken opened.payloads) }
+        ensures lends { IfOk result (λ opened. T.lends opened.payloads ≡ T.lends taker) }
         // The side that counts goes on counting; where none does, it is A, of generation 1.
         ensures counts { D.tells →
             IfOk result
@@ -114,6 +115,7 @@ pub(crate) fn open_sides<D: Disk, T: Taker + Drop>(
         IfOk result
         (λ opened.
         T.taken opened.payloads ≡ payloads form (reads_of (D.moments disk.old).now)) }
+    ensures lends { IfOk result (λ opened. T.lends opened.payloads ≡ T.lends taker) }
     ensures counts { D.tells →
         IfOk result
         (λ opened. OpensAs form (reads_of (D.moments disk.old).now) opened.journal) }
@@ -157,6 +159,7 @@ pub(crate) fn begin<D: Disk, T: Taker + Drop>(
         IfOk result
         (λ opened.
         T.taken opened.payloads ≡ payloads form (reads_of (D.moments disk.old).now)) }
+    ensures lends { IfOk result (λ opened. T.lends opened.payloads ≡ T.lends taker) }
     ensures fresh { D.tells →
         OnOk result
         (reads_of (D.moments disk.new).now
@@ -202,6 +205,7 @@ fn open<D: Disk, T: Taker + Drop>(
         IfOk result
         (λ opened.
         T.taken opened.payloads ≡ payloads form (reads_of (D.moments disk.old).now)) }
+    ensures lends { IfOk result (λ opened. T.lends opened.payloads ≡ T.lends taker) }
     ensures counts { IfOk result (λ opened. CountsAs live.side live.generation opened.journal) }
     ensures form { IfOk result (λ opened. opened.journal.form ≡ form) }
     ensures usable { IfOk result (λ opened. opened.journal.broken ≡ false) }
@@ -244,6 +248,7 @@ fn finish_opening<D: Disk, T: Taker + Drop>(
         IfOk result
         (λ opened.
         T.taken opened.payloads ≡ payloads form (reads_of (D.moments disk.old).now)) }
+    ensures lends { IfOk result (λ opened. T.lends opened.payloads ≡ T.lends found.payloads) }
     ensures counts { IfOk result (λ opened. CountsAs live.side live.generation opened.journal) }
     ensures form { IfOk result (λ opened. opened.journal.form ≡ form) }
     ensures usable { IfOk result (λ opened. opened.journal.broken ≡ false) }

@@ -77,6 +77,7 @@ fn read_payload<D: Disk, T: Taker>(
         let reads = (side_of live.side (D.moments disk.old).now).reads in
         OnOk result
         (T.taken taker.new ≡ T.taken taker.old ++ bytes_at span.start span.count reads ∷ []) }
+    ensures lends { OnOk result (T.lends taker.new ≡ T.lends taker.old) }
     ensures window { D.tells →
         OnOk result (IsWindowOf (side_of live.side (D.moments disk.old).now).reads window.new) }
     ensures same { D.tells → OnOk result ((D.moments disk.new).now ≡ (D.moments disk.old).now) }
@@ -178,6 +179,7 @@ fn read_parts<D: Disk, T: Taker>(
     ensures end { D.tells →
         let reads = (side_of live.side (D.moments disk.old).now).reads in
         IfOk result (λ gate. EndsAt (gate + 1) (T.taken taker.new) reads) }
+    ensures lends { OnOk result (T.lends taker.new ≡ T.lends taker.old) }
     ensures gate { IfOk result (λ gate. (18 ≤ gate) × (gate < live.len)) }
     ensures window { D.tells →
         OnOk result (IsWindowOf (side_of live.side (D.moments disk.old).now).reads window.new) }
@@ -213,6 +215,7 @@ pub fn read_payloads<D: Disk, T: Taker + Drop>(
     ensures end { D.tells →
         let reads = (side_of live.side (D.moments disk.old).now).reads in
         IfOk result (λ found. EndsAt found.len (T.taken found.payloads) reads) }
+    ensures lends { IfOk result (λ found. T.lends found.payloads ≡ T.lends taker) }
     ensures gate { D.tells →
         let reads = (side_of live.side (D.moments disk.old).now).reads in
         IfOk result

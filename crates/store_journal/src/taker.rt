@@ -11,15 +11,21 @@ pub trait Taker: Sized {
     /// The payloads that it has taken.
     ghost taken: { Self → List (List ℕ) };
 
+    /// The texts that it may lend of what it takes, which no payload changes.
+    ghost lends: { Self → List (List ℕ) };
+
     /// Takes the next payload, which is lent for this call.
     fn take(&mut self, alloc: Global, payload: &[u8]) -> Result<(), NoMemory>
         requires { length payload.now < 2 ^ 32 }
-        ensures { OnOk result (taken self.new ≡ taken self.old ++ payload.now ∷ []) };
+        ensures taken { OnOk result (taken self.new ≡ taken self.old ++ payload.now ∷ []) }
+        ensures lends { OnOk result (lends self.new ≡ lends self.old) };
 }
 
 /// A copy of each.
 impl Taker for Payloads {
     ghost taken = { λ payloads. payloads };
+
+    ghost lends = { λ payloads. [] };
 
     fn take(&mut self, alloc: Global, payload: &[u8]) -> Result<(), NoMemory> {
         self.push(alloc, payload)

@@ -1,7 +1,8 @@
 //! Compaction: the latest records, and the products and texts that these reach, on the other side of the disk.
 
-ghost use Rattle.std.specs.Prelude.{◌≡◌, ◌↔◌, ◌+◌, ◌^◌, ◌<◌, false, true, IfOk, IsTrue, OnOk};
+ghost use Rattle.std.specs.Prelude.{◌≡◌, ◌↔◌, ◌+◌, ◌^◌, ◌<◌, List, [], false, true, IfOk, IsTrue, OnOk};
 ghost use Rattle.base.specs.declared.file.FileName.{FileName};
+ghost use Rattle.base.specs.declared.graph.Entry.{Entry};
 ghost use Rattle.outside.specs.Counts.{StoreCounts};
 ghost use Rattle.outside.specs.Disks.{AtAnyMoment, NeverLoses, reads_of};
 ghost use Rattle.store_journal.specs.Forms.{has_form};
@@ -11,7 +12,7 @@ ghost use Rattle.store_carry.specs.Plans.{KeepsLatestRequests};
 ghost use Rattle.store_codec.specs.Carrying.{compacted_requests};
 ghost use Rattle.outside.specs.Records.{latest_alone as latest_requests};
 ghost use Rattle.store_codec.specs.Shelves.{requests_among};
-ghost use Rattle.store_holdings.specs.Held.{latest_held};
+ghost use Rattle.store_holdings.specs.Held.{AreLentBy, latest_held};
 ghost use Rattle.store_requests.specs.Stored.{AreAllOrLatest, AsksAt, AsksCarrying, HasCarriedOver, HasManyDead, IsRequestStoreInStep, IsResting, LeavesAll, OnNoMemory, capped_length, has_disk_failed, own_requests, store_of};
 
 use crate::reading::FORM;
@@ -123,6 +124,8 @@ fn replace_by<'g, D: Disk>(
     ensures memory { OnNoMemory result
         (store_of journal.new held.new ≡ store_of journal.old held.old)
         (disk.new ≡ disk.old) }
+    // No text is lent from then on.
+    ensures lent { OnOk result (held.new.lent ≡ []) }
     ensures form { journal.new.form ≡ 3 }
     ensures broken { journal.new.broken ≡ has_disk_failed result }
     ensures cause { StoreCounts result (D.failed_disk_calls disk.old)
@@ -164,6 +167,7 @@ fn carry_latest<'g>(
           generation = journal.now.generation + 1;
           payloads = made.held.payloads;
         }) }
+    ensures lent { IfOk result (λ made. made.held.lent ≡ []) }
 {
     let payloads = held.latest_payloads(alloc, plan)?;
     let side = journal.prepare_side(alloc, FORM, &payloads)?;
@@ -216,6 +220,8 @@ pub fn compact_where_asked<'g, D: Disk>(
         (λ image. AreAllOrLatest before (own_requests image)) }
     ensures live { D.tells →
         AtAnyMoment (D.moments disk.old) (D.moments disk.new) (λ image. has_form 3 image ≡ true) }
+    ensures lent { (files : List Entry) → AreLentBy files held.old.lent →
+        OnOk result (AreLentBy files held.new.lent) }
     ensures form { journal.new.form ≡ 3 }
     ensures usable { OnOk result (journal.new.broken ≡ false) }
     ensures cause { StoreCounts result (D.failed_disk_calls disk.old)

@@ -1,6 +1,6 @@
 //! The records of a disk as they are, whichever form it has.
 
-ghost use Rattle.std.specs.Prelude.{◌≡◌, ◌↔◌, false, IfOk, OnOk};
+ghost use Rattle.std.specs.Prelude.{◌≡◌, ◌↔◌, [], false, IfOk, OnOk};
 ghost use Rattle.outside.specs.Counts.{StoreCounts};
 ghost use Rattle.outside.specs.Disks.{AtAnyMoment, OpensWith, reads_of};
 ghost use Rattle.store_journal.specs.Forms.{has_form};
@@ -8,6 +8,7 @@ ghost use Rattle.store_journal.specs.Journals.{IsHealthy, IsInStep, Rests};
 ghost use Rattle.store_journal.specs.Payloads.{payloads};
 ghost use Rattle.store_codec.specs.Carrying.{compacted_requests};
 ghost use Rattle.store_codec.specs.Shelves.{requests_among};
+ghost use Rattle.store_holdings.specs.Held.{AreLentBy};
 ghost use Rattle.store_requests.specs.Stored.{AreAllOrLatest, AsksCarrying, HasRequestsOf, ImageAsksCarrying, IsRequestStoreInStep, kept_payloads, requests_in, store_of};
 
 use base::{Entry, NoMemory};
@@ -65,6 +66,8 @@ pub fn read<'g, D: Disk>(
         IfOk result
         (λ parts.
         IsRequestStoreInStep (store_of parts.journal parts.held) (D.moments disk.new).now) }
+    // A text that is lent is that of the file of its number.
+    ensures lent { IfOk result (λ parts. AreLentBy files.now parts.held.lent) }
     ensures form { IfOk result (λ parts. parts.journal.form ≡ 3) }
     ensures usable { IfOk result (λ parts. parts.journal.broken ≡ false) }
     ensures cause { StoreCounts result (D.failed_disk_calls disk.old)
@@ -89,7 +92,8 @@ pub fn read<'g, D: Disk>(
 /// The journal, and what the payloads that were taken stand for.
 fn parts_of<'g>(opened: Opened<RequestTaker<'g>>) -> Result<Parts<'g>, NoMemory>
     ensures journal { IfOk result (λ parts. parts.journal ≡ opened.entry.journal) }
-    ensures payloads { IfOk result (λ parts. parts.held.payloads ≡ opened.entry.payloads) }
+    ensures payloads { IfOk result (λ parts. parts.held.payloads ≡ opened.entry.payloads.taken) }
+    ensures lent { IfOk result (λ parts. parts.held.lent ≡ opened.entry.payloads.lent) }
 {
     let Opened { journal, payloads } = opened;
     let held = payloads.into_holdings()?;
@@ -128,6 +132,7 @@ fn take_over<'g, D: Disk>(
         IfOk result
         (λ parts.
         IsRequestStoreInStep (store_of parts.journal parts.held) (D.moments disk.new).now) }
+    ensures lent { IfOk result (λ parts. parts.held.lent ≡ []) }
     ensures form { IfOk result (λ parts. parts.journal.form ≡ 3) }
     ensures usable { IfOk result (λ parts. parts.journal.broken ≡ false) }
     ensures cause { StoreCounts result (D.failed_disk_calls disk.old)

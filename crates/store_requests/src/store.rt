@@ -13,7 +13,7 @@ ghost use Rattle.store_journal.specs.Payloads.{payloads};
 ghost use Rattle.store_codec.specs.Carrying.{compacted_requests};
 ghost use Rattle.store_codec.specs.Shelves.{request_shelf_of};
 ghost use Rattle.store_holdings.specs.Additions.{AddsAsked};
-ghost use Rattle.store_holdings.specs.Held.{latest_held};
+ghost use Rattle.store_holdings.specs.Held.{AreLentBy, latest_held};
 ghost use Rattle.outside.specs.Records.{IsRecorded as FitsLatest, HasLatest};
 ghost use Rattle.store_holdings.specs.Seated.{AreSeats};
 ghost use Rattle.store_requests.specs.Stored.{AreAllOrLatest, HasCarriedOver, HasRequestsOf, ImageAsksCarrying, IsPreparedAt, IsRequestReady, IsRequestStoreInStep, IsResting, LeavesAll, OnNoMemory, after_committing, has_disk_failed, kept_payloads, prepared_record, requests_in};
@@ -105,6 +105,8 @@ impl<'g> RequestStore<'g> {
             ≡ kept_payloads (reads_of (D.moments disk.old).now)) }
         ensures in_step { D.tells →
             IfOk result (λ store. IsRequestStoreInStep store (D.moments disk.new).now) }
+        // A text that is lent is that of the file of its number.
+        ensures lent { IfOk result (λ store. AreLentBy files.now store.held.lent) }
         ensures usable { IfOk result (λ store. store.journal.broken ≡ false) }
         ensures cause { StoreCounts result (D.failed_disk_calls disk.old)
             (D.failed_disk_calls disk.new) }
@@ -150,6 +152,14 @@ impl<'g> RequestStore<'g> {
         ensures { IfOk result (AreSeats (request_shelf_of self.now.held.payloads) graph.now) }
     {
         self.held.seats(alloc, graph)
+    }
+
+    /// The same of the graph whose texts the store lends, which aren't compared with themselves then.
+    pub fn lent_seats(&self, alloc: Global, graph: &Graph) -> Result<Seats, NoMemory>
+        requires { AreLentBy graph.now self.now.held.lent }
+        ensures { IfOk result (AreSeats (request_shelf_of self.now.held.payloads) graph.now) }
+    {
+        self.held.lent_seats(alloc, graph)
     }
 
     /// Whether all files that a file depends on have a record, and its own latest record has what would be asked for it now. It

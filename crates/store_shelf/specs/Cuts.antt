@@ -43,11 +43,13 @@ with_new_text shelf text = record { texts = shelf.texts ++ text ∷ []; products
 pub record HasTaken (old new : HeldList) (shelf : PlacedShelf) (payload : List ℕ) : Type 0 where
   pub held : IsHeld new.pieces new.payloads shelf
   pub payloads : new.payloads ≡ old.payloads ++ payload ∷ []
+  pub lent : new.lent ≡ old.lent
 
 -- Nothing was added.
 pub record HasLeft (old new : HeldList) (shelf : PlacedShelf) : Type 0 where
   pub held : IsHeld new.pieces new.payloads shelf
   pub same : new.payloads ≡ old.payloads
+  pub lent : new.lent ≡ old.lent
 
 -- a payload was added, or none was, as it says
 abbrev pub TookOrLeft : Bool → (old new : HeldList) → PlacedShelf → List ℕ → Type 0

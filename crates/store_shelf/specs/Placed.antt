@@ -17,12 +17,12 @@ use Rattle.store_shelf.specs.declared.texts.PlacedTexts.{PlacedTexts}
 use Rattle.store_shelf.specs.declared.shelf.RecordRow.{RecordRow}
 use Rattle.store_shelf.specs.declared.shelf.PlacedShelf.{PlacedShelf}
 
--- The pieces of bytes that are held or lent, of which so many are texts of files; the payloads that they make up, in order; and
--- for how many more payloads there is room.
+-- The pieces of bytes that are held or lent; the payloads that they make up, in order; the texts of files that are lent, which
+-- are the first pieces; and for how many more payloads there is room.
 pub record HeldList : Type 0 where
   pub pieces : List (List ℕ)
   pub payloads : List (List ℕ)
-  pub files : ℕ
+  pub lent : List (List ℕ)
   pub room : ℕ
 
 -- the bytes of a payload that are held

@@ -245,7 +245,7 @@ fn take_cut(
     requires numbers { AreTextNumbers (placed_texts held.old.pieces shelf.old.texts)
         (request_in_ranges payload.now draft) numbers }
     requires cut { IsCutOf payload.now draft range numbers.text name cut }
-    requires file { name < held.old.files }
+    requires file { name < length held.old.lent }
     requires within { name < length held.old.pieces }
     requires text { nth_payload held.old.pieces name ≡ ranged payload.now range }
     ensures { OnOk result (HasTaken held.old held.new shelf.new payload.now) }

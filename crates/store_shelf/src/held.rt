@@ -1,7 +1,7 @@
 //! The payloads of a store: those that it was opened with, and each later one as it was written. Where the text of a record is
 //! lent from the file of its name, the other bytes of the payload alone are held.
 
-ghost use Rattle.std.specs.Prelude.{◌≡◌, ◌<◌, ◌++◌, ◌∷◌, [], length, map, slice_get, Some, IfSome, OnOk};
+ghost use Rattle.std.specs.Prelude.{◌≡◌, ◌↔◌, ◌<◌, ◌++◌, ◌∷◌, [], length, map, slice_get, Some, IfSome, IsTrue, OnOk};
 ghost use Rattle.store_shelf.specs.Placed.{held_piece, nth_payload, with_cut};
 
 use base::{Entry, NoMemory, Text};
@@ -38,8 +38,8 @@ impl HeldPayload {
     }
 }
 
-/// Payloads in order, over files whose texts are lent. Contracts see the payloads; the pieces of bytes that are held or lent, of
-/// which the texts of the files are the first; and for how many more payloads there is room.
+/// Payloads in order, over files whose texts are lent. Contracts see the payloads; the pieces of bytes that are held or lent;
+/// the texts of the files, which are the first pieces; and for how many more payloads there is room.
 #[derive(Drop)]
 pub struct HeldPayloads<'g> {
     files: &'g [Entry],
@@ -50,14 +50,14 @@ pub struct HeldPayloads<'g> {
 impl<'g> Model for HeldPayloads<'g> {
     ghost use Rattle.std.specs.Prelude.{◌≡◌, ◌⊎◌, ◌-◌, length};
     ghost use Rattle.std.specs.Vec.{vec_len, vec_capacity};
-    ghost use Rattle.store_shelf.specs.Placed.{HeldList, held_payloads, held_pieces};
+    ghost use Rattle.store_shelf.specs.Placed.{HeldList, file_texts, held_payloads, held_pieces};
 
     ghost Value = { HeldList };
 
     ghost view = { λ a. record {
       pieces = held_pieces a.files.now a.opened a.more.items;
       payloads = held_payloads a.files.now a.opened a.more.items;
-      files = length a.files.now;
+      lent = file_texts a.files.now;
       room = vec_capacity a.more - vec_len a.more;
     } };
 
@@ -70,6 +70,7 @@ impl<'g> HeldPayloads<'g> {
     pub fn of(alloc: Global, opened: Payloads) -> HeldPayloads<'g>
         ensures pieces { result.pieces ≡ opened }
         ensures payloads { result.payloads ≡ opened }
+        ensures lent { result.lent ≡ [] }
     {
         HeldPayloads {
             files: &[],
@@ -82,6 +83,7 @@ impl<'g> HeldPayloads<'g> {
     pub fn over(alloc: Global, files: &'g [Entry]) -> HeldPayloads<'g>
         ensures pieces { result.pieces ≡ map (λ file. file.text) files.now }
         ensures payloads { result.payloads ≡ [] }
+        ensures lent { result.lent ≡ map (λ file. file.text) files.now }
     {
         HeldPayloads {
             files,
@@ -115,7 +117,7 @@ impl<'g> HeldPayloads<'g> {
 
     /// The file of a number, if it has one, whose text is the piece of that number.
     pub(crate) fn file(&self, number: usize) -> Option<&'g Entry>
-        ensures there { IfSome result (λ _. number < self.now.files) }
+        ensures there { IfSome result (λ _. number < length self.now.lent) }
         ensures within { IfSome result (λ _. number < length self.now.pieces) }
         ensures text { IfSome result (λ file. nth_payload self.now.pieces number ≡ file.now.text) }
     {
@@ -125,11 +127,20 @@ impl<'g> HeldPayloads<'g> {
         Some(&self.files[number])
     }
 
+    /// Whether a file has this number, whose text is the piece of that number.
+    pub(crate) fn lends(&self, number: usize) -> bool
+        ensures there { IsTrue result ↔ (number < length self.now.lent) }
+        ensures text { IsTrue result →
+            nth_payload self.now.pieces number ≡ nth_payload self.now.lent number }
+    {
+        number < self.files.len()
+    }
+
     /// Makes room for one more payload. The payloads are unchanged.
     pub fn reserve(&mut self) -> Result<(), NoMemory>
         ensures pieces { self.new.pieces ≡ self.old.pieces }
         ensures payloads { self.new.payloads ≡ self.old.payloads }
-        ensures files { self.new.files ≡ self.old.files }
+        ensures lent { self.new.lent ≡ self.old.lent }
         ensures room { OnOk result (0 < self.new.room) }
     {
         self.more.reserve(1)?;
@@ -141,6 +152,7 @@ impl<'g> HeldPayloads<'g> {
         requires { 0 < self.old.room }
         ensures pieces { self.new.pieces ≡ self.old.pieces ++ payload ∷ [] }
         ensures payloads { self.new.payloads ≡ self.old.payloads ++ payload ∷ [] }
+        ensures lent { self.new.lent ≡ self.old.lent }
     {
         self.more.push_reserved(HeldPayload::Written(payload));
     }
@@ -149,6 +161,7 @@ impl<'g> HeldPayloads<'g> {
     pub(crate) fn put_whole(&mut self, payload: Text) -> Result<(), NoMemory>
         ensures pieces { OnOk result (self.new.pieces ≡ self.old.pieces ++ payload ∷ []) }
         ensures payloads { OnOk result (self.new.payloads ≡ self.old.payloads ++ payload ∷ []) }
+        ensures lent { self.new.lent ≡ self.old.lent }
     {
         self.more.push(HeldPayload::Whole(payload))?;
         Ok(())
@@ -156,11 +169,12 @@ impl<'g> HeldPayloads<'g> {
 
     /// Adds a payload at the end whose text is that of a file. After `NoMemory` the payloads are unchanged.
     pub(crate) fn put_cut(&mut self, cut: CutPayload) -> Result<(), NoMemory>
-        requires { cut.file < self.old.files }
+        requires { cut.file < length self.old.lent }
         ensures pieces { OnOk result (self.new.pieces ≡ self.old.pieces ++ cut.rest ∷ []) }
         ensures payloads { OnOk result
             (self.new.payloads
             ≡ self.old.payloads ++ with_cut (nth_payload self.old.pieces cut.file) cut ∷ []) }
+        ensures lent { self.new.lent ≡ self.old.lent }
     {
         self.more.push(HeldPayload::Cut(cut))?;
         Ok(())

@@ -18,4 +18,4 @@ pub use products::ProductRow;
 pub use putting::put_request;
 pub use shelf::{PlacedShelf, RecordRow};
 pub use taking::{number_name, number_names, taken_up};
-pub use texts::{PlacedText, PlacedTexts, find_text, text_at};
+pub use texts::{PlacedText, PlacedTexts, find_text, is_lent_from, text_at};

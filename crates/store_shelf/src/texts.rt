@@ -1,6 +1,6 @@
 //! The texts of a store, as places in its payloads.
 
-ghost use Rattle.std.specs.Prelude.{◌≡◌, ◌<◌, ◌≤◌, ◌+◌, ◌++◌, ◌∷◌, [], length, Contains, OnOk, slice_index_or};
+ghost use Rattle.std.specs.Prelude.{◌≡◌, ◌<◌, ◌≤◌, ◌+◌, ◌++◌, ◌∷◌, [], length, Contains, IsTrue, OnOk, slice_index_or};
 ghost use Rattle.base_numbering.specs.Numbers.{IsPlaceOf};
 ghost use Rattle.base_text_index.specs.Splits.{AreSplit};
 ghost use Rattle.store_codec.specs.Ranges.{ranged};
@@ -76,6 +76,38 @@ pub fn text_at<'a>(held: &'a HeldPayloads<'_>, texts: &PlacedTexts, number: usiz
     ensures { result.now ≡ slice_index_or (placed_texts held.now.pieces texts.now) number [] }
 {
     place_bytes(held, texts.places[number])
+}
+
+/// Whether a range has all of some bytes.
+fn has_all(bytes: &[u8], range: ByteRange) -> bool
+    ensures { IsTrue result → ranged bytes.now range ≡ bytes.now }
+{
+    range.start == 0 && range.count == bytes.len()
+}
+
+/// Whether the text of a number is in the place of the text that the file of a number lends. Two texts may be the same in other
+/// places.
+pub fn is_lent_from(
+    held: &HeldPayloads<'_>,
+    texts: &PlacedTexts,
+    number: usize,
+    file: usize,
+) -> bool
+    requires texts { AreTextsPlaced held.now.pieces texts.now }
+    requires number { number < length texts.now.places.items }
+    ensures there { IsTrue result → file < length held.now.lent }
+    ensures text { IsTrue result →
+        slice_index_or (placed_texts held.now.pieces texts.now) number []
+        ≡ nth_payload held.now.lent file }
+{
+    let place = texts.places[number];
+    if place.payload != file {
+        return false;
+    }
+    if !held.lends(file) {
+        return false;
+    }
+    has_all(held.get(file), place.range)
 }
 
 /// The number of a text, if it is there. It is compared with one text alone.

@@ -41,9 +41,11 @@ impl<'a> Marked<'a> {
 }
 
 impl<'a> Taker for Marked<'a> {
-    ghost use Rattle.std.specs.Prelude.{map};
+    ghost use Rattle.std.specs.Prelude.{map, ◌∷◌, []};
 
     ghost taken = { λ marked. map (λ piece. unwrap_or piece marked.known.now) marked.pieces.items };
+
+    ghost lends = { λ marked. marked.known.now ∷ [] };
 
     fn take(&mut self, alloc: Global, payload: &[u8]) -> Result<(), NoMemory> {
         let piece = piece_of(alloc, self.known, payload)?;

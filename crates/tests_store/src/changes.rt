@@ -4,7 +4,7 @@ ghost use Rattle.std.specs.Prelude.{◌≡◌, ◌<◌, ◌≤◌, [], ◌∷◌
 ghost use Rattle.base.specs.declared.limits.TheConstants.{ARTEFACT_LIMIT};
 ghost use Rattle.outside.specs.Records.{deps_at};
 ghost use Rattle.store_codec.specs.Shelves.{request_shelf_of};
-ghost use Rattle.store_holdings.specs.Held.{latest_held};
+ghost use Rattle.store_holdings.specs.Held.{AreLentBy, latest_held};
 ghost use Rattle.outside.specs.Records.{HasLatest};
 ghost use Rattle.store_holdings.specs.Seated.{AreSeats};
 ghost use Rattle.store_requests.specs.Stored.{IsRequestStoreInStep};
@@ -220,21 +220,33 @@ fn make_change<D: Disk>(
     }
 }
 
-/// Of both files `f` where the latest record has what would be asked now, and else `s`; and then the artefacts that are lent.
+/// Of both files `f` where by these seats the latest record has what would be asked now, and else `s`.
+fn fitting(store: &RequestStore<'_>, seats: &Seats, graph: &Graph) -> [u8; 2]
+    requires both { 1 < length graph.now }
+    requires seats { AreSeats (request_shelf_of store.now.held.payloads) graph.now seats.now }
+{
+    let mut letters = [b's'; 2];
+    if store.fits(seats, graph, 0) {
+        letters[0] = b'f';
+    }
+    if store.fits(seats, graph, 1) {
+        letters[1] = b'f';
+    }
+    letters
+}
+
+/// The same by the seats of any files, and then the artefacts that are lent.
 fn seen(alloc: Global, store: &RequestStore<'_>, graph: &Graph) -> Result<[u8; 4], NoMemory>
     requires { 1 < length graph.now }
 {
     let seats = store.seats(alloc, graph)?;
-    let mut letters = [b's'; 4];
-    if store.fits(&seats, graph, 0) {
-        letters[0] = b'f';
-    }
-    if store.fits(&seats, graph, 1) {
-        letters[1] = b'f';
-    }
-    letters[2] = letter(store, &graph.get(0).name);
-    letters[3] = letter(store, &graph.get(1).name);
-    Ok(letters)
+    let [first, second] = fitting(store, &seats, graph);
+    Ok([
+        first,
+        second,
+        letter(store, &graph.get(0).name),
+        letter(store, &graph.get(1).name),
+    ])
 }
 
 /// The same after a change.
@@ -265,6 +277,27 @@ pub(super) fn seen_on<D: Disk>(
 {
     let mut store = RequestStore::open(alloc, disk, graph.as_slice())?;
     seen_after(alloc, &mut store, disk, by, graph)
+}
+
+/// The same by the seats of files whose texts are lent, without artefacts.
+fn fitting_in(alloc: Global, store: &RequestStore<'_>, graph: &Graph) -> Result<[u8; 2], StoreFault>
+    requires both { 1 < length graph.now }
+    requires lent { AreLentBy graph.now store.now.held.lent }
+{
+    let seats = store.lent_seats(alloc, graph)?;
+    Ok(fitting(store, &seats, graph))
+}
+
+/// The same of the store of a disk, which lends from the files the texts that these have.
+pub(super) fn fitting_on<D: Disk>(
+    alloc: Global,
+    disk: &mut D,
+    graph: &Graph,
+) -> Result<[u8; 2], StoreFault>
+    requires { 1 < length graph.now }
+{
+    let store = RequestStore::open(alloc, disk, graph.as_slice())?;
+    fitting_in(alloc, &store, graph)
 }
 
 /// What is seen in a store.

@@ -2,7 +2,7 @@
 
 ghost use Rattle.std.specs.Prelude.{◌<◌, length};
 
-use crate::changes::{Change, both, disk_of, empty_disk, run, seen_on};
+use crate::changes::{Change, both, disk_of, empty_disk, fitting_on, run, seen_on};
 use base::{Graph, NoMemory};
 use memory_outside::MemDisk;
 use outside::{Side, StoreFault};
@@ -140,6 +140,22 @@ fn the_example_is_opened_and_its_records_fit(rt: HostRuntime) -> Result<(), Fail
     assert!(rt; example(rt.alloc(), b'x', b'x')? == *b"ffyz");
     assert!(rt; example(rt.alloc(), b'x', b'w')? == *b"fsyz");
     assert!(rt; example(rt.alloc(), b'w', b'x')? == *b"sfyz");
+    Ok(())
+}
+
+/// Which of the files fit a disk of the example whose texts are lent from them.
+fn example_lent(alloc: Global, first: u8, second: u8) -> Result<[u8; 2], StoreFault> {
+    let graph = both(alloc, first, second)?;
+    let mut disk = disk_of(alloc, &[], &EXAMPLE)?;
+    fitting_on(alloc, &mut disk, &graph)
+}
+
+#[test]
+fn records_of_the_example_fit_by_texts_that_are_lent(rt: HostRuntime) -> Result<(), Fail> {
+    assert!(rt; example_lent(rt.alloc(), b'x', b'x')? == *b"ff");
+    assert!(rt; example_lent(rt.alloc(), b'x', b'w')? == *b"fs");
+    assert!(rt; example_lent(rt.alloc(), b'w', b'x')? == *b"sf");
+    assert!(rt; example_lent(rt.alloc(), b'w', b'w')? == *b"ss");
     Ok(())
 }
 

@@ -1,19 +1,28 @@
 //! The store of a run, which lends the texts of the files that it builds.
 
-use base::Entry;
-use outside::{Disk, StoreFault};
-use run_build::Opener;
+use base::{Graph, NoMemory};
+use outside::{Disk, Records, StoreFault};
+use run_build::{Opener, SeatedStore};
 use std::alloc::Global;
 use store_requests::RequestStore;
 
-/// Opens a store that lends each text that one of these files has from there, in place of holding it once more.
+/// Opens a store that lends each text that a file of the graph has from there, in place of holding it once more.
 #[derive(Clone, Copy)]
-pub struct LendsTexts<'g> {
-    pub files: &'g [Entry],
-}
+pub struct LendsTexts;
 
-impl<'g> Opener<RequestStore<'g>> for LendsTexts<'g> {
-    fn open<D: Disk>(&self, alloc: Global, disk: &mut D) -> Result<RequestStore<'g>, StoreFault> {
-        RequestStore::open(alloc, disk, self.files)
+impl<'g> Opener<'g, RequestStore<'g>> for LendsTexts {
+    fn open<D: Disk>(
+        &self,
+        alloc: Global,
+        disk: &mut D,
+        graph: &'g Graph,
+    ) -> Result<SeatedStore<RequestStore<'g>, <RequestStore<'g> as Records>::Seats>, StoreFault> {
+        match RequestStore::open(alloc, disk, graph.as_slice()) {
+            Ok(store) => match store.lent_seats(alloc, graph) {
+                Ok(seats) => Ok(SeatedStore { store, seats }),
+                Err(NoMemory) => Err(StoreFault::NoMemory),
+            },
+            Err(fault) => Err(fault),
+        }
     }
 }

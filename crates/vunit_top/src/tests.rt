@@ -230,17 +230,14 @@ fn test_planned<D: Disk, P: Procs, O: Sink, R: Reports>(
         (R.failed_reports reports.new) input) }
 {
     let Planned { warnings, runs } = planned;
-    let opener = LendsTexts {
-        files: read.graph.as_slice(),
-    };
-    match test_over::<RequestStore<'_>, LendsTexts<'_>, D, P>(
+    match test_over::<RequestStore<'_>, LendsTexts, D, P>(
         alloc,
         &read.graph,
         options.build,
         &runs,
         &read.project.simulator,
         options.fail_fast,
-        &opener,
+        &LendsTexts,
         disk,
         procs,
     ) {

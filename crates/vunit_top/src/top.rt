@@ -92,11 +92,13 @@ fn build_graph<D: Disk, P: Procs, O: Sink>(
         (fault_counts tree (D.failed_disk_calls disk.new) (P.failed_starts procs.new)
         (P.lost_children procs.new) (O.failed_puts out.new) report input) }
 {
-    let opener = LendsTexts {
-        files: graph.as_slice(),
-    };
-    match build_over::<RequestStore<'_>, LendsTexts<'_>, D, P>(
-        alloc, graph, options, &opener, disk, procs,
+    match build_over::<RequestStore<'_>, LendsTexts, D, P>(
+        alloc,
+        graph,
+        options,
+        &LendsTexts,
+        disk,
+        procs,
     ) {
         Ok(marks) => say_build(alloc, warnings, graph, &marks, out),
         Err(BuildFault::NoMemory) => Outcome::NoMemory,

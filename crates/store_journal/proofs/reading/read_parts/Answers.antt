@@ -14,6 +14,7 @@ loop-count-init g c = record {
   read = λ told.
       let reads = (side_of c.args.live.side (g.D.Disk.moments c.args.disk.now).now).reads in
       rw c.requires.none (read_begins_at reads (omega (arith, c.requires.size, c.requires.len told)));
+  lends = refl;
   window = c.requires.window;
   same = λ told. refl;
   moments = λ told. goes_nowhere (g.D.Disk.moments c.args.disk.now);
@@ -38,6 +39,7 @@ loop-count-preserved g c =
           let head = subst (IsCountOf (drop gate reads)) c.in-Some.is (subst (λ (l : List ℕ). IsCountOf (drop gate l) c.in_ok-count.field-0) before (c.in_ok-count.ensures.is told)) in
           let more : taken c.read_payload.new.taker ≡ taken c.loop-count.taker ++ bytes_at (gate + 5) count reads ∷ [] = c.in_ok-read_payload.ensures.taken told ∙ ap (λ (l : List ℕ). taken c.loop-count.taker ++ bytes_at (gate + 5) count l ∷ []) same in
           subst (λ (ps : List (List ℕ)). AreReadTo reads ps (gate + 5 + count)) (sym more) (read_next reads (taken c.loop-count.taker) gate count (so_far.read told) head (omega arith) (omega (arith, within, c.requires.len told)));
+      lends = c.in_ok-read_payload.ensures.lends ∙ so_far.lends;
       window = λ told.
           let same = ap (λ (d : DiskState). (side_of c.args.live.side d).reads) (c.in_ok-count.ensures.same told ∙ so_far.same told) in
           subst (λ (l : List ℕ). IsWindowOf l c.read_payload.new.window) same (c.in_ok-read_payload.ensures.window told);

@@ -9,6 +9,7 @@ invariant-loop-count g l = record {
   from : 18 ≤ l.gate;
   to : l.gate < l.fn.live.len;
   read : g.D.Disk.tells → AreReadTo (side_of l.fn.live.side (g.D.Disk.moments l.fn.disk).now).reads (g.T.Taker.taken l.taker) l.gate;
+  lends : g.T.Taker.lends l.taker ≡ g.T.Taker.lends l.fn.taker;
   window : g.D.Disk.tells → IsWindowOf (side_of l.fn.live.side (g.D.Disk.moments l.fn.disk).now).reads l.window;
   same : g.D.Disk.tells → (g.D.Disk.moments l.disk).now ≡ (g.D.Disk.moments l.fn.disk).now;
   moments : g.D.Disk.tells → Goes (g.D.Disk.moments l.fn.disk).now (g.D.Disk.moments l.fn.disk) (g.D.Disk.moments l.disk);

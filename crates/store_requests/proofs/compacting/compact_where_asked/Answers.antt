@@ -1,5 +1,6 @@
 use Rattle.std.proofs.Common.{◌≡◌, ◌<◌, ◌^◌, true, false, arith, inr, sym, ◌∙◌}
 use Rattle.outside.specs.Disks.{reads_of}
+use Rattle.store_holdings.proofs.Lent.{none_lent}
 use Rattle.store_requests.specs.Stored.{own_requests, store_of}
 use Rattle.store_requests.proofs.RequestMoments.{own_all, still_leaves, still_live}
 use Rattle.store_requests.proofs.Carried.{counted_latest, asked_by, asks_by, compacted_rests, length_is, short_unasked, unasked_rests}
@@ -71,3 +72,6 @@ returns-then-not-is_asked-clause-live g c = λ told. still_live (g.D.Disk.moment
 pub returns-clause-records : goal.returns-clause-records
 returns-clause-records g c = λ told.
     inr (sym (own_all (store_of c.replace_by.new.journal c.replace_by.new.held) (g.D.Disk.moments c.replace_by.new.disk).now (c.in_ok-replace_by.ensures.in_step told)) ∙ (c.in_ok-replace_by.ensures.compacts told).records)
+
+pub returns-clause-lent : goal.returns-clause-lent
+returns-clause-lent g c = λ files lent. none_lent files c.replace_by.new.held.lent c.in_ok-replace_by.ensures.lent

@@ -67,3 +67,6 @@ returns-in-Ok-clause-live g c = λ told. subst (λ (f : ℕ). AtAnyMoment (g.D.D
 
 pub returns-in-Err-clause-live : goal.returns-in-Err-clause-live
 returns-in-Err-clause-live g c = λ told. subst (λ (f : ℕ). AtAnyMoment (g.D.Disk.moments c.args.disk.now) (g.D.Disk.moments c.replace.new.disk) (λ image. has_form f image ≡ true)) c.requires.form (c.replace.ensures.live told)
+
+pub returns-in-Ok-clause-lent : goal.returns-in-Ok-clause-lent
+returns-in-Ok-clause-lent g c = ap (λ (h : HeldState). h.lent) c.hold.ensures ∙ c.in_ok-kept.ensures.lent

@@ -1,26 +1,31 @@
-use Rattle.std.proofs.Common.{rules, ◌≡◌, ℕ, false, List, ap, sym, subst, ◌∙◌}
+use Rattle.std.proofs.Common.{rules, ◌≡◌, ℕ, false, List, [], ap, sym, subst, ◌∙◌}
 use Rattle.outside.specs.Disks.{Image, reads_of}
 use Rattle.store_journal.specs.declared.finding.FoundForm.{FoundForm}
 use Rattle.store_journal.specs.declared.finding.FoundForm.TheVariants.{Newer, Older}
 use Rattle.store_journal.specs.declared.opening.Opened.{Opened}
-use Rattle.store_journal.specs.Finds.{IsOfFoundForm, found_journal, found_taken}
+use Rattle.store_journal.specs.Finds.{IsOfFoundForm, LendsStill, found_journal, found_taken}
 use Rattle.store_journal.specs.Forms.{found_form, has_form}
 use Rattle.store_journal.specs.Journals.{IsHealthy, IsInStep, JournalState}
 use Rattle.store_journal.specs.Payloads.{payloads}
+use Rattle.store_holdings.specs.Held.{TakenState}
+use Rattle.store_holdings.proofs.Lent.{all_lent, none_lent}
 use Rattle.store_requests.proofs.Carried.{found_generation, image_asks, none_unasked, store_asks, taken_asks}
 use Rattle.store_requests.proofs.Kept.{kept_held, requests_held}
 use Rattle.store_requests.proofs.RequestMoments.{open_leaves, open_opens, reads_image, then_leaves, then_opens}
 use Rattle.store_requests.proofs.TakingOver.{found_none, healthy_found}
 use Rattle.store_requests.proofs.reading.read.Goals as goal
 
-abbrev taken : FoundForm (List (List ℕ)) (List (List ℕ)) → List (List ℕ)
-taken = found_taken (λ ps. ps) (λ ps. ps)
+abbrev taken : FoundForm TakenState (List (List ℕ)) → List (List ℕ)
+taken = found_taken (λ t. t.taken) (λ ps. ps)
 
-of_newer : (found : FoundForm (List (List ℕ)) (List (List ℕ))) (opened : Opened (List (List ℕ))) → found ≡ Newer opened → IsOfFoundForm 3 2 found → opened.journal.form ≡ 3
+of_newer : (found : FoundForm TakenState (List (List ℕ))) (opened : Opened TakenState) → found ≡ Newer opened → IsOfFoundForm 3 2 found → opened.journal.form ≡ 3
 of_newer found opened is form = subst (IsOfFoundForm 3 2) is form
 
-of_older : (found : FoundForm (List (List ℕ)) (List (List ℕ))) (opened : Opened (List (List ℕ))) → found ≡ Older opened → IsOfFoundForm 3 2 found → opened.journal.form ≡ 2
+of_older : (found : FoundForm TakenState (List (List ℕ))) (opened : Opened (List (List ℕ))) → found ≡ Older opened → IsOfFoundForm 3 2 found → opened.journal.form ≡ 2
 of_older found opened is form = subst (IsOfFoundForm 3 2) is form
+
+lent_newer : (found : FoundForm TakenState (List (List ℕ))) (opened : Opened TakenState) (newer older : List (List ℕ)) → found ≡ Newer opened → LendsStill (λ t. t.lent) (λ ps. []) newer older found → opened.payloads.lent ≡ newer
+lent_newer found opened newer older is still = subst (LendsStill (λ t. t.lent) (λ ps. []) newer older) is still
 
 three_is_two : ◌≡◌ {A = ℕ} 3 2 → ⊥
 three_is_two e = absurd cc
@@ -153,3 +158,11 @@ returns-in_ok-parts-in-Older-clause-records g c = λ told. c.in_ok-parts-in-Olde
 
 pub returns-in_ok-parts-in-Older-clause-in_step : goal.returns-in_ok-parts-in-Older-clause-in_step
 returns-in_ok-parts-in-Older-clause-in_step g c = λ told. c.in_ok-parts-in-Older.ensures.in_step told
+
+pub returns-in_ok-parts-in-Newer-clause-lent : goal.returns-in_ok-parts-in-Newer-clause-lent
+returns-in_ok-parts-in-Newer-clause-lent g c =
+    let still = lent_newer c.in_ok-found.found c.in-Newer.opened _ _ c.in-Newer.is c.in_ok-found.ensures.lends in
+    all_lent c.args.files.now c.in_ok-parts-in-Newer.parts.held.lent (c.in_ok-parts-in-Newer.ensures.lent ∙ still ∙ c.over-own.ensures.lent)
+
+pub returns-in_ok-parts-in-Older-clause-lent : goal.returns-in_ok-parts-in-Older-clause-lent
+returns-in_ok-parts-in-Older-clause-lent g c = none_lent c.args.files.now c.in_ok-parts-in-Older.parts.held.lent c.in_ok-parts-in-Older.ensures.lent

@@ -58,5 +58,5 @@ pub returns-in-Ok-clause-in_step : goal.returns-in-Ok-clause-in_step
 returns-in-Ok-clause-in_step g c = λ told. record {
   journal_in_step = c.in-Ok.ensures.in_step told;
   form = c.in-Ok.ensures.form ∙ ap (λ (s : SideContent). s.form) c.in_ok-side.ensures;
-  payloads_are = c.in_ok-held.ensures ∙ sym (there_now g c told);
+  payloads_are = c.in_ok-held.ensures.payloads ∙ sym (there_now g c told);
 }

@@ -68,4 +68,5 @@ returns c =
             ∙ ap request_shelf_of (sym all);
       };
       payloads = all;
+      lent = c.put_cut.ensures.lent;
     }

@@ -34,4 +34,5 @@ returns c =
             ∙ ap request_shelf_of (sym all);
       };
       payloads = all;
+      lent = c.put_whole.ensures.lent;
     }

@@ -20,7 +20,7 @@ unfolding request_shelf_of
 none_there = refl
 
 pub loop-number-init : goal.loop-number-init
-loop-number-init c = λ requests all. ap (λ (ps : List (List ℕ)). (request_shelf_of ps).records) (c.in_ok-held.ensures ∙ c.new.ensures) ∙ none_there
+loop-number-init c = λ requests all. ap (λ (ps : List (List ℕ)). (request_shelf_of ps).records) (c.in_ok-held.ensures.payloads ∙ c.new.ensures) ∙ none_there
 
 pub add_row-requires-clause-next : goal.add_row-requires-clause-next
 add_row-requires-clause-next c =

@@ -1,4 +1,4 @@
-use Rattle.std.proofs.Common.{◌≡◌, ℕ, ◌<◌, List, length, None, Some, refl, sym, ap, subst, ◌∙◌, arith}
+use Rattle.std.proofs.Common.{◌≡◌, ℕ, ◌<◌, List, length, None, Some, get_or, refl, sym, ap, subst, ◌∙◌, arith}
 use Rattle.std.specs.Prelude.{All}
 use Rattle.std.proofs.lemmas.List.{length-map}
 use Rattle.std.proofs.lemmas.Option.{none-some, same_Some}
@@ -11,13 +11,13 @@ use Rattle.store_holdings.specs.Held.{HeldState}
 use Rattle.outside.specs.Records.{IsRecorded as FitsLatest, HasLatest}
 use Rattle.store_holdings.specs.Seated.{AreSeats}
 use Rattle.store_holdings.proofs.Fits.{built_from, fits_command, fits_deps, fits_text, fits_to}
-use Rattle.store_holdings.proofs.Here.{command_some, deps_low, record_at, row_is, seat_here}
+use Rattle.store_holdings.proofs.Here.{command_some, deps_low, record_at, row_is, seat_here, text_here}
 use Rattle.store_holdings.proofs.holdings.RequestHoldings.fits.Goals as goal
 
 pub returns-in_default : goal.returns-in_default
 returns-in_default c =
     let entry : Entry = c.get-entry.result.now in
-    let seats : AreSeats (request_shelf_of c.args.self.now.payloads) c.args.graph.now c.args.seats.now = record { each = c.requires.seats.each; is = c.requires.seats.is } in
+    let seats : AreSeats (request_shelf_of c.args.self.now.payloads) c.args.graph.now c.args.seats.now = record { each = c.requires.seats.each; is = c.requires.seats.is; texts = c.requires.seats.texts } in
     let none = seat_here (request_shelf_of c.args.self.now.payloads) c.args.graph.now c.args.seats.now c.args.at c.get-entry.result.now None seats c.get-entry.ensures.entry (sym c.get.ensures ∙ c.in_default.is) in (
       λ f. absurd cc,
       λ fits.
@@ -30,7 +30,7 @@ index-row-requires c =
     let shelf = c.self.inside.shelf in
     let texts : List (List ℕ) = placed_texts c.self.inside.held.pieces shelf.texts in
     let whole : placed_shelf c.self.inside.held.pieces c.self.inside.shelf ≡ request_shelf_of c.args.self.now.payloads = c.self.invariant.is ∙ ap (λ (s : HeldState). request_shelf_of s.payloads) c.self.view_is in
-    let seats : AreSeats (request_shelf_of c.args.self.now.payloads) c.args.graph.now c.args.seats.now = record { each = c.requires.seats.each; is = c.requires.seats.is } in
+    let seats : AreSeats (request_shelf_of c.args.self.now.payloads) c.args.graph.now c.args.seats.now = record { each = c.requires.seats.each; is = c.requires.seats.is; texts = c.requires.seats.texts } in
     let has = seat_here (request_shelf_of c.args.self.now.payloads) c.args.graph.now c.args.seats.now c.args.at c.get-entry.result.now (Some c.in-Some.seat) seats c.get-entry.ensures.entry (sym c.get.ensures ∙ c.in-Some.is) in
     omega (arith, has.row, ap (λ (s : RequestShelf). length s.records) whole, length-map shelf.rows.items (row_record c.self.inside.held.pieces shelf.names.keys texts (row_products shelf.names.keys texts shelf.products.keys)))
 
@@ -39,7 +39,7 @@ is_asked-requires-clause-row c =
     let shelf = c.self.inside.shelf in
     let texts : List (List ℕ) = placed_texts c.self.inside.held.pieces shelf.texts in
     let whole : placed_shelf c.self.inside.held.pieces c.self.inside.shelf ≡ request_shelf_of c.args.self.now.payloads = c.self.invariant.is ∙ ap (λ (s : HeldState). request_shelf_of s.payloads) c.self.view_is in
-    let seats : AreSeats (request_shelf_of c.args.self.now.payloads) c.args.graph.now c.args.seats.now = record { each = c.requires.seats.each; is = c.requires.seats.is } in
+    let seats : AreSeats (request_shelf_of c.args.self.now.payloads) c.args.graph.now c.args.seats.now = record { each = c.requires.seats.each; is = c.requires.seats.is; texts = c.requires.seats.texts } in
     let has = seat_here (request_shelf_of c.args.self.now.payloads) c.args.graph.now c.args.seats.now c.args.at c.get-entry.result.now (Some c.in-Some.seat) seats c.get-entry.ensures.entry (sym c.get.ensures ∙ c.in-Some.is) in
     let low : c.in-Some.seat.row < length c.self.inside.shelf.rows.items = omega (arith, has.row, ap (λ (s : RequestShelf). length s.records) whole, length-map shelf.rows.items (row_record c.self.inside.held.pieces shelf.names.keys texts (row_products shelf.names.keys texts shelf.products.keys))) in
     row_is c.self.inside.held.pieces shelf.names.keys texts shelf.products.keys shelf.rows.items c.self.invariant.are.rows c.in-Some.seat.row c.index-row.result.now low c.index-row.ensures
@@ -49,6 +49,20 @@ is_asked-requires-clause-command c = command_some c.args.graph.now c.args.at c.g
 
 pub is_asked-requires-clause-deps : goal.is_asked-requires-clause-deps
 is_asked-requires-clause-deps c = λ k d l. (let low = deps_low c.args.graph.now c.args.at c.get-entry.result.now c.get-entry.ensures.graph c.get-entry.ensures.entry k d l in omega (arith, low, c.requires.seats.each))
+
+pub is_asked-requires-clause-text : goal.is_asked-requires-clause-text
+is_asked-requires-clause-text c = λ known.
+    let pieces = c.self.inside.held.pieces in
+    let shelf = c.self.inside.shelf in
+    let texts : List (List ℕ) = placed_texts c.self.inside.held.pieces shelf.texts in
+    let whole : placed_shelf c.self.inside.held.pieces c.self.inside.shelf ≡ request_shelf_of c.args.self.now.payloads = c.self.invariant.is ∙ ap (λ (s : HeldState). request_shelf_of s.payloads) c.self.view_is in
+    let seats : AreSeats (request_shelf_of c.args.self.now.payloads) c.args.graph.now c.args.seats.now = record { each = c.requires.seats.each; is = c.requires.seats.is; texts = c.requires.seats.texts } in
+    let here : AreSeats (placed_shelf c.self.inside.held.pieces c.self.inside.shelf) c.args.graph.now c.args.seats.now = subst (λ (s : RequestShelf). AreSeats s c.args.graph.now c.args.seats.now) (sym whole) seats in
+    let found : get_or c.args.seats.now c.args.at None ≡ Some c.in-Some.seat = sym c.get.ensures ∙ c.in-Some.is in
+    let has = seat_here (placed_shelf c.self.inside.held.pieces c.self.inside.shelf) c.args.graph.now c.args.seats.now c.args.at c.get-entry.result.now (Some c.in-Some.seat) here c.get-entry.ensures.entry found in
+    let says = text_here (placed_shelf c.self.inside.held.pieces c.self.inside.shelf) c.args.graph.now c.args.seats.now c.args.at c.get-entry.result.now (Some c.in-Some.seat) here c.get-entry.ensures.entry found in
+    let low : c.in-Some.seat.row < length c.self.inside.shelf.rows.items = omega (arith, has.row, length-map shelf.rows.items (row_record pieces shelf.names.keys texts (row_products shelf.names.keys texts shelf.products.keys))) in
+    says known _ (record_at pieces shelf.names.keys texts shelf.products.keys shelf.rows.items c.self.invariant.are.rows c.in-Some.seat.row c.index-row.result.now low c.index-row.ensures)
 
 pub returns : goal.returns
 returns c =
@@ -60,7 +74,7 @@ returns c =
     let graph : List Entry = c.args.graph.now in
     let entry : Entry = c.get-entry.result.now in
     let row = c.index-row.result.now in
-    let seats : AreSeats (request_shelf_of c.args.self.now.payloads) c.args.graph.now c.args.seats.now = record { each = c.requires.seats.each; is = c.requires.seats.is } in
+    let seats : AreSeats (request_shelf_of c.args.self.now.payloads) c.args.graph.now c.args.seats.now = record { each = c.requires.seats.each; is = c.requires.seats.is; texts = c.requires.seats.texts } in
     let here : AreSeats (placed_shelf c.self.inside.held.pieces c.self.inside.shelf) c.args.graph.now c.args.seats.now = subst (λ (s : RequestShelf). AreSeats s c.args.graph.now c.args.seats.now) (sym whole) seats in
     let has = seat_here placed graph c.args.seats.now c.args.at entry (Some c.in-Some.seat) here c.get-entry.ensures.entry (sym c.get.ensures ∙ c.in-Some.is) in
     let low : c.in-Some.seat.row < length c.self.inside.shelf.rows.items = omega (arith, has.row, length-map shelf.rows.items (row_record pieces shelf.names.keys texts (row_products shelf.names.keys texts shelf.products.keys))) in

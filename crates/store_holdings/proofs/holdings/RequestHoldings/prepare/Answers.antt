@@ -19,7 +19,7 @@ pub seated_products-requires-clause-seated : goal.seated_products-requires-claus
 seated_products-requires-clause-seated c = λ k d l e.
     let shelf : RequestShelf = request_shelf_of c.args.self.now.payloads in
     let once : AreNumberedOnce (request_shelf_of c.args.self.now.payloads) = once_in_all c.args.self.now.payloads in
-    let seats : AreSeats (request_shelf_of c.args.self.now.payloads) c.args.graph.now c.args.seats.now = record { each = c.requires.seats.each; is = c.requires.seats.is } in
+    let seats : AreSeats (request_shelf_of c.args.self.now.payloads) c.args.graph.now c.args.seats.now = record { each = c.requires.seats.each; is = c.requires.seats.is; texts = c.requires.seats.texts } in
     let deps : deps_at c.args.graph.now c.args.at ≡ c.as_slice.result.now = deps_are shelf c.args.graph.now c.get-entry.ensures.graph c.args.at c.get-entry.result.now c.get-entry.ensures.entry ∙ sym c.as_slice.ensures in
     let built : All (HasLatest (λ name. latest_request name (request_shelf_of c.args.self.now.payloads).records) c.args.graph.now) c.as_slice.result.now = subst (λ (ps : List ℕ). All (HasLatest (λ name. latest_request name (request_shelf_of c.args.self.now.payloads).records) c.args.graph.now) ps) deps c.requires.built in
     seated_there shelf once.products c.args.graph.now c.args.seats.now seats (get_or c.as_slice.result.now k d) (built k d l) e
@@ -35,7 +35,7 @@ next_request-requires-clause-deps c =
     let shelf : RequestShelf = request_shelf_of c.args.self.now.payloads in
     let graph : List Entry = c.args.graph.now in
     let once : AreNumberedOnce (request_shelf_of c.args.self.now.payloads) = once_in_all c.args.self.now.payloads in
-    let seats : AreSeats (request_shelf_of c.args.self.now.payloads) c.args.graph.now c.args.seats.now = record { each = c.requires.seats.each; is = c.requires.seats.is } in
+    let seats : AreSeats (request_shelf_of c.args.self.now.payloads) c.args.graph.now c.args.seats.now = record { each = c.requires.seats.each; is = c.requires.seats.is; texts = c.requires.seats.texts } in
     let deps : c.as_slice.result.now ≡ deps_at c.args.graph.now c.args.at = c.as_slice.ensures ∙ sym (deps_are shelf c.args.graph.now c.get-entry.ensures.graph c.args.at c.get-entry.result.now c.get-entry.ensures.entry) in
     let seated : map (λ n. Some n) c.in_ok-deps.deps ≡ map (seated_product c.args.seats.now) (deps_at c.args.graph.now c.args.at) = c.in_ok-deps.ensures ∙ ap (map (seated_product c.args.seats.now)) deps in
     let there = seated_low shelf once.products graph c.args.seats.now seats c.in_ok-deps.deps (deps_at c.args.graph.now c.args.at) c.requires.built seated in

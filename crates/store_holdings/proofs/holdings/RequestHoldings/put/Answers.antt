@@ -1,4 +1,4 @@
-use Rattle.std.proofs.Common.{◌≡◌, ℕ, List, [], ◌∷◌, length, Some, sym, ap, subst, ◌∙◌, arith, length-append}
+use Rattle.std.proofs.Common.{◌≡◌, ℕ, List, [], ◌∷◌, length, Some, false, refl, sym, ap, subst, ◌∙◌, arith, length-append}
 use Rattle.store_codec.specs.Forms.{RequestDraft}
 use Rattle.store_codec.specs.Ranges.{request_in_ranges}
 use Rattle.store_codec.specs.Shelves.{RequestShelf, drafted_record, request_shelf_of, with_request}
@@ -39,6 +39,6 @@ returns-clause-seats c = λ graph is are named.
     let at : c.len-row.result ≡ length (request_shelf_of c.self.inside.held.payloads).records = omega (arith, c.len-row.ensures, rows_are_records c.self.inside.held.pieces payloads c.self.inside.shelf c.self.invariant) in
     let latest : IsLatestRow (with_request shelf draft).records draft.name (Some c.len-row.result) = subst (λ (n : ℕ). IsLatestRow (with_request shelf draft).records draft.name (Some n)) (sym at) (own_row shelf draft) in
     let here = seat_is now new.names.keys (placed_texts now new.texts) new.products.keys new.rows.items c.put_held.ensures.is.are.rows c.len-row.result c.index.result.now (omega (arith, latest.0, rows_are_records now c.put_held.new.held.payloads new c.put_held.ensures.is, ap (λ (s : RequestShelf). length s.records) whole)) c.index.ensures draft.name (subst (λ (s : RequestShelf). IsLatestRow s.records draft.name (Some c.len-row.result)) (sym placed) latest) in
-    let has = subst (λ (s : RequestShelf). HasSeat s draft.name (record { row = c.len-row.result; product = c.index.result.now.product })) placed here in
-    let all = seats_added shelf draft graph c.args.seats.now c.args.addition.at (record { row = c.len-row.result; product = c.index.result.now.product }) is seats c.requires.seat named has in
+    let has = subst (λ (s : RequestShelf). HasSeat s draft.name (record { row = c.len-row.result; product = c.index.result.now.product; has_text = false })) placed here in
+    let all = seats_added shelf draft graph c.args.seats.now c.args.addition.at (record { row = c.len-row.result; product = c.index.result.now.product; has_text = false }) is seats c.requires.seat refl named has in
     subst (λ (s : RequestShelf). AreSeats s graph c.set.new.self) (sym whole) (subst (AreSeats (with_request shelf draft) graph) (sym c.set.ensures) all)

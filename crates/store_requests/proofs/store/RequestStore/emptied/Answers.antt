@@ -28,11 +28,11 @@ pub returns-clause-none : goal.returns-clause-none
 returns-clause-none g c = λ told. live_requests (reads_of (g.D.Disk.moments c.emptied.new.disk).now) (c.in_ok-journal.ensures.live told) ∙ ap requests_among (c.in_ok-journal.ensures.emptied told) ∙ none_among
 
 pub returns-clause-latest : goal.returns-clause-latest
-returns-clause-latest g c = λ name. latest_none c.in_ok-held.held.payloads name (c.in_ok-held.ensures ∙ c.new.ensures)
+returns-clause-latest g c = λ name. latest_none c.in_ok-held.held.payloads name (c.in_ok-held.ensures.payloads ∙ c.new.ensures)
 
 pub returns-clause-in_step : goal.returns-clause-in_step
 returns-clause-in_step g c = λ told. record {
   journal_in_step = c.in_ok-journal.ensures.in_step told;
   form = c.in_ok-journal.ensures.form;
-  payloads_are = c.in_ok-held.ensures ∙ c.new.ensures ∙ sym (c.in_ok-journal.ensures.emptied told);
+  payloads_are = c.in_ok-held.ensures.payloads ∙ c.new.ensures ∙ sym (c.in_ok-journal.ensures.emptied told);
 }

@@ -63,3 +63,6 @@ returns-clause-rests g c = λ told resting.
     let rests = c.read.ensures.rests told resting.healthy in
     let same = c.compact_where_asked.ensures.keeps told (λ asks. resting.unasked ((c.in_ok-journal.ensures.asks told).0 asks)) in
     record { goes = subst (λ disk. Goes (g.D.Disk.moments c.args.disk.now).now (g.D.Disk.moments c.args.disk.now) (g.D.Disk.moments disk)) (sym same) rests.goes; same = search rules }
+
+pub returns-in-Ok-clause-lent : goal.returns-in-Ok-clause-lent
+returns-in-Ok-clause-lent g c = c.in-Ok.ensures.lent c.args.files.now c.in_ok-journal.ensures.lent
