@@ -20,7 +20,7 @@ def program_itself():
     if os.path.basename(os.path.dirname(PROGRAM)) != "bin" or not os.path.exists(current):
         return PROGRAM
     with open(current) as file:
-        return os.path.join(os.path.dirname(current), file.readline().strip())
+        return os.path.join(os.path.dirname(current), file.readline().strip(), "vunit_run")
 
 
 def new_room():

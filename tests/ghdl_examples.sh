@@ -5,6 +5,11 @@
 parts ghdl_examples ghdl_earlier
 # (what GHDL says begins with its path)
 path=$(ghdl -r no_such_unit 2>&1 | sed -n 's/: cannot find .*//p')
-sh "$TOP/tests/support/session.sh" docs/user/GHDL.md "Run benches with GHDL" "s#^/usr/bin/ghdl-mcode:#$path:#"
-mkdir moving
+path="s#^/usr/bin/ghdl-mcode:#$path:#"
+mkdir benches recording generics configurations reporting moving
+(cd benches && sh "$TOP/tests/support/session.sh" docs/user/GHDL.md "Run benches with GHDL" "$path")
+(cd recording && sh "$TOP/tests/support/session.sh" docs/user/GHDL.md "Record one run" "$path")
+(cd generics && sh "$TOP/tests/support/session.sh" docs/user/GHDL.md "Generics, data files and hooks" "$path")
+(cd configurations && sh "$TOP/tests/support/session.sh" docs/user/GHDL.md "Configurations" "$path")
+(cd reporting && sh "$TOP/tests/support/session.sh" docs/user/CI.md "A report")
 (cd moving && sh "$TOP/tests/support/session.sh" docs/user/MOVING.md "A session")

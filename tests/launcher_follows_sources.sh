@@ -14,7 +14,7 @@ shows "nothing built" "// first" 1
 printf '// other\n' >other
 touch -r "$main" other
 sleep 2.1
-"$launcher" -c :
+"$launcher" -c : 2>/dev/null
 cp -p other "$main"
 shows "another text with the old times" "// other" 2
 
@@ -23,8 +23,8 @@ shows "another time" "// other" 2
 printf '// first\n' >"$main"
 shows "the earlier text" "// first" 2
 
-echo 'kit 2' >tools/version
-touch tools/rt
+echo 'rattle-kit-2 of the tests' >notes/version
+touch kit/bin/rt
 shows "another toolchain" "// first" 3
 echo '-- another proof' >repo/crates/low/proofs/Lib.antt
 shows "another proof" "// first" 4
@@ -35,15 +35,41 @@ shows "a file less" "// first" 6
 echo 'Handles allowed: none.' >repo/HANDLES
 shows "other handles" "// first" 7
 
+# a script that builds otherwise builds anew what is checked, and leaves alone what is proved
+echo '# otherwise' >>repo/bin/checked.sh
+shows "another script" "// first" 8
+prove
+same "proofs" "$(proofs)" 1
+for script in checked proved start programs; do
+    echo '# otherwise' >>"repo/bin/$script.sh"
+    shows "another $script.sh, proved" "// first" 8
+done
+prove
+same "proofs with other scripts" "$(proofs)" 1
+
 # a change that comes while it is built
-mkdir tools/wait
+mkdir notes/wait
 echo '// before' >"$main"
 "$launcher" -c "$show" >said 2>&1 &
-await grep -q 'program of these sources' said
-await grep -q 'before' repo/.git/vunit_run/sources/crates/vunit_run/src/main.rt
-sleep 0.3
+await grep -q 'is built first' said
+await grep -q 'before' repo/.git/vunit_checked/sources/crates/vunit_run/src/main.rt
+await sh -c '[ "$(grep -c "^try" notes/calls)" = 9 ]'
 echo '// after' >"$main"
-rmdir tools/wait
+rmdir notes/wait
 wait $!
 has "a change during the build" "$(cat said)" "the sources changed meanwhile"
 same "a change during the build" "$(tail -n 1 said)" "// after"
+
+# and while it is proved
+mkdir notes/wait
+echo '// early' >"$main"
+repo/bin/prove >said 2>&1 &
+await grep -q 'early' repo/.git/vunit_run/work/crates/vunit_run/src/main.rt repo/.git/vunit_run/sources/crates/vunit_run/src/main.rt
+await sh -c '[ "$(grep -c "^all" notes/calls)" = 2 ]'
+echo '// late' >"$main"
+rmdir notes/wait
+wait $!
+has "a change during the proof" "$(cat said)" "the sources changed meanwhile"
+try "$launcher" -c "$show; $show_kind"
+same "a change during the proof" "$status $said" "0 // late
+kind: proved"

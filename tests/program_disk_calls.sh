@@ -47,7 +47,11 @@ def calls_of(*words):
     if (status, error) != (0, b""):
         fail(f"{words}", f"{status, text, error}")
     with open("calls") as file:
-        return [call for line in file if (call := said(line))], text
+        found = [call for line in file if (call := said(line))]
+    # (the second look at the project lists its folder once more)
+    while found[-3:-2] in (["open ."], ["close ."]):
+        del found[-3]
+    return found, text
 
 
 def check(name, wanted, *words, text):
@@ -166,7 +170,7 @@ check("a store that is compacted before one record more", [*OPENED, *both, *payl
 # A store of the older form, of which one side is live, and one of which both are. It is read once, what stands for its records is written
 # beside it as a side is that is made anew, and it stays. Where the store is emptied, nothing of it is read. (The folder is listed
 # before, for the files of the project.)
-LISTED = ["close ."]
+LISTED = ["open .", "close ."]
 for store, live, other in ("whole", "a", "b"), ("compacted", "b", "a"):
     data = os.path.join(os.environ["TOP"], "tests", "data", "old_stores")
     both = ["read a 19 at 0", "read b 19 at 0"] if store == "compacted" else ["read a 19 at 0"]

@@ -3,8 +3,10 @@
 # match. Its folder is made, a file that is there is replaced as a whole or not at all, and a device is written in place.
 . "$TOP/tests/support/needs.sh"
 needs python3
-exec python3 - "$VUNIT_RUN" <<'EOF'
+PYTHONPATH=$TOP/tests/support exec python3 -B - "$VUNIT_RUN" <<'EOF'
 import json, os, subprocess, sys
+
+from told import without_told
 
 program = sys.argv[1]
 TEXT = 'entity t is generic (runner_cfg : string); end;\narchitecture a of t is begin\nx <= run("one");\nend;\n'
@@ -20,7 +22,7 @@ def write(path, text):
 
 def export(path, *patterns, status=0, out="", err="", opened=False):
     ran = subprocess.run([program, "--export-json", path, *patterns], stdin=subprocess.DEVNULL, capture_output=True, text=True)
-    if (ran.returncode, ran.stdout, ran.stderr) != (status, out, err):
+    if (ran.returncode, ran.stdout, without_told(ran.stderr.encode()).decode()) != (status, out, err):
         sys.exit(f"--export-json {path}: {ran.returncode, ran.stdout[:500], ran.stderr[:500]} and not {status, out, err}")
     if os.path.exists("vunit_out") and not opened:
         sys.exit("an export opened the store")
@@ -40,7 +42,7 @@ export("e.json")
 holds("e.json", WANTED)
 export("new/folders/e.json")
 holds("new/folders/e.json", WANTED)
-write("e.json", "something longer than what is written, " * 100)
+write("e.json", '{"files": [], "export_format_version": "of another program"' + " " * 5000)
 export("e.json", "no such test")
 holds("e.json", WANTED.replace(WANTED[WANTED.index('"tests":['):], '"tests":[]}\n'))
 
@@ -97,7 +99,7 @@ for path in SPARED:
 
 def run(*words, status=0, out="", err=""):
     ran = subprocess.run([program, *words], stdin=subprocess.DEVNULL, capture_output=True, text=True)
-    if (ran.returncode, ran.stdout, ran.stderr) != (status, out, err):
+    if (ran.returncode, ran.stdout, without_told(ran.stderr.encode()).decode()) != (status, out, err):
         sys.exit(f"{words}: {ran.returncode, ran.stdout[:500], ran.stderr[:500]} and not {status, out, err}")
 
 

@@ -8,6 +8,7 @@ PYTHONPATH=$TOP/tests/support exec python3 -B - <<'END'
 import os, re, shutil, subprocess, time
 
 from store_reader import read_request, records_of
+from late_calls import is_passed_over
 from trial import COMPILER, PROGRAM, build_text, end, environment, expect, fail, package, project, run, stale_of, started_in, toml, write
 
 FILES = {"p.vhd": package("p"), "u.vhd": package("u", "work.p"), "v.vhd": package("v"), "w.vhd": package("w")}
@@ -24,10 +25,11 @@ SUBJECTS = {"tree": r"vunit\.toml|p\.vhd|\.", "disk": r"vunit_out(?:/store_[ab])
 
 def failing(calls, error, number, paths):
     """A command that starts a program of which one of these calls fails, of those of these paths where some are given."""
-    traced = calls if "wait4" in calls else calls + ",wait4"
-    command = ["strace", "--quiet=all", "-o", "../calls", "-e", f"trace={traced}", "-e", f"inject={calls}:error={error}:when={number}"]
+    traced = (calls if "wait4" in calls else calls + ",wait4") + ",write"
+    paths = [*paths, "../text"] if paths else []
+    command = ["sh", "-c", 'exec "$@" >../text', "sh", "strace", "--quiet=all", "-o", "../calls", "-e", f"trace={traced}", "-e", f"inject={calls}:error={error}:when={number}"]
     for path in paths:
-        command += ["-P", path, "-P", os.path.join(HERE, path)]
+        command += ["-P", path, "-P", os.path.normpath(os.path.join(HERE, path))]
     return command
 
 
@@ -60,7 +62,7 @@ def lost_in(calls):
                 return read_request(file.read())[:2]
 
 
-def all_fail(state, what, calls, error="EIO", paths=(), slots=1, wanted=(), call=None, first=1):
+def all_fail(state, what, calls, error="EIO", paths=(), slots=1, wanted=(), call=None, first=1, more=()):
     """Each of these calls of a build fails, from the first on, each time from the same state. Where it is given, that is what
     has no record after each. Of several children at once it depends on the one that was lost."""
     number = 0
@@ -68,13 +70,18 @@ def all_fail(state, what, calls, error="EIO", paths=(), slots=1, wanted=(), call
         shutil.rmtree("project", ignore_errors=True)
         shutil.copytree(state, "project")
         before = records_of("project"), stale_of("project")
-        words = ["--compile", "-p", str(slots)]
-        name = f"{state}: {calls} number {number + 1} of {' and '.join(paths) or 'all'} fails, {' '.join(words)}"
+        words = ["--compile", "-p", str(slots), *more]
+        name = f"{state}: {calls} number {number + first} of {' and '.join(paths) or 'all'} fails, {' '.join(words)}"
         ran = run("project", *words, env=environment("requests"), before=failing(calls, error, number + first, paths))
-        with open("calls") as file:
-            traced = file.read()
+        with open("calls") as file, open("text", "rb") as text:
+            traced, ran = file.read(), (ran[0], text.read(), ran[2])
         if "(INJECTED)" not in traced:
             break
+        if is_passed_over(traced):
+            if ran != (0, build_text(before[1]).encode(), b""):
+                fail(f"{name}, which is passed over", f"it is {ran}")
+            first += 1
+            continue
         number += 1
         cause = rf"vunit_run: (?:{SUBJECTS[what]}): (?:{call or calls}): {re.escape(SAID[error])}\n"
         if ran[:2] != (3, b"") or not re.fullmatch(rf"vunit_run: fault of {what}\n{cause}", ran[2].decode()):
@@ -103,12 +110,14 @@ for path in "vunit.toml", "p.vhd":
     all_fail("edited", "tree", OPEN, paths=[path], call="open")
     all_fail("edited", "tree", "read", paths=[path])
 all_fail("edited", "tree", "getdents64", paths=["."], call="list")
+all_fail("edited", "tree", "statx", paths=["p.vhd"], call="look at an entry")
 for calls in MAKE, OPEN, "flock", "ftruncate", "fsync":
     all_fail("new", "disk", calls, paths=STORE, call=OF_DISK[calls])
 for calls in "pwrite64", "fdatasync":
     all_fail("new", "disk", calls, paths=STORE, call=OF_DISK[calls])
 for calls in MAKE, OPEN, "statx", "flock", "fsync", "pread64", "pwrite64", "fdatasync":
-    all_fail("edited", "disk", calls, paths=STORE, call=OF_DISK[calls])
+    # (the listing looks at the store's folder before the disk does)
+    all_fail("edited", "disk", calls, paths=STORE, call=OF_DISK[calls], first=2 if calls == "statx" else 1)
 
 # A child that is lost, and one that can't be started: what is in flight is waited for and recorded, and nothing more is
 # started. Of three at once the first are p, v and w, and u follows the end of p.
@@ -120,8 +129,9 @@ all_fail("new", "start", "pipe2", "EMFILE", slots=3, call="start")
 all_fail("edited", "child", "wait4", "ECHILD", slots=3, call="wait")
 
 # What the system is asked of the outputs, and what makes an input not wait. (The first ioctl asks for a terminal.)
-all_fail("new", "child", "poll", "ENOMEM", slots=1)
-all_fail("new", "child", "poll", "ENOMEM", slots=3)
+# (but where a summary may be told, it is asked once more)
+all_fail("new", "child", "poll", "ENOMEM", slots=1, more=["-q"])
+all_fail("new", "child", "poll", "ENOMEM", slots=3, more=["-q"])
 all_fail("new", "start", "ioctl", "ENOTTY", slots=1, wanted=[ALL, [U, V, W], [V, W], [W]], first=2)
 
 # After a failed call of the disk the store stays locked until the compilers that run have ended.

@@ -10,6 +10,8 @@ PYTHONPATH=$TOP/tests/support exec python3 -B - <<'END'
 import ctypes, json, os, re, shutil, subprocess, sys
 
 from store_reader import records_of
+from late_calls import is_passed_over
+from told import without_told
 from trial import COMPILER, PROGRAM, build_text, end, environment, expect, fail, package, project, stale_of, started_in, toml
 
 ctypes.CDLL(None).prctl(36, 1, 0, 0, 0)  # what a program leaves running becomes a child of this process
@@ -60,30 +62,50 @@ def files_of(folder):
     return found
 
 
-def traced(words, calls, error, number, paths):
-    """Status, standard output and standard error of a run of which one of these calls fails, and whether there was such a call."""
-    before = ["strace", "--quiet=all", "-o", "../calls", "-e", f"trace={calls}" + ("" if "wait4" in calls else ",wait4"),
+def is_late(made, paths, has_report):
+    """Whether the call that failed is one that a run passes over; None where it is one of the report, which marks the end."""
+    if paths != BESIDE and any("(INJECTED)" in line and BESIDE[0] in line for line in made.splitlines()):
+        return None
+    return is_passed_over(made, has_report)
+
+
+def traced(words, report, calls, error, number, paths):
+    """Status, standard output and standard error of a run of which one of these calls fails, whether there was such a call, and
+    whether it is one that a run passes over."""
+    before = ["strace", "--quiet=all", "-o", "../calls",
+              "-e", f"trace={calls},write,?rename,?renameat,?renameat2" + ("" if "wait4" in calls else ",wait4"),
               "-e", f"inject={calls}:error={error}:when={number}"]
-    for path in paths:
+    marks = [] if not paths or calls == "write" else BESIDE if report else ["../said"]
+    for path in [*paths, *marks]:
         before += ["-P", path, "-P", os.path.normpath(os.path.join(HERE, path))]
     with open("said", "wb") as said:
         ran = subprocess.run([*before, PROGRAM, *words], cwd="project", env=environment("requests"), stdin=subprocess.DEVNULL, stdout=said,
                              stderr=subprocess.PIPE, timeout=120)
     with open("said", "rb") as said, open("calls") as file:
-        return ran.returncode, said.read().decode(), ran.stderr.decode(), "(INJECTED)" in file.read()
+        made = file.read()
+        return (ran.returncode, said.read().decode(), without_told(ran.stderr).decode(), "(INJECTED)" in made,
+                is_late(made, paths, bool(report)))
 
 
 def all_fail(mode, text, report, builds, what, calls, error, paths, call):
     """Each of these calls of a mode fails, from the first on, each time from the same state. Gives how many there are."""
-    words, number = mode.split(), 0
+    words, number, late = mode.split(), 0, 0
     while True:
         shutil.rmtree("project", ignore_errors=True)
         shutil.copytree("edited" if builds else "built", "project")
         before, records = files_of("project"), records_of("project")
-        name = f"{mode}: {calls} number {number + 1} of {' and '.join(paths) or 'all'} fails"
-        status, said, told, was_made = traced(words, calls, error, number + 1, paths)
+        name = f"{mode}: {calls} number {number + late + 1} of {' and '.join(paths) or 'all'} fails"
+        status, said, told, was_made, passes = traced(words, report, calls, error, number + late + 1, paths)
         if not was_made:
             return number
+        if passes is None:
+            late += 1
+            continue
+        if passes:
+            if (status, said, told) != (0, text, ""):
+                fail(f"{name}, which is passed over", f"it ended with {status}, printed {said!r} and said {told!r}")
+            late += 1
+            continue
         number += 1
         wanted = {"out": text.startswith(said), "report": said == text}.get(what, said == "")
         if status != 3 or not wanted or not re.fullmatch(rf"vunit_run: fault of {what}\nvunit_run: [^\n]*: {call}: {re.escape(SAID[error])}\n", told):

@@ -3,8 +3,10 @@
 # file; file by file whether it is there, its own bytes and the bytes so far; and all files before any is scanned.
 . "$TOP/tests/support/needs.sh"
 needs python3
-exec python3 - "$VUNIT_RUN" <<'EOF'
+PYTHONPATH=$TOP/tests/support exec python3 -B - "$VUNIT_RUN" <<'EOF'
 import os, shutil, subprocess, sys
+
+from told import without_told
 
 program = sys.argv[1]
 LISTING = b"lib,a.vhd\nlib,b.vhd\nlib,c.vhd\n"
@@ -21,7 +23,7 @@ def check(answer, files, place=None):
     ran = subprocess.run([program, "--compile"], cwd="project", stdin=subprocess.DEVNULL, capture_output=True)
     status, text = answer
     said = place + b": " + text + b"\n" if place else b""
-    if (ran.returncode, ran.stdout, ran.stderr) != (status, b"vunit_run: " + text + b"\n", said):
+    if (ran.returncode, ran.stdout, without_told(ran.stderr)) != (status, b"vunit_run: " + text + b"\n", said):
         sizes = {path: (len(text), text[:60]) for path, text in files.items()}
         sys.exit(f"{sizes}: it is {ran.returncode, ran.stdout, ran.stderr} and not {answer, said}")
 

@@ -1,10 +1,12 @@
 #!/bin/sh
-# On a terminal, and there alone, standard error has a line that is written over while compilers run; nothing depends on it.
+# On a terminal, and there alone, standard error has a line that is written over while compilers run: counts, seconds and the oldest
+# child. Nothing depends on it.
 . "$TOP/tests/support/needs.sh"
 needs python3
 PYTHONPATH=$TOP/tests/support exec python3 -B - <<'END'
-import os, pty, subprocess, threading
+import os, pty, re, subprocess, threading
 
+from told import without_told
 from trial import PROGRAM, build_text, end, expect, fail, package, project, toml, write
 
 BEGIN, EMPTY, END = b"\x1b[?7l", b"\r\x1b[K", b"\x1b[?7h\r"
@@ -44,11 +46,18 @@ def on_terminal(term, goes_away=False):
     if not goes_away:
         reader.join()
         os.close(master)
-    return child.returncode, said, b"".join(got)
+    return child.returncode, said, plain(b"".join(got))
 
 
-def shown(done, due, title):
-    return BEGIN + EMPTY + b"[%d/%d] %s" % (done, due, title) + END
+def plain(told):
+    """What a terminal gets, with no second passed, each line once, and without warnings."""
+    told = without_told(re.sub(rb", \d+ s: ", b", 0 s: ", re.sub(rb"\(\d+\.\d s\)", b"(T)", told)))
+    parts = told.split(BEGIN)
+    return BEGIN.join(part for at, part in enumerate(parts) if at == 0 or part != parts[at - 1])
+
+
+def shown(done, due, title, failed=0):
+    return BEGIN + EMPTY + b"[%d/%d] %d passed, %d failed, 0 s: %s" % (done, due, done - failed, failed, title) + END
 
 
 make()

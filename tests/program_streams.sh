@@ -7,7 +7,7 @@ project vunit.csv 'lib,a.vhd\n' a.vhd 'package a is end;\n'
 faulty() {
     stream=output
     [ "${3-out}" = out ] || stream=input
-    if [ "$(cat status)" != 3 ] || [ "$(cat err)" != "vunit_run: fault of ${3-out}
+    if [ "$(cat status)" != 3 ] || [ "$(sed -E -f "$TOP/tests/support/told.sed" err)" != "vunit_run: fault of ${3-out}
 vunit_run: standard $stream: $2" ]; then
         echo "$1: status $(cat status), and on standard error:"
         cat err

@@ -6,6 +6,7 @@ needs python3 strace
 PYTHONPATH=$TOP/tests/support exec python3 -B - <<'END'
 import ctypes, json, os, re, shutil, sys
 
+from late_calls import is_passed_over
 from trial import end, expect, fail, project, run, toml
 
 ctypes.CDLL(None).prctl(36, 1, 0, 0, 0)  # what a program leaves running becomes a child of this process
@@ -18,7 +19,7 @@ TEXT = ("Re-compile not needed\n" + "".join(f"pass lib.t.{case}\n" for case in C
 SAID = {"EIO": "Input/output error (os error 5)", "ECHILD": "No child processes (os error 10)", "EAGAIN": "Resource temporarily unavailable (os error 11)",
         "EMFILE": "Too many open files (os error 24)", "ENOSPC": "No space left on device (os error 28)", "ENOMEM": "Cannot allocate memory (os error 12)"}
 START = re.escape(" ".join(SIMULATOR)) + r" \(vunit_out/tests/lib\.t\.(?:one|two|three)/vunit_results\)"
-SUBJECTS = {"start": START, "child": "lib, t", "report": "new/out\\.xml"}
+SUBJECTS = {"start": START, "child": r"lib\.t\.(?:one|two|three)", "report": "new/out\\.xml"}
 
 
 def left():
@@ -32,21 +33,27 @@ def left():
         return found
 
 
-def all_fail(what, calls, error, said, paths=(), slots=1, base="built", first=1, least=1):
+def all_fail(what, calls, error, said, paths=(), slots=1, base="built", first=1, least=1, more=(), most=1000):
     """Each of these calls of a run fails, from the first on, each time from the same state."""
     number = 0
-    while True:
+    while number < most:
         shutil.rmtree("project", ignore_errors=True)
         shutil.copytree(base, "project")
-        traced = calls if "wait4" in calls else calls + ",wait4"
+        traced = (calls if "wait4" in calls else calls + ",wait4") + ",write,?rename,?renameat,?renameat2"
         before = ["strace", "--quiet=all", "-o", "../calls", "-e", f"trace={traced}", "-e", f"inject={calls}:error={error}:when={number + first}"]
-        for path in paths:
+        for path in [*paths, "new/out.xml"] if paths else []:
             before += ["-P", path, "-P", os.path.join(HERE, path)]
         name = f"{base}: {calls} number {number + first} of {' and '.join(paths) or 'all'} fails, -p {slots}"
-        ran = run("project", "-p", str(slots), "-x", "new/out.xml", before=before)
+        ran = run("project", "-p", str(slots), "-x", "new/out.xml", *more, before=before)
         with open("calls") as file:
-            if "(INJECTED)" not in file.read():
-                break
+            made = file.read()
+        if "(INJECTED)" not in made:
+            break
+        if is_passed_over(made, has_report=True):
+            if ran != (0, TEXT.encode(), b""):
+                fail(f"{name}, which is passed over", f"it is {ran}")
+            first += 1
+            continue
         number += 1
         cause = rf"vunit_run: (?:{SUBJECTS[what]}): (?:{said}): {re.escape(SAID[error])}\n"
         text = TEXT.encode() if what == "report" else b""
@@ -79,8 +86,11 @@ for slots in 1, 3:
     all_fail("start", "pipe2", "EMFILE", "start", slots=slots, least=6)
     all_fail("child", "wait4", "ECHILD", "wait", slots=slots, least=3)
     # (how often it is asked for children at once depends on which of them have ended)
-    all_fail("child", "poll", "ENOMEM", "poll", slots=slots, least=3 if slots == 1 else 1)
+    # (where a summary may be told, the system is asked once more)
+    all_fail("child", "poll", "ENOMEM", "poll", slots=slots, least=3 if slots == 1 else 1, more=["-q"])
     all_fail("child", "?open,openat", "EIO", "open", [path + "/vunit_results" for path in RUNS], slots, least=3)
+    # (of each results file by its path and once it is open; the calls after that are those of the second look)
+    all_fail("child", "statx", "EIO", "look at it", [path + "/vunit_results" for path in RUNS], slots, least=6, most=6)
     all_fail("child", "read", "EIO", "read", [path + "/vunit_results" for path in RUNS], slots, least=3)
 all_fail("report", "?mkdir,mkdirat", "EIO", "make its folder", ["new"])
 BESIDE = ["new/.vunit_report_0"]

@@ -184,7 +184,7 @@ for name, results, well, badly in RESULTS:
 for code in (1, 2, 3, 74, 76, 127, 128, 254, 255):
     ended(f"code {code}", {"code": code}, "pf")
 ended("a signal", {"signal": 9}, "pf")
-expect("no answer", "ends", 3, "", env=planned({"lib.t": {"code": 75}}), error="vunit_run: fault of child\nvunit_run: lib, t: end: its code, 75, says that it has no answer\n")
+expect("no answer", "ends", 3, "", env=planned({"lib.t": {"code": 75}}), error="vunit_run: fault of child\nvunit_run: lib.t: end: its code, 75, says that it has no answer\n")
 loud = run("ends", "-v", env=planned({"lib.t": {"output": "x" * (1 << 20)}}))
 if loud != (0, b"Re-compile not needed\n" + b"x" * 4096 + b"\npass lib.t.a\npass lib.t.b\n" + summary(2, 0, 0).encode(), b""):
     fail("an output of a mebibyte", f"{loud[0]}, {len(loud[1])} bytes, {loud[2][:300]}")
@@ -211,7 +211,7 @@ expect("and without", "pair", 1, "Re-compile not needed\nfail lib.t.a\npass lib.
 # A lost child: the other one is waited for, nothing is put, and nothing else is started.
 lost = {"lib.t.a": {"code": 75, "awaits": "b_began"}, "lib.t.b": {"makes": "b_began", "sleeps": 1}}
 status, text, error = run("pair", "-p", "2", "-x", "lost.xml", env=planned(lost))
-if status != 3 or text or not error.startswith(b"vunit_run: fault of child\nvunit_run: lib, t: ") or os.path.exists("pair/lost.xml"):
+if status != 3 or text or not error.startswith(b"vunit_run: fault of child\nvunit_run: lib.t.a: ") or os.path.exists("pair/lost.xml"):
     fail("a lost child", f"{status} {text} {error}")
 if sorted(found[3] for found in started()) != [[b"a"], [b"b"]]:
     fail("a lost child", f"these were started: {started()}")

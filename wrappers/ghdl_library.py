@@ -1,6 +1,5 @@
-"""What ghdl_analyse and ghdl_bench share: requests, artefacts, GHDL's library files over them, and a room in which GHDL runs.
+"""What ghdl_analyse and ghdl_bench share: requests, artefacts, and GHDL's library files over them.
 
-Both find this file beside themselves, also where they are started by a link; a copy of one of them alone has nothing to find.
 An artefact is the lines that GHDL's library file has of one file, what its users need besides, and its source:
 
     ghdl_analyse 2 STANDARD CHECKSUM WORD .. +LIBRARY ..
@@ -10,32 +9,26 @@ An artefact is the lines that GHDL's library file has of one file, what its user
 The words are those of GHDL without which the source can't be read again. The libraries are named by clauses of the file, and
 nothing of them was there when it was compiled: GHDL wants a library file all the same.
 
-A start of GHDL takes some 20 ms, and so would the modules re and signal (for its names of numbers): what every start does is
-written without them.
+A start of GHDL takes some 20 ms, and so would the module re: what every start does is written without it.
 """
 
-import _signal as signal
-import errno, os, select, sys, zlib
+import io, sys, zlib
+
+import quick_os as os
+from ghdl_keeper import Refused
+from run_data import HEX, PLAIN, escaped, unescaped
 
 ARTEFACT_LIMIT, SOURCE_LIMIT = 262_144, 4_194_304
-ENDING = {signal.SIGINT, signal.SIGTERM, signal.SIGHUP}
-HEX = b"0123456789abcdef"
-# What is visible, without the mark of an escape; and the same with all else that GHDL takes in a name.
-PLAIN = bytes(byte for byte in range(33, 127) if byte != ord("="))
+# Bytes of compressed sources that wait in memory.
+IN_MEMORY = 4_194_304
 # What a byte is in a word, of which case counts for nothing; a blank where it is in none.
 IN_WORDS = bytes(ord(letter.lower()) if letter.isalnum() or letter == "_" else 32 for letter in map(chr, range(256)))
+# What needs no escape in the name of a file.
+IN_NAMES = bytes(range(0x80))
 # The folder of libraries of which there is nothing. It comes last of all folders with libraries, so it hides none.
 UNSEEN = b"unseen"
 # The standards, each after those that it contains, and what the names of library files have for them.
 STANDARDS = {b"87": b"87", b"93": b"93", b"93c": b"93", b"00": b"93", b"02": b"93", b"08": b"08", b"19": b"19"}
-SHIPPED = os.path.join(os.path.dirname(os.path.realpath(__file__)), "vunit_lib")
-
-
-class Refused(Exception):
-    """What is said on standard output before the program ends with this code."""
-
-    def __init__(self, text, code=1):
-        self.text, self.code = text, code
 
 
 def is_library(name):
@@ -86,6 +79,18 @@ def name_of(unit):
     else:
         rest = unit[2:].partition(b" ")[2]
     return rest[: name_end(rest)]
+
+
+ENTITY = b"  entity "
+
+
+def entities_of(units):
+    """The names of the entities among units, and where their design units begin in the source."""
+    for unit in units:
+        if unit.startswith(ENTITY):
+            head, _, place = unit.rpartition(b" at ")
+            offset, _, column = place.partition(b"(")[2].partition(b") + ")
+            yield head[len(ENTITY) :], int(offset) + int(column.partition(b" ")[0])
 
 
 class Request:
@@ -168,25 +173,16 @@ def by_number(artefact):
     return b"made by an earlier ghdl_analyse: run once with --clean" if is_ours else OTHER
 
 
-def escaped(data, plain=PLAIN):
-    """These bytes with `=` and two digits for each that isn't plain."""
-    return b"".join([bytes((byte,)) if byte in plain else b"=%02x" % byte for byte in data])
-
-
-def unescaped(word):
-    first, *rest = word.split(b"=")
-    return first + b"".join([bytes((int(part[:2], 16),)) + part[2:] if len(part) >= 2 and not part[:2].strip(HEX)
-                             else b"=" + part for part in rest])
-
-
 class Restored:
-    """The files of a request that were compiled before, read one by one; their sources wait in a file of the present room."""
+    """The files of a request that were compiled before, read one by one; their sources wait in memory, and many of them in a file
+    of the present room."""
 
     def __init__(self, room, request, standard=None):
         """`standard` is what the names of library files have for it; where it is None the first file decides."""
         self.room, self.files, self.standard = room, [], standard
-        self.spool = open(os.path.join(room.folder, b"spool"), "x+b")
-        offset = 0
+        # Where libraries and sources go.
+        self.folder = room.folder
+        self.spool, self.folders, offset = io.BytesIO(), set(), 0
         for _ in range(request.number()):
             built = Built(room.program, request.library(), request.path(), request.text(), offset)
             named = STANDARDS.get(built.standard)
@@ -194,22 +190,34 @@ class Restored:
             if named is None or named != self.standard:
                 raise Refused(built.refusal(room.program, OTHER))
             self.spool.write(built.source)
+            if offset <= IN_MEMORY < offset + built.length:
+                self.move_spool()
             offset += built.length
             built.source = None
             self.files.append(built)
+
+    def move_spool(self):
+        held = self.spool.getbuffer()
+        self.spool = open(os.path.join(self.room.folder, b"spool"), "x+b")
+        self.spool.write(held)
 
     def words(self):
         """The words that these files need wherever they are used, each once; a relative -P counts from the present folder."""
         return list(dict.fromkeys(for_ghdl(word, self.room.present) for built in self.files for word in built.words))
 
     def write_unseen(self):
-        """Makes the folder of libraries of which there is nothing, with those that these files name."""
-        os.mkdir(os.path.join(self.room.folder, UNSEEN))
+        """Makes the libraries of which there is nothing, and which these files name, in a folder of their own."""
         for library in {library for built in self.files for library in built.unseen}:
             self.add_unseen(library)
 
     def add_unseen(self, library):
-        write(os.path.join(self.room.folder, UNSEEN, b"%s-obj%s.cf" % (library, self.standard)), b"v 4\n")
+        self.write_in(os.path.join(self.folder, UNSEEN), b"%s-obj%s.cf" % (library, self.standard), b"v 4\n")
+
+    def write_in(self, folder, name, text):
+        if folder != self.folder and folder not in self.folders:
+            os.makedirs(folder, exist_ok=True)
+            self.folders.add(folder)
+        write(os.path.join(folder, name), text)
 
     def latest_standard(self):
         given = {built.standard for built in self.files}
@@ -217,6 +225,14 @@ class Restored:
 
     def has_library(self, library):
         return any(built.library == library for built in self.files)
+
+    def entity(self, library, name):
+        """The source that has an entity, and where its design unit begins; an empty one where no file has it."""
+        for built in self.files:
+            for found, place in entities_of(built.units) if built.library == library else ():
+                if found == name:
+                    return self.source(built), place
+        return b"", 0
 
     def source(self, built):
         self.spool.seek(built.offset)
@@ -243,23 +259,26 @@ class Restored:
                 lines.append(with_number(unit, number) + b"\n")
             built.name = os.path.join(folder, built.name)
         for library, lines in libraries.items():
-            write(os.path.join(self.room.folder, b"%s-obj%s.cf" % (library, self.standard)), *lines)
+            write(os.path.join(self.folder, b"%s-obj%s.cf" % (library, self.standard)), b"".join(lines))
 
-    def write_sources(self, *texts):
-        """Writes the sources that these texts may reach: those with a unit that is named in one of them, or in such a source.
+    def write_sources(self, *texts, watched=frozenset()):
+        """Writes the sources that these texts may reach: those with a unit that is named in one of them, or in such a source. Gives
+        back which of the words that are watched these sources have.
 
         GHDL reads no other, and a library of many files isn't unpacked for each of its benches."""
-        plain, extended = {}, {}
+        plain, extended, found = {}, {}, set()
         for built in self.files:
             for name in map(name_of, built.units):
                 if name.startswith(b"\\"):
                     extended.setdefault(name, []).append(built)
                 else:
                     plain.setdefault(name.translate(IN_WORDS), []).append(built)
-        left, written, made = list(texts), set(), {self.room.folder}
+        left, written = list(texts), set()
         while left:
             text = left.pop()
-            names = set(text.translate(IN_WORDS).split()) & plain.keys()
+            words = set(text.translate(IN_WORDS).split())
+            found |= words & watched
+            names = words & plain.keys()
             reached = [built for name in names for built in plain.pop(name)]
             for name in [name for name in extended if name in text]:
                 reached += extended.pop(name)
@@ -267,237 +286,24 @@ class Restored:
                 if built.offset not in written:
                     written.add(built.offset)
                     left.append(source := self.source(built))
-                    name = os.path.normpath(os.path.join(self.room.folder, built.name))
-                    if (folder := os.path.dirname(name)) not in made:
-                        os.makedirs(folder, exist_ok=True)
-                        made.add(folder)
-                    write(name, source)
+                    self.write_in(*os.path.split(os.path.join(self.folder, built.name.removeprefix(b"./"))), source)
+        return found
+
+
+def as_named(path):
+    """A path as GHDL names it: its library files hold no bytes from 128 on."""
+    return escaped(path, IN_NAMES)
 
 
 def for_ghdl(word, present):
     return b"-P" + os.path.join(present, word[2:]) if word.startswith(b"-P") else word
 
 
-def write(name, *parts):
-    with open(name, "xb") as file:
-        file.writelines(parts)
-
-
-class Room:
-    """A folder of this start's own, and a keeper that runs GHDL and leaves neither GHDL nor the folder behind.
-
-    The keeper is a process that is made before the folder. It starts GHDL by order, says how it ended, and once the orders
-    end, as the wrapper has in whatever way, it ends GHDL and removes the folder. So SIGKILL leaves nothing either."""
-
-    def __init__(self, program):
-        self.program, self.present = os.fsencode(program), os.getcwdb()
-        base = os.fsencode(os.environ.get("TMPDIR") or "/tmp")
-        self.folder = os.path.abspath(os.path.join(base, b"%s_%s" % (self.program, os.urandom(8).hex().encode())))
-        orders, self.orders = os.pipe()
-        self.answers, answers = os.pipe()
-        # (a signal may not come between the fork and what the keeper makes of signals)
-        signal.pthread_sigmask(signal.SIG_BLOCK, ENDING)
-        try:
-            self.keeper = os.fork()
-            if self.keeper == 0:
-                os.close(self.orders)
-                os.close(self.answers)
-                Keeper(self.folder, orders, answers).stay()
-        finally:
-            signal.pthread_sigmask(signal.SIG_UNBLOCK, ENDING)
-        os.close(orders)
-        os.close(answers)
-
-    def make(self):
-        os.mkdir(self.folder, 0o700)
-
-    def run(self, words, said, inside=False, seconds=0, limit=None):
-        """Runs GHDL with these words and its output in the file `said`: its code, below 0 for a signal, and whether it was
-        ended for an output of over `limit` bytes. `inside` has it run in the room; `seconds` limits its processor time."""
-        order = b"\0".join([b"inside" if inside else b"", b"%d" % seconds, said, *map(os.fsencode, words)])
-        send(self.orders, order)
-        waiting, ended_for_limit = select.poll(), False
-        waiting.register(self.answers, select.POLLIN)
-        waiting.register(1, 0)
-        while self.answers not in (ready := dict(waiting.poll(500 if limit else None))):
-            if 1 in ready:
-                # nobody reads the output any more: the runner is gone
-                end(signal.SIGPIPE, None)
-            if limit and not ended_for_limit and os.stat(said).st_size > limit:
-                ended_for_limit = True
-                send(self.orders, b"")
-        # (nothing comes where the keeper was killed)
-        fault, code = map(int, (os.read(self.answers, 64) or b"0 %d" % -signal.SIGKILL).split())
-        if fault:
-            if fault == errno.ENOENT:
-                raise Refused(b"%s: there is no command ghdl\n" % self.program)
-            raise OSError(fault, os.strerror(fault))
-        return code, ended_for_limit
-
-    def leave(self):
-        os.close(self.orders)
-        os.waitpid(self.keeper, 0)
-
-
-def send(pipe, data):
-    data = len(data).to_bytes(4, "little") + data
-    while data:
-        data = data[os.write(pipe, data) :]
-
-
-class Keeper:
-    """The process beside the wrapper: see `Room`."""
-
-    def __init__(self, folder, orders, answers):
-        self.folder, self.orders, self.answers, self.child = folder, orders, answers, None
-
-    def stay(self):
-        """Runs until the orders end, and never returns."""
-        try:
-            self.settle()
-            self.obey()
-        finally:
-            try:
-                self.end_child()
-                self.remove()
-            finally:
-                os._exit(0)
-
-    def settle(self):
-        # (the signals of a terminal are for the wrapper, and the runner reads the outputs to their ends)
-        os.setpgid(0, 0)
-        nothing = os.open(os.devnull, os.O_RDWR)
-        for number in (0, 1, 2):
-            os.dup2(nothing, number)
-        for number in ENDING:
-            signal.signal(number, signal.SIG_IGN)
-        self.woken, wakes = os.pipe()
-        os.set_blocking(wakes, False)
-        signal.signal(signal.SIGCHLD, lambda *_: None)
-        signal.set_wakeup_fd(wakes)
-        signal.pthread_sigmask(signal.SIG_UNBLOCK, ENDING | {signal.SIGCHLD})
-
-    def obey(self):
-        """Follows orders, of which an empty one ends GHDL, and says how GHDL has ended."""
-        waiting = select.poll()
-        waiting.register(self.orders, select.POLLIN)
-        waiting.register(self.woken, select.POLLIN)
-        while True:
-            ready = dict(waiting.poll())
-            if self.woken in ready:
-                os.read(self.woken, 1)
-                if self.child and os.waitid(os.P_PID, self.child, os.WEXITED | os.WNOWAIT | os.WNOHANG):
-                    self.answer(0, self.end_child())
-            if self.orders in ready:
-                if (order := self.order()) is None:
-                    return
-                if order:
-                    self.start(*order.split(b"\0"))
-                elif self.child:
-                    os.killpg(self.child, signal.SIGKILL)
-
-    def order(self):
-        """The next order, or None where they have ended."""
-        length, data = self.take(4), b""
-        if len(length) == 4:
-            wanted = int.from_bytes(length, "little")
-            data = self.take(wanted)
-            if len(data) == wanted:
-                return data
-        return None
-
-    def take(self, count):
-        taken = b""
-        while len(taken) < count and (part := os.read(self.orders, count - len(taken))):
-            taken += part
-        return taken
-
-    def start(self, inside, seconds, said, *words):
-        usual = {"setsigmask": (), "setsigdef": ENDING | {signal.SIGCHLD, signal.SIGPIPE}, "setpgroup": 0}
-        outputs = [(os.POSIX_SPAWN_OPEN, 1, said, os.O_WRONLY | os.O_CREAT | os.O_TRUNC | os.O_APPEND, 0o666),
-                   (os.POSIX_SPAWN_DUP2, 1, 2)]
-        try:
-            if inside:
-                os.chdir(self.folder)
-            path = {"PATH": os.environ.get("PATH", os.defpath)}
-            self.child = os.posix_spawnp("ghdl", [b"ghdl", *words], path, file_actions=outputs, **usual)
-            if seconds != b"0":
-                # (most starts don't need it, and it takes its time)
-                import resource
-
-                resource.prlimit(self.child, resource.RLIMIT_CPU, (int(seconds), int(seconds) + 1))
-        except OSError as fault:
-            self.end_child()
-            self.answer(fault.errno, 0)
-
-    def answer(self, fault, code):
-        try:
-            os.write(self.answers, b"%d %d" % (fault, code))
-        except BrokenPipeError:
-            pass
-
-    def end_child(self):
-        """Ends GHDL with all that it has started; gives the code with which it had ended."""
-        if self.child:
-            os.killpg(self.child, signal.SIGKILL)
-            code = os.waitstatus_to_exitcode(os.waitpid(self.child, 0)[1])
-            self.child = None
-            return code
-
-    def remove(self):
-        os.chdir("/")
-        for folder, folders, files in os.walk(self.folder, topdown=False):
-            for name in files:
-                os.unlink(os.path.join(folder, name))
-            for name in folders:
-                os.rmdir(os.path.join(folder, name))
-        if os.path.isdir(self.folder):
-            os.rmdir(self.folder)
-
-
-def end(number, _):
-    """Ends the program by a signal; a second one changes nothing."""
-    ignore_signals()
-    raise SystemExit(128 + number)
-
-
-def ignore_signals():
-    for number in ENDING:
-        signal.signal(number, signal.SIG_IGN)
-
-
-def in_room(program, work):
-    room = Room(program)
+def write(name, text):
+    """Makes a file. (What `open` gives would ask four things of it, and a start may make a thousand.)"""
+    file = os.open(name, os.O_WRONLY | os.O_CREAT | os.O_EXCL | os.O_CLOEXEC, 0o666)
     try:
-        try:
-            return work(room)
-        finally:
-            ignore_signals()
+        while text:
+            text = text[os.write(file, text) :]
     finally:
-        room.leave()
-
-
-def drain():
-    """Reads the rest of the input: the runner writes all of it before it reads."""
-    while sys.stdin.buffer.read(65_536):
-        pass
-
-
-def run_program(program, work):
-    """Ends the program with the code that `work` gives over a room, after it has put its standard output and error."""
-    for number in ENDING:
-        # (nohup and the like have it ignored)
-        if signal.getsignal(number) != signal.SIG_IGN:
-            signal.signal(number, end)
-    try:
-        code, output, warnings = in_room(program, work)
-    except Refused as refused:
-        code, output, warnings = refused.code, refused.text, b""
-    except (MemoryError, OSError) as fault:
-        said = getattr(fault, "strerror", None) or "out of memory"
-        code, output, warnings = 1, b"%s: %s\n" % (os.fsencode(program), said.encode()), b""
-    drain()
-    if sys.stderr:
-        sys.stderr.buffer.write(warnings)
-    sys.stdout.buffer.write(output)
-    sys.exit(code)
+        os.close(file)

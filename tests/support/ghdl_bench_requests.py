@@ -2,6 +2,7 @@
 
 import os, random, shutil, struct, subprocess, sys
 from bench_requests import SIMULATOR, Run, build
+from ghdl_bench_texts import ending
 
 tmp = os.path.abspath("tmp")
 os.mkdir(tmp)
@@ -109,26 +110,32 @@ BELONGS = b"ghdl_bench: %s isn't for the project file: it names a file, a librar
 for word in ["x.vhd", "", "--work=x", "--workdir=x", "--PREFIX=/", "-grunner_cfg=x"]:
     check(word, run, (1, BELONGS % word.encode(), b""), [word])
 check("--std", run, (1, b"ghdl_bench: --std is that with which the files were compiled\n", b""), ["--std=08"])
-for word in ["--cpu-limit=", "--cpu-limit=0", "--cpu-limit=x", "--cpu-limit=-1"]:
-    check(word, run, (1, b"ghdl_bench: --cpu-limit takes a number of seconds, from 1 on\n", b""), [word])
+for name, unit in [("--cpu-limit", "seconds"), ("--wall-limit", "seconds"), ("--memory-limit", "megabytes")]:
+    for value in ["", "0", "x", "-1", "01", "1" * 10]:
+        check((name, value), run, (1, f"ghdl_bench: {name} takes a number of {unit}, from 1 on\n".encode(), b""), [f"{name}={value}"])
 code, output, _ = run.start(["--frob"])
 assert code == 1 and b"frob" in output and not os.path.exists(run.results), output
 
 # No GHDL; one that is ended; no folder for the room, none for the run.
-alone = {"PATH": tmp, "TMPDIR": tmp}
-ran = subprocess.run([sys.executable, "-IS", SIMULATOR], input=whole, capture_output=True, env=alone)
-assert (ran.returncode, ran.stdout) == (1, b"ghdl_bench: there is no command ghdl\n"), ran
+os.mkdir("python")
+os.symlink(sys.executable, "python/python3")
+check("no ghdl", run, (75, b"", b"ghdl_bench: there is no command ghdl\n"), env={"PATH": os.path.abspath("python"), "TMPDIR": tmp})
+check("no python3", run, (75, b"", b"ghdl_bench: there is no command python3\n"), env={"PATH": tmp, "TMPDIR": tmp})
 os.mkdir("ended")
 with open("ended/ghdl", "w") as file:
     # (a shell adds some of its own)
     file.write("#!/bin/sh\nread line && echo \"it has an input\"\n"
                "env | grep -c -v -e ^PWD= -e ^_= -e ^SHLVL= -e ^OLDPWD=\nkill -KILL $$\n")
 os.chmod("ended/ghdl", 0o755)
-check("ended", run, (137, b"1\nghdl_bench: GHDL was ended by signal 9\n", b""),
+said = "1\n" + ending(BENCH.decode(), "tb_lib.tb.one", "ghdl_bench: GHDL was ended by signal 9\n")
+check("ended", run, (137, said.encode(), b""),
       env={**os.environ, "PATH": os.path.abspath("ended") + ":" + os.environ["PATH"]})
-check("no room", run, (1, b"ghdl_bench: No such file or directory\n", b""), env={**os.environ, "TMPDIR": "/nowhere"})
+check("no room", run, (75, b"", b"ghdl_bench: No such file or directory (TMPDIR is /nowhere)\n"), env={**os.environ, "TMPDIR": "/nowhere"})
+check("a line feed", run, (1, b"ghdl_bench: GHDL takes no line feed in the name of a folder: set TMPDIR to another\n", b""),
+      env={**os.environ, "TMPDIR": tmp + "\n"})
 ran = subprocess.run([SIMULATOR], input=request(results=b"vunit_out/nowhere/vunit_results", files=built), capture_output=True)
-assert (ran.returncode, ran.stdout) == (1, b"ghdl_bench: No such file or directory\n") and not os.listdir(tmp), ran
+said = b"ghdl_bench: vunit_out/nowhere: No such file or directory\n"
+assert (ran.returncode, ran.stdout) == (1, said) and not os.listdir(tmp), ran
 
 os.mkdir("€")
 run.prepare()
@@ -137,10 +144,10 @@ assert (ran.returncode, ran.stdout) == (1, b"ghdl_bench: GHDL takes no byte 130 
 assert not os.listdir("€")
 
 # A copy of a wrapper without what it needs beside it.
-for name, others in [("ghdl_bench", "ghdl_library.py"), ("ghdl_analyse", "ghdl_library.py or vhdl_comments.py")]:
+for name in ["ghdl_bench", "ghdl_analyse"]:
     shutil.copy(os.path.join(os.path.dirname(SIMULATOR), name), name)
     ran = subprocess.run([f"./{name}"], input=bytes(200_000), capture_output=True)
-    assert (ran.returncode, ran.stdout) == (1, f"{name}: {others} isn't beside it\n".encode()), ran
+    assert (ran.returncode, ran.stdout) == (1, f"{name}: start_python.sh isn't beside it\n".encode()), ran
 
 # A room in a folder with blanks and quotes, and a bench that is started from a link to the wrapper.
 os.mkdir("a \"b\" ö")

@@ -9,7 +9,8 @@ from ghdl_left import MARK, left, see_nothing
 tmp = os.path.abspath("tmp")
 os.mkdir(tmp)
 os.environ["TMPDIR"] = tmp
-run = Run(build([(b"tb_lib", b"tb.vhd", ENDLESS.encode())]), b"tb_lib", b"tb", b"sim", [b"no time"])
+built = build([(b"tb_lib", b"tb.vhd", ENDLESS.encode())])
+run = Run(built, b"tb_lib", b"tb", b"sim", [b"no time"])
 run.prepare()
 whole = run.request()
 
@@ -31,6 +32,13 @@ def is_running():
     return os.path.exists(run.results)
 
 
+def wait_until(is_so):
+    until = time.monotonic() + 20
+    while not is_so():
+        assert time.monotonic() < until, f"not so in time; left behind: {left()}"
+        time.sleep(0.01)
+
+
 chance = random.Random(29)
 moments = [0, 0.02, 0.04, 0.06, 0.1, "running"]
 for by in [signal.SIGTERM, signal.SIGINT, signal.SIGHUP, signal.SIGKILL, "closed reader"]:
@@ -39,8 +47,7 @@ for by in [signal.SIGTERM, signal.SIGINT, signal.SIGHUP, signal.SIGKILL, "closed
             os.remove(run.results)
         child = start()
         if moment == "running":
-            while not is_running():
-                time.sleep(0.01)
+            wait_until(is_running)
         else:
             time.sleep(moment)
         if by == "closed reader":
@@ -54,24 +61,24 @@ for by in [signal.SIGTERM, signal.SIGINT, signal.SIGHUP, signal.SIGKILL, "closed
             assert not left(), f"{by} at {moment}: left behind: {left()}"
         see_nothing((by, moment))
 
-# A runner that is killed with benches without end.
-with open("request", "wb") as file:
-    file.write(whole)
+# A runner that is killed with benches without end, each in its own folder.
+for number in range(4):
+    one = Run(built, b"tb_lib", b"tb", b"sim", [b"no time %d" % number])
+    one.prepare()
+    with open(f"request{number}", "wb") as file:
+        file.write(one.request())
 runner = subprocess.Popen([sys.executable, "-c", """
 import subprocess, sys, time
-children = [subprocess.Popen(sys.argv[2:], stdin=subprocess.PIPE, stdout=subprocess.PIPE) for _ in range(4)]
-for child in children:
-    with open(sys.argv[1], "rb") as file:
+children = [subprocess.Popen(sys.argv[1:], stdin=subprocess.PIPE, stdout=subprocess.PIPE) for _ in range(4)]
+for number, child in enumerate(children):
+    with open(f"request{number}", "rb") as file:
         child.stdin.write(file.read())
     child.stdin.close()
 print("handed over", flush=True)
 time.sleep(60)
-""", "request", SIMULATOR, MARK], stdout=subprocess.PIPE)
+""", SIMULATOR, MARK], stdout=subprocess.PIPE)
 assert runner.stdout.readline() == b"handed over\n"
-if is_running():
-    os.remove(run.results)
-while sum(b"runner_cfg" in words for words in left() if isinstance(words, bytes)) < 4:
-    time.sleep(0.02)
+wait_until(lambda: sum(b"runner_cfg" in words for words in left() if isinstance(words, bytes)) == 4)
 runner.kill()
 runner.wait()
 see_nothing("a killed runner")

@@ -37,6 +37,14 @@ def bench(loop, variables="", declarations="", concurrent=""):
     return BENCH % (declarations, variables, loop, concurrent)
 
 
+def ending(text, run, said, path="tb.vhd"):
+    """The end of what is said of a failed run of the bench with this text, where nothing but the wrapper names a cause: this, where the
+    output is, and the cause at the line of the architecture."""
+    line = 1 + text[: text.index("architecture ")].count("\n")
+    message = said.replace("ghdl_bench: ", "", 1)
+    return f"{said}(all of the output is in vunit_out/tests/{run}/output.txt)\n{path}:{line}: {message}"
+
+
 def loop_of(cases):
     """The loop's text of (name, statements)."""
     choices = ["      %s run(\"%s\") then\n        %s" % ("elsif" if at else "if", name.replace('"', '""'), statements)
@@ -118,6 +126,16 @@ IN_ONE_FAILS = IN_ONE + bench(loop_of([("one", ""), ("two, too", "check(count = 
                                        ("three", "check(count /= 2, result(\"of three\"));"), ("four", "")])
                               + "\n      count := count + 1;", "    variable count : natural := 0;")
 IN_ONE_PASSES = IN_ONE_FAILS.replace("/= 2", "= 2")
+# Errors below the stop level belong to the case that was running; those before the first case belong to that one.
+WITH_ERRORS = IN_ONE + bench(loop_of([(name, "%s") for name in IN_ONE_CASES])).replace(
+    "    while test_suite", "    set_stop_level(failure);\n    %s\n    while test_suite")
+TWO_ERRORS = "error(\"first\"); wait for 1 ns; error(\"second\");"
+IN_ONE_ERRORS = [(WITH_ERRORS % tuple(TWO_ERRORS if at == place else "" for at in range(5)), verdicts, said)
+                 for place, verdicts, said in [(0, "fsss", "test_suite found 2 errors in the log at the end of one\n"),
+                                               (1, "fsss", "test_suite found 2 errors in the log at the end of one\n"),
+                                               (2, "pfss", "test_suite found 2 errors in the log at the end of two, too\n"),
+                                               (3, "ppfs", "test_suite found 2 errors in the log at the end of three\n"),
+                                               (4, "pppf", "test_runner_cleanup found 2 errors in the log\n")]]
 MANY_CASES = [f"case number {number}, of many" for number in range(1000)]
 MANY = IN_ONE + bench(loop_of([(name, "") for name in MANY_CASES]))
 

@@ -3,6 +3,7 @@
 import os, random, resource
 import ghdl_bench_texts as texts
 from bench_requests import Run, build
+from compile_requests import compile_one, fields
 from ghdl_bench_texts import bench, loop_of
 
 tmp = os.path.abspath("tmp")
@@ -57,6 +58,8 @@ check("never started", runs(texts.NEVER_STARTS, ["a", "b"], True)[0], "ss", [tex
 # All cases in one simulation, and some of them.
 check("in one, all good", runs(texts.IN_ONE_PASSES, texts.IN_ONE_CASES, True)[0], "pppp", [], 0)
 check("in one, failing", runs(texts.IN_ONE_FAILS, texts.IN_ONE_CASES, True)[0], "ppfs", ["Check failed of three"], 1)
+for text, verdicts, said in texts.IN_ONE_ERRORS:
+    check(f"in one, errors {verdicts}", runs(text, texts.IN_ONE_CASES, True)[0], verdicts, [said], 1)
 check("in one, some", runs(texts.IN_ONE_FAILS.replace("count = 1", "count = 0"), ["two, too", "four"], True)[0], "pp", [], 0)
 
 # 1,000 cases in one simulation, in the time of the processor, since others may run.
@@ -81,6 +84,18 @@ for _ in range(4):
 
 built = build([(library.encode(), path.encode(), text.encode()) for library, path, text in texts.EXTENDED])
 check("extended names", Run(built, b"tb_lib", b"\\TB -x\\", b"\\sim; x\\", [], "täst/tb.vhd".encode()), "p", [], 0)
+
+# More sources than the wrapper holds in memory: 24 of some 200,000 bytes each once they are compressed. The bench uses the first and
+# the last.
+LINE = "  constant d%d : string := \"%s\";\n"
+sources = [(b"lib", b"p%02d.vhd" % number, "package p{0:02} is\n  constant c{0:02} : integer := {0} + 100;\n{1}end;\n".format(
+    number, "".join(LINE % (at, chance.randbytes(1_000).hex()) for at in range(190))).encode()) for number in range(24)]
+alone = [build([source])[0] for source in sources]
+assert sum(len(artefact) for _, _, artefact in alone) > 4_500_000, [len(artefact) for _, _, artefact in alone]
+text = bench("      check_equal(lib.p00.c00 + lib.p23.c23, 223);").replace("library vunit_lib", "library lib, vunit_lib").encode()
+code, artefact, said = compile_one(b"".join(fields(b"tb_lib", b"tb.vhd", text, alone)))
+assert code == 0, artefact
+check("many sources", Run([*alone, (b"tb_lib", b"tb.vhd", artefact)], b"tb_lib", b"tb", b"sim", []), "p", [], 0)
 
 # Clauses of libraries that nothing uses.
 text = bench("      check(true);", concurrent="  u : entity lib.e;").replace("library vunit_lib", "library lib, vunit_lib, never")

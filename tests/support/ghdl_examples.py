@@ -30,7 +30,7 @@ check("ghdl_benches", "ghdl_benches", ["lib: src/timer.vhd", "tb_lib: tb/tb_time
     ("tb_lib.tb_timer", "is done after two edges", "f",
      ["40 ns - check - ERROR - Equality check failed after two edges - Got 0. Expected 1.\n", f"main at tb_timer.vhd:{line}\n"]),
     ("tb_lib.tb_timer", "is done without a clock", "f", ["1 us - default - ERROR - the watchdog ended the simulation"]),
-    ("tb_lib.tb_timer", "counts edges where time stands still", "f", texts.NO_TIME),
+    ("tb_lib.tb_timer", "counts edges where time stands still", "f", [texts.NO_TIME]),
     *(("tb_lib.tb_timer_lengths", name, "p", "") for name in ("one edge", "seven edges", "two hundred edges"))])
 
 # One project by two simulators: the one that comes with the program fails the third case by a comment, and GHDL finds nothing

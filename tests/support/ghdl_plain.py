@@ -26,8 +26,9 @@ def plain(*words):
 
 
 def told(code, said):
-    """What is compared: of a report of a fault inside GHDL, which has words and addresses, where it is."""
-    lines = said.splitlines()
+    """What is compared: of a report of a fault inside GHDL, which has words and addresses, where it is. What the wrapper says of it
+    follows all that GHDL has said."""
+    lines = said.partition(b"(all of the output is in ")[0].splitlines()
     return code, [line for line in lines if line.startswith(b"raised ")] if b"GHDL Bug occurred" in said else lines
 
 

@@ -31,11 +31,14 @@ with open(f"one/{texts.COPIED}") as file:
 check_bench("-v", texts.OF_CASES, [("passes", "p", "0 fs - default - INFO - all is well\nsimulation finished @0ms with status 0\n")],
             "-v", "*.passes")
 check_bench("without cleanup", texts.OF_CASES, [
-    ("finishes without cleanup", "f", "simulation finished @0ms\nghdl_bench: the bench ended without test_runner_cleanup\n")],
+    ("finishes without cleanup", "f", "simulation finished @0ms\n" + texts.ending(
+        texts.OF_CASES, "tb_lib.tb.finishes=20without=20cleanup", "ghdl_bench: the bench ended without test_runner_cleanup\n",
+        "tests/tb.vhd"))],
     "*without cleanup")
 
 # Without an end of its own, and with more output than is shown.
-check_bench("no time", texts.ENDLESS, [("no time", "f", texts.NO_TIME)], "*no time", simulator=["ghdl_bench", "--cpu-limit=1"])
+check_bench("no time", texts.ENDLESS, [
+    ("no time", "f", texts.ending(texts.ENDLESS, "tb_lib.tb.no=20time", texts.NO_TIME, "tests/tb.vhd"))], "*no time", simulator=["ghdl_bench", "--cpu-limit=1"])
 check_bench("much output", texts.ENDLESS, [("much output", "f", texts.MUCH_OUTPUT)], "*much output")
 check_bench("prints and fails", texts.PRINTS_AND_FAILS, [("all", "f", ["(the last lines of ", *texts.PRINTED])])
 
@@ -43,7 +46,8 @@ check_bench("prints and fails", texts.PRINTS_AND_FAILS, [("all", "f", ["(the las
 check_bench("no cases", texts.WHOLE, [("all", "p", "")])
 check_bench("no cases, failing", texts.WHOLE_FAILS, [("all", "f", ["0 fs - check - ERROR - Check failed\n"])])
 check_bench("no literal", texts.NO_LITERAL, [("all", "f", ["names a case that the runner doesn't know"])])
-check_bench("nothing", texts.NOTHING, [("all", "f", texts.NOTHING_SAYS)])
+check_bench("nothing", texts.NOTHING, [
+    ("all", "f", texts.ending(texts.NOTHING, "tb_lib.tb", texts.NOTHING_SAYS, "tests/tb.vhd"))])
 check_bench("never started", texts.NEVER_STARTS, [("a", "s", [texts.NEVER_STARTED]), ("b", "s", "")])
 project("euro", {"vunit.toml": with_ghdl({"tb_lib": ["*/tb.vhd"]}), "€/tb.vhd": texts.WHOLE})
 check("a euro", "euro", ["tb_lib: €/tb.vhd"], [
@@ -54,6 +58,9 @@ check_bench("in one", texts.IN_ONE_PASSES, [(name, "p", "") for name in texts.IN
 check_bench("in one, failing", texts.IN_ONE_FAILS, [
     (name, verdict, shown) for name, verdict, shown in
     zip(texts.IN_ONE_CASES, "ppfs", [["0 fs - check - ERROR - Check failed of three\n"], "", "", ""])])
+text, verdicts, said = texts.IN_ONE_ERRORS[2]
+check_bench("in one, errors", text, [(name, verdict, [said] if name == "one" else "")
+                                     for name, verdict in zip(texts.IN_ONE_CASES, verdicts)])
 check_bench("in one, some", texts.IN_ONE_FAILS.replace("count = 1", "count = 0"), [("two, too", "p", ""), ("four", "p", "")],
             "*two*", "*four")
 

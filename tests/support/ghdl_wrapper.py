@@ -59,8 +59,10 @@ for folder in [tmp, os.path.abspath("a b/c"), "a b"]:
     check(folder, compile_one(request(b"lib2", b"e.vhd", ENTITY, [p]), **settings), (0, e[2], b""))
     check(folder, compile_one(whole, **settings), (1, SAID % b"a.vhd", b""))
 assert os.listdir("a b") == ["c"] and not os.listdir("a b/c")
-check("no folder", compile_one(whole, env={**os.environ, "TMPDIR": "/nowhere"})[:2],
-      (1, b"ghdl_analyse: No such file or directory\n"))
+check("no folder", compile_one(whole, env={**os.environ, "TMPDIR": "/nowhere"}),
+      (75, b"", b"ghdl_analyse: No such file or directory (TMPDIR is /nowhere)\n"))
+check("a line feed", compile_one(whole, env={**os.environ, "TMPDIR": tmp + "\n"}),
+      (1, b"ghdl_analyse: GHDL takes no line feed in the name of a folder: set TMPDIR to another\n", b""))
 
 # Names that are no names of files, and libraries with the names of folders.
 for path in [b'a "b".vhd', b"a\\b.vhd", "ä/€.vhd".encode(), b"ghdl_analyse_0.vhd", b"\\1\\g<0>"]:
@@ -246,10 +248,23 @@ code, said, _ = compile_one(request(b"lib", b"c.vhd", nested, [outer]))
 assert code == 1 and b'"inner" not found in library "lib"' in said and said.endswith((MENDED % "lib").encode()), said
 made(b"lib", b"c.vhd", nested, [inner, r, outer])
 
+# What comes with VUnit and not with the wrapper has a hint of its own, unless the project has such a library.
+TAKEN = b"(it is part of VUnit, and not of the vunit_lib beside ghdl_analyse: `take_vunit FOLDER` copies an installed VUnit)\n"
+needy = b"library %s;\ncontext %s;\nentity e is\nend;\n"
+for library, unit, missed in [(b"vunit_lib", b"vunit_lib.com_context", b"com_context"),
+                              (b"osvvm", b"osvvm.osvvmcontext", b"osvvmcontext")]:
+    code, said, _ = compile_one(request(b"lib", b"e.vhd", needy % (library, unit)))
+    assert code == 1 and b'"%s" not found in library "%s"' % (missed, library) in said and said.endswith(TAKEN), said
+own = (b"vunit_lib", b"p.vhd", made(b"vunit_lib", b"p.vhd", PACKAGE))
+code, said, _ = compile_one(request(b"lib", b"c.vhd", needy % (b"vunit_lib", b"vunit_lib.com_context"), [own]))
+assert code == 1 and said.endswith((MENDED % "vunit_lib").encode()), said
+
 # No GHDL, one that keeps objects, one that says nothing, and one that writes something else.
-alone = [sys.executable, "-IS", WRAPPER]
-check("no ghdl", compile_one(whole, wrapper=alone, env={"PATH": tmp, "TMPDIR": tmp}),
-      (1, b"ghdl_analyse: there is no command ghdl\n", b""))
+os.mkdir("python")
+os.symlink(sys.executable, "python/python3")
+check("no ghdl", compile_one(whole, env={"PATH": os.path.abspath("python"), "TMPDIR": tmp}),
+      (75, b"", b"ghdl_analyse: there is no command ghdl\n"))
+check("no python3", compile_one(whole, env={"PATH": tmp, "TMPDIR": tmp}), (75, b"", b"ghdl_analyse: there is no command python3\n"))
 objects = script("objects", "[ $1 = -a ] && : >x.o\necho ' llvm code generator'\n")
 check("objects", compile_one(whole, env=objects)[:2], (1, b"ghdl_analyse: mcode is supported, and not llvm\n"))
 check("silent", compile_one(whole, env=script("silent", "exit 3\n")), (1, b"ghdl_analyse: ghdl ended with 3\n", b""))
@@ -264,7 +279,7 @@ for long in [PACKAGE.replace(b"end", constants + b"end", 1), PACKAGE + b"--" + b
     check("long", compile_one(request(b"lib", b"p.vhd", long)), (1, b"ghdl_analyse: the file is too long\n", b""))
 check("a long comment", compile_one(request(b"lib", b"src/p.vhd", PACKAGE + b"--" + digits)), (0, p[2], b""))
 little = lambda: resource.setrlimit(resource.RLIMIT_AS, (200_000_000, 200_000_000))
-child = subprocess.Popen(alone, stdin=subprocess.PIPE, stdout=subprocess.PIPE, preexec_fn=little)
+child = subprocess.Popen([WRAPPER], stdin=subprocess.PIPE, stdout=subprocess.PIPE, preexec_fn=little)
 child.stdin.write(request(b"lib", b"p.vhd", bytes(300_000_000)))
 child.stdin.close()
 check("memory", (child.stdout.read(), child.wait()), (b"ghdl_analyse: out of memory\n", 1))
@@ -276,7 +291,7 @@ for number in [signal.SIGINT, signal.SIGTERM, signal.SIGHUP]:
         if os.path.exists("slow/ghdl.pid"):
             os.remove("slow/ghdl.pid")
         # (a shell may have had it ignored)
-        child = subprocess.Popen(alone, stdin=subprocess.PIPE, stdout=subprocess.PIPE, stderr=subprocess.DEVNULL, env=slow,
+        child = subprocess.Popen([WRAPPER], stdin=subprocess.PIPE, stdout=subprocess.PIPE, stderr=subprocess.DEVNULL, env=slow,
                                  preexec_fn=lambda: signal.signal(number, signal.SIG_DFL))
         child.stdin.write(whole)
         child.stdin.close()
@@ -296,7 +311,7 @@ for number in [signal.SIGINT, signal.SIGTERM, signal.SIGHUP]:
 for moment in [*(step / 100 for step in range(2, 14, 2)), "in GHDL"]:
     if os.path.exists("slow/ghdl.pid"):
         os.remove("slow/ghdl.pid")
-    child = subprocess.Popen(alone, stdin=subprocess.PIPE, stdout=subprocess.PIPE, stderr=subprocess.DEVNULL, env=slow)
+    child = subprocess.Popen([WRAPPER], stdin=subprocess.PIPE, stdout=subprocess.PIPE, stderr=subprocess.DEVNULL, env=slow)
     child.stdin.write(whole)
     child.stdin.close()
     if moment != "in GHDL":
@@ -316,7 +331,7 @@ for moment in [*(step / 100 for step in range(2, 14, 2)), "in GHDL"]:
 # The runner has gone: nobody reads the output any more.
 if os.path.exists("slow/ghdl.pid"):
     os.remove("slow/ghdl.pid")
-child = subprocess.Popen(alone, stdin=subprocess.PIPE, stdout=subprocess.PIPE, stderr=subprocess.DEVNULL, env=slow)
+child = subprocess.Popen([WRAPPER], stdin=subprocess.PIPE, stdout=subprocess.PIPE, stderr=subprocess.DEVNULL, env=slow)
 child.stdin.write(whole)
 child.stdin.close()
 while not os.path.exists("slow/ghdl.pid"):

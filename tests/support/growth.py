@@ -1,6 +1,7 @@
 """Whether a run takes time that grows as what it is given does, in memory in proportion to that."""
 import os, subprocess, tempfile
 
+from told import without_told
 from trial import PROGRAM, fail, project
 
 # The least time of at most so many rounds counts.
@@ -21,7 +22,7 @@ def measured(words, memory, folder="project"):
         ran.returncode = os.waitstatus_to_exitcode(status)
         out.seek(0)
         error.seek(0)
-        return (ran.returncode, out.read(), error.read()), used.ru_utime + used.ru_stime
+        return (ran.returncode, out.read(), without_told(error.read())), used.ru_utime + used.ru_stime
 
 
 def checked(name, wanted, given, *words, folder="project"):

@@ -25,8 +25,8 @@ libraries() {
     done
 }
 
-# Runs the program with the words from the fourth on, and compares status, standard output and standard error. This is to be
-# the line `told`, which is taken back, or empty.
+# Runs the program with the words from the fourth on, and compares status, standard output and standard error, of which told.sed takes
+# lines out. The rest is to be the line `told`, which is taken back, or empty.
 told=
 expect() {
     name=$1
@@ -38,7 +38,8 @@ expect() {
     wanted=$2
     shift 3
     status=0
-    "$VUNIT_RUN" "$@" >"$room/out" 2>"$room/err" </dev/null || status=$?
+    "$VUNIT_RUN" "$@" >"$room/out" 2>"$room/all" </dev/null || status=$?
+    sed -E -f "$TOP/tests/support/told.sed" "$room/all" >"$room/err"
     if [ "$status" -ne "$wanted" ] || ! cmp -s "$room/wanted" "$room/out" || ! cmp -s "$room/told" "$room/err"; then
         echo "$name: status $status, and not $wanted; wanted and printed (at most 20 lines of 300 bytes), and the same of standard error:"
         for text in wanted out told err; do head -n 20 "$room/$text" | cut -c 1-300; echo "--"; done

@@ -2,6 +2,7 @@
 import hashlib, json, os, shutil, subprocess, sys
 
 import store_reader
+from told import without_told
 
 PROGRAM = os.environ["VUNIT_RUN"]
 COMPILER = ["sh", os.path.join(os.environ["TOP"], "tests", "support", "compiler.sh")]
@@ -70,12 +71,13 @@ def environment(requests=None, delay=None):
 
 
 def run(folder, *words, env=None, seconds=120, before=()):
-    """Status, standard output and standard error of a run in a folder. The words before it are a command that starts it."""
+    """Status, standard output and standard error of a run in a folder, this without the lines that program_messages tries. The
+    words before it are a command that starts it."""
     try:
         ran = subprocess.run([*before, PROGRAM, *words], cwd=folder, env=env, stdin=subprocess.DEVNULL, capture_output=True, timeout=seconds)
     except subprocess.TimeoutExpired:
         return None, b"", b"it ran for %d seconds\n" % seconds
-    return ran.returncode, ran.stdout, ran.stderr
+    return ran.returncode, ran.stdout, without_told(ran.stderr)
 
 
 def expect(name, folder, status, text, *words, error="", env=None, seconds=120, before=()):

@@ -3,23 +3,23 @@
 ghost use Rattle.std.specs.Prelude.{◌≡◌, ◌≢◌, ◌<◌, ◌≤◌, length, IfOk, MatchResult, option_map, string_bytes};
 ghost use Rattle.std.specs.Str.{IsUtf8};
 ghost use Rattle.std.specs.Process.{exit_code};
-ghost use Rattle.outside.specs.Children.{FitsExit, IsShort, AnswersPath};
+ghost use Rattle.outside.specs.Children.{FitsExit, AnswersPath};
 ghost use Rattle.system_files.specs.Faults.{IsFailed};
 ghost use Rattle.system_children.specs.Codes.{child_code, no_answer};
 ghost use Rattle.system_children.specs.Commands.{IsProgram, IsCommandOf};
 
 use crate::printed::Printed;
-use base::{ARTEFACT_LIMIT, Exit, MaybeText, RESULTS_LIMIT, Request, Text};
+use crate::results::{clear_results, take_results};
+use base::{Exit, MaybeText, Request, Text};
 use libc::net::POLLIN;
 use libc::types::pollfd;
-use outside::ReadEnd;
 use std::alloc::Global;
 use std::fs::Files;
 use std::io::{ErrorKind, Read};
 use std::os::fd::AsRawFd;
+use std::os::unix::process::ExitStatusExt;
 use std::process::{Child, ChildStdin, Command, ExitStatus, Processes, Stdio, SystemProcess};
-use std::{fs, io};
-use system_files::{IoFault, read_file};
+use system_files::IoFault;
 
 /// The code of a child that a signal ended.
 const SIGNAL_CODE: u32 = 256;
@@ -43,14 +43,14 @@ pub struct Running {
     results: MaybeText,
 }
 
-/// Starts a child: clears the place of its results, and starts its command. Its input is still to be written.
+/// Starts a child: clears the path of its results, and starts its command. Its input is still to be written.
 pub fn start_child<R: Processes<Started = SystemProcess> + Files>(
     runtime: &R,
     alloc: Global,
     own_path: &Option<String>,
     request: &Request,
 ) -> Result<(Running, Option<ChildStdin>), IoFault> {
-    clear_results(runtime, &request.results)?;
+    clear_results(runtime, alloc, &request.results)?;
     let results = request.results.copy(alloc)?;
     let mut command = command_of(alloc, own_path, request.command.as_slice())?;
     command.stdin(Stdio::piped()).stdout(Stdio::piped());
@@ -70,25 +70,8 @@ pub fn start_child<R: Processes<Started = SystemProcess> + Files>(
     ))
 }
 
-/// Makes the folder of a results path, and removes an old file there.
-fn clear_results(files: &impl Files, results: &MaybeText) -> Result<(), IoFault> {
-    let MaybeText::Given(path) = results else {
-        return Ok(());
-    };
-    let path = utf8(path)?;
-    if let Some((folder, _)) = path.rsplit_once('/') {
-        if let Err(error) = fs::create_dir_all(files, folder) {
-            return Err(IoFault::of("make the folder of its results", error));
-        }
-    }
-    match fs::remove_file(files, path) {
-        Ok(()) => Ok(()),
-        Err(error) if error.kind() == ErrorKind::NotFound => Ok(()),
-        Err(error) => Err(IoFault::of("remove its old results", error)),
-    }
-}
-
-fn utf8(text: &Text) -> Result<&str, IoFault>
+/// A text as the system takes it.
+pub fn utf8(text: &Text) -> Result<&str, IoFault>
     ensures { MatchResult result
         (λ same. (same.now ≡ text.now) × IsUtf8 text.now)
         (λ fault. IsFailed fault × (¬ (IsUtf8 text.now))) }
@@ -175,12 +158,24 @@ impl Running {
         self.fault = Some(fault);
     }
 
-    /// Closes its pipes and waits for it, whatever comes of it.
-    pub fn abandon(self) {
-        let Running { mut child, .. } = self;
+    /// Closes its pipes and waits for it, whatever comes of it. Gives what it had printed.
+    pub fn abandon(self) -> Vec<u8> {
+        let Running {
+            mut child,
+            printed,
+            ..
+        } = self;
         drop(child.stdout.take());
         let _ = child.wait();
+        printed.into_prefix().kept
     }
+}
+
+/// How a child ended, and the number of the signal that ended it, if one did.
+#[derive(Drop)]
+pub struct ChildEnd {
+    pub exit: Exit,
+    pub signal: Option<i32>,
 }
 
 /// Waits for a child, and takes its results. The child is waited for whatever failed before. One that says that it has no
@@ -190,11 +185,11 @@ pub fn end_child(
     buffer: &mut [u8],
     alloc: Global,
     running: Running,
-) -> Result<Exit, IoFault>
+) -> Result<ChildEnd, IoFault>
     requires { 0 < length buffer.old }
-    ensures sizes { IfOk result FitsExit }
-    ensures named { IfOk result (λ exit. AnswersPath running.results exit.results) }
-    ensures answered { IfOk result (λ exit. exit.code ≢ no_answer) }
+    ensures sizes { IfOk result (λ end. FitsExit end.exit) }
+    ensures named { IfOk result (λ end. AnswersPath running.results end.exit.results) }
+    ensures answered { IfOk result (λ end. end.exit.code ≢ no_answer) }
 {
     let Running {
         mut child,
@@ -217,10 +212,14 @@ pub fn end_child(
         return Err(IoFault::failed("end", "its code, 75, says that it has no answer"));
     }
     let results = take_results(files, buffer, alloc, results)?;
-    Ok(Exit {
+    let exit = Exit {
         code,
         output: Text::from_vec(output.kept),
         results,
+    };
+    Ok(ChildEnd {
+        exit,
+        signal: status.signal(),
     })
 }
 
@@ -234,25 +233,5 @@ fn code_of(status: ExitStatus, more: bool, results: &MaybeText) -> u32
     match results {
         MaybeText::Nothing if more && code == 0 => CUT_CODE,
         _ => code,
-    }
-}
-
-/// The results that lie at the path, if there are any and they aren't too long.
-fn take_results(
-    files: &impl Files,
-    buffer: &mut [u8],
-    alloc: Global,
-    results: MaybeText,
-) -> Result<MaybeText, IoFault>
-    requires { 0 < length buffer.old }
-    ensures size { IfOk result (IsShort RESULTS_LIMIT) }
-    ensures named { IfOk result (AnswersPath results) }
-{
-    let MaybeText::Given(path) = results else {
-        return Ok(MaybeText::Nothing);
-    };
-    match read_file(files, buffer, alloc, path.bytes(), RESULTS_LIMIT as u64)? {
-        ReadEnd::Got(text) => Ok(MaybeText::Given(text)),
-        ReadEnd::Absent | ReadEnd::TooLong => Ok(MaybeText::Nothing),
     }
 }

@@ -4,6 +4,9 @@
 mod child;
 mod printed;
 mod procs;
+mod results;
 mod tickets;
+mod turns;
 
 pub use procs::ChildProcs;
+pub use turns::Turns;

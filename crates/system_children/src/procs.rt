@@ -3,8 +3,9 @@
 ghost use Rattle.std.specs.Prelude.{◌≡◌, ◌<◌, ◌++◌, ◌∷◌, [], vec_len, ◌⊎◌, length, Contains, IfOk, OnErr, MatchResult};
 ghost use Rattle.base.specs.declared.child.MaybeText.TheVariants.{Nothing};
 
-use crate::child::{Running, end_child, start_child};
+use crate::child::{ChildEnd, Running, end_child, start_child};
 use crate::tickets::leave;
+use crate::turns::Turns;
 use base::{MaybeText, NoMemory, Request, Text};
 use libc::net::{POLLHUP, POLLOUT, poll};
 use libc::types::pollfd;
@@ -14,18 +15,24 @@ use std::fs::Files;
 use std::io::{ErrorKind, Write};
 use std::os::fd::{AsRawFd, RawFd};
 use std::process::{ChildStdin, Processes, SystemProcess};
-use std::{env, io};
+use std::{env, fs, io};
 use system_causes::Cause;
 use system_files::IoFault;
 
 /// The bytes that one read takes at most: what a pipe holds.
 const CHUNK: usize = 65_536;
 
+/// The system's link to the program of the process that opens it.
+const OWN_LINK: &str = "/proc/self/exe";
+
 /// How long, in milliseconds, a child alone is waited for while its input is written, before all others are looked at too.
 const PATIENCE: i32 = 10;
 
 /// How many turns are for one child alone before all others are looked at too.
 const TURNS_ALONE: u64 = 16;
+
+/// How often a child that reads no more is looked at for what it says of that, for the time of one patience each.
+const LAST_TURNS: u64 = 50;
 
 /// Children of this process. It counts its failures, and tells nothing but its running tickets. A command whose first
 /// word is `@self` starts the program itself.
@@ -42,8 +49,12 @@ pub struct ChildProcs<R: Processes<Started = SystemProcess>> {
     // why the first start failed that did, and what it was about where there was memory for that
     start_cause: Option<Cause>,
     start_title: Option<Text>,
+    // what the child had printed that was started and couldn't be fed
+    start_said: Option<Vec<u8>>,
     // why the first child was lost that was
     child_cause: Option<Cause>,
+    // the signal that ended the child that ended last, if one did
+    signal: Option<i32>,
     // what the system is asked, kept for its room
     asked: Vec<pollfd>,
     buffer: Vec<u8>,
@@ -67,7 +78,9 @@ impl<R: Processes<Started = SystemProcess> + Files + AllocGlobal + Drop> ChildPr
             lost_children: 0,
             start_cause: None,
             start_title: None,
+            start_said: None,
             child_cause: None,
+            signal: None,
             asked: Vec::new(alloc),
             buffer: vec![in alloc; 0; CHUNK]?,
         })
@@ -86,6 +99,14 @@ impl<R: Processes<Started = SystemProcess> + Files + AllocGlobal + Drop> ChildPr
         match &self.start_title {
             Some(title) => Some((title.bytes(), cause)),
             None => Some((b"a command", cause)),
+        }
+    }
+
+    /// What the first child had printed that was started and took less than its whole input.
+    pub fn start_said(&self) -> Option<&[u8]> {
+        match &self.start_said {
+            Some(said) => Some(said.as_slice()),
+            None => None,
         }
     }
 
@@ -117,6 +138,17 @@ impl<R: Processes<Started = SystemProcess> + Files + AllocGlobal + Drop> ChildPr
     {
         if self.child_cause.is_none() {
             self.child_cause = Some(cause);
+        }
+    }
+
+    /// Keeps what a child had printed that couldn't be fed, if none was before.
+    fn note_said(&mut self, said: Vec<u8>)
+        ensures tickets { self.new.tickets.items ≡ self.old.tickets.items }
+        ensures starts { self.new.failed_starts ≡ self.old.failed_starts }
+        ensures children { self.new.lost_children ≡ self.old.lost_children }
+    {
+        if self.start_said.is_none() {
+            self.start_said = Some(said);
         }
     }
 
@@ -159,9 +191,10 @@ impl<R: Processes<Started = SystemProcess> + Files + AllocGlobal + Drop> ChildPr
                 Ok(ticket)
             }
             Err(fault) => {
+                self.hear_last();
                 self.tickets.pop();
                 if let Some(child) = self.children.pop() {
-                    child.abandon();
+                    self.note_said(child.abandon());
                 }
                 Err(fault)
             }
@@ -216,6 +249,28 @@ impl<R: Processes<Started = SystemProcess> + Files + AllocGlobal + Drop> ChildPr
         }
         let _is_told = self.turn(0, stdin, -1)?;
         Ok(0)
+    }
+
+    /// Reads for a while what the last child prints that reads no more.
+    fn hear_last(&mut self)
+        ensures tickets { self.new.tickets.items ≡ self.old.tickets.items }
+        ensures starts { self.new.failed_starts ≡ self.old.failed_starts }
+        ensures children { self.new.lost_children ≡ self.old.lost_children }
+    {
+        let last = self.children.len().saturating_sub(1);
+        for _ in 0..LAST_TURNS {
+            if self.has_end_from(last) || self.turn(last, -1, PATIENCE).is_err() {
+                return;
+            }
+        }
+    }
+
+    /// Whether the output of a child from a place on is at its end.
+    fn has_end_from(&self, from: usize) -> bool {
+        self.children
+            .iter()
+            .skip(from)
+            .any(|child| child.is_at_end())
     }
 
     /// Waits until some output of the children from a place on can be read on, or more can be written to this pipe, and
@@ -318,10 +373,15 @@ fn title_of(alloc: Global, request: &Request) -> Result<Text, NoMemory> {
     Ok(Text::from_vec(line))
 }
 
+/// The program's own path, or where that isn't UTF-8 the system's link to the program of whoever opens it, which is that of a
+/// child until this starts another.
 fn own_path<R: Files + AllocGlobal>(runtime: &R) -> Result<Option<String>, NoMemory> {
     match env::current_exe(runtime) {
         Ok(path) => Ok(Some(path.into_string())),
         Err(error) if error.kind() == ErrorKind::OutOfMemory => Err(NoMemory),
+        Err(_) if fs::symlink_metadata(runtime, OWN_LINK).is_ok() => {
+            Ok(Some(String::from_str(runtime.alloc(), OWN_LINK)?))
+        }
         Err(_) => Ok(None),
     }
 }
@@ -358,7 +418,10 @@ impl<R: Processes<Started = SystemProcess> + Files + AllocGlobal + Drop> Procs f
         let running = self.children.remove(place);
         let buffer = self.buffer.as_mut_slice();
         match end_child(&self.runtime, buffer, alloc, running) {
-            Ok(exit) => Ok(Ended { ticket, exit }),
+            Ok(ChildEnd { exit, signal }) => {
+                self.signal = signal;
+                Ok(Ended { ticket, exit })
+            }
             Err(IoFault::NoMemory) => Err(WaitFault::NoMemory { ticket }),
             Err(IoFault::Failed(cause)) => {
                 self.note_loss(cause);
@@ -366,5 +429,21 @@ impl<R: Processes<Started = SystemProcess> + Files + AllocGlobal + Drop> Procs f
                 Err(WaitFault::Lost { ticket })
             }
         }
+    }
+}
+
+impl<R: Processes<Started = SystemProcess> + Files + AllocGlobal + Drop> Turns for ChildProcs<R> {
+    fn has_end_within(&mut self, millis: i32) -> bool {
+        if self.has_end_from(0) {
+            return true;
+        }
+        match self.turn(0, -1, millis) {
+            Ok(_) => self.has_end_from(0),
+            Err(_) => true,
+        }
+    }
+
+    fn last_signal(&self) -> Option<i32> {
+        self.signal
     }
 }

@@ -8,7 +8,7 @@ mod reading;
 mod streams;
 mod tree;
 
-pub use files::{means_absent, read_file};
+pub use files::{means_absent, read_file, read_regular_file};
 pub use listing::OUTPUT_FOLDER;
 pub use reading::{IoFault, Prefix, drain, read_prefix};
 pub use streams::{StdSink, StdSource};

@@ -7,13 +7,13 @@ ghost use Rattle.std.specs.declared.cmp.Ordering.TheVariants.{Less};
 ghost use Rattle.std.specs.List.{AllByRecursion};
 ghost use Rattle.outside.specs.Trees.{IsListing, IsName, IsRising};
 
-use crate::{IoFault, means_absent};
+use crate::IoFault;
 use base::{Items, PATH_LIMIT, Text};
 use outside::NamesEnd;
 use std::alloc::Global;
 use std::cmp::Ordering;
-use std::fs::{DirEntry, Files};
-use std::io::ErrorKind;
+use std::fs::Files;
+use std::io::{ErrorKind, Read};
 use std::{fs, io};
 
 /// The folder of the program's own output, which isn't listed.
@@ -27,16 +27,18 @@ struct Walk {
 }
 
 /// The listing of the present folder, if it has at most `limit` names. Its form is tested, and a listing that hasn't
-/// this form fails. Where it fails in a folder, the path of this is left.
-pub fn list_names<R: Files + AllocGlobal + Clone + Drop>(
+/// this form fails. Where it fails at a folder or at an entry of one, the path of this is left. The buffer is what one
+/// read of a folder takes at most.
+pub fn list_names<R: Files>(
     files: &R,
+    buffer: &mut [u8],
     alloc: Global,
     limit: u64,
-    failed_in: &mut Option<String>,
+    failed_at: &mut Option<String>,
 ) -> Result<NamesEnd, IoFault>
     ensures { IfOk result (IsListing limit) }
 {
-    let mut found = find_files(files, alloc, limit as usize, failed_in)?;
+    let mut found = find_files(files, buffer, alloc, limit as usize, failed_at)?;
     if found.len() as u64 > limit {
         return Ok(NamesEnd::TooMany);
     }
@@ -60,11 +62,12 @@ fn texts(alloc: Global, paths: Vec<String>) -> Result<Vec<Text>, IoFault> {
 }
 
 /// Walks one folder after another, until none remains or more than `limit` files were found.
-fn find_files<R: Files + AllocGlobal + Clone + Drop>(
+fn find_files<R: Files>(
     files: &R,
+    buffer: &mut [u8],
     alloc: Global,
     limit: usize,
-    failed_in: &mut Option<String>,
+    failed_at: &mut Option<String>,
 ) -> Result<Vec<String>, IoFault> {
     let mut walk = Walk {
         folders: vec![in alloc; String::new(alloc)]?,
@@ -77,8 +80,19 @@ fn find_files<R: Files + AllocGlobal + Clone + Drop>(
         let Some(folder) = walk.folders.pop() else {
             return Ok(walk.found);
         };
-        if let Err(fault) = read_folder(files, alloc, folder.as_str(), limit, &mut walk) {
-            *failed_in = Some(folder);
+        *failed_at = None;
+        if let Err(fault) = read_folder(
+            files,
+            buffer,
+            alloc,
+            folder.as_str(),
+            limit,
+            &mut walk,
+            failed_at,
+        ) {
+            if failed_at.is_none() {
+                *failed_at = Some(folder);
+            }
             return Err(fault);
         }
     }
@@ -86,57 +100,84 @@ fn find_files<R: Files + AllocGlobal + Clone + Drop>(
 }
 
 /// Takes the entries of one folder. The present folder has the empty path. A folder that has gone since it was seen has
-/// no entries. One that may not be read fails.
-fn read_folder<R: Files + AllocGlobal + Clone + Drop>(
+/// no entries. One that can't be read fails.
+fn read_folder<R: Files>(
     files: &R,
+    buffer: &mut [u8],
     alloc: Global,
     folder: &str,
     limit: usize,
     walk: &mut Walk,
+    failed_at: &mut Option<String>,
 ) -> Result<(), IoFault> {
     let is_present = folder.is_empty();
-    let entries = match fs::read_dir(files, if is_present { "." } else { folder }) {
+    let mut entries = match files.open_dir(if is_present { "." } else { folder }) {
         Ok(entries) => entries,
-        Err(error) if !is_present && means_absent(&error) => return Ok(()),
+        Err(error) if !is_present && has_gone(&error) => return Ok(()),
         Err(error) => return Err(IoFault::of("list", error)),
     };
-    for entry in entries {
+    for _ in 0..u64::MAX {
+        match entries.read(buffer) {
+            Ok(0) => return Ok(()),
+            Ok(count) => take_entries(files, alloc, folder, &buffer[..count], walk, failed_at)?,
+            Err(error) if error.kind() == ErrorKind::Interrupted => {}
+            Err(error) => return Err(IoFault::of("list", error)),
+        }
         if walk.found.len() > limit {
             return Ok(());
         }
-        match entry {
-            Ok(entry) => take_entry(files, alloc, folder, &entry, walk)?,
-            Err(error) if !is_present && means_absent(&error) => return Ok(()),
-            Err(error) => return Err(IoFault::of("list", error)),
+    }
+    Err(IoFault::failed("list", "it has no end"))
+}
+
+/// Takes entries of a folder by their names, each of which is ended by a byte 0.
+fn take_entries<R: Files>(
+    files: &R,
+    alloc: Global,
+    folder: &str,
+    names: &[u8],
+    walk: &mut Walk,
+    failed_at: &mut Option<String>,
+) -> Result<(), IoFault> {
+    for name in names.split(|byte| *byte == 0) {
+        if !name.is_empty() && !name.starts_with(b".") {
+            take_entry(files, alloc, folder, name, walk, failed_at)?;
         }
     }
     Ok(())
 }
 
-/// Adds an entry to the files or to the folders, if it is one that is listed.
-fn take_entry<R: Files + AllocGlobal>(
+/// Adds an entry to the files or to the folders, if it is one that is listed. A name that isn't UTF-8 fails, since no
+/// path can have it.
+fn take_entry<R: Files>(
     files: &R,
     alloc: Global,
     folder: &str,
-    entry: &DirEntry<R>,
+    name: &[u8],
     walk: &mut Walk,
+    failed_at: &mut Option<String>,
 ) -> Result<(), IoFault> {
-    let name = entry.file_name();
-    if name.starts_with('.') {
-        return Ok(());
-    }
+    let Ok(name) = str::from_utf8(name) else {
+        *failed_at = Some(joined(alloc, folder, shown(alloc, name)?.as_str())?);
+        return Err(IoFault::failed("list", "its name isn't UTF-8"));
+    };
     let path = joined(alloc, folder, name)?;
     if path.len() > PATH_LIMIT {
         return Ok(());
     }
-    match kind_of(files, entry)? {
-        Kind::File => walk.found.push(path)?,
-        Kind::Folder if path.as_str() != OUTPUT_FOLDER => walk.folders.push(path)?,
-        Kind::Folder | Kind::Other => {}
+    match kind_of(files, path.as_str()) {
+        Ok(Kind::File) => walk.found.push(path)?,
+        Ok(Kind::Folder) if path.as_str() != OUTPUT_FOLDER => walk.folders.push(path)?,
+        Ok(Kind::Folder | Kind::Other) => {}
+        Err(fault) => {
+            *failed_at = Some(path);
+            return Err(fault);
+        }
     }
     Ok(())
 }
 
+/// The path of an entry of a folder.
 fn joined(alloc: Global, folder: &str, name: &str) -> Result<String, IoFault> {
     let mut path = String::from_str(alloc, folder)?;
     if !folder.is_empty() {
@@ -146,6 +187,16 @@ fn joined(alloc: Global, folder: &str, name: &str) -> Result<String, IoFault> {
     Ok(path)
 }
 
+/// A name that isn't UTF-8 as it is shown: with a question mark for each byte that is no printable character of ASCII.
+fn shown(alloc: Global, name: &[u8]) -> Result<String, IoFault> {
+    let mut shown = String::new(alloc);
+    for byte in name {
+        let is_printable = *byte >= 0x20 && *byte < 0x7f;
+        shown.push(if is_printable { *byte as char } else { '?' })?;
+    }
+    Ok(shown)
+}
+
 #[derive(Clone, Copy)]
 enum Kind {
     File,
@@ -153,46 +204,32 @@ enum Kind {
     Other,
 }
 
-/// A link to a file is a file. A link to a folder isn't followed, so that no walk goes in a circle. A link to nothing, to
-/// itself or to a place that may not be looked at is passed over.
-fn kind_of<R: Files>(files: &R, entry: &DirEntry<R>) -> Result<Kind, IoFault> {
-    let own = or_absent(entry.metadata())?;
-    match own {
-        Some(data) if data.is_file() => Ok(Kind::File),
-        Some(data) if data.is_dir() => Ok(Kind::Folder),
-        Some(data) if data.is_symlink() => match or_unseen(fs::metadata(files, entry.path()))? {
-            Some(target) if target.is_file() => Ok(Kind::File),
-            _ => Ok(Kind::Other),
-        },
-        _ => Ok(Kind::Other),
-    }
-}
-
-/// What has gone since it was seen is nothing.
-fn or_absent(data: io::Result<fs::Metadata>) -> Result<Option<fs::Metadata>, IoFault> {
-    match data {
-        Ok(data) => Ok(Some(data)),
-        Err(error) if means_absent(&error) => Ok(None),
+/// What lies at the path of an entry. A link to a file is a file. So is one that can't be followed, which then fails when
+/// it is read: it is never passed over. A link to a folder isn't followed, so that no walk goes in a circle.
+fn kind_of<R: Files>(files: &R, path: &str) -> Result<Kind, IoFault> {
+    match fs::symlink_metadata(files, path) {
+        Ok(data) if data.is_file() => Ok(Kind::File),
+        Ok(data) if data.is_dir() => Ok(Kind::Folder),
+        Ok(data) if data.is_symlink() => kind_of_target(fs::metadata(files, path)),
+        Ok(_) => Ok(Kind::Other),
+        Err(error) if has_gone(&error) => Ok(Kind::Other),
         Err(error) => Err(IoFault::of("look at an entry", error)),
     }
 }
 
-/// What can't be seen through a link is nothing.
-fn or_unseen(data: io::Result<fs::Metadata>) -> Result<Option<fs::Metadata>, IoFault> {
-    match data {
-        Ok(data) => Ok(Some(data)),
-        Err(error) if is_closed(&error) => Ok(None),
-        Err(error) if means_absent(&error) => Ok(None),
-        Err(error) => Err(IoFault::of("look at an entry", error)),
+/// What a link leads to.
+fn kind_of_target(target: io::Result<fs::Metadata>) -> Result<Kind, IoFault> {
+    match target {
+        Ok(data) if data.is_file() => Ok(Kind::File),
+        Ok(_) => Ok(Kind::Other),
+        Err(error) if error.kind() == ErrorKind::OutOfMemory => Err(IoFault::NoMemory),
+        Err(_) => Ok(Kind::File),
     }
 }
 
-/// Whether an error says that a link goes in a circle, or to a place that may not be looked at.
-fn is_closed(error: &io::Error) -> bool {
-    matches!(
-        error.kind(),
-        ErrorKind::FilesystemLoop | ErrorKind::PermissionDenied
-    )
+/// Whether an error says that an entry has gone since it was seen.
+fn has_gone(error: &io::Error) -> bool {
+    matches!(error.kind(), ErrorKind::NotFound | ErrorKind::NotADirectory)
 }
 
 /// Whether the paths are strictly rising, and each is a name.

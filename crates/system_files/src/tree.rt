@@ -21,9 +21,9 @@ pub struct FileTree<R> {
     // the paths that were read or tried, in order: as long as the program runs, which asks for each path once
     asked: TextList,
     failures: u64,
-    // why a call failed, and the folder where that was in a listing
+    // why a call failed, and in a listing the path of the folder or the entry where that was
     cause: Option<Cause>,
-    failed_in: Option<String>,
+    failed_at: Option<String>,
     buffer: Vec<u8>,
     ghost has_room: { 0 < vec_len buffer },
 }
@@ -39,7 +39,7 @@ impl<R: Files> FileTree<R> {
             asked: TextList::new(alloc),
             failures: 0,
             cause: None,
-            failed_in: None,
+            failed_at: None,
             buffer: vec![in alloc; 0; CHUNK]?,
         })
     }
@@ -47,9 +47,9 @@ impl<R: Files> FileTree<R> {
     /// Why a call failed, and the path that it was of, if one failed.
     pub fn cause(&self) -> Option<(&[u8], Cause)> {
         let cause = self.cause?;
-        match (&self.failed_in, self.asked.as_slice().last()) {
-            (Some(folder), _) if folder.is_empty() => Some((b".", cause)),
-            (Some(folder), _) => Some((folder.as_bytes(), cause)),
+        match (&self.failed_at, self.asked.as_slice().last()) {
+            (Some(path), _) if path.is_empty() => Some((b".", cause)),
+            (Some(path), _) => Some((path.as_bytes(), cause)),
             (None, Some(path)) => Some((path.bytes(), cause)),
             (None, None) => Some((b".", cause)),
         }
@@ -79,7 +79,8 @@ impl<R: Files + AllocGlobal + Clone + Drop> Tree for FileTree<R> {
     ghost lists = { λ _. lists_nothing };
 
     fn names(&mut self, alloc: Global, limit: u64) -> Result<NamesEnd, TreeFault> {
-        match list_names(&self.files, alloc, limit, &mut self.failed_in) {
+        let buffer = self.buffer.as_mut_slice();
+        match list_names(&self.files, buffer, alloc, limit, &mut self.failed_at) {
             Ok(end) => Ok(end),
             Err(IoFault::NoMemory) => Err(TreeFault::NoMemory),
             Err(IoFault::Failed(cause)) => {

@@ -1,53 +1,95 @@
-//! The line that a screen shows: how many children have ended, of how many that may be started, and the oldest that runs.
+//! The lines that standard error gets.
 
-use base::{NoMemory, Request};
+use crate::counts::Counts;
+use base::NoMemory;
 use std::alloc::Global;
 use system_causes::push_visible;
+use system_messages::end_line;
 
 /// Back to the start of the line, which is emptied. What is written by others then begins there.
 pub const EMPTY_LINE: &[u8] = b"\r\x1b[K";
 
-/// What a request is about: the two texts that follow its mark, as `lib, src/a.vhd`. A request of another form is about
-/// nothing.
-pub fn title_of(alloc: Global, request: &Request) -> Result<Vec<u8>, NoMemory> {
-    let mut title = Vec::new(alloc);
-    if let Some((library, name)) = names_of(request.input.bytes()) {
-        push_visible(&mut title, library)?;
-        title.extend_from_slice(b", ")?;
-        push_visible(&mut title, name)?;
+/// How a test or a file ended that didn't pass.
+#[derive(Clone, Copy)]
+pub struct Failure<'a> {
+    pub name: &'a [u8],
+    pub millis: u64,
+    /// The folder of its output; nothing of a file.
+    pub folder: &'a [u8],
+    /// What is known of the cause; nothing where its output says it.
+    pub cause: &'a [u8],
+}
+
+/// The line of a test or a file that didn't pass.
+pub fn failure_line(alloc: Global, failure: &Failure<'_>) -> Result<Vec<u8>, NoMemory> {
+    let mut line = Vec::from_slice(alloc, b"vunit_run: fail ")?;
+    push_visible(&mut line, failure.name)?;
+    let seconds = failure.millis / 1_000;
+    let tenths = failure.millis % 1_000 / 100;
+    let time = format!(in alloc; " ({seconds}.{tenths} s)")?;
+    line.extend_from_slice(time.as_bytes())?;
+    push_part(&mut line, failure.folder)?;
+    push_part(&mut line, failure.cause)?;
+    end_line(&mut line)?;
+    Ok(line)
+}
+
+fn push_part(line: &mut Vec<u8>, part: &[u8]) -> Result<(), NoMemory> {
+    if !part.is_empty() {
+        line.extend_from_slice(b": ")?;
+        push_visible(line, part)?;
     }
-    Ok(title)
+    Ok(())
 }
 
-/// The two texts after the mark.
-fn names_of(input: &[u8]) -> Option<(&[u8], &[u8])> {
-    let [_, _, _, _, rest @ ..] = input else {
-        return None;
-    };
-    let (library, rest) = text_of(rest)?;
-    let (name, _) = text_of(rest)?;
-    Some((library, name))
-}
-
-/// A text, and what follows it.
-fn text_of(bytes: &[u8]) -> Option<(&[u8], &[u8])> {
-    let [a, b, c, d, rest @ ..] = bytes else {
-        return None;
-    };
-    let length = u32::from_le_bytes([*a, *b, *c, *d]) as usize;
-    if length > rest.len() {
-        return None;
+/// What is known of the cause of a failure, by the code and the signal that a child ended with.
+pub fn end_cause(alloc: Global, code: u32, signal: Option<i32>) -> Result<Vec<u8>, NoMemory> {
+    if let Some(signal) = signal {
+        let text = format!(in alloc; "ended by signal {signal}")?;
+        return Ok(Vec::from_slice(alloc, text.as_bytes())?);
     }
-    Some((&rest[..length], &rest[length..]))
+    if code == 126 || code == 127 {
+        let text = format!(in alloc; "could not be run, code {code}")?;
+        return Ok(Vec::from_slice(alloc, text.as_bytes())?);
+    }
+    Ok(Vec::new(alloc))
 }
 
-/// The line. The terminal cuts it, since it isn't to wrap, and the cursor is left at its start.
-pub fn line_of(alloc: Global, ended: u64, due: u64, title: &[u8]) -> Result<Vec<u8>, NoMemory> {
+/// How many children have ended, of how many, and what became of these.
+fn counts_text(alloc: Global, counts: &Counts) -> Result<Vec<u8>, NoMemory> {
+    let Counts {
+        ended,
+        due,
+        passed,
+        failed,
+        ..
+    } = *counts;
+    let text = format!(in alloc; "[{ended}/{due}] {passed} passed, {failed} failed")?;
+    Ok(Vec::from_slice(alloc, text.as_bytes())?)
+}
+
+/// The line that says from time to time how far a run is.
+pub fn summary_line(alloc: Global, counts: &Counts) -> Result<Vec<u8>, NoMemory> {
+    let mut line = Vec::from_slice(alloc, b"vunit_run: ")?;
+    line.extend_from_slice(counts_text(alloc, counts)?.as_slice())?;
+    end_line(&mut line)?;
+    Ok(line)
+}
+
+/// The line that a terminal shows. The terminal cuts it, since it isn't to wrap, and the cursor is left at its start.
+pub fn screen_line(
+    alloc: Global,
+    counts: &Counts,
+    millis: u64,
+    title: &[u8],
+) -> Result<Vec<u8>, NoMemory> {
     let mut line = Vec::from_slice(alloc, b"\x1b[?7l")?;
     line.extend_from_slice(EMPTY_LINE)?;
-    let counts = format!(in alloc; "[{ended}/{due}] ")?;
-    line.extend_from_slice(counts.as_bytes())?;
-    line.extend_from_slice(title)?;
+    line.extend_from_slice(counts_text(alloc, counts)?.as_slice())?;
+    let seconds = millis / 1_000;
+    let time = format!(in alloc; ", {seconds} s: ")?;
+    line.extend_from_slice(time.as_bytes())?;
+    push_visible(&mut line, title)?;
     line.extend_from_slice(b"\x1b[?7h\r")?;
     Ok(line)
 }

@@ -2,6 +2,7 @@
 #![tactic(auto)]
 
 mod beside;
+mod kind;
 mod reports;
 mod spared;
 #[cfg(test)]

@@ -59,9 +59,15 @@ fn a_report_is_written_whole(rt: HostRuntime) -> Result<(), Fail> {
     let path = new_folder(&rt, "written")?;
     let folder = path.as_str();
     assert!(rt; is_written(&rt, folder, "out/deep/e.json", "{}")?);
-    assert!(rt; is_written(&rt, folder, "out/deep/e.json", "")?);
-    assert!(rt; is_written(&rt, folder, "out/deep/e.json", "longer than before")?);
-    assert!(rt; count_names(&rt, at(rt.alloc(), folder, "out/deep")?.as_str())? == 1);
+    assert!(rt; !is_written(&rt, folder, "out/deep/e.json", "[]")?);
+    assert!(rt; holds(&rt, folder, "out/deep/e.json", "{}")?);
+    for bytes in [
+        "<testsuite/>",
+        "<testsuites>longer than before</testsuites>",
+    ] {
+        assert!(rt; is_written(&rt, folder, "out/deep/r.xml", bytes)?);
+    }
+    assert!(rt; count_names(&rt, at(rt.alloc(), folder, "out/deep")?.as_str())? == 2);
     fs::remove_dir_all(&rt, path.as_path())?;
     Ok(())
 }
@@ -75,12 +81,13 @@ fn is_private(rt: &HostRuntime, path: &str) -> Result<bool, Fail> {
 fn follows_a_link(rt: &HostRuntime, folder: &str) -> Result<bool, Fail> {
     let file = at(rt.alloc(), folder, "file")?;
     let link = at(rt.alloc(), folder, "link")?;
-    fs::write(rt, file.as_str(), "before")?;
+    fs::write(rt, file.as_str(), "<testsuite/>")?;
     fs::set_permissions(rt, file.as_str(), Permissions::from_mode(0o600))?;
     symlink(rt, file.as_str(), link.as_str())?;
-    let written = is_written(rt, folder, "link", "after")?;
+    let after = "<testsuites/>";
+    let written = is_written(rt, folder, "link", after)?;
     let is_link = fs::symlink_metadata(rt, link.as_str())?.is_symlink();
-    Ok(written && is_link && is_private(rt, file.as_str())? && holds(rt, folder, "file", "after")?)
+    Ok(written && is_link && is_private(rt, file.as_str())? && holds(rt, folder, "file", after)?)
 }
 
 #[test]

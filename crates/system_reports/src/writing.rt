@@ -1,15 +1,24 @@
 //! A report on its way to its path.
 
 use crate::beside::write_beside;
+use crate::kind::{LOOKED_AT, kind_of};
 use crate::spared::{Spared, folder_of};
-use std::fs::{Metadata, OpenOptions};
-use std::io::{ErrorKind, Write};
+use libc::net::{POLLERR, POLLOUT, poll};
+use libc::types::pollfd;
+use std::fs::{File, Metadata, OpenOptions};
+use std::io::{ErrorKind, Read, Write};
+use std::os::fd::AsRawFd;
+use std::os::unix::fs::FileTypeExt;
 use std::{fs, io, str};
 use system_causes::{Cause, named};
 
-/// Writes a report. Where a regular file has the path, or nothing, the report is written beside it and moved into place, so
-/// that a reader never sees a part of it; missing folders are made. Anything else, such as a device, is written in place. Spared
-/// files stay as they are.
+/// The bytes that one read takes at most.
+const CHUNK: usize = 65_536;
+
+/// Writes a report. Where nothing has the path, or a regular file that is empty or a report of the same kind, the report is
+/// written beside it and moved into place, so that a reader never sees a part of it; missing folders are made. Any other
+/// regular file is kept, and so are spared files. A pipe that somebody reads is written in place, and so is anything else, such
+/// as a device.
 pub fn write_report(
     runtime: HostRuntime,
     path: &[u8],
@@ -22,6 +31,10 @@ pub fn write_report(
     named("write", spared.test(runtime, path))?;
     match fs::metadata(&runtime, path) {
         Ok(found) if found.is_file() => replace(runtime, path, bytes),
+        Ok(found) if found.file_type().is_fifo() => named(
+            "write",
+            write_pipe(runtime, path, bytes),
+        ),
         Ok(_) => named("write", write_in_place(runtime, path, bytes)),
         Err(error) if error.kind() == ErrorKind::NotFound => make(runtime, path, bytes, spared),
         Err(error) => named("stat", Err(error)),
@@ -40,16 +53,49 @@ fn make(runtime: HostRuntime, path: &str, bytes: &[u8], spared: Spared) -> Resul
     write_beside(runtime, folder, path, None, bytes)
 }
 
-/// Writes a file in place of one that is there and may be written. The new one has the permissions of the old one. Where the
-/// path is that of a link, the file that it leads to is replaced, and the link stays.
+/// Writes a file in place of one that is there, may be written, and is empty or a report of the same kind. The new one has the
+/// permissions of the old one. Where the path is that of a link, the file that it leads to is replaced, and the link stays.
 fn replace(runtime: HostRuntime, path: &str, bytes: &[u8]) -> Result<(), Cause> {
     let there = named("open", writable(runtime, path))?;
+    named("replace it", test_kind(runtime, path, bytes))?;
     if !named("stat", fs::symlink_metadata(&runtime, path))?.is_symlink() {
         return write_beside(runtime, folder_of(path), path, Some(there), bytes);
     }
     let target = named("follow the link", fs::canonicalize(&runtime, path))?;
     let target = target.as_str();
     write_beside(runtime, folder_of(target), target, Some(there), bytes)
+}
+
+/// Fails where a regular file isn't empty and isn't a report of the kind that these bytes have.
+fn test_kind(runtime: HostRuntime, path: &str, bytes: &[u8]) -> io::Result<()> {
+    let found = begin_of(runtime, path)?;
+    let is_same = match kind_of(bytes) {
+        Some(kind) => kind_of(found.as_slice()) == Some(kind),
+        None => false,
+    };
+    if found.is_empty() || is_same {
+        return Ok(());
+    }
+    Err(io::Error::other("the file is not empty and no report of this kind, so it is kept"))
+}
+
+/// The bytes that a file begins with, as many as are looked at for its kind.
+fn begin_of(runtime: HostRuntime, path: &str) -> io::Result<Vec<u8>> {
+    let mut file = fs::open(&runtime, path)?;
+    let mut begin = Vec::new(runtime.alloc());
+    let mut buffer = vec![in runtime.alloc(); 0; CHUNK]?;
+    for _ in 0..u64::MAX {
+        let count = match file.read(buffer.as_mut_slice()) {
+            Ok(count) => count,
+            Err(error) if error.kind() == ErrorKind::Interrupted => continue,
+            Err(error) => return Err(error),
+        };
+        begin.extend_from_slice(&buffer[..count])?;
+        if count == 0 || begin.len() >= LOOKED_AT {
+            return Ok(begin);
+        }
+    }
+    Ok(begin)
 }
 
 /// What the system says of a file that may be written.
@@ -64,4 +110,31 @@ fn write_in_place(runtime: HostRuntime, path: &str, bytes: &[u8]) -> io::Result<
     let mut file = OpenOptions::new().write(true).open(&runtime, path)?;
     file.write_all(bytes)?;
     file.flush()
+}
+
+/// Writes to a pipe that somebody reads. Without a reader, to open the pipe would wait, so it is opened by one that can also
+/// read, which never waits; and whether another is left when that is closed is asked of the system.
+fn write_pipe(runtime: HostRuntime, path: &str, bytes: &[u8]) -> io::Result<()> {
+    let both = OpenOptions::new()
+        .read(true)
+        .write(true)
+        .open(&runtime, path)?;
+    let mut pipe = OpenOptions::new().write(true).open(&runtime, path)?;
+    drop(both);
+    if !has_reader(&pipe) {
+        return Err(io::Error::other("nobody reads this pipe"));
+    }
+    pipe.write_all(bytes)?;
+    pipe.flush()
+}
+
+/// Whether somebody has a pipe open to read it.
+fn has_reader(pipe: &File) -> bool {
+    let mut asked = [pollfd {
+        fd: pipe.as_raw_fd(),
+        events: POLLOUT,
+        revents: 0,
+    }];
+    let told = poll(&mut asked, 0);
+    told >= 0 && asked[0].revents & POLLERR == 0
 }

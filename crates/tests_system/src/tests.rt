@@ -110,12 +110,14 @@ fn fill_folder(rt: &HostRuntime) -> Result<(), Fail> {
     ] {
         fs::write(rt, file, "abc")?;
     }
+    symlink(rt, "nothing", "link_to_nothing")?;
     Ok(())
 }
 
 static LISTED: &[&str] = &[
     "a.vhd",
     "b.vhd",
+    "link_to_nothing",
     "sub-1",
     "sub/c.vhd",
     "sub/deep/d.vhd",
@@ -138,6 +140,7 @@ static READS: &[(&[u8], u64, &str)] = &[
     (b"a.vhd/b", 3, "absent"),
     (b"sub", 3, "failed"),
     (b"\xff", 3, "failed"),
+    (b"link_to_nothing", 3, "failed"),
 ];
 
 /// Whether a read of a path gives this.
@@ -162,11 +165,11 @@ fn lists_and_reads_the_present_folder(rt: HostRuntime) -> Result<(), Fail> {
     enter_new_folder(&rt, "tree")?;
     fill_folder(&rt)?;
     let mut tree = FileTree::new(rt.alloc(), rt)?;
-    match tree.names(rt.alloc(), 6)? {
+    match tree.names(rt.alloc(), 7)? {
         NamesEnd::Got(names) => assert!(rt; are_listed(names.as_slice())),
         NamesEnd::TooMany => return Err(Fail::new("too many")),
     }
-    assert!(rt; matches!(tree.names(rt.alloc(), 5)?, NamesEnd::TooMany));
+    assert!(rt; matches!(tree.names(rt.alloc(), 6)?, NamesEnd::TooMany));
     for (path, limit, wanted) in READS {
         assert!(rt;
             gives(rt.alloc(), &mut tree, path, *limit, wanted)?,
@@ -188,7 +191,7 @@ fn count_names(rt: &HostRuntime) -> Result<u64, TreeFault> {
 }
 
 #[test]
-fn lists_links_to_files_and_paths_of_1024_bytes(rt: HostRuntime) -> Result<(), Fail> {
+fn lists_links_that_lead_to_no_folder_and_paths_of_1024_bytes(rt: HostRuntime) -> Result<(), Fail> {
     enter_new_folder(&rt, "odd")?;
     let mut folder = String::new(rt.alloc());
     for _ in 0..4 {
@@ -205,7 +208,7 @@ fn lists_links_to_files_and_paths_of_1024_bytes(rt: HostRuntime) -> Result<(), F
     symlink(&rt, folder.as_str(), "link_to_a_folder")?;
     symlink(&rt, "nothing", "link_to_nothing")?;
     symlink(&rt, "link_to_itself", "link_to_itself")?;
-    assert_eq!(rt; count_names(&rt), Ok(2));
+    assert_eq!(rt; count_names(&rt), Ok(4));
     let end = exit_of(
         &rt,
         &["sh", "-c", "> \"$(printf '\\377')\""],

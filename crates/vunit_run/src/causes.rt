@@ -2,7 +2,6 @@
 
 use base_outcomes::Which;
 use std::alloc::Global;
-use std::io::Stderr;
 use system_causes::{Cause, cause_line};
 use system_children::ChildProcs;
 use system_disk::FileDisk;
@@ -10,8 +9,8 @@ use system_files::{FileTree, StdSink, StdSource};
 use system_progress::ToldProcs;
 use system_reports::FileReports;
 
-/// Children of the system, of which a terminal is told.
-pub type Children = ToldProcs<ChildProcs<HostRuntime>, Stderr>;
+/// Children of the system, of which standard error is told.
+pub type Children = ToldProcs<ChildProcs<HostRuntime>, HostRuntime>;
 
 /// What a run goes over.
 #[derive(Clone, Copy)]
@@ -52,7 +51,7 @@ fn of<'a>(subject: &'static str, cause: Option<Cause>) -> Option<(&'a [u8], Caus
 /// What the first lost child was about, and why it is lost.
 fn lost_child(children: &Children) -> Option<(&[u8], Cause)> {
     let cause = children.procs.child_cause()?;
-    match children.lost_title() {
+    match children.teller.lost_title() {
         Some(title) => Some((title, cause)),
         None => Some((b"a child", cause)),
     }

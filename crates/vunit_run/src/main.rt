@@ -2,20 +2,27 @@
 #![tactic(auto)]
 
 mod causes;
+mod ends;
+mod modes;
 mod places;
+mod words;
 
 use crate::causes::{Outside, fault_cause};
+use crate::ends::end_lines;
 use crate::places::refusal_place;
-use base::{NoMemory, Text, TextList};
+use crate::words::words;
+use base::{NoMemory, TextList};
 use base_outcomes::{Outcome, Which};
 use report_run::status_of;
+use run_command_line::read_words;
 use std::env;
-use std::io::{ErrorKind, IsTerminal, Stderr, Write};
+use std::io::IsTerminal;
 use std::process::ExitCode;
 use system_children::ChildProcs;
 use system_disk::{FileDisk, STORE_NAMES};
 use system_files::{FileTree, OUTPUT_FOLDER, StdSink, StdSource};
-use system_progress::ToldProcs;
+use system_messages::Messages;
+use system_progress::{Manner, Teller, ToldProcs};
 use system_reports::{FileReports, Spared};
 use vunit_top::run_vunit;
 
@@ -25,101 +32,112 @@ static STORE: Spared = Spared {
     names: STORE_NAMES,
 };
 
-/// How a run ended, and the line that says more of it on standard error.
+/// How a run ended, the lines that say more of it on standard error, and what these are written to.
 #[derive(Drop)]
 struct Ran {
     outcome: Outcome,
-    more: Option<Vec<u8>>,
+    lines: Vec<Vec<u8>>,
+    messages: Messages,
 }
 
-impl From<Outcome> for Ran {
-    fn from(outcome: Outcome) -> Ran {
+impl Ran {
+    /// A run for which there was no memory.
+    fn without_memory(rt: &HostRuntime, messages: Messages) -> Ran {
         Ran {
-            outcome,
-            more: None,
+            outcome: Outcome::NoMemory,
+            lines: Vec::new(rt.alloc()),
+            messages,
         }
     }
 }
 
 fn main(rt: HostRuntime) -> ExitCode {
-    let Ran { outcome, more } = run(rt);
+    let Ran {
+        outcome,
+        lines,
+        mut messages,
+    } = run(rt);
     match &outcome {
-        Outcome::OutsideFault(which) => tell(&rt, fault_line(*which)),
-        Outcome::NoMemory => tell(&rt, "vunit_run: out of memory"),
+        Outcome::OutsideFault(which) => messages.say_at_end(fault_line(*which)),
+        Outcome::NoMemory => messages.say_at_end(b"vunit_run: out of memory\n"),
         _ => {}
     }
-    if let Some(line) = more {
-        // (a line that can't be put is dropped)
-        let _ = rt.stderr().write_all(line.as_slice());
+    for line in &lines {
+        messages.say_at_end(line.as_slice());
     }
+    messages.finish();
     ExitCode::from(status_of(&outcome))
 }
 
-/// Puts one line on standard error. A line that can't be put is dropped.
-fn tell(rt: &HostRuntime, line: &str) {
-    let _ = eprintln!(rt; "{line}");
-}
-
-fn fault_line(which: Which) -> &'static str {
+fn fault_line(which: Which) -> &'static [u8] {
     match which {
-        Which::Tree => "vunit_run: fault of tree",
-        Which::Disk => "vunit_run: fault of disk",
-        Which::Start => "vunit_run: fault of start",
-        Which::Child => "vunit_run: fault of child",
-        Which::Out => "vunit_run: fault of out",
-        Which::Report => "vunit_run: fault of report",
-        Which::Input => "vunit_run: fault of input",
+        Which::Tree => b"vunit_run: fault of tree\n",
+        Which::Disk => b"vunit_run: fault of disk\n",
+        Which::Start => b"vunit_run: fault of start\n",
+        Which::Child => b"vunit_run: fault of child\n",
+        Which::Out => b"vunit_run: fault of out\n",
+        Which::Report => b"vunit_run: fault of report\n",
+        Which::Input => b"vunit_run: fault of input\n",
     }
 }
 
 /// Runs the words of the command line in the present folder.
 fn run(rt: HostRuntime) -> Ran {
+    let messages = Messages::new(rt.alloc(), rt.stderr());
     match words(rt) {
-        Ok(words) => run_words(rt, &words),
-        Err(NoMemory) => Outcome::NoMemory.into(),
+        Ok(words) => run_words(rt, messages, &words),
+        Err(NoMemory) => Ran::without_memory(&rt, messages),
     }
 }
 
-fn run_words(rt: HostRuntime, words: &TextList) -> Ran {
+fn run_words(rt: HostRuntime, messages: Messages, words: &TextList) -> Ran {
     match StdSource::new(rt.alloc(), rt) {
-        Ok(mut input) => run_from(rt, words, &mut input),
-        Err(NoMemory) => Outcome::NoMemory.into(),
+        Ok(mut input) => run_from(rt, messages, words, &mut input),
+        Err(NoMemory) => Ran::without_memory(&rt, messages),
     }
 }
 
 /// Runs the words with an input.
-fn run_from(rt: HostRuntime, words: &TextList, input: &mut StdSource<HostRuntime>) -> Ran {
+fn run_from(
+    rt: HostRuntime,
+    messages: Messages,
+    words: &TextList,
+    input: &mut StdSource<HostRuntime>,
+) -> Ran {
     match FileTree::new(rt.alloc(), rt) {
-        Ok(mut tree) => run_in(rt, words, input, &mut tree),
-        Err(NoMemory) => Outcome::NoMemory.into(),
+        Ok(mut tree) => run_in(rt, messages, words, input, &mut tree),
+        Err(NoMemory) => Ran::without_memory(&rt, messages),
     }
 }
 
 /// Runs the words with an input in a folder.
 fn run_in(
     rt: HostRuntime,
+    messages: Messages,
     words: &TextList,
     input: &mut StdSource<HostRuntime>,
     tree: &mut FileTree<HostRuntime>,
 ) -> Ran {
     match FileDisk::new(rt.alloc(), rt, OUTPUT_FOLDER) {
-        Ok(mut disk) => run_over(rt, words, input, tree, &mut disk),
-        Err(NoMemory) => Outcome::NoMemory.into(),
+        Ok(mut disk) => run_over(rt, messages, words, input, tree, &mut disk),
+        Err(NoMemory) => Ran::without_memory(&rt, messages),
     }
 }
 
 /// Runs the words with an input in a folder, over the records that are there.
 fn run_over(
     rt: HostRuntime,
+    messages: Messages,
     words: &TextList,
     input: &mut StdSource<HostRuntime>,
     tree: &mut FileTree<HostRuntime>,
     disk: &mut FileDisk,
 ) -> Ran {
     let Ok(procs) = ChildProcs::new(rt.alloc(), rt) else {
-        return Outcome::NoMemory.into();
+        return Ran::without_memory(&rt, messages);
     };
-    let mut children = ToldProcs::new(rt.alloc(), procs, screen(&rt));
+    let teller = Teller::new(rt.alloc(), rt, messages, manner(&rt, words));
+    let mut children = ToldProcs { procs, teller };
     let mut out = StdSink::new(rt);
     let mut reports = FileReports::new(rt, STORE);
     let outcome = run_vunit(
@@ -140,40 +158,38 @@ fn run_over(
         out: &out,
         reports: &reports,
     };
-    let more = match &outcome {
+    let cause = match &outcome {
         Outcome::OutsideFault(which) => fault_cause(rt.alloc(), *which, &outside),
         Outcome::Refused(refusal) => refusal_place(&rt, refusal),
         _ => None,
     };
-    Ran { outcome, more }
+    let lines = end_lines(&rt, words, &outcome, cause, &children);
+    Ran {
+        outcome,
+        lines,
+        messages: children.teller.into_messages(),
+    }
 }
 
-/// Standard error, where it is a terminal that can write a line over.
-fn screen(rt: &HostRuntime) -> Option<Stderr> {
-    let stderr = rt.stderr();
-    if !stderr.is_terminal() {
-        return None;
+/// How standard error is told: whether it is a terminal, and whether the words want it quiet.
+fn manner(rt: &HostRuntime, words: &TextList) -> Manner {
+    let is_quiet = match read_words(rt.alloc(), words) {
+        Ok(setting) => setting.quiet,
+        Err(_) => false,
+    };
+    Manner {
+        is_screen: is_screen(rt),
+        is_quiet,
+    }
+}
+
+/// Whether standard error is a terminal that can write a line over.
+fn is_screen(rt: &HostRuntime) -> bool {
+    if !rt.stderr().is_terminal() {
+        return false;
     }
     match env::var(rt, "TERM") {
-        Ok(kind) if kind.as_str() != "dumb" && !kind.as_str().is_empty() => Some(stderr),
-        _ => None,
-    }
-}
-
-/// The words of the command line without the program's name, or the one word `--not-utf8` where one isn't UTF-8.
-fn words(rt: HostRuntime) -> Result<TextList, NoMemory> {
-    let mut words = TextList::new(rt.alloc());
-    match env::args(&rt) {
-        Ok(args) => {
-            for word in args.skip(1) {
-                words.push(Text::from_slice(rt.alloc(), word.as_bytes())?)?;
-            }
-            Ok(words)
-        }
-        Err(error) if error.kind() == ErrorKind::OutOfMemory => Err(NoMemory),
-        Err(_) => {
-            words.push(Text::from_slice(rt.alloc(), b"--not-utf8")?)?;
-            Ok(words)
-        }
+        Ok(kind) => kind.as_str() != "dumb" && !kind.as_str().is_empty(),
+        Err(_) => false,
     }
 }

@@ -1,16 +1,11 @@
 //! The line that says where in a file a refusal is, for editors.
 
-use base::{LexFault, ProjectFault, TEXT_LIMIT, UnitFault};
+use base::{LexFault, ProjectFault, UnitFault};
 use base_outcomes::Refusal;
-use outside::ReadEnd;
 use report_run::refusal_text;
 use std::alloc::Global;
-use std::fs;
 use system_causes::{Place, place_line, place_of};
-use system_files::read_file;
-
-/// The bytes that one read takes at most.
-const CHUNK: usize = 65536;
+use vunit_hints::{project_text, text_of};
 
 /// The project file whose lines can be bad.
 const LINES_FILE: &[u8] = b"vunit.csv";
@@ -35,6 +30,12 @@ pub fn refusal_place(rt: &HostRuntime, refusal: &Refusal) -> Option<Vec<u8>> {
             start_of_line(rt, LINES_FILE, *line)?,
             refusal,
         ),
+        Refusal::Project {
+            fault: ProjectFault::NotToml,
+        } => project_text(rt)?.fault_line(rt.alloc()).ok()?,
+        Refusal::Project {
+            fault: ProjectFault::WrongType { key },
+        } => project_text(rt)?.value_line(rt.alloc(), key.bytes()).ok()?,
         _ => None,
     }
 }
@@ -72,20 +73,6 @@ fn start_of_line(rt: &HostRuntime, path: &[u8], line: u32) -> Option<Place> {
         return None;
     }
     Some(Place { line, column: 1 })
-}
-
-/// The text of a regular file. Another one, as a pipe, may keep a second reader waiting.
-fn text_of(rt: &HostRuntime, path: &[u8]) -> Option<Vec<u8>> {
-    let name = str::from_utf8(path).ok()?;
-    if !fs::metadata(rt, name).ok()?.is_file() {
-        return None;
-    }
-    let mut buffer = vec![in rt.alloc(); 0; CHUNK].ok()?;
-    let limit = TEXT_LIMIT as u64;
-    match read_file(rt, buffer.as_mut_slice(), rt.alloc(), path, limit) {
-        Ok(ReadEnd::Got(text)) => Some(text.into_vec()),
-        _ => None,
-    }
 }
 
 /// The line of a place, with the words of the refusal.

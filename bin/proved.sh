@@ -1,7 +1,7 @@
-# Part of bin/vunit_run, which reads it where no program is kept for the present stamp. It looks whether one was built of
-# the same texts, and else proves and builds it: beside, so that neither a running program nor the last one is touched.
+# Read by bin/prove, and by bin/vunit_run where no checked program can be built: proves and builds the program, beside, so that
+# neither a running program nor an earlier one is touched.
 
-# Minutes of a build from nothing by the number of checks at once.
+# Minutes of a proof from nothing by the number of checks at once.
 minutes_of() {
     case $1 in
         1) echo 145 ;;
@@ -11,107 +11,25 @@ minutes_of() {
     esac
 }
 
-sum_of() {
-    printf '%s\n' "$1" | sha256sum | cut -c 1-32
+# Proves and builds the program of the present sources where it isn't there, while nobody else does the same. It ends with 126 or a
+# signal's status where that fails.
+prove() {
+    is_free=
+    { is_free=yes; prove_alone; } 8>>"$out/prove.lock"
+    [ -n "$is_free" ] || fail 126 "the lock $out/prove.lock cannot be opened"
 }
 
-# Prints a sum of the paths and bytes of the sources in a folder.
-sum_of_sources() {
-    sums=$(find_sources "$1" "" -type f -exec sha256sum -- {} + 2>/dev/null) && [ -n "$sums" ] || return 1
-    sum_of "$(printf '%s\n' "$sums" | LC_ALL=C sort)"
-}
-
-# Sets name to that of the program of the present sources and toolchain. Where rt is missing, the kept program's counts.
-name_program() {
-    sources=$(sum_of_sources "$root") || fail 126 "not all of crates.txt, HANDLES and the sources in crates can be read"
-    if [ -z "$rt" ]; then
-        name=vunit_run-$sources-${last##*-}
-        return
-    fi
-    version=$("$rt" version 2>/dev/null) && [ -n "$version" ] || fail 126 "the command rt doesn't say its version"
-    name=vunit_run-$sources-$(sum_of "$version")
-}
-
-# Keeps the name with the stamp that was taken before the sums. A file that was changed just now may change once more
-# within the same tick of its clock: no stamp is kept then, and the next start sums up again.
-keep_stamp() {
-    recent=$(find_sources "$root" "$rt" ! -type d -newerct '2 seconds ago' 2>&1) && [ -z "$recent" ] || set -- "too new"
-    { printf '%s\n%s\n' "$name" "$1" >"$current.$$" && mv -f -- "$current.$$" "$current"; } 2>/dev/null || return 0
-}
-
-# Sets program to the name of the program of the present sources, which is built where it must. It ends the start with
-# 126, 127 or a signal's status where there is none.
-update() {
-    root=$(cd -- "$root" && pwd) || fail 126 "its own folder cannot be entered"
-    out=$root/out
-    current=$out/current
-    last=$program
-    if mkdir -p -- "$out" 2>/dev/null && [ -w "$out" ]; then
-        is_open=
-        { is_open=yes; update_alone; } 9>>"$out/lock"
-        [ -n "$is_open" ] || fail 126 "the lock $out/lock cannot be opened"
-    else
-        name_program
-        [ -x "$out/$name" ] || fail 126 "there is no program of the present sources, and $out cannot be written to build one"
-    fi
-    program=$name
-}
-
-# Sets name, while no other start does the same.
-update_alone() {
+prove_alone() {
     if ! command -v flock >/dev/null; then
-        say "the command flock is missing, so two first starts at once would build twice"
-    elif ! flock -n 9; then
-        say "waiting for another start, which is building the program"
-        flock 9 || fail 126 "the lock $out/lock cannot be had"
+        say "the command flock is missing, so two proofs at once would do everything twice"
+    elif ! flock -n 8; then
+        say "waiting for another proof of the program"
+        flock 8 || fail 126 "the lock $out/prove.lock cannot be had"
     fi
-    if is_current; then
-        name=$program
-        return
-    fi
-    last=$program
-    for turn in 1 2 3; do
-        stamp=$(print_stamp 2>/dev/null)
-        name_program
-        [ -x "$out/$name" ] || build
-        # what is built is of the sources as they were when they were copied
-        if [ "$(sum_of_sources "$root")" = "$sources" ]; then
-            keep_stamp "$stamp"
-            return
-        fi
-        say "the sources changed meanwhile"
-    done
-    fail 126 "the sources change faster than they are built"
-}
-
-# Sets folder to where the copy of the sources lies, with what rt keeps of its proofs. rt ci refuses a second crates.txt
-# below the top, so it lies with git's own files, with a file by which rt takes it for another repository and passes it
-# over. Where there are no such files, or they can't be written, a folder is made for the time.
-choose_folder() {
-    git=$root/.git
-    if [ -f "$git" ]; then
-        read -r git <"$git"
-        git=${git#gitdir: }
-        case $git in /*) ;; *) git=$root/$git ;; esac
-    fi
-    folder=$git/vunit_run
-    is_kept=true
-    if ! { [ -d "$git" ] && mkdir -p -- "$folder/work" && touch -- "$folder/MODULE.bazel" && [ -w "$folder/work" ]; } 2>/dev/null; then
-        is_kept=false
-        folder=$(mktemp -d) || fail 126 "no folder can be made to build in"
-    fi
-}
-
-# Copies what the program is built of to the folder's part sources.
-copy_sources() {
-    rm -rf -- "$folder/sources"
-    mkdir -p -- "$folder/sources/crates" "$folder/work/crates" || return 1
-    cp -- "$root/crates.txt" "$root/HANDLES" "$folder/sources" || return 1
-    for part in "$root"/crates/*/src "$root"/crates/*/specs "$root"/crates/*/proofs; do
-        [ -d "$part" ] || continue
-        to=$folder/sources${part#"$root"}
-        mkdir -p -- "${to%/*}" && cp -R -- "$part" "$to" || return 1
-    done
+    name=$(name_of proved "$sources" "$version")
+    is_whole "$name" || build_proved
+    # the next start takes it
+    rm -f -- "$current"
 }
 
 # Has the part work, where rt keeps its proofs, hold the crates of these lines of crates.txt and no others.
@@ -127,7 +45,7 @@ lay_out() {
 # Runs these commands of a shell for the folder out of each crate, in it, as many at once as there are checks.
 for_each_out() {
     find "$folder/work/crates" -mindepth 2 -maxdepth 2 -name out -type d -print0 2>/dev/null |
-        xargs -0 -r -n 1 -P "$jobs" sh -c "cd -- \"\$1\" || exit 0; $1" sh >>"$log" 2>&1 9>&-
+        xargs -0 -r -n 1 -P "$jobs" sh -c "cd -- \"\$1\" || exit 0; $1" sh >>"$log" 2>&1
 }
 
 # Packs what rt keeps of its proofs for the next build, and removes what it makes of that anew in seconds. Where something
@@ -153,19 +71,18 @@ unpack_kept() {
         rm -f -- kept.tgz'
 }
 
-# Builds the program, puts it in its place, and sets name and sources to what it was built of.
-build() {
-    [ -n "$rt" ] || fail 127 "the command rt of the Rattle toolchain is missing, so the program cannot be built"
-    choose_folder
+# Proves and builds the program, puts it in its place, and sets name and sources to what it was built of.
+build_proved() {
+    choose_folder vunit_run
     log=$out/build.log
     running=
     teller=
     trap 'stop_build 129' HUP
     trap 'stop_build 130' INT
     trap 'stop_build 143' TERM
-    rm -f -- "$out"/new.* "$current".*
-    copy_sources 2>"$log" && sources=$(sum_of_sources "$folder/sources") || build_failed "the sources cannot be copied to $folder"
-    name=vunit_run-$sources-${name##*-}
+    rm -rf -- "$out"/new-proved.* "$out"/old-proved.*
+    { : >"$log"; } 2>/dev/null
+    copy_sources 2>>"$log" || build_failed "the sources cannot be copied to $folder"
     made=$folder/work/crates/vunit_run/out/vunit_run
     begin_telling
     unpack_kept
@@ -179,23 +96,19 @@ build() {
     # rt also runs what it builds, with a word that the program refuses before it looks at anything
     run_rt crates/vunit_run run --jobs "$jobs" -- --no-word-of-the-program
     [ -x "$made" ] || build_failed "not everything is proved, or no program can be made of it"
-    { cp -- "$made" "$out/new.$$" && chmod 755 "$out/new.$$"; } 2>>"$log" || build_failed "the program cannot be copied to $out"
-    "$out/new.$$" --no-word-of-the-program </dev/null >/dev/null 2>&1
-    [ $? -eq 2 ] || build_failed "the program doesn't run"
-    mv -f -- "$out/new.$$" "$out/$name" 2>>"$log" || build_failed "the program cannot be put in $out"
+    put_program proved "$made" 2>>"$log" || build_failed "$why"
     trap - HUP INT TERM
     end_telling
     say "the program is proved and built, after $(minutes) minutes"
     if $is_kept; then pack_kept; else rm -rf -- "$folder"; fi
-    remove_old
 }
 
-# Runs rt in a folder of the copy, says how far it is, and gives rt's status. Other starts wait while rt runs, also where
-# this one is killed.
+# Runs rt in a folder of the copy, says how far it is, and gives rt's status. It has the lock while it runs, also where who began
+# it is killed.
 run_rt() {
-    (cd -- "$folder/work/$1" && shift && exec "$rt" "$@") </dev/null >>"$log" 2>&1 &
+    (cd -- "$folder/work/$1" && shift && exec "$toolchain" "$@") </dev/null >>"$log" 2>&1 &
     running=$!
-    tell_progress &
+    tell_progress 8>&- 9>&- &
     teller=$!
     wait "$running"
     status=$?
@@ -208,9 +121,9 @@ build_failed() {
     end_telling
     grep -E '(^|[ :])error' "$log" | head -n 10 | cut -c 1-200 >&2
     tail -n 10 -- "$log" | cut -c 1-200 >&2
-    say "the program was not built: $1. Above are the first errors and the end of $log"
-    [ -x "$out/$last" ] && [ -n "$last" ] && say "$out/$last, which was built last, is left as it was. It isn't run, since it isn't of these sources"
-    rm -f -- "$out/new.$$"
+    full=$(full_folder)
+    say "the program was not built: $1. ${full:+"There is no space left in $full. "}Above are the first errors and the end of $log"
+    rm -rf -- "$out/new-proved.$$"
     $is_kept || rm -rf -- "$folder"
     exit 126
 }
@@ -220,7 +133,7 @@ stop_build() {
     [ -z "$running" ] || kill "$running" 2>/dev/null
     stop_telling
     end_telling
-    rm -f -- "$out/new.$$"
+    rm -rf -- "$out/new-proved.$$"
     $is_kept || rm -rf -- "$folder"
     exit "$1"
 }
@@ -235,11 +148,12 @@ begin_telling() {
     list_crates
     if [ -d "$folder/work/crates/vunit_run/out" ]; then
         expected=
-        say "the program of these sources is proved and built; what an earlier build proved is kept"
+        say "the program is proved and built by $toolchain ($version); what an earlier proof has shown is kept"
     else
         expected=" of about $(minutes_of "$jobs")"
-        say "the program is proved and built first, with up to $jobs checks at once, in about $(minutes_of "$jobs") minutes"
+        say "the program is proved and built by $toolchain ($version), with up to $jobs checks at once, in about $(minutes_of "$jobs") minutes"
     fi
+    say "each check takes up to 3 GB of memory, and all of them up to 11 GB of disk in $folder, of which 2.5 GB are kept"
 }
 
 # Writes the crates that the program is made of, each with the bytes of its sources, to weights, their lines of crates.txt
@@ -248,7 +162,8 @@ begin_telling() {
 list_crates() {
     : >"$folder/beside"
     (cd -- "$folder/sources" && find crates/*/src crates/*/specs crates/*/proofs -type f -printf '%s %p\n' 2>/dev/null) |
-        awk -v folder="$folder" '
+        FOLDER=$folder awk '
+            BEGIN { folder = ENVIRON["FOLDER"] }
             FNR == NR { split($2, part, "/"); bytes[part[2]] += $1; next }
             # (what only tests use stands after the line)
             {
@@ -299,10 +214,11 @@ minutes() {
     echo $((($(date +%s) - began + 30) / 60))
 }
 
-# Says how far rt is: on a terminal in one line that is written over, and else once in five minutes.
+# Says how far rt is: on a terminal in one line that is written over, and else once in five minutes; until who began
+# it has ended, however that was.
 tell_progress() {
     turn=0
-    while sleep 2 >/dev/null 2>&1 9>&-; do
+    while sleep 2 >/dev/null 2>&1 && kill -0 "$$" 2>/dev/null && { [ ! -e /proc/self/exe ] || [ -e "/proc/$$/exe" ]; }; do
         turn=$((turn + 1))
         [ -t 2 ] || [ $((turn % 150)) -eq 0 ] || continue
         tell "$(awk 'FNR == NR { bytes[$1] = $2; all += $2; crates++; next }
@@ -334,15 +250,3 @@ end_telling() {
     [ ! -t 2 ] || printf '\r\033[K' >&2
 }
 
-# Removes the programs but the present and the last one. One that runs stays.
-remove_old() {
-    for old in "$out"/vunit_run-*; do
-        case ${old##*/} in "$name" | "$last") continue ;; esac
-        is_running "$old" || rm -f -- "$old"
-    done
-}
-
-# Whether a program runs, or might: the file of one that runs can't be opened to be written.
-is_running() {
-    ! (: >>"$1") 2>/dev/null || [ -n "$(find -L /proc/[0-9]*/exe -maxdepth 0 -samefile "$1" 2>/dev/null)" ]
-}

@@ -1,0 +1,206 @@
+//! The lines that standard error gets once a run has ended.
+
+use crate::causes::Children;
+use crate::modes::{Mode, is_child};
+use base::{NoMemory, ProjectFault, TextList};
+use base_outcomes::{Outcome, Refusal, Which};
+use run_command_line::{Setting, read_words};
+use run_hints::{
+    push_child_said, push_counts, push_failed, push_line, push_no_test, push_own_compiler,
+    push_own_simulator, push_words,
+};
+use system_locks::lock_holder;
+use system_progress::Counts;
+use vunit_hints::{
+    ProjectText, project_text, push_linked_folders, push_long_names, push_pattern_cause,
+    push_unmatched, read_again,
+};
+use vunit_sources::push_source_places;
+
+/// The file of the store that a run locks.
+const LOCKED_FILE: &str = "vunit_out/store_a";
+
+/// The lines, after that of a fault. Where there is no memory for one, it and those after it are left out.
+pub fn end_lines(
+    rt: &HostRuntime,
+    words: &TextList,
+    outcome: &Outcome,
+    cause: Option<Vec<u8>>,
+    children: &Children,
+) -> Vec<Vec<u8>> {
+    let mut lines = Vec::new(rt.alloc());
+    if let Some(line) = cause {
+        let _ = lines.push(line);
+    }
+    let _ = push_all(rt, &mut lines, words, outcome, children);
+    lines
+}
+
+fn push_all(
+    rt: &HostRuntime,
+    lines: &mut Vec<Vec<u8>>,
+    words: &TextList,
+    outcome: &Outcome,
+    children: &Children,
+) -> Result<(), NoMemory> {
+    if is_child(words) {
+        return Ok(());
+    }
+    let Ok(setting) = read_words(rt.alloc(), words) else {
+        return match outcome {
+            Outcome::BadWords => push_words(rt.alloc(), lines, words),
+            _ => Ok(()),
+        };
+    };
+    let mode = Mode::of(&setting);
+    match outcome {
+        Outcome::OutsideFault(which) => push_fault(rt, lines, *which, &setting, mode, children),
+        Outcome::Done | Outcome::TestsFailed => {
+            let counts = children.teller.counts();
+            push_failed(rt.alloc(), lines, children.teller.failed_tests())?;
+            push_warnings(rt, lines, &setting, mode, &counts)?;
+            if mode.is_run && counts.tests_started == 0 {
+                push_no_test(rt.alloc(), lines)?;
+            }
+            Ok(())
+        }
+        Outcome::Refused(Refusal::Compiler { .. }) => {
+            push_warnings(rt, lines, &setting, mode, &children.teller.counts())
+        }
+        Outcome::Refused(refusal) => push_refusal(rt, lines, refusal),
+        _ => Ok(()),
+    }
+}
+
+/// Adds what is known of a fault, and what had become of the tests.
+fn push_fault(
+    rt: &HostRuntime,
+    lines: &mut Vec<Vec<u8>>,
+    which: Which,
+    setting: &Setting,
+    mode: Mode,
+    children: &Children,
+) -> Result<(), NoMemory> {
+    let alloc = rt.alloc();
+    if let (Which::Start, Some(said)) = (which, children.procs.start_said()) {
+        push_child_said(alloc, lines, said)?;
+    }
+    if which == Which::Disk {
+        push_holder(rt, lines)?;
+    }
+    if !mode.is_run {
+        return Ok(());
+    }
+    let counts = children.teller.counts();
+    match read_again(rt, &setting.patterns) {
+        Some(again) => {
+            if which == Which::Start {
+                push_long_names(alloc, lines, again.long_names.as_slice())?;
+            }
+            push_counts(alloc, lines, &counts, Some(again.tests))
+        }
+        None => push_counts(alloc, lines, &counts, None),
+    }
+}
+
+/// Adds which process has locked the store, where another one has.
+fn push_holder(rt: &HostRuntime, lines: &mut Vec<Vec<u8>>) -> Result<(), NoMemory> {
+    let Some(process) = lock_holder(rt, LOCKED_FILE) else {
+        return Ok(());
+    };
+    let text = format!(in rt.alloc(); "process {process} has locked {LOCKED_FILE}")?;
+    push_line(rt.alloc(), lines, text.as_bytes())
+}
+
+/// Adds what is known of a refusal of the project file or of sources.
+fn push_refusal(
+    rt: &HostRuntime,
+    lines: &mut Vec<Vec<u8>>,
+    refusal: &Refusal,
+) -> Result<(), NoMemory> {
+    match refusal {
+        Refusal::Project {
+            fault: ProjectFault::NotToml,
+        } => return Ok(()),
+        Refusal::Project {
+            fault: ProjectFault::NothingMatches { pattern },
+        } => push_pattern_cause(rt, lines, pattern.bytes())?,
+        _ => {}
+    }
+    push_source_places(rt, lines, refusal)?;
+    match project_text(rt) {
+        Some(project) => project.push_unknown(rt.alloc(), lines),
+        None => Ok(()),
+    }
+}
+
+/// Adds the warnings of a run over a project that was read.
+fn push_warnings(
+    rt: &HostRuntime,
+    lines: &mut Vec<Vec<u8>>,
+    setting: &Setting,
+    mode: Mode,
+    counts: &Counts,
+) -> Result<(), NoMemory> {
+    if mode.is_generated {
+        return Ok(());
+    }
+    let project = project_text(rt);
+    if let Some(project) = &project {
+        project.push_unknown(rt.alloc(), lines)?;
+        // (a run with nothing to do isn't to look at each name twice)
+        if counts.ended > 0 {
+            push_linked_folders(rt, lines, project)?;
+        }
+    }
+    push_tools(rt, lines, &project, mode, counts)?;
+    push_patterns(rt, lines, setting, mode)
+}
+
+/// Adds which tools are only those that are built in.
+fn push_tools(
+    rt: &HostRuntime,
+    lines: &mut Vec<Vec<u8>>,
+    project: &Option<ProjectText>,
+    mode: Mode,
+    counts: &Counts,
+) -> Result<(), NoMemory> {
+    if !mode.is_build {
+        return Ok(());
+    }
+    let names_compiler = match project {
+        Some(project) => project.has_key(rt.alloc(), "compiler")?,
+        None => false,
+    };
+    if counts.has_own_compiler || !names_compiler {
+        push_own_compiler(rt.alloc(), lines)?;
+    }
+    if counts.has_own_simulator {
+        push_own_simulator(rt.alloc(), lines)?;
+    }
+    Ok(())
+}
+
+/// Adds which patterns match no test, where some were given.
+fn push_patterns(
+    rt: &HostRuntime,
+    lines: &mut Vec<Vec<u8>>,
+    setting: &Setting,
+    mode: Mode,
+) -> Result<(), NoMemory> {
+    if !mode.looks_for_tests || are_all(&setting.patterns) {
+        return Ok(());
+    }
+    match read_again(rt, &setting.patterns) {
+        Some(again) => push_unmatched(rt.alloc(), lines, &again.read, &setting.patterns),
+        None => Ok(()),
+    }
+}
+
+/// Whether each of the patterns matches whatever there is.
+fn are_all(patterns: &TextList) -> bool {
+    patterns
+        .as_slice()
+        .iter()
+        .all(|pattern| pattern.bytes() == b"*".as_slice())
+}

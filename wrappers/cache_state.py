@@ -1,0 +1,127 @@
+"""What over_cache remembers on this machine, for one user: keys that commands have given, what was said, and folders that don't answer.
+
+It lies in over_cache_UID in TMPDIR, and is trusted only where nobody else may write it. All of it may be lost at any time.
+"""
+
+import os, time
+
+from cache_hash import entry_digest
+
+# Seconds: that a folder has to answer, that one counts as missing that didn't, and between two times that the same is said.
+ANSWERS_WITHIN, AWAY, SAID_AGAIN = 2, 300, 300
+
+
+def named(words):
+    """Words as one text, from which they can be told."""
+    return b"".join(b"%d:%s" % (len(word), word) for word in words)
+
+
+class LocalState:
+    def __init__(self):
+        base = os.fsencode(os.environ.get("TMPDIR") or "/tmp")
+        self.folder = b"%s/over_cache_%d" % (base, os.getuid())
+        try:
+            try:
+                found = os.lstat(self.folder)
+            except FileNotFoundError:
+                try:
+                    os.mkdir(self.folder, 0o700)
+                except FileExistsError:
+                    pass
+                found = os.lstat(self.folder)
+            self.is_ours = found.st_mode & 0o170077 == 0o040000 and found.st_uid == os.getuid()
+        except OSError:
+            self.is_ours = False
+
+    def path(self, kind, *words):
+        return b"%s/%s_%s" % (self.folder, kind, entry_digest(named(words)).hex().encode())
+
+    def is_recent(self, path, seconds):
+        """Whether a file is there that was written less than so many seconds ago. (A time that is yet to come isn't.)"""
+        try:
+            return self.is_ours and 0 <= time.time() - os.lstat(path).st_mtime < seconds
+        except OSError:
+            return False
+
+    def write(self, path, data):
+        if not self.is_ours:
+            return
+        new = b"%s.%s" % (path, os.urandom(8).hex().encode())
+        try:
+            with open(new, "xb") as file:
+                file.write(data)
+            os.rename(new, path)
+        except OSError:
+            try:
+                os.unlink(new)
+            except OSError:
+                pass
+
+    def remember(self, kind, words, text):
+        name = named(words)
+        self.write(self.path(kind, *words), b"%d\n%s%s" % (len(name), name, text))
+
+    def remembered(self, kind, words):
+        """What was remembered under just these words, or nothing."""
+        try:
+            with open(self.path(kind, *words), "rb") as file:
+                length, _, text = file.read().partition(b"\n") if self.is_ours else (b"0", b"", b"")
+            name = named(words)
+            return text[len(name) :] if length == b"%d" % len(name) and text.startswith(name) else b""
+        except OSError:
+            return b""
+
+    def say_once(self, text):
+        """Says something that each start would say, once in a while. (So many starts at once may each say it.)"""
+        path = self.path(b"said", text)
+        if not self.is_recent(path, SAID_AGAIN):
+            self.write(path, text)
+            say(text)
+
+    def answers(self, folder):
+        """Whether a folder answers: a process of its own asks it, since what hangs there can't be ended."""
+        away = self.path(b"away", folder)
+        if self.is_recent(away, AWAY):
+            return False
+        ended, ends = os.pipe()
+        child = os.fork()
+        if child == 0:
+            ask_folder(folder, ended)
+        os.close(ends)
+        import select
+
+        waiting = select.poll()
+        waiting.register(ended, select.POLLIN)
+        has_answered = bool(waiting.poll(ANSWERS_WITHIN * 1000))
+        os.close(ended)
+        if has_answered:
+            os.waitpid(child, 0)
+            if os.path.lexists(away):
+                os.unlink(away)
+            return True
+        # (it is somebody else's child once this program has ended)
+        os.kill(child, 9)
+        self.write(away, folder)
+        self.say_once(b"%s didn't answer within %d s, and counts as missing for %d s" % (folder, ANSWERS_WITHIN, AWAY))
+        return False
+
+
+def ask_folder(folder, ended):
+    """Asks the folder for the file of its limit, and ends. The end of the pipe says so; the other streams are let go, so that nobody waits
+    for what hangs."""
+    try:
+        for descriptor in (0, 1, 2, ended):
+            os.close(descriptor)
+        file = os.open(folder + b"/limit", os.O_RDONLY)
+        os.read(file, 1)
+    except OSError:
+        pass
+    finally:
+        os._exit(0)
+
+
+def say(text):
+    try:
+        os.write(2, b"over_cache: %s\n" % text)
+    except OSError:
+        pass
