@@ -8,6 +8,5 @@ pub mod CommittedRecords
 pub mod TouchedFiles
 pub mod AskedAgain
 pub mod BothBuilds
-pub mod TestsEnded
 pub mod PassedCases
 pub mod GeneratedCounts

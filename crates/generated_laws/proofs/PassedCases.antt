@@ -25,7 +25,7 @@ use Rattle.test_loop.specs.Results.{run_exit, run_end, run_ends, test_ends}
 use Rattle.run_spec.specs.ChildJournal.{Answered}
 use Rattle.report_verdicts.specs.Counts.{all_verdicts, has_run_passed, have_all_passed, tests_outcome}
 use Rattle.generated_laws.specs.Passes.{PassesAll, case_count}
-use Rattle.generated_laws.proofs.TestsEnded.{exits}
+use Rattle.run_tested_laws.proofs.TestsEnded.{exits}
 
 -- all pass
 count_all : (marks : List Verdict) → list_all is_passed_verdict marks ≡ true → count_by is_passed_verdict marks ≡ length marks

@@ -1,3 +1,4 @@
 -- The lemmas.
 pub mod CleanLibraries
 pub mod TestedRights
+pub mod TestsEnded
