@@ -2,10 +2,9 @@
 use Rattle.std.proofs.Common.{arith, refl}
 use Rattle.base.specs.PresentGraph.{below, listed_from}
 use Rattle.base.specs.View.{part, viewed}
-use Rattle.base_position_set.specs.Positions.{is_set}
 use Rattle.order_spec.specs.BuildOrder.{file_order, first_free, first_untaken, repeated, taken_after, untaken_dep}
 use Rattle.order_spec.specs.LinkedGraph.{linked, reaches_within}
-use Rattle.tests_examples.specs.Graphs.{ListedFiles, Orders, PositionSets, Views, Ways}
+use Rattle.tests_examples.specs.Graphs.{ListedFiles, Orders, Views, Ways}
 
 pub listed_files : ListedFiles
 unfolding below listed_from
@@ -18,10 +17,6 @@ orders = record { order = refl; none = refl; cycle = refl }
 pub ways : Ways
 unfolding below linked reaches_within
 ways = record { reached = refl; not_back = refl; way = ((0, omega arith, refl), (0, omega arith, refl)); linked_files = refl }
-
-pub position_sets : PositionSets
-unfolding is_set
-position_sets = record { first = refl; not_second = refl; last_of_word = refl; next_word = refl }
 
 pub views : Views
 unfolding part viewed

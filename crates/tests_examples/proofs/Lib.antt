@@ -3,18 +3,10 @@ pub mod Graphs
 pub mod Builds
 pub mod Recorded
 pub mod Starts
-pub mod DesignUnits
-pub mod UnitReferences
-pub mod SeenLibraries
 pub mod LinkedUnits
-pub mod TestBenches
-pub mod NamePatterns
 pub mod BenchRuns
-pub mod SpelledBytes
 pub mod JournalSides
 pub mod StoredRequests
-pub mod MigratedRecords
-pub mod NumberedKeys
 pub mod SaidTexts
 pub mod OutsideObjects
 pub mod WordsAndSources
@@ -23,6 +15,4 @@ pub mod RunReadings
 pub mod MadeFiles
 pub mod BuildHistories
 pub mod TestedRuns
-pub mod ChildAnswers
-pub mod HeldObjects
 pub mod StoreRecords

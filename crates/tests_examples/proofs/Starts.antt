@@ -7,8 +7,7 @@ use Rattle.run_spec.specs.ChildJournal.{AreRequested, EachAfter, after, after_al
 use Rattle.run_spec.specs.Folds.{upto}
 use Rattle.run_spec.specs.Moves.{GreedyMoves, LawfulMoves, after_move, after_moves, first_from, is_startable, next_start}
 use Rattle.run_spec.specs.Recorded.{current_by_request, is_same_asked}
-use Rattle.run_steps.specs.Steps.{step_at}
-use Rattle.tests_examples.specs.Starts.{BuildEvents, CompileParts, Journals, LawfulStarts, NextStarts, NextSteps, SoFar}
+use Rattle.tests_examples.specs.Starts.{BuildEvents, CompileParts, Journals, LawfulStarts, NextStarts, SoFar}
 
 pub journals : Journals
 unfolding text_bytes all_built_bytes built_bytes compile_input name_bytes latest current_by_request is_same_asked
@@ -25,10 +24,6 @@ lawful_starts = record { lawful = (refl, (refl, (refl, (refl, tt)))); greedy = (
 pub so_far : SoFar
 unfolding artefact_by built_at has_all upto output_at after_move after_moves first_from is_startable next_start
 so_far = record { is_lawful = refl; taken = refl; position = refl; no_position = refl; lawful_end = refl; greedy_end = refl; after_halt = refl; finished = record { idle = refl; over = refl } }
-
-pub next_steps : NextSteps
-unfolding artefact_by built_at has_all upto output_at after_move after_moves first_from is_startable next_start step_at
-next_steps = record { at_first = refl; while_a_runs = refl; after_a = refl; at_last = refl; while_b_runs = refl; after_refusal = refl }
 
 pub build_events : BuildEvents
 unfolding text_bytes all_built_bytes built_bytes compile_input name_bytes AreRequested EachAfter after after_all artefact_by built_at has_all upto moves_after output_at request_at GreedyMoves LawfulMoves after_move first_from is_startable next_start

@@ -9,11 +9,7 @@ use Rattle.store_journal.specs.Payloads.{block}
 use Rattle.store_codec.specs.Carrying.{carried_from, carry_own, carry_product, carry_request, compacted_requests}
 use Rattle.store_codec.specs.Forms.{command_bytes, product_draft_bytes, product_in, product_numbers_bytes, ref_by_number_at, ref_in_full_at, request_draft_bytes, request_in, request_payload_by, request_payload_bytes, request_payload_in, text_ref_at, text_ref_by, text_ref_bytes}
 use Rattle.store_codec.specs.Shelves.{after_request_payload, are_apart, is_new_product, is_request, request_shelf_of, with_request_payload}
-use Rattle.tests_examples.specs.StoredRequests.{CompactedRequests, ShelvedRequests, SpelledPayloads}
-
-pub spelled_payloads : SpelledPayloads
-unfolding text_bytes name_bytes name_at counted_at many_at text_at command_bytes product_draft_bytes product_in product_numbers_bytes ref_by_number_at ref_in_full_at request_draft_bytes request_in request_payload_by request_payload_bytes request_payload_in text_ref_at text_ref_by text_ref_bytes
-spelled_payloads = record { of_first = refl; of_second = refl; of_product = refl; read = refl; shorter = refl; longer = refl }
+use Rattle.tests_examples.specs.StoredRequests.{CompactedRequests, ShelvedRequests}
 
 pub shelved_requests : ShelvedRequests
 unfolding name_at counted_at many_at text_at product_in ref_by_number_at ref_in_full_at request_in request_payload_by request_payload_in text_ref_at text_ref_by after_request_payload are_apart is_new_product is_request request_shelf_of with_request_payload

@@ -9,8 +9,6 @@ use Rattle.run_spec.specs.ChildJournal.{EachAfter}
 use Rattle.run_spec.specs.CleanBuild.{results_after}
 use Rattle.run_spec.specs.Marks.{refused_files}
 use Rattle.run_spec.specs.Moves.{LawfulMoves, after_move, first_from, has_ended_well, is_startable, next_start}
-use Rattle.test_select.specs.Fits.{fits_pieces}
-use Rattle.test_select.specs.Patterns.{before_closing, first_piece, opened_set, pieces_after, ranges_of, set_after, set_length}
 use Rattle.test_spec.specs.BenchJobs.{bench_input, texts_bytes}
 use Rattle.test_spec.specs.Configuration.{configuration, pairs_of}
 use Rattle.test_spec.specs.Runs.{escaped_byte, output_path, results_path, run_name}
@@ -22,11 +20,11 @@ use Rattle.report_verdicts.specs.Junit.{case_end, case_start, class_of, last_lin
 use Rattle.report_verdicts.specs.TestTexts.{count_line, no_tests, summary_line, verdict_line, verdict_word}
 use Rattle.test_loop.specs.Requests.{lent_at}
 use Rattle.test_loop.specs.Results.{run_exit}
-use Rattle.tests_examples.specs.TestedRuns.{ChosenTests, EndsOfTests, MovesOfTests, RunsSaid, TestsSaid, WrittenReports}
+use Rattle.tests_examples.specs.TestedRuns.{EndsOfTests, MovesOfTests, RunsSaid, TestsSaid}
 
 pub tests_said : TestsSaid
 unfolding digits value_after value_byte xml_byte count_line no_tests summary_line verdict_line verdict_word
-tests_said = record { text = refl; quiet = refl; failed = refl; ignored = refl; none = refl; name_value = refl; no_character = refl }
+tests_said = record { text = refl; quiet = refl; failed = refl; ignored = refl; none = refl }
 
 pub moves_of_tests : MovesOfTests
 unfolding text_bytes all_built_bytes built_bytes name_bytes EachAfter LawfulMoves after_move first_from has_ended_well is_startable next_start bench_input texts_bytes configuration pairs_of escaped_byte output_path results_path run_name started_name verdicts step_at AreTestsRequested after_test after_tests test_moves
@@ -39,11 +37,3 @@ ends_of_tests = record { verdicts_of = refl; lent = refl }
 pub runs_said : RunsSaid
 unfolding digits text_bytes all_built_bytes built_bytes compile_input name_bytes below results_after refused_files compile_failed compile_passed compiling failed files_text not_needed passed skipped case_end case_start class_of last_line suite_line value_after value_byte xml_byte xml_line count_line no_tests summary_line verdict_line verdict_word
 runs_said = record { outcome_of = refl; ignored = refl; build_first = refl; made = refl }
-
-pub chosen_tests : ChosenTests
-unfolding fits_pieces before_closing first_piece opened_set pieces_after ranges_of set_after set_length
-chosen_tests = record { by_pattern = refl; no_case = refl; no_memory = refl }
-
-pub written_reports : WrittenReports
-unfolding digits case_end case_start class_of last_line suite_line value_after value_byte xml_byte xml_line
-written_reports = record { report = refl }

@@ -9,27 +9,15 @@ use Rattle.order_spec.specs.BuildOrder.{file_order, first_free, first_untaken, r
 use Rattle.vhdl_spec.specs.Units.{word_role}
 use Rattle.vhdl_spec.specs.Visibility.{seen_after}
 use Rattle.vhdl_spec.specs.Words.{reserved_words}
-use Rattle.test_select.specs.Fits.{fits_pieces}
-use Rattle.test_select.specs.Patterns.{before_closing, first_piece, opened_set, pieces_after, ranges_of, set_after, set_length}
 use Rattle.run_command_line.specs.Words.{setting_of}
 use Rattle.project_file.specs.Csv.{added_by, csv_file_of, files_after, name_fault}
-use Rattle.project_file.specs.Paths.{matches_path}
-use Rattle.project_file.specs.Toml.{matching_names}
 use Rattle.project_reading.specs.Asked.{project_paths}
 use Rattle.project_reading.specs.Reading.{names_at, project_in, project_reading, scanned_reading, scans_of, texts_of, wanted_tests}
-use Rattle.tests_examples.specs.WordsAndSources.{CyclicSources, FittingNames, ListedProjects, PatternsOfFiles, ReadSources, SettingsOfWords}
+use Rattle.tests_examples.specs.WordsAndSources.{CyclicSources, FittingNames, ReadSources, SettingsOfWords}
 
 pub settings_of_words : SettingsOfWords
 unfolding encode_utf8 chars is_utf8 defaults_fault flags_fault walk_fault bundle_met walked setting_of
 settings_of_words = record { compiling = refl; zero = refl; twice = refl; unknown = refl }
-
-pub listed_projects : ListedProjects
-unfolding encode_utf8 chars is_utf8 added_by csv_file_of files_after name_fault
-listed_projects = record { two = refl; bad = refl; repeated = refl; of_work = refl; above = refl; blank = refl }
-
-pub patterns_of_files : PatternsOfFiles
-unfolding fits_pieces before_closing first_piece opened_set pieces_after ranges_of set_after set_length matches_path matching_names
-patterns_of_files = record { once = refl; nothing = refl }
 
 pub read_sources : ReadSources
 unfolding encode_utf8 chars is_utf8 below listed_from added_by csv_file_of files_after name_fault project_paths project_in project_reading scanned_reading scans_of texts_of wanted_tests

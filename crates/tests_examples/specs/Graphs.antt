@@ -5,7 +5,6 @@ use Rattle.base.specs.View.{place_in, view, viewed}
 use Rattle.base.specs.declared.file.FileName.{FileName}
 use Rattle.base.specs.declared.graph.Entry.{Entry}
 use Rattle.base.specs.declared.project.ProjectFile.{ProjectFile}
-use Rattle.base_position_set.specs.Positions.{is_set}
 use Rattle.order_spec.specs.BuildOrder.{Cyclic, Ordered, all_taken, deps_in, file_order}
 use Rattle.order_spec.specs.LinkedGraph.{IsWay, linked, reaches}
 use Rattle.tests_examples.specs.Example.{a_name, b_name, command, file, files, name}
@@ -32,10 +31,6 @@ letter_file letter deps = file (name letter) (letter ∷ []) deps
 abbrev packages : List Entry
 packages = letter_file 97 [] ∷ letter_file 98 [] ∷ letter_file 99 (0 ∷ []) ∷ []
 
--- the set of 0, 63 and 64, a bit for each
-abbrev some_positions : List ℕ
-some_positions = (1 + 2 ^ 63) ∷ 1 ∷ []
-
 -- the graph of a listed project
 pub record ListedFiles : Type 0 where
   -- the third file depends on those
@@ -60,13 +55,6 @@ pub record Ways : Type 0 where
   pub linked_files :
       linked (map (λ letter. project_file_of (name letter)) (99 ∷ 119 ∷ 113 ∷ [])) (codes "c" ∷ codes "w" ∷ codes "q" ∷ []) chain (2 ∷ 0 ∷ 1 ∷ [])
       ≡ letter_file 113 [] ∷ letter_file 99 (0 ∷ []) ∷ letter_file 119 (0 ∷ 1 ∷ []) ∷ []
-
--- sets of positions
-pub record PositionSets : Type 0 where
-  pub first : is_set some_positions 0 ≡ true
-  pub not_second : is_set some_positions 1 ≡ false
-  pub last_of_word : is_set some_positions 63 ≡ true
-  pub next_word : is_set some_positions 64 ≡ true
 
 -- views and their positions
 pub record Views : Type 0 where

@@ -1,10 +1,8 @@
 -- The examples of "The journal of payloads".
-use Rattle.std.specs.Prelude.{◌≡◌, ℕ, ◌∷◌, List, [], Some, None, drop, length, codes}
+use Rattle.std.specs.Prelude.{◌≡◌, ℕ, ◌∷◌, List, [], Some, None, length, codes}
 use Rattle.outside.specs.declared.disk.Side.TheVariants.{A, B}
-use Rattle.store_journal.specs.Headers.{header_in}
 use Rattle.store_journal.specs.Journals.{other_side}
 use Rattle.store_journal.specs.Payloads.{counting, payloads, side_bytes}
-use Rattle.store_journal.specs.Windows.{IsCountOf, IsNextOf}
 
 -- a side of form 1 and generation 1 without payloads, and after the commit of ab
 abbrev empty_side : List ℕ
@@ -33,11 +31,3 @@ pub record ImagePayloads : Type 0 where
   pub of_b : payloads 1 (record { a = ab_side; b = cd_side }) ≡ codes "cd" ∷ []
   pub higher : counting 1 (record { a = ab_side; b = cd_side }) ≡ Some B
   pub other : other_side B ≡ A
-
--- what a side says of itself, and what its gates open
-pub record SideHeaders : Type 0 where
-  pub header : header_in 1 ab_side ≡ Some (record { generation = 1; len = 26 })
-  pub no_header : header_in 1 (side 2 1 (1 ∷ 2 ∷ 0 ∷ 0 ∷ 0 ∷ 97 ∷ 98 ∷ 0 ∷ [])) ≡ None
-  pub counted : IsCountOf (drop 18 ab_side) (Some 2)
-  pub first : IsNextOf (drop 18 ab_side) (Some (codes "ab"))
-  pub last : IsNextOf (drop 25 ab_side) None

@@ -2,12 +2,9 @@
 use Rattle.std.specs.Prelude.{◌≡◌, ℕ, true, false, [], Some, None, codes}
 use Rattle.base.specs.declared.child.MaybeText.TheVariants.{Given}
 use Rattle.run_histories.specs.Histories.{Order}
-use Rattle.test_spec.specs.BenchJobs.{bench_input}
-use Rattle.test_spec.specs.declared.jobs.BenchJob.{BenchJob}
-use Rattle.child_benches.specs.Benches.{simulation}
 use Rattle.run_build.specs.Building.{has_risen}
 use Rattle.vunit_top.specs.Reading.{Bad, Builds, Child, Compiler, Exports, Lists, ListsTests, Over, Stops}
-use Rattle.vunit_top.specs.Said.{Causes, Counts, CountsStand, HasEnded, Said, Says, child_results, child_said, fault_counts, order_of, plan_in, report_path_of}
+use Rattle.vunit_top.specs.Said.{Causes, Counts, CountsStand, HasEnded, Said, Says, fault_counts, order_of, plan_in, report_path_of}
 use Rattle.tests_examples.specs.Example.{files}
 use Rattle.base_outcomes.specs.declared.outcome.Outcome.TheVariants as outcome
 use Rattle.base_outcomes.specs.declared.outcome.Refusal.TheVariants as refusal
@@ -31,23 +28,6 @@ pub record OrdersOfReadings : Type 0 where
   pub no_plan : plan_in (Builds order []) ≡ None
   pub risen : has_risen 0 1 ≡ true
   pub not_risen : has_risen 0 0 ≡ false
-
--- the bench t of lib over no files, with its results at r
-abbrev lone_bench : BenchJob
-lone_bench = record {
-  library = codes "lib";
-  bench = codes "t";
-  architecture = codes "a";
-  cases = [];
-  runner_cfg = [];
-  results = codes "r";
-  built = [];
-}
-
-pub record ChildrenSay : Type 0 where
-  pub results : child_results (bench_input lone_bench) ≡ Some (record { path = codes "r"; text = [] })
-  pub no_results : child_results (codes "x") ≡ None
-  pub said : child_said simulation [] ≡ record { outcome = outcome.Child 2; text = codes "bad request\n" }
 
 -- which answers end a run
 pub record EndedRuns : Type 0 where

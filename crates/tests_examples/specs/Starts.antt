@@ -8,8 +8,6 @@ use Rattle.run_spec.specs.ChildJournal.{Answered, IsWhole, Lawful, artefact_afte
 use Rattle.run_spec.specs.Commits.{work_of}
 use Rattle.run_spec.specs.JournalParts.{compile_part}
 use Rattle.run_spec.specs.Moves.{Core, Ends, GreedyMoves, Halts, IsFinished, IsGreedyMove, IsLawfulMove, Job, LawfulMoves, Move, Starts, after_moves, empty_core, is_running, position_of, start_now}
-use Rattle.run_steps.specs.Steps.{step_at}
-use Rattle.run_steps.specs.declared.step.Step.TheVariants.{Finished, Start, Wait}
 use Rattle.tests_examples.specs.Example.{Ra, a_built, a_request, accepting, b_request, command, events, exit, files, one_slot, work_with}
 
 -- the order of two files of which b depends on a, both due, with one slot
@@ -78,15 +76,6 @@ pub record SoFar : Type 0 where
   pub greedy_end : IsGreedyMove (two false) (so_far (two false) runs_a) (Ends 7 true (codes "1"))
   pub after_halt : IsLawfulMove (two false) (so_far (two false) (Starts 0 7 ∷ Halts ∷ [])) (Ends 7 true (codes "1"))
   pub finished : IsFinished (two false) (so_far (two false) (Starts 0 7 ∷ Halts ∷ Ends 7 true (codes "1") ∷ []))
-
--- the steps of this build
-pub record NextSteps : Type 0 where
-  pub at_first : step_at (two false) empty_core ≡ Start 0
-  pub while_a_runs : step_at (two false) (so_far (two false) runs_a) ≡ Wait
-  pub after_a : step_at (two false) (so_far (two false) made_a) ≡ Start 1
-  pub at_last : step_at (two false) (so_far (two false) both) ≡ Finished
-  pub while_b_runs : step_at (two false) (so_far (two false) (Starts 0 7 ∷ Ends 7 true (codes "1") ∷ Starts 1 8 ∷ [])) ≡ Wait
-  pub after_refusal : step_at (two false) (so_far (two false) a_refused) ≡ Finished
 
 -- the events of a build
 pub record BuildEvents : Type 0 where

@@ -1,10 +1,16 @@
 -- The examples of "Records, and what a stop can leave", of stores.
-use Rattle.std.specs.Prelude.{◌≡◌, ℕ, ◌∷◌, List, []}
+use Rattle.std.specs.Prelude.{◌≡◌, ℕ, ◌∷◌, ◌++◌, List, []}
 use Rattle.outside.specs.Disks.{Image}
 use Rattle.store_journal.specs.Payloads.{side_bytes}
 use Rattle.store_requests.specs.Stored.{kept_payloads, requests_in}
-use Rattle.tests_examples.specs.MigratedRecords.{first_node, second_node}
-use Rattle.tests_examples.specs.StoredRequests.{first, second, two_records}
+use Rattle.tests_examples.specs.StoredRequests.{first, head, second, two_records}
+
+-- the two payloads of form 2 of the example in FORMATS.md
+abbrev first_node : List ℕ
+first_node = 1 ∷ head 97 ++ (1 ∷ 1 ∷ 0 ∷ 0 ∷ 0 ∷ 120 ∷ 0 ∷ 0 ∷ 0 ∷ 0 ∷ 1 ∷ 0 ∷ 0 ∷ 0 ∷ 121 ∷ [])
+
+abbrev second_node : List ℕ
+second_node = 1 ∷ head 98 ++ (0 ∷ 0 ∷ 0 ∷ 0 ∷ 0 ∷ 0 ∷ 0 ∷ 0 ∷ 0 ∷ 1 ∷ 0 ∷ 0 ∷ 0 ∷ 0 ∷ 0 ∷ 0 ∷ 0 ∷ 0 ∷ 0 ∷ 0 ∷ 0 ∷ 1 ∷ 0 ∷ 0 ∷ 0 ∷ 122 ∷ [])
 
 -- an image whose side A has these payloads of a form
 abbrev holding : ℕ → List (List ℕ) → Image

@@ -1,17 +1,17 @@
 -- The examples of "Texts and products stored once".
-use Rattle.std.specs.Prelude.{◌≡◌, ℕ, ◌-◌, ◌++◌, ◌∷◌, true, false, List, [], Some, None, length, take, codes}
+use Rattle.std.specs.Prelude.{◌≡◌, ℕ, ◌-◌, ◌++◌, ◌∷◌, true, false, List, [], codes}
 use Rattle.base.specs.declared.file.FileName.{FileName}
 use Rattle.base.specs.declared.graph.BuiltFile.{BuiltFile}
 use Rattle.base.specs.declared.graph.Entry.{Entry}
 use Rattle.outside.specs.Records.{Record, latest_alone}
 use Rattle.store_codec.specs.Carrying.{carried_from, compacted_requests, none_carried}
-use Rattle.store_codec.specs.Forms.{ByNumber, InFull, OfProduct, OfRequest, RequestDraft, TextRef, request_payload_bytes, request_payload_in}
+use Rattle.store_codec.specs.Forms.{ByNumber, InFull, RequestDraft, TextRef}
 use Rattle.store_codec.specs.Shelves.{bare_shelf, is_request, request_shelf_of, requests_among}
 use Rattle.store_carry.specs.Plans.{blocks_length}
 use Rattle.tests_examples.specs.Example.{a_file, a_name, b_name, built, command, file, recorded}
 
 -- library, path and the one command word of a file
-abbrev head : ℕ → List ℕ
+abbrev pub head : ℕ → List ℕ
 head letter = 3 ∷ 0 ∷ 0 ∷ 0 ∷ 108 ∷ 105 ∷ 98 ∷ 5 ∷ 0 ∷ 0 ∷ 0 ∷ letter ∷ 46 ∷ 118 ∷ 104 ∷ 100 ∷ 1 ∷ 0 ∷ 0 ∷ 0 ∷ 2 ∷ 0 ∷ 0 ∷ 0 ∷ 99 ∷ 99 ∷ []
 
 -- the two payloads of the example in FORMATS.md, of a.vhd with the artefact y, and of b.vhd over it with the artefact z
@@ -52,18 +52,6 @@ draft it source deps artefact = record { name = it; command = command; source = 
 
 abbrev first_draft : RequestDraft
 first_draft = draft a_name (InFull (codes "x")) [] (InFull (codes "y"))
-
-abbrev second_draft : RequestDraft
-second_draft = draft b_name (ByNumber 0) (0 ∷ []) (InFull (codes "z"))
-
--- what payloads spell
-pub record SpelledPayloads : Type 0 where
-  pub of_first : request_payload_bytes (OfRequest first_draft) ≡ first
-  pub of_second : request_payload_bytes (OfRequest second_draft) ≡ second
-  pub of_product : request_payload_bytes (OfProduct (record { name = a_name; artefact = InFull (codes "y") })) ≡ product
-  pub read : request_payload_in second ≡ Some (OfRequest second_draft)
-  pub shorter : request_payload_in (take (length second - 1) second) ≡ None
-  pub longer : request_payload_in (second ++ 0 ∷ []) ≡ None
 
 -- the texts, products and records of payloads
 pub record ShelvedRequests : Type 0 where

@@ -6,12 +6,9 @@ use Rattle.base.specs.declared.child.Exit.{Exit}
 use Rattle.base.specs.declared.child.MaybeText.TheVariants.{Given}
 use Rattle.base.specs.declared.child.Request.{Request}
 use Rattle.outside.specs.Records.{latest}
-use Rattle.vhdl_benches.specs.declared.bench.Bench.{Bench}
 use Rattle.run_spec.specs.Moves.{IsLawfulMove, Starts, empty_core, start_now}
 use Rattle.run_spec.specs.declared.marks.Mark.TheVariants.{Compiled}
-use Rattle.test_select.specs.Selection.{has_cases}
 use Rattle.test_spec.specs.BenchJobs.{bench_request}
-use Rattle.test_spec.specs.Runs.{case_names}
 use Rattle.test_spec.specs.declared.ends.RunEnd.{RunEnd}
 use Rattle.test_spec.specs.declared.ends.Verdict.TheVariants.{Failed, Passed, Skipped}
 use Rattle.test_spec.specs.declared.runs.TestRun.{TestRun}
@@ -19,15 +16,11 @@ use Rattle.run_steps.specs.Steps.{step_at}
 use Rattle.run_steps.specs.declared.step.Step.TheVariants.{Start, Wait}
 use Rattle.test_journal.specs.TestJournal.{LawfulTests, TestSetting, book_of_tests, test_job}
 use Rattle.report_verdicts.specs.Counts.{tests_outcome}
-use Rattle.report_verdicts.specs.Junit.{junit, value}
 use Rattle.report_verdicts.specs.TestTexts.{test_text}
 use Rattle.report_tested.specs.Said.{run_said}
 use Rattle.report_tested.specs.declared.said.TestWords.{TestWords}
-use Rattle.test_loop.specs.Faults.{noted_with}
 use Rattle.test_loop.specs.Requests.{lent_files}
 use Rattle.test_loop.specs.Results.{test_ends}
-use Rattle.test_loop.specs.declared.faults.TestRunFault.TheVariants.{ChildLost, NoMemory}
-use Rattle.project_reading.specs.Wishes.{chosen}
 use Rattle.run_tested_laws.specs.Libraries.{libraries}
 use Rattle.tests_examples.specs.Example.{Ra, a_built, command, compiler, exit, files}
 use Rattle.base_outcomes.specs.declared.outcome.Outcome.TheVariants as outcome
@@ -44,8 +37,6 @@ pub record TestsSaid : Type 0 where
   pub failed : tests_outcome (boom ∷ []) false ≡ outcome.TestsFailed
   pub ignored : tests_outcome (boom ∷ []) true ≡ outcome.Done
   pub none : tests_outcome [] false ≡ outcome.Done
-  pub name_value : value (codes "a & b") ≡ codes "a &amp; b"
-  pub no_character : value (239 ∷ 191 ∷ 191 ∷ []) ≡ 239 ∷ 191 ∷ 189 ∷ []
 
 -- two runs of a bench, one at once
 abbrev run_of_case : List ℕ → TestRun
@@ -112,38 +103,3 @@ pub record RunsSaid : Type 0 where
   pub build_first : take 27 (run_said [] files (Compiled ∷ Compiled ∷ []) [] (words_with false) (Some (record { runs = boom ∷ [] }))).text ≡
       codes "Compiling into lib: a.vhd p"
   pub made : libraries refusing_b files ≡ a_built ∷ []
-
--- a bench t of lib with these cases
-abbrev bench_of_cases : List (List ℕ) → Bench
-bench_of_cases its = record {
-  library = codes "lib";
-  name = codes "t";
-  architecture = codes "a";
-  file = 0;
-  cases = map (λ it. record { name = it; file = 0; at = 0; length = 0 }) its;
-  whole = false;
-  same_sim = false;
-}
-
--- which tests patterns select, and which fault is answered
-pub record ChosenTests : Type 0 where
-  pub by_pattern : chosen (codes "*.a" ∷ []) (bench_of_cases (codes "a" ∷ codes "b" ∷ []) ∷ []) ≡ bench_of_cases (codes "a" ∷ []) ∷ []
-  pub no_case : has_cases (bench_of_cases []) ≡ false
-  pub no_memory : noted_with (Some ChildLost) NoMemory ≡ NoMemory
-
--- the report of three cases of the example in FORMATS.md
-abbrev three_cases : TestRun
-three_cases = record {
-  library = codes "lib";
-  bench = codes "t";
-  architecture = codes "rtl";
-  cases = codes "a" ∷ codes "b" ∷ codes "c" ∷
-      [];
-  whole = false;
-  same_sim = true;
-  path = [];
-}
-
-pub record WrittenReports : Type 0 where
-  pub report : junit (three_cases ∷ []) (record { names = case_names three_cases; verdicts = Passed ∷ Failed ∷ Skipped ∷ []; output = [] } ∷ []) ≡
-      codes "<?xml version=\"1.0\" encoding=\"utf-8\"?>\n<testsuite name=\"testsuite\" tests=\"3\" failures=\"1\" skipped=\"1\" errors=\"0\">\n  <testcase classname=\"lib.t\" name=\"a\"/>\n  <testcase classname=\"lib.t\" name=\"b\">\n    <failure message=\"Failed\"/>\n  </testcase>\n  <testcase classname=\"lib.t\" name=\"c\">\n    <skipped/>\n  </testcase>\n</testsuite>\n"

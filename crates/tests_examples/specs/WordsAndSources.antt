@@ -1,5 +1,5 @@
 -- The examples of "Reading: what words and sources say".
-use Rattle.std.specs.Prelude.{◌≡◌, ℕ, ◌&&◌, ◌∷◌, Bool, true, false, List, [], Option, Some, None, Ok, Err, map, codes, if◌then◌else◌, bytes_eq}
+use Rattle.std.specs.Prelude.{◌≡◌, ℕ, ◌&&◌, ◌∷◌, Bool, true, false, List, [], Option, Some, None, Err, map, codes, if◌then◌else◌, bytes_eq}
 use Rattle.base.specs.Names.{FitsName}
 use Rattle.base.specs.declared.child.MaybeText.TheVariants.{Nothing}
 use Rattle.base.specs.declared.design.UnitFault.TheVariants.{NotUnit}
@@ -11,8 +11,7 @@ use Rattle.outside.specs.Trees.{is_listed}
 use Rattle.vhdl_spec.specs.Scans.{Clean, Finding, Grammatical}
 use Rattle.run_command_line.specs.Words.{setting_of}
 use Rattle.run_command_line.specs.declared.setting.Setting.{Setting}
-use Rattle.project_file.specs.Csv.{csv_project, listed_command, listed_project, listed_simulator}
-use Rattle.project_file.specs.Toml.{matching_names}
+use Rattle.project_file.specs.Csv.{listed_command, listed_project, listed_simulator}
 use Rattle.project_reading.specs.Asked.{project_paths}
 use Rattle.project_reading.specs.Reading.{SourceReading, project_reading, scanned_reading, scans_of}
 use Rattle.project_reading.specs.declared.wish.Wish.{Wish}
@@ -21,7 +20,6 @@ use Rattle.tests_examples.specs.Samples.{scan_with, uses_p_text, uses_p_tokens, 
 use Rattle.base_outcomes.specs.declared.outcome.Refusal.TheVariants as refusal
 use Rattle.project_reading.specs.Reading as sources
 use Rattle.project_reading.specs.declared.wish.Extent.TheVariants as extent
-use Rattle.base.specs.declared.project.ProjectFault.TheVariants as fault
 
 -- ## Words
 
@@ -53,18 +51,6 @@ pub record SettingsOfWords : Type 0 where
   pub unknown : setting_of (codes "--frob" ∷ []) ≡ None
 
 -- ## Project files
-
-pub record ListedProjects : Type 0 where
-  pub two : csv_project (codes "lib,a.vhd\nlib,b.vhd") ≡ Ok (listed_project (a_name ∷ b_name ∷ []))
-  pub bad : csv_project (codes "lib,a.vhd\nlib") ≡ Err (fault.BadLine 2)
-  pub repeated : csv_project (codes "lib,a.vhd\nLIB,a.vhd") ≡ Err (fault.DuplicateFile a_name)
-  pub of_work : csv_project (codes "Work,a.vhd") ≡ Err fault.WorkLibrary
-  pub above : csv_project (codes "lib,../a.vhd") ≡ Err (fault.BadLine 1)
-  pub blank : csv_project (codes "  ") ≡ Err (fault.BadLine 1)
-
-pub record PatternsOfFiles : Type 0 where
-  pub once : matching_names (codes "a.vhd" ∷ codes "b.vhd" ∷ []) [] (codes "*.vhd" ∷ codes "a.vhd" ∷ []) ≡ Ok (codes "a.vhd" ∷ codes "b.vhd" ∷ [])
-  pub nothing : matching_names (codes "a.vhd" ∷ codes "b.vhd" ∷ []) [] (codes "z*.vhd" ∷ []) ≡ Err (fault.NothingMatches (codes "z*.vhd"))
 
 -- ## Sources
 

@@ -1,5 +1,5 @@
 -- Answers to the goals of `examples_of_graphs`.
-use Rattle.tests_examples.proofs.Graphs.{listed_files, orders, ways, position_sets, views}
+use Rattle.tests_examples.proofs.Graphs.{listed_files, orders, ways, views}
 use Rattle.tests_examples.proofs.chapters.examples_of_graphs.Goals as goal
 
 pub returns-clause-listed_files : goal.returns-clause-listed_files
@@ -10,9 +10,6 @@ returns-clause-orders c = orders
 
 pub returns-clause-ways : goal.returns-clause-ways
 returns-clause-ways c = ways
-
-pub returns-clause-position_sets : goal.returns-clause-position_sets
-returns-clause-position_sets c = position_sets
 
 pub returns-clause-views : goal.returns-clause-views
 returns-clause-views c = views

@@ -1,5 +1,5 @@
 -- Answers to the goals of `examples_of_journal_sides`.
-use Rattle.tests_examples.proofs.JournalSides.{spelled_sides, image_payloads, side_headers}
+use Rattle.tests_examples.proofs.JournalSides.{spelled_sides, image_payloads}
 use Rattle.tests_examples.proofs.chapters.examples_of_journal_sides.Goals as goal
 
 pub returns-clause-spelled_sides : goal.returns-clause-spelled_sides
@@ -7,6 +7,3 @@ returns-clause-spelled_sides c = spelled_sides
 
 pub returns-clause-image_payloads : goal.returns-clause-image_payloads
 returns-clause-image_payloads c = image_payloads
-
-pub returns-clause-side_headers : goal.returns-clause-side_headers
-returns-clause-side_headers c = side_headers

@@ -1,12 +1,9 @@
 -- Answers to the goals of `examples_of_run_readings`.
-use Rattle.tests_examples.proofs.RunReadings.{orders_of_readings, children_say, ended_runs, faults_answered}
+use Rattle.tests_examples.proofs.RunReadings.{orders_of_readings, ended_runs, faults_answered}
 use Rattle.tests_examples.proofs.chapters.examples_of_run_readings.Goals as goal
 
 pub returns-clause-orders_of_readings : goal.returns-clause-orders_of_readings
 returns-clause-orders_of_readings c = orders_of_readings
-
-pub returns-clause-children_say : goal.returns-clause-children_say
-returns-clause-children_say c = children_say
 
 pub returns-clause-ended_runs : goal.returns-clause-ended_runs
 returns-clause-ended_runs c = ended_runs

@@ -1,5 +1,5 @@
 -- Answers to the goals of `examples_of_starts`.
-use Rattle.tests_examples.proofs.Starts.{journals, next_starts, lawful_starts, so_far, next_steps, build_events, compile_parts}
+use Rattle.tests_examples.proofs.Starts.{journals, next_starts, lawful_starts, so_far, build_events, compile_parts}
 use Rattle.tests_examples.proofs.chapters.examples_of_starts.Goals as goal
 
 pub returns-clause-journals : goal.returns-clause-journals
@@ -13,9 +13,6 @@ returns-clause-lawful_starts c = lawful_starts
 
 pub returns-clause-so_far : goal.returns-clause-so_far
 returns-clause-so_far c = so_far
-
-pub returns-clause-next_steps : goal.returns-clause-next_steps
-returns-clause-next_steps c = next_steps
 
 pub returns-clause-build_events : goal.returns-clause-build_events
 returns-clause-build_events c = build_events

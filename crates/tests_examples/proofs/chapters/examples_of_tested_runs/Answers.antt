@@ -1,5 +1,5 @@
 -- Answers to the goals of `examples_of_tested_runs`.
-use Rattle.tests_examples.proofs.TestedRuns.{tests_said, moves_of_tests, ends_of_tests, runs_said, chosen_tests, written_reports}
+use Rattle.tests_examples.proofs.TestedRuns.{tests_said, moves_of_tests, ends_of_tests, runs_said}
 use Rattle.tests_examples.proofs.chapters.examples_of_tested_runs.Goals as goal
 
 pub returns-clause-tests_said : goal.returns-clause-tests_said
@@ -13,9 +13,3 @@ returns-clause-ends_of_tests c = ends_of_tests
 
 pub returns-clause-runs_said : goal.returns-clause-runs_said
 returns-clause-runs_said c = runs_said
-
-pub returns-clause-chosen_tests : goal.returns-clause-chosen_tests
-returns-clause-chosen_tests c = chosen_tests
-
-pub returns-clause-written_reports : goal.returns-clause-written_reports
-returns-clause-written_reports c = written_reports

@@ -1,15 +1,9 @@
 -- Answers to the goals of `examples_of_words_and_sources`.
-use Rattle.tests_examples.proofs.WordsAndSources.{settings_of_words, listed_projects, patterns_of_files, read_sources, cyclic_sources, fitting_names}
+use Rattle.tests_examples.proofs.WordsAndSources.{settings_of_words, read_sources, cyclic_sources, fitting_names}
 use Rattle.tests_examples.proofs.chapters.examples_of_words_and_sources.Goals as goal
 
 pub returns-clause-settings_of_words : goal.returns-clause-settings_of_words
 returns-clause-settings_of_words c = settings_of_words
-
-pub returns-clause-listed_projects : goal.returns-clause-listed_projects
-returns-clause-listed_projects c = listed_projects
-
-pub returns-clause-patterns_of_files : goal.returns-clause-patterns_of_files
-returns-clause-patterns_of_files c = patterns_of_files
 
 pub returns-clause-read_sources : goal.returns-clause-read_sources
 returns-clause-read_sources c = read_sources
