@@ -20,7 +20,9 @@ touched() {
 }
 
 project
-for rows in '1 2' '2 1' '3 1' '4 2' '10 6' '127 63'; do
+# (worked out by hand: 2, 4 and 5, 8 to 11 and so on come to package 2, each range twice as long as the one before. Of 64 packages
+# these are 1 + 2 + 4 + 8 + 16, and package 64; of 1000 they end with 512 to 767, so they are 1 + 2 + .. + 256)
+for rows in '1 2' '2 1' '3 1' '4 2' '10 6' '64 32' '127 63' '1000 511'; do
     packages=${rows% *}
     [ "$(touched "$packages")" -eq "${rows#* }" ] || failures=$((failures + 1))
     expect "$packages packages" 0 "$(said "$packages" "${rows#* }")" --generate "$packages"

@@ -9,8 +9,3 @@ mod laws;
 pub use chains::{Outcomes, run_after_stop, run_twice};
 pub use generating::generate_project;
 pub use laws::laws_of_program;
-
-#[cfg(test)]
-mod bench_tests;
-#[cfg(test)]
-mod tests;

@@ -1,7 +1,11 @@
 //! Tests of whole runs over objects in memory: what a stop at any moment leaves for the next run, and what each call that
-//! fails does.
+//! fails does. Two runs, one after the other, of benches and over a compiler that refuses each file.
 #![tactic(auto)]
 
+#[cfg(test)]
+mod benches;
+#[cfg(test)]
+mod chains;
 #[cfg(test)]
 mod faults;
 #[cfg(test)]

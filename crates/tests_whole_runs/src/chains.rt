@@ -1,10 +1,10 @@
 //! Two runs over a project of two packages, whose compiler refuses each file.
 
-use crate::{Outcomes, run_after_stop, run_twice};
 use base::{Items, NamedText, NamedTextList, NoMemory, Numbers, Positions, Text, TextList};
 use base_outcomes::Outcome;
 use memory_outside::{MemDisk, MemSink, MemSource, MemTree, ScriptProcs, can_answer, have_paths};
 use memory_reports::MemReports;
+use run_chains::{Outcomes, run_after_stop, run_twice};
 use std::alloc::Global;
 use std::process::Abort;
 use std::test::Fail;
