@@ -2,5 +2,5 @@
 use Rattle.tests_examples.proofs.BenchRuns.{case_verdicts}
 use Rattle.tests_examples.proofs.chapters.examples_of_bench_runs.Goals as goal
 
-pub returns-clause-case_verdicts : goal.returns-clause-case_verdicts
-returns-clause-case_verdicts c = case_verdicts
+pub returns : goal.returns
+returns c = record { case_verdicts = case_verdicts }
