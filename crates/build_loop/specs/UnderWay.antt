@@ -50,6 +50,7 @@ pub record Told : Type 0 where
   pub journal : List Event
   pub moments : Moments
 
+-- the work on a graph of a build that began so: a file is current by the latest record of its name
 abbrev pub work_from : List Entry → Origin → Work
 work_from graph from = work_of from.latest_of graph from.slots from.keep_going
 

@@ -6,16 +6,19 @@ use Rattle.outside.specs.Records.{deps_at}
 use Rattle.build_slots.specs.declared.plans.Need.{Need}
 use Rattle.build_slots.specs.declared.plans.Need.TheVariants.{Fresh, Stale, Later}
 
+-- its record is current over files that are all fresh, so it isn't compiled
 abbrev pub is_fresh : Need → Bool
 is_fresh Fresh = true
 is_fresh Stale = false
 is_fresh Later = false
 
+-- it is compiled, over files that are all fresh
 abbrev pub is_stale : Need → Bool
 is_stale Fresh = false
 is_stale Stale = true
 is_stale Later = false
 
+-- it depends on a file that isn't fresh, so it is checked once all of these are made
 abbrev pub is_later : Need → Bool
 is_later Fresh = false
 is_later Stale = false

@@ -6,6 +6,7 @@ ghost use Rattle.std.specs.Fmt.{decimal};
 use base::NoMemory;
 use std::alloc::Global;
 
+/// Puts bytes at the end of `out`.
 pub fn put(out: &mut Vec<u8>, bytes: &[u8]) -> Result<(), NoMemory>
     ensures { OnOk result (out.new.items ≡ out.old.items ++ bytes.now) }
 {

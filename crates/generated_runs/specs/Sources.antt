@@ -37,17 +37,19 @@ wish_for extent = record { extent = extent; patterns = any_name ∷ [] }
 abbrev pub files_reading : (List ℕ → Finding) → List NamedText → Wish → SourceReading
 files_reading scan files wish = project_reading scan (file_at files) (listed_of files) wish
 
--- the reading of the generated project before its edit, and after it with its tests
+-- the reading of the generated project before its edit: its files alone
 abbrev pub first_reading : (List ℕ → Finding) → GenerateOptions → SourceReading
 first_reading scan options = files_reading scan (generated_files options.packages unedited) (wish_for Graph)
 
+-- the reading of the generated project after its edit, with its tests
 abbrev pub second_reading : (List ℕ → Finding) → GenerateOptions → SourceReading
 second_reading scan options = files_reading scan (generated_files options.packages (edited_package options.packages)) (wish_for Tests)
 
--- what is built first: all, over no record
+-- no file has a record, so the first build compiles all
 abbrev pub no_record : FileName → Option Record
 no_record name = None
 
+-- what is built first: all files, over no record, not going on after a refusal
 abbrev pub first_work : GenerateOptions → List Entry → Work
 first_work options graph = work_of no_record graph options.slots false
 

@@ -19,6 +19,7 @@ use Rattle.test_select.specs.Selection.{full_name}
 abbrev pub text_data : List ℕ → Data
 text_data bytes = string (utf8_lossy bytes)
 
+-- a number from 0 on
 abbrev pub number_data : ℕ → Data
 number_data n = number (unsigned n)
 

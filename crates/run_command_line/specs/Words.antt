@@ -78,6 +78,7 @@ bare_command = record {
   subs = [];
 }
 
+-- the whole command: all options, and the patterns
 abbrev pub command_line : App
 command_line = with_outputs (with_modes bare_command)
 
@@ -87,6 +88,7 @@ command_line = with_outputs (with_modes bare_command)
 abbrev pub has_flag : List Row → Text → Bool
 has_flag rows name = option_map_or (bytes_eq (codes "true")) (first_of name rows) false
 
+-- a text that may be missing, as the program holds it
 abbrev pub maybe : Option Text → MaybeText
 maybe None = Nothing
 maybe (Some text) = Given text
@@ -119,6 +121,7 @@ setting_over rows threads size = record {
   patterns = unwrap_or (all_of (codes "patterns") rows) [];
 }
 
+-- what found options say; nothing where the number of threads or of packages isn't one from 1 to 2^64 - 1
 abbrev pub setting_in : List Row → Option Setting
 setting_in rows = option_and_then (λ threads. option_map (setting_over rows threads) (number_in rows (codes "generate") 0)) (number_in rows (codes "num-threads") 1)
 

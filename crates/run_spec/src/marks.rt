@@ -16,4 +16,5 @@ pub enum Mark {
     Left,
 }
 
+/// What became of the files of a build, one mark for each, in compile order.
 pub type MarkList = Items<Mark>;

@@ -15,6 +15,7 @@ pub record CarriedSoFar : Type 0 where
   pub products : List BuiltFile
   pub payloads : List RequestPayload
 
+-- what is carried before the first record
 abbrev pub none_carried : CarriedSoFar
 none_carried = record { texts = []; products = []; payloads = [] }
 
@@ -40,6 +41,7 @@ carry_product so_far product =
 abbrev pub carried_draft : CarriedSoFar → RequestRecord → RequestDraft
 carried_draft so_far kept = record { name = kept.asked.name; command = kept.asked.command; source = carried_ref so_far.texts kept.asked.text; deps = map (number_of_built so_far.products) kept.asked.below; artefact = carried_ref (with_carried_text so_far.texts kept.asked.text) kept.artefact }
 
+-- a record after the products below it: its text, its artefact and its product, each added only where it is new, and its payload
 unfoldable pub carry_own : CarriedSoFar → RequestRecord → CarriedSoFar
 carry_own so_far kept = record { texts = with_carried_text (with_carried_text so_far.texts kept.asked.text) kept.artefact; products = with_built so_far.products (built_of_record kept); payloads = so_far.payloads ++ OfRequest (carried_draft so_far kept) ∷ [] }
 

@@ -18,6 +18,7 @@ pub record RequestShelf : Type 0 where
   pub products : List BuiltFile
   pub records : List RequestRecord
 
+-- what no payloads stand for
 abbrev pub bare_shelf : RequestShelf
 bare_shelf = record { texts = []; products = []; records = [] }
 
@@ -48,12 +49,15 @@ abbrev pub with_text : List (List ℕ) → TextRef → List (List ℕ)
 with_text texts (ByNumber number) = texts
 with_text texts (InFull text) = texts ++ text ∷ []
 
+-- the same name and the same artefact
 abbrev pub is_same_built : BuiltFile → BuiltFile → Bool
 is_same_built a b = is_same_name a.name b.name && bytes_eq a.artefact b.artefact
 
+-- a product whose parts are all empty, for a number that no product has
 abbrev pub no_product : BuiltFile
 no_product = record { name = record { library = []; path = [] }; artefact = [] }
 
+-- the product of a number; the empty one where no product has it
 abbrev pub product_at : List BuiltFile → ℕ → BuiltFile
 product_at products number = slice_index_or products number no_product
 
@@ -70,6 +74,7 @@ unfoldable pub is_new_product : RequestShelf → ProductDraft → Bool
 is_new_product shelf draft =
     has_name_sizes draft.name && (is_text_ref shelf.texts draft.artefact && (nat_le (length (told_text shelf.texts draft.artefact)) ARTEFACT_LIMIT && not (list_any (is_same_built (drafted_product shelf.texts draft)) shelf.products)))
 
+-- one more product, with its artefact where that is new
 abbrev pub with_product : RequestShelf → ProductDraft → RequestShelf
 with_product shelf draft = record { texts = with_text shelf.texts draft.artefact; products = shelf.products ++ drafted_product shelf.texts draft ∷ []; records = shelf.records }
 
@@ -95,6 +100,7 @@ drafted_record shelf draft = record { asked = record { command = draft.command; 
 abbrev pub with_request : RequestShelf → RequestDraft → RequestShelf
 with_request shelf draft = record { texts = with_text (with_text shelf.texts draft.source) draft.artefact; products = with_built shelf.products (record { name = draft.name; artefact = drafted_artefact shelf.texts draft }); records = shelf.records ++ drafted_record shelf draft ∷ [] }
 
+-- one more payload, taken up only where what it adds is new and valid after those before it
 unfoldable pub with_request_payload : RequestShelf → RequestPayload → RequestShelf
 with_request_payload shelf (OfProduct draft) = if is_new_product shelf draft then with_product shelf draft else shelf
 with_request_payload shelf (OfRequest draft) = if is_request shelf draft then with_request shelf draft else shelf
@@ -103,6 +109,7 @@ with_request_payload shelf (OfRequest draft) = if is_request shelf draft then wi
 unfoldable pub after_request_payload : RequestShelf → List ℕ → RequestShelf
 after_request_payload shelf bytes = option_map_or (with_request_payload shelf) (request_payload_in bytes) shelf
 
+-- what payloads stand for, taken up in order
 unfoldable pub request_shelf_of : List (List ℕ) → RequestShelf
 request_shelf_of payloads = fold after_request_payload bare_shelf payloads
 

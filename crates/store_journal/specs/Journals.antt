@@ -78,6 +78,7 @@ abbrev pub OpensAt : Image → Option Side → JournalState → Type 0
 OpensAt image None journal = CountsAs A 1 journal
 OpensAt image (Some side) journal = CountsAs side (generation_of (image_side side image)) journal
 
+-- the journal that is opened on an image for a form: of the side that counts, with its generation, or of A and 1 where none counts
 abbrev pub OpensAs : ℕ → Image → JournalState → Type 0
 OpensAs form image journal = OpensAt image (counting form image) journal
 

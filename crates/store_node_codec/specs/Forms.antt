@@ -28,11 +28,13 @@ abbrev pub byte_at : List ℕ → Option (ℕ × List ℕ)
 byte_at [] = None
 byte_at (byte ∷ rest) = Some (byte, rest)
 
+-- a text by its number: eight bytes, the low one first; and the bytes after it
 unfoldable pub known_at : List ℕ → Option (TextSource × List ℕ)
 known_at bytes = do
   number ← number_at w64 bytes
   Some (Known number.0, number.1)
 
+-- a new text: its length in four bytes, and its bytes; and the bytes after it
 unfoldable pub new_at : List ℕ → Option (TextSource × List ℕ)
 new_at bytes = do
   text ← text_at bytes
@@ -42,11 +44,13 @@ new_at bytes = do
 unfoldable pub source_by : ℕ → List ℕ → Option (TextSource × List ℕ)
 source_by tag bytes = if tag == 0 then known_at bytes else (if tag == 1 then new_at bytes else None)
 
+-- a tag, and the text that it stands for; and the bytes after it
 unfoldable pub source_at : List ℕ → Option (TextSource × List ℕ)
 source_at bytes = do
   tag ← byte_at bytes
   source_by tag.0 tag.1
 
+-- a new node: its name, the words of its command, its text and the numbers of the nodes that it depends on; and the bytes after it
 unfoldable pub draft_at : List ℕ → Option (Draft × List ℕ)
 draft_at bytes = do
   name ← name_at bytes
@@ -59,18 +63,21 @@ draft_at bytes = do
 abbrev pub at_end : {X : Type 0} → X × List ℕ → Option X
 at_end read = if length read.1 == 0 then Some read.0 else None
 
+-- what bytes after the tag 0 spell: the number of a node and an artefact, and no byte after them
 unfoldable pub of_node_in : List ℕ → Option NodePayload
 of_node_in bytes = do
   number ← number_at w64 bytes
   artefact ← text_at number.1
   at_end (OfNode number.0 artefact.0, artefact.1)
 
+-- what bytes after the tag 1 spell: a new node and an artefact, and no byte after them
 unfoldable pub of_draft_in : List ℕ → Option NodePayload
 of_draft_in bytes = do
   draft ← draft_at bytes
   artefact ← text_at draft.1
   at_end (OfDraft draft.0 artefact.0, artefact.1)
 
+-- what bytes after the tag 2 spell: a new node, and no byte after it
 unfoldable pub draft_alone_in : List ℕ → Option NodePayload
 draft_alone_in bytes = do
   draft ← draft_at bytes

@@ -34,6 +34,7 @@ pub record AreTextNumbers (texts : List (List ℕ)) (draft : RequestDraft) (numb
   pub text : numbers.text ≡ ref_number texts draft.source
   pub artefact : numbers.artefact ≡ ref_number (with_text texts draft.source) draft.artefact
 
+-- the numbers of the texts of a record, or none where a text isn't there or new as it says, or is over its limit
 abbrev pub AreRequestTexts : List (List ℕ) → RequestDraft → Option TextNumbers → Type 0
 AreRequestTexts texts draft None = ¬ HasRequestTexts texts draft
 AreRequestTexts texts draft (Some numbers) = HasRequestTexts texts draft × AreTextNumbers texts draft numbers

@@ -17,6 +17,7 @@ is_asked_for names name = list_any (λ key. bytes_eq name key.items) names.keys
 abbrev pub matches_at : List (List Piece) → List ℕ → ℕ → Bool
 matches_at patterns name number = is_match (slice_index_or patterns number []) name
 
+-- one of the patterns with these numbers matches a name
 abbrev pub some_matches : List (List Piece) → List ℕ → List ℕ → Bool
 some_matches patterns numbers name = list_any (matches_at patterns name) numbers
 
@@ -32,6 +33,7 @@ AreNumbersOf patterns numbers = All (λ number. number < length patterns) number
 abbrev pub AreUpTo : {S : Type 0} → IndexSet (Vec ℕ Global) S → ℕ → Type 0
 AreUpTo names longest = (name : List ℕ) → is_asked_for names name ≡ true → length name ≤ longest
 
+-- no name that is asked for as it is has more bytes than the choice says
 abbrev pub IsBounded : Choice → Type 0
 IsBounded choice = AreUpTo choice.plain choice.longest
 

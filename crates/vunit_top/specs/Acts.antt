@@ -54,6 +54,7 @@ pub record Seen : Type 0 where
   pub put : List ℕ
   pub report : List ℕ → Option (List ℕ)
 
+-- what objects tell at a moment, from its parts
 abbrev pub seen : List Event → Moments → (disk_failures : ℕ) → (put : List ℕ) → (report : List ℕ → Option (List ℕ)) → Seen
 seen journal moments disk_failures put report = record { journal = journal; moments = moments; disk_failures = disk_failures; put = put; report = report }
 
