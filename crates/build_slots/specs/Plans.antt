@@ -35,6 +35,7 @@ pub record ArePlannedTo (graph : List Entry) (Fits : ℕ → Type 0) (needs : Li
   pub later : (at : ℕ) → at < end → is_later (need_at needs at) ≡ not (list_all (λ dep. is_fresh (need_at needs dep)) (deps_at graph at))
   pub fresh : (at : ℕ) → at < end → is_later (need_at needs at) ≡ false → IsTrue (is_fresh (need_at needs at)) ↔ Fits at
 
--- the same of all files of a graph
+-- one need for each file of a graph: a file that depends on one that isn't fresh is checked later, and of the others those are
+-- fresh whose record fits
 abbrev pub ArePlanned : List Entry → (ℕ → Type 0) → List Need → Type 0
 ArePlanned graph Fits needs = ArePlannedTo graph Fits needs (length graph)

@@ -19,7 +19,7 @@ is_entity_line name line = bytes_eq line (codes "unit entity " ++ name)
 abbrev pub is_bench_file : BenchJob → BuiltFile → Bool
 is_bench_file job file = in_library job.library file && list_any (is_entity_line job.bench) (lines file.artefact)
 
--- one of the files is such a file
+-- one of the files is of the library of the bench, and has it
 abbrev pub has_bench : BenchJob → Bool
 has_bench job = list_any (is_bench_file job) job.built
 
@@ -27,7 +27,7 @@ has_bench job = list_any (is_bench_file job) job.built
 unfoldable pub is_failure : List ℕ → List ℕ → Bool
 is_failure name line = bytes_eq line (codes "script fail " ++ name)
 
--- one of the files, of any library, says so
+-- one of the files, of any library, says that the case of this full name fails
 abbrev pub fails : List BuiltFile → List ℕ → Bool
 fails files name = list_any (λ file. list_any (is_failure name) (lines file.artefact)) files
 

@@ -57,11 +57,11 @@ first_work options graph = work_of no_record graph options.slots false
 abbrev pub first_records : GenerateOptions → List Entry → List Event → List Record
 first_records options graph events = commits (first_work options graph) events
 
--- what is built then, over the latest of these records of each name
+-- what the second build works on: the latest record of each name among those of the first build, not going on after a refusal
 abbrev pub second_work : GenerateOptions → List Record → List Entry → Work
 second_work options records graph = work_of (λ name. latest name records) graph options.slots false
 
--- the order of it: over the records that are there, not going on after a refusal
+-- the order of the second build: over the records that are there, not going on after a refusal
 abbrev pub second_order : GenerateOptions → List Entry → Order
 second_order options graph = order_by (record { slots = options.slots; keep_going = false; clean = false }) graph
 
@@ -69,10 +69,10 @@ second_order options graph = order_by (record { slots = options.slots; keep_goin
 abbrev pub runs_in : ReadProject → List TestRun
 runs_in read = test_runs read.project.files (chosen (any_name ∷ []) read.tests)
 
--- the plan of these runs
+-- the plan of all tests of a project, going on after a failed one
 abbrev pub plan_of : ReadProject → TestPlan
 plan_of read = record { runs = runs_in read; simulator = read.project.simulator; fail_fast = false }
 
--- what they work on after a build with these events
+-- what the tests work on after a build with these events
 abbrev pub setting_of : GenerateOptions → ReadProject → Work → List Event → TestSetting
 setting_of options read work compiled = record { plan = plan_of read; built = built_by work compiled; slots = options.slots }

@@ -61,7 +61,7 @@ unfoldable pub export_data : List Entry → List ProjectFile → List Bench → 
 export_data graph files tests =
     object (member (codes "export_format_version") version_data (member (codes "files") (array (items_of (files_data graph))) (member (codes "tests") (array (items_of (tests_data files tests))) no_members)))
 
--- its text: the JSON without a space, and a line feed
+-- the text of an export: the JSON without a space, and a line feed
 abbrev pub export_text : List Entry → List ProjectFile → List Bench → List ℕ
 export_text graph files tests = compact_text (export_data graph files tests) ++ 10 ∷ []
 

@@ -30,7 +30,7 @@ valued name = record (new_rule name) { long = Some name }
 abbrev pub numbered : Text → Rule
 numbered name = record (valued name) { parser = Some (Unsigned 1 (2 ^ 64 - 1)) }
 
--- a short name for it, too
+-- an option with a short name too, as `-p`
 abbrev pub lettered : ℕ → Rule → Rule
 lettered letter rule = record rule { short = Some letter }
 
@@ -42,7 +42,7 @@ threads = record (lettered 112 (numbered (codes "num-threads"))) { defaults = co
 abbrev pub patterns : Rule
 patterns = record (new_rule (codes "patterns")) { range = Some (record { start_inclusive = 0; end_inclusive = usize_max }); defaults = codes "*" ∷ [] }
 
--- with the options that say what is to be done, and how
+-- the command with the options that say what is to be done, and how
 abbrev pub with_modes : App → App
 with_modes app =
     with_rule (with_rule (with_rule (with_rule (with_rule (with_rule (with_rule app
@@ -54,7 +54,7 @@ with_modes app =
     (flag (codes "fail-fast")))
     (flag (codes "clean"))
 
--- with those that say what is written, and the others
+-- the command with the options that say what is written, all others, and the patterns
 abbrev pub with_outputs : App → App
 with_outputs app =
     with_rule (with_rule (with_rule (with_rule (with_rule (with_rule (with_rule (with_rule app
@@ -101,7 +101,7 @@ number_of text = if is_unsigned_in 1 (2 ^ 64 - 1) text then Some (digits_value 1
 abbrev pub number_in : List Row → Text → ℕ → Option ℕ
 number_in rows name other = option_map_or number_of (first_of name rows) (Some other)
 
--- what is found says, over these two numbers
+-- what found options say, with these numbers of threads and of packages
 abbrev pub setting_over : List Row → ℕ → ℕ → Setting
 setting_over rows threads size = record {
   list = has_flag rows (codes "list");

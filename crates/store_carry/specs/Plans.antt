@@ -85,7 +85,7 @@ pub record AreNumbers (size : ℕ) (set : NumbersBelow) : Type 0 where
 abbrev pub carried_by : RequestShelf → CarryPlan → CarriedSoFar
 carried_by shelf plan = record { texts = map (text_of shelf.texts) plan.texts.numbers; products = numbered_products shelf plan.products.numbers; payloads = map (step_payload shelf plan.products.numbers) plan.steps.items }
 
--- with one more payload
+-- what is carried so far, with one more payload
 abbrev pub with_carried_payload : CarriedSoFar → RequestPayload → CarriedSoFar
 with_carried_payload so_far payload = record { texts = so_far.texts; products = so_far.products; payloads = so_far.payloads ++ payload ∷ [] }
 

@@ -36,7 +36,7 @@ pub data RequestPayload : Type 0 where
   OfProduct : (draft : ProductDraft) → RequestPayload
   OfRequest : (draft : RequestDraft) → RequestPayload
 
--- the first byte
+-- the first byte, and the bytes after it
 abbrev pub tag_at : List ℕ → Option (ℕ × List ℕ)
 tag_at [] = None
 tag_at (tag ∷ rest) = Some (tag, rest)
@@ -53,7 +53,7 @@ ref_in_full_at bytes = do
   text ← text_at bytes
   Some (InFull text.0, text.1)
 
--- by a tag: 0 before a number, and 1 before a text
+-- a text after its tag: its number after 0, or a new text after 1; and the bytes after it
 unfoldable pub text_ref_by : ℕ → List ℕ → Option (TextRef × List ℕ)
 text_ref_by tag bytes = if tag == 0 then ref_by_number_at bytes else (if tag == 1 then ref_in_full_at bytes else None)
 
@@ -85,11 +85,11 @@ request_in bytes = do
   artefact ← text_ref_at deps.1
   read_whole (OfRequest (record { name = name.0; command = command.0; source = source.0; deps = deps.0; artefact = artefact.0 }), artefact.1)
 
--- by a tag: 0 before a product, and 1 before a record
+-- the payload that bytes after a tag spell: a product after 0, and a record after 1
 unfoldable pub request_payload_by : ℕ → List ℕ → Option RequestPayload
 request_payload_by tag bytes = if tag == 0 then product_in bytes else (if tag == 1 then request_in bytes else None)
 
--- what all of the bytes spell
+-- the payload that all of these bytes spell, if they spell one
 unfoldable pub request_payload_in : List ℕ → Option RequestPayload
 request_payload_in bytes = do
   tag ← tag_at bytes

@@ -53,7 +53,7 @@ abbrev pub IsRangeAt : {Y : Type 0} → ℕ → (ByteRange → Y) → List ℕ �
 IsRangeAt at view bytes None read = read ≡ None
 IsRangeAt at view bytes (Some range) read = (read ≡ Some (view range, drop (range_end range) bytes)) × (at ≤ range_end range) × (range_end range ≤ length bytes)
 
--- The same of a thing that is found with the offset after it.
+-- What was found from an offset on, with the offset after it, seen by view, is what is read there, and reading goes on after it.
 abbrev pub IsReadAt : {X Y : Type 0} → ℕ → (X → Y) → List ℕ → Option (X × ℕ) → Option (Y × List ℕ) → Type 0
 IsReadAt at view bytes None read = read ≡ None
 IsReadAt at view bytes (Some found) read = (read ≡ Some (view found.0, drop found.1 bytes)) × (at ≤ found.1) × (found.1 ≤ length bytes)

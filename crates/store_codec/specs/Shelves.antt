@@ -22,7 +22,7 @@ pub record RequestShelf : Type 0 where
 abbrev pub bare_shelf : RequestShelf
 bare_shelf = record { texts = []; products = []; records = [] }
 
--- from low to high
+-- a number from low to high, both included
 abbrev pub is_within : ℕ → ℕ → ℕ → Bool
 is_within low high n = nat_le low n && nat_le n high
 
@@ -44,7 +44,7 @@ abbrev pub told_text : List (List ℕ) → TextRef → List ℕ
 told_text texts (ByNumber number) = slice_index_or texts number []
 told_text texts (InFull text) = text
 
--- the texts with a new one
+-- the texts with one that may be new
 abbrev pub with_text : List (List ℕ) → TextRef → List (List ℕ)
 with_text texts (ByNumber number) = texts
 with_text texts (InFull text) = texts ++ text ∷ []
@@ -105,7 +105,7 @@ unfoldable pub with_request_payload : RequestShelf → RequestPayload → Reques
 with_request_payload shelf (OfProduct draft) = if is_new_product shelf draft then with_product shelf draft else shelf
 with_request_payload shelf (OfRequest draft) = if is_request shelf draft then with_request shelf draft else shelf
 
--- bytes that spell no payload add nothing
+-- what payloads stand for after one more, which is given as bytes; bytes that spell none add nothing
 unfoldable pub after_request_payload : RequestShelf → List ℕ → RequestShelf
 after_request_payload shelf bytes = option_map_or (with_request_payload shelf) (request_payload_in bytes) shelf
 
@@ -117,7 +117,8 @@ request_shelf_of payloads = fold after_request_payload bare_shelf payloads
 abbrev pub requests_among : List (List ℕ) → List RequestRecord
 requests_among payloads = (request_shelf_of payloads).records
 
--- What a draft of a record has.
+-- A draft of a record is valid on a shelf: its parts are within their limits, its texts are there or new, and the products
+-- below it are there, of other files with different names.
 pub record IsRequest (shelf : RequestShelf) (draft : RequestDraft) : Type 0 where
   pub name : FitsName draft.name
   pub command : FitsCommand draft.command
@@ -130,7 +131,8 @@ pub record IsRequest (shelf : RequestShelf) (draft : RequestDraft) : Type 0 wher
   pub apart : AllPairs (λ a b. a.name ≢ b.name) (map (product_at shelf.products) draft.deps)
   pub others : All (λ other. other.name ≢ draft.name) (map (product_at shelf.products) draft.deps)
 
--- What a draft of a new product has.
+-- A draft of a product is valid on a shelf: its parts are within their limits, its artefact is there or new, and no product
+-- there is the same.
 pub record IsNewProduct (shelf : RequestShelf) (draft : ProductDraft) : Type 0 where
   pub name : FitsName draft.name
   pub artefact : is_text_ref shelf.texts draft.artefact ≡ true

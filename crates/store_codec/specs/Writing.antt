@@ -21,7 +21,7 @@ part_ref part = ref_or part.known part.text.now
 abbrev pub product_of_parts : ProductParts → ProductDraft
 product_of_parts parts = record { name = parts.name.now; artefact = part_ref parts.artefact }
 
--- the words are handed in apart, since the parts have their bytes
+-- the record that has these parts; the words of its command are handed in apart, since the parts have their bytes
 abbrev pub request_of_parts : List (List ℕ) → RequestParts → RequestDraft
 request_of_parts command parts = record { name = parts.name.now; command = command; source = part_ref parts.source; deps = parts.deps.now; artefact = part_ref parts.artefact }
 

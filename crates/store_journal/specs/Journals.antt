@@ -32,12 +32,12 @@ pub record IsSpelled (count : ℕ) (payloads : List (List ℕ)) (bytes : List �
   pub count_is : count ≡ 19 + length (flat_map block payloads)
   pub small : All (λ payload. length payload < 2 ^ 32) payloads
 
--- no payload follows
+-- No payload follows these ones on a side.
 pub record EndsAt (count : ℕ) (payloads : List (List ℕ)) (bytes : List ℕ) : Type 0 where
   pub spelled : IsSpelled count payloads bytes
   pub none : payload_at (spelled.gate ∷ spelled.rest) ≡ None
 
--- the gate isn't open
+-- The gate after these payloads of a side isn't open.
 pub record HasClosedGateAt (count : ℕ) (payloads : List (List ℕ)) (bytes : List ℕ) : Type 0 where
   pub spelled : IsSpelled count payloads bytes
   pub closed : spelled.gate ≢ 1

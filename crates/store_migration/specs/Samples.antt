@@ -22,10 +22,10 @@ a_over text artefact = record { view = vhd_file 97 text [] ∷ []; artefact = ar
 abbrev pub b_over : List ℕ → List ℕ → ViewRecord
 b_over text artefact = record { view = vhd_file 97 text [] ∷ vhd_file 98 (codes "y") (0 ∷ []) ∷ []; artefact = artefact }
 
--- the record of such a file over what was built below it, with its artefact
+-- the record of the file of a letter, with a text, over what was built below it, and with its artefact
 abbrev pub vhd_request : ℕ → List ℕ → List BuiltFile → List ℕ → Record
 vhd_request letter text below artefact = record { asked = record { command = codes "cc" ∷ []; name = vhd_name letter; text = text; below = below }; artefact = artefact }
 
--- such a file with its artefact
+-- the file of a letter with its artefact
 abbrev pub vhd_built : ℕ → List ℕ → BuiltFile
 vhd_built letter artefact = record { name = vhd_name letter; artefact = artefact }

@@ -23,7 +23,7 @@ pub data NodePayload : Type 0 where
   OfDraft : (draft : Draft) (artefact : List ℕ) → NodePayload
   DraftAlone : (draft : Draft) → NodePayload
 
--- the first byte
+-- the first byte, and the bytes after it
 abbrev pub byte_at : List ℕ → Option (ℕ × List ℕ)
 byte_at [] = None
 byte_at (byte ∷ rest) = Some (byte, rest)
@@ -40,7 +40,7 @@ new_at bytes = do
   text ← text_at bytes
   Some (New text.0, text.1)
 
--- by a tag: 0 before a number, and 1 before a text
+-- a text after its tag: its number after 0, or a new text after 1; and the bytes after it
 unfoldable pub source_by : ℕ → List ℕ → Option (TextSource × List ℕ)
 source_by tag bytes = if tag == 0 then known_at bytes else (if tag == 1 then new_at bytes else None)
 
@@ -59,7 +59,7 @@ draft_at bytes = do
   deps ← counted_at (number_at w64) source.1
   Some (record { name = name.0; command = command.0; source = source.0; deps = deps.0 }, deps.1)
 
--- what was read whole
+-- what was read, where no byte follows
 abbrev pub at_end : {X : Type 0} → X × List ℕ → Option X
 at_end read = if length read.1 == 0 then Some read.0 else None
 
@@ -83,11 +83,12 @@ draft_alone_in bytes = do
   draft ← draft_at bytes
   at_end (DraftAlone draft.0, draft.1)
 
--- by a tag: 0, 1 or 2
+-- the payload that bytes after a tag spell: one more record of a node after 0, a new node with its record after 1, and a new
+-- node alone after 2
 unfoldable pub node_payload_by : ℕ → List ℕ → Option NodePayload
 node_payload_by tag bytes = if tag == 0 then of_node_in bytes else (if tag == 1 then of_draft_in bytes else (if tag == 2 then draft_alone_in bytes else None))
 
--- what all of the bytes spell
+-- the payload that all of these bytes spell, if they spell one
 unfoldable pub node_payload_in : List ℕ → Option NodePayload
 node_payload_in bytes = do
   tag ← byte_at bytes

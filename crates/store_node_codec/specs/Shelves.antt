@@ -22,7 +22,7 @@ pub record Shelf : Type 0 where
 abbrev pub empty_shelf : Shelf
 empty_shelf = record { texts = []; nodes = []; records = [] }
 
--- two lists of the same length, item by item
+-- two lists have the same length, and pass the test item by item
 unfoldable pub are_same_by : {X : Type 0} → (X → X → Bool) → List X → List X → Bool
 are_same_by test [] [] = true
 are_same_by test [] (y ∷ ys) = false
@@ -38,7 +38,7 @@ abbrev pub is_source : List (List ℕ) → TextSource → Bool
 is_source texts (Known number) = nat_lt number (length texts)
 is_source texts (New text) = not (list_any (bytes_eq text) texts)
 
--- the texts with a new one
+-- the texts with one that may be new
 abbrev pub with_source : List (List ℕ) → TextSource → List (List ℕ)
 with_source texts (Known number) = texts
 with_source texts (New text) = texts ++ text ∷ []
@@ -75,7 +75,7 @@ with_payload shelf (OfNode number artefact) = if nat_lt number (length shelf.nod
 with_payload shelf (OfDraft draft artefact) = if is_draft shelf draft && is_artefact artefact then with_node_record (with_draft shelf draft) (length shelf.nodes) artefact else shelf
 with_payload shelf (DraftAlone draft) = if is_draft shelf draft then with_draft shelf draft else shelf
 
--- bytes that spell no payload add nothing
+-- what payloads stand for after one more, which is given as bytes; bytes that spell none add nothing
 unfoldable pub after_payload : Shelf → List ℕ → Shelf
 after_payload shelf bytes = option_map_or (with_payload shelf) (node_payload_in bytes) shelf
 

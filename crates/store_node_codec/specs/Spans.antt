@@ -49,7 +49,7 @@ abbrev pub IsSpanAt : {Y : Type 0} → ℕ → (Span → Y) → List ℕ → Opt
 IsSpanAt at view bytes None read = read ≡ None
 IsSpanAt at view bytes (Some span) read = (read ≡ Some (view span, drop (end_of span) bytes)) × (at ≤ end_of span) × (end_of span ≤ length bytes)
 
--- The same of a thing that is found with the offset behind it.
+-- What was found from an offset on, with the offset after it, seen by view, is what is read there, and reading goes on after it.
 abbrev pub IsFoundAt : {X Y : Type 0} → ℕ → (X → Y) → List ℕ → Option (X × ℕ) → Option (Y × List ℕ) → Type 0
 IsFoundAt at view bytes None read = read ≡ None
 IsFoundAt at view bytes (Some found) read = (read ≡ Some (view found.0, drop found.1 bytes)) × (at ≤ found.1) × (found.1 ≤ length bytes)

@@ -38,7 +38,7 @@ pub record AreSomeNodes (nodes : List Node) : Type 0 where
   pub texts : List (List ℕ)
   pub are : AreNodes texts nodes
 
--- The same of texts of these lengths.
+-- Some texts of these lengths make these nodes, each once.
 pub record HaveTexts (lengths : List ℕ) (nodes : List Node) : Type 0 where
   pub texts : List (List ℕ)
   pub lengths_are : map length texts ≡ lengths

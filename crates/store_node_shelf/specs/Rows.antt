@@ -11,7 +11,7 @@ use Rattle.store_node_codec.specs.Nodes.{Node}
 use Rattle.store_node_shelf.specs.declared.commands.Command.{Command}
 use Rattle.store_node_shelf.specs.declared.rows.Row.{Row}
 
--- the same numbers
+-- the same numbers of the name, the command, the text and the dependencies
 abbrev pub is_same_row : Row → Row → Bool
 is_same_row a b = a.name == b.name && (a.command == b.command && (a.text == b.text && pointwise nat_eq a.deps b.deps))
 

@@ -98,7 +98,7 @@ pub record HasManyDead (len live : ℕ) : Type 0 where
   pub many : dead_limit < len - live
   pub most : live < len - live
 
--- and there is a next generation
+-- A side of this generation is to be compacted: many of its bytes are dead, and there is a next generation.
 pub record AsksAt (generation len live : ℕ) : Type 0 where
   pub next : generation + 1 < 2 ^ 64
   pub dead : HasManyDead len live

@@ -70,7 +70,7 @@ pub record PutsProduct (row : ProductRow) (number : ℕ) (old new : List Product
   pub numbered : slice_get new number ≡ Some row
   pub new_is : new ≡ (if list_any (is_same_product_row row) old then old else old ++ row ∷ [])
 
--- A payload was taken up.
+-- A payload was taken up: what is placed stands for what was there before and the payload.
 pub record Took (payloads : List (List ℕ)) (old : RequestShelf) (new : PlacedShelf) (payload : RequestPayload) : Type 0 where
   pub are : IsShelfPlaced payloads new
   pub is : placed_shelf payloads new ≡ with_request_payload old payload

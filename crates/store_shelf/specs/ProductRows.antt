@@ -6,7 +6,7 @@ use Rattle.std.specs.Hash as fed
 use Rattle.std.proofs.lemmas.Bool.Decides.{Decides-and, Decides-eqb}
 use Rattle.store_shelf.specs.declared.products.ProductRow.{ProductRow}
 
--- the same numbers
+-- the same numbers of the name and of the text
 abbrev pub is_same_product_row : ProductRow → ProductRow → Bool
 is_same_product_row a b = a.name == b.name && a.text == b.text
 

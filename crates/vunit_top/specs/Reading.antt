@@ -93,7 +93,7 @@ extent_of minimal other = if minimal then Needed else other
 abbrev pub wish_by : Setting → Extent → Wish
 wish_by setting extent = record { extent = extent; patterns = setting.patterns }
 
--- how it says that their tests are run
+-- how a setting says that files are built and tests are run
 abbrev pub run_options_of : Setting → RunOptions
 run_options_of setting = record {
   build = options_of setting;
@@ -147,7 +147,7 @@ abbrev pub is_run : Job → Bool
 is_run (job.Run options) = true
 is_run _ = false
 
--- whether words may
+-- whether words may start a test
 abbrev pub may_test : Result Job Reading → Bool
 may_test (Ok job) = is_run job
 may_test (Err (Generates options)) = true
