@@ -27,7 +27,7 @@ number_data n = number (unsigned n)
 unfoldable pub version_data : Data
 version_data = object (member (codes "major") (number_data 1) (member (codes "minor") (number_data 0) (member (codes "patch") (number_data 0) no_members)))
 
--- a file
+-- a file: its path and its library
 unfoldable pub file_data : FileName → Data
 file_data name = object (member (codes "file_name") (text_data name.path) (member (codes "library_name") (text_data name.library) no_members))
 

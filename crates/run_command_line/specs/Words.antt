@@ -125,7 +125,7 @@ setting_over rows threads size = record {
 abbrev pub setting_in : List Row → Option Setting
 setting_in rows = option_and_then (λ threads. option_map (setting_over rows threads) (number_in rows (codes "generate") 0)) (number_in rows (codes "num-threads") 1)
 
--- nothing is wrong
+-- a list has no items: nothing is wrong
 abbrev pub has_none : {X : Type 0} → List X → Bool
 has_none [] = true
 has_none (x ∷ xs) = false

@@ -8,7 +8,7 @@ use Rattle.base.specs.Jobs.{name_bytes}
 use Rattle.base_bytes.specs.Reading.{◌>>=◌, number_at, text_at, counted_at}
 use Rattle.base_bytes.specs.Names.{HasNameSpelling, name_at}
 
--- the number of this form of payloads
+-- the number that sides with payloads of requests have as their form
 abbrev pub request_form : ℕ
 request_form = 3
 

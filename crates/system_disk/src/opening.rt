@@ -46,8 +46,11 @@ impl Paths {
 pub enum Part {
     /// The folder that the folder of the files is in.
     Around,
+    /// The folder of the files.
     Folder,
+    /// The file of side A.
     A,
+    /// The file of side B.
     B,
 }
 

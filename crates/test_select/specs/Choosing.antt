@@ -21,7 +21,7 @@ matches_at patterns name number = is_match (slice_index_or patterns number []) n
 abbrev pub some_matches : List (List Piece) → List ℕ → List ℕ → Bool
 some_matches patterns numbers name = list_any (matches_at patterns name) numbers
 
--- a name is chosen
+-- a name is chosen: all names are, or it is asked for as it is, or one of the other patterns matches it
 abbrev pub is_chosen : List (List Piece) → Choice → List ℕ → Bool
 is_chosen patterns choice name = choice.all || (is_asked_for choice.plain name || some_matches patterns choice.others.items name)
 

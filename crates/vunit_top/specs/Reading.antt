@@ -34,7 +34,7 @@ use Rattle.vunit_top.specs.declared.words.RunOptions.{RunOptions}
 use Rattle.vunit_top.specs.declared.words.Job.{Job}
 use Rattle.vunit_top.specs.declared.words.Job.TheVariants as job
 
--- which child of the program
+-- which child of the program it is: its own compiler, or its own simulator
 pub data Tool : Type 0 where
   Compiler : Tool
   Simulator : Tool
