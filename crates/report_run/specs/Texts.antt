@@ -129,7 +129,7 @@ library_twice name = codes "library " ++ (name ++ stands_twice)
 unfoldable pub nothing_matches : List ℕ → List ℕ
 nothing_matches pattern = codes "nothing matches " ++ pattern
 
--- after a file that another one is said to depend on
+-- after a file that isn't in the project, though another one is said to depend on it
 unfoldable pub not_in_project : List ℕ
 not_in_project = codes " isn't in the project"
 

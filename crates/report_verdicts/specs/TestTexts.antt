@@ -50,7 +50,7 @@ verdict_line false = codes "Some failed!" ++ 10 ∷ []
 abbrev pub summary : Tally → Bool → List ℕ
 summary counts all = summary_line ++ (count_line Passed counts.passed counts.total ++ (count_line Failed counts.failed counts.total ++ (count_line Skipped counts.skipped counts.total ++ verdict_line all)))
 
--- what is put where no case was chosen
+-- what is put where no run has a case
 unfoldable pub no_tests : List ℕ
 no_tests = codes "No tests were run!" ++ 10 ∷ []
 
