@@ -20,6 +20,7 @@ noted_with noted StartFailed = first_fault noted StartFailed
 noted_with noted ChildLost = first_fault noted ChildLost
 noted_with noted DiskFailed = first_fault noted DiskFailed
 
+-- the fault to answer is that memory ran out
 abbrev pub is_no_memory : Option BuildFault → Bool
 is_no_memory None = false
 is_no_memory (Some NoMemory) = true
@@ -95,6 +96,7 @@ CountsCommit (Err StartFailed) before now = ⊥
 CountsCommit (Err ChildLost) before now = ⊥
 CountsCommit (Err DiskFailed) before now = Counted before now
 
+-- the answer is that the disk failed
 abbrev pub is_disk_failed : {T : Type 0} → Result T BuildFault → Bool
 is_disk_failed (Ok value) = false
 is_disk_failed (Err NoMemory) = false

@@ -24,5 +24,6 @@ first_mark keep_going Later = waiting_mark keep_going
 abbrev pub known_mark : Work → List End → Slots → ℕ → Mark
 known_mark work ends machine position = if is_checked machine position then mark_at work ends position else waiting_mark work.keep_going
 
+-- what a build knows of each file, in compile order
 abbrev pub known_marks : Work → List End → Slots → List Mark
 known_marks work ends machine = map (known_mark work ends machine) (below (length work.graph))

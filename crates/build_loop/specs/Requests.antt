@@ -15,7 +15,7 @@ use Rattle.build_loop.specs.declared.requests.Gathered.{Gathered}
 abbrev pub lent_file : (FileName → Option Record) → Entry → Option BuiltFile
 lent_file latest_of entry = option_map (λ kept. record { name = entry.name; artefact = kept.artefact }) (latest_of entry.name)
 
--- the same of the file at a position
+-- the file at a position with the artefact of its latest record
 unfoldable pub lent_at : (FileName → Option Record) → List Entry → ℕ → Option BuiltFile
 lent_at latest_of graph position = option_and_then (lent_file latest_of) (slice_get graph position)
 
@@ -27,7 +27,7 @@ lent_request latest_of graph position = option_map (λ entry. compile_request en
 abbrev pub AreRecorded : (FileName → Option Record) → List Entry → ℕ → Type 0
 AreRecorded latest_of graph count = (position : ℕ) → position < count → IsRecorded latest_of graph position
 
--- and their latest records stay
+-- the latest records of the files before a position stay as they were
 abbrev pub KeepsFirst : List Entry → ℕ → (FileName → Option Record) → (FileName → Option Record) → Type 0
 KeepsFirst graph count old new = (position : ℕ) (entry : Entry) → position < count → slice_get graph position ≡ Some entry → new entry.name ≡ old entry.name
 

@@ -41,7 +41,7 @@ pub record BuildState : Type 0 where
   pub latest_of : FileName → Option Record
   pub broken : Bool
 
--- the same state, but for the machine and the noted fault
+-- a state with another machine and another noted fault
 abbrev pub with_machine : Slots → Option BuildFault → BuildState → BuildState
 with_machine machine noted state = record { machine = machine; marks = state.marks; noted = noted; latest_of = state.latest_of; broken = state.broken }
 
@@ -50,6 +50,7 @@ pub record Told : Type 0 where
   pub journal : List Event
   pub moments : Moments
 
+-- the work on a graph of a build that began so: a file is current by the latest record of its name
 abbrev pub work_from : List Entry → Origin → Work
 work_from graph from = work_of from.latest_of graph from.slots from.keep_going
 
@@ -65,7 +66,8 @@ abbrev pub IsKnown : List Entry → (FileName → Option Record) → List End �
 IsKnown graph first ends end =
     (entry : Entry) → slice_get graph end.position ≡ Some entry → (end.exit.code == 0) ≡ true → latest_after (commits_of graph ends) first entry.name ≡ Some (record_at graph end.position end.below end.exit.output)
 
--- so it is of each child
+-- Each child was started over files that have an artefact, without a current record over them; and what each child gave that
+-- ended well is the latest record of its file.
 pub record HasRecords (work : Work) (first : FileName → Option Record) (book : Book) : Type 0 where
   pub runs : All (λ run. IsDueOver work book.ends run.position run.below) book.runs
   pub ends : All (λ end. IsDueOver work book.ends end.position end.below) book.ends
@@ -101,14 +103,14 @@ pub record IsJournalled (answer : Request → Exit) (setting : Work) (events : L
   pub started : AreStartedIn events (book_of setting events).runs
   pub started_since : AreStartedIn new (book_of setting events).runs
 
--- after more events of which none is the end of a child with code 0
+-- A build is under way after more events, of which none is the end of a child with code 0.
 pub record GoesOn (tells : Type 0) (answer : Request → Exit) (graph : List Entry) (from : Origin) (events : List Event) (acknowledged : ℕ) (state : BuildState) (journalled : List Event) : Type 0 where
   pub more : List Event
   pub under_way : IsUnderWay graph from (events ++ more) acknowledged state
   pub journal : tells → IsJournalled answer (work_from graph from) (events ++ more) from.journal journalled
   pub same : commits (work_from graph from) (events ++ more) ≡ commits (work_from graph from) events
 
--- after the end of a child: more may be acknowledged, and the disk holds it
+-- A build is under way after the end of a child: more may be acknowledged, and the disk holds it.
 pub record TakesEnd (told : Type 0) (records_of : Image → List Record) (graph : List Entry) (from : Origin) (events : List Event) (state : BuildState) (moments : Moments) : Type 0 where
   pub acknowledged : ℕ
   pub under_way : IsUnderWay graph from events acknowledged state

@@ -12,6 +12,7 @@ use Rattle.test_spec.specs.BenchJobs.{texts_bytes}
 abbrev pub next_case : List ℕ → List ℕ
 next_case name = codes "," ++ doubled is_comma name
 
+-- what a simulator is started with: its command, the input written so far, and the path of its results
 pub record WrittenRun : Type 0 where
   pub command : List (List ℕ)
   pub input : List ℕ
@@ -22,6 +23,7 @@ unfoldable pub begun_run_input : TestRun → ℕ → List ℕ
 begun_run_input run count =
     codes "VRB1" ++ (text_bytes run.library ++ (text_bytes run.bench ++ (text_bytes run.architecture ++ (texts_bytes run.cases ++ (text_bytes (configuration run) ++ (text_bytes (results_path run) ++ number_bytes count))))))
 
+-- a request up to the number of the files that were built, of which none is written yet
 abbrev pub begun_run : TestRun → List (List ℕ) → ℕ → WrittenRun
 begun_run run simulator count = record { command = simulator; input = begun_run_input run count; results = results_path run }
 

@@ -19,7 +19,7 @@ is_entity_line name line = bytes_eq line (codes "unit entity " ++ name)
 abbrev pub is_bench_file : BenchJob → BuiltFile → Bool
 is_bench_file job file = in_library job.library file && list_any (is_entity_line job.bench) (lines file.artefact)
 
--- one of the files is such a file
+-- one of the files is of the library of the bench, and has it
 abbrev pub has_bench : BenchJob → Bool
 has_bench job = list_any (is_bench_file job) job.built
 
@@ -27,7 +27,7 @@ has_bench job = list_any (is_bench_file job) job.built
 unfoldable pub is_failure : List ℕ → List ℕ → Bool
 is_failure name line = bytes_eq line (codes "script fail " ++ name)
 
--- one of the files, of any library, says so
+-- one of the files, of any library, says that the case of this full name fails
 abbrev pub fails : List BuiltFile → List ℕ → Bool
 fails files name = list_any (λ file. list_any (is_failure name) (lines file.artefact)) files
 
@@ -39,6 +39,7 @@ full_name job name = job.library ++ (codes "." ++ (job.bench ++ (codes "." ++ na
 unfoldable pub start_line : List ℕ → List ℕ
 start_line name = codes "test_start:" ++ (name ++ 10 ∷ [])
 
+-- the line that ends the results: all cases are done
 unfoldable pub done_line : List ℕ
 done_line = codes "test_suite_done" ++ 10 ∷ []
 
@@ -50,9 +51,11 @@ with_results code output results = record { code = code; output = output; result
 unfoldable pub failed_case : List ℕ → List ℕ → Exit
 failed_case name results = with_results 1 (codes "failed " ++ (name ++ 10 ∷ [])) results
 
+-- all cases have passed: code 0, no output, and the results with their last line
 unfoldable pub all_done : List ℕ → Exit
 all_done results = with_results 0 [] (results ++ done_line)
 
+-- no file has the bench: code 1, a line that says so, and empty results
 unfoldable pub no_bench : Exit
 no_bench = with_results 1 (codes "no bench" ++ 10 ∷ []) []
 
@@ -65,6 +68,7 @@ cases_from job results (name ∷ names) = if fails job.built (full_name job name
 unfoldable pub whole_bench : BenchJob → Exit
 whole_bench job = if fails job.built (full_name job (codes "all")) then failed_case (full_name job (codes "all")) [] else all_done []
 
+-- the answer to a job whose bench is there, for these cases; a bench that names no case itself has none here
 abbrev pub cases_of : BenchJob → List (List ℕ) → Exit
 cases_of job [] = whole_bench job
 cases_of job (name ∷ names) = cases_from job [] (name ∷ names)

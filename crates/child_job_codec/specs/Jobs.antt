@@ -6,7 +6,7 @@ use Rattle.base.specs.Jobs.{compile_input}
 use Rattle.child_job_codec.specs.declared.reading.CompileJob.{CompileJob}
 use Rattle.base.specs.declared.limits.TheConstants.{TEXT_LIMIT}
 
--- its name fits, its text has at most 4,194,304 bytes, and the files that it depends on were built
+-- A job of a compiler: the name of its file fits, its text has at most 4,194,304 bytes, and the files below it were built.
 pub record IsJob (job : CompileJob) : Type 0 where
   pub name : FitsName job.name
   pub text : length job.text ≤ TEXT_LIMIT

@@ -19,6 +19,7 @@ tested_at test read bytes = do
 abbrev pub has_sizes : FileName → Bool
 has_sizes name = (nat_le 1 (length name.library) && nat_le (length name.library) LIBRARY_LIMIT) && (nat_le 1 (length name.path) && nat_le (length name.path) PATH_LIMIT)
 
+-- a library of 1 to 64 bytes and a path of 1 to 1,024; and the bytes after them
 abbrev pub fitting_name_at : List ℕ → Option (FileName × List ℕ)
 fitting_name_at bytes = tested_at has_sizes name_at bytes
 

@@ -10,5 +10,6 @@ use Rattle.child_job_codec.specs.declared.writing.RequestWriter.{RequestWriter}
 unfoldable pub begun_input : FileName → List ℕ → ℕ → List ℕ
 begun_input name text count = codes "VRC1" ++ (name_bytes name ++ (text_bytes text ++ number_bytes count))
 
+-- a request up to the number of the files that the file depends on, of which none is written yet
 abbrev pub begun : Entry → ℕ → RequestWriter
 begun entry count = record { command = entry.command; input = begun_input entry.name entry.text count }

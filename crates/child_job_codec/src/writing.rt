@@ -30,7 +30,7 @@ impl Model for BuiltBytes {
 }
 
 impl BuiltBytes {
-    /// Those of no file, which take no memory.
+    /// The bytes of no file, which take no memory.
     pub fn new(alloc: Global) -> BuiltBytes
         ensures { result ≡ [] }
     {

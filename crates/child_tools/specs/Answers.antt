@@ -19,9 +19,11 @@ use Rattle.child_tools.specs.declared.names.UnitName.{UnitName}
 unfoldable pub refused : List ℕ → Exit
 refused line = ends_with 1 (line ++ 10 ∷ [])
 
+-- the file is refused since it has a lexical or a grammatical fault
 unfoldable pub not_vhdl : FileName → Exit
 not_vhdl name = refused (name.path ++ codes ": not VHDL")
 
+-- the file is refused since it names a unit that its library doesn't have
 unfoldable pub no_unit : FileName → UnitName → Exit
 no_unit name unit = refused (name.path ++ (codes ": no unit " ++ (unit.library ++ (codes "." ++ unit.name))))
 
@@ -47,6 +49,7 @@ answer_by job (Clean scan) = scripted job scan
 answer_by job (Lexical fault) = not_vhdl job.name
 answer_by job (Grammatical fault) = not_vhdl job.name
 
+-- the answer to a job, by what a scanner finds in its text
 abbrev pub answer : (List ℕ → Finding) → CompileJob → Exit
 answer scan job = answer_by job (scan job.text)
 

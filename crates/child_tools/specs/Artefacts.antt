@@ -12,6 +12,7 @@ use Rattle.base.specs.declared.lexical.Span.{Span}
 use Rattle.vhdl_spec.specs.References.{owner_name}
 use Rattle.child_tools.specs.Scripts.{script_at}
 
+-- the word for the kind of a unit
 unfoldable pub kind_word : UnitKind → List ℕ
 kind_word kinds.Entity = codes "entity"
 kind_word kinds.Architecture = codes "architecture"
@@ -26,9 +27,11 @@ unfoldable pub of_entity : UnitKind → MaybeText → List ℕ
 of_entity kinds.Architecture owner = codes " of " ++ owner_name owner
 of_entity _ owner = []
 
+-- the line of a unit: its kind and its name, and of an architecture its entity
 unfoldable pub unit_line : DesignUnit → List ℕ
 unit_line unit = codes "unit " ++ (kind_word unit.kind ++ (codes " " ++ (unit.name ++ (of_entity unit.kind unit.owner ++ 10 ∷ []))))
 
+-- the line that an artefact has for a script line of a comment
 unfoldable pub script_line : List ℕ → List ℕ
 script_line line = codes "script " ++ (line ++ 10 ∷ [])
 
@@ -36,5 +39,6 @@ script_line line = codes "script " ++ (line ++ 10 ∷ [])
 abbrev pub comment_line : List ℕ → Span → List ℕ
 comment_line text span = option_map_or script_line (script_at text span) []
 
+-- the whole artefact of a text with this scan
 unfoldable pub artefact_of : List ℕ → Scan → List ℕ
 artefact_of text scan = flat_map unit_line scan.units ++ flat_map (comment_line text) scan.tokens.comments

@@ -24,11 +24,13 @@ exported_by line =
 abbrev pub is_export : List ℕ → List ℕ → Bool
 is_export name line = option_map_or (λ found. bytes_eq found name) (exported_by line) false
 
+-- a line of an artefact exports a unit of this name
 abbrev pub exports_unit : List ℕ → List ℕ → Bool
 exports_unit artefact name = list_any (is_export name) (lines artefact)
 
 -- ## Files that were built
 
+-- one of the files is of this library
 abbrev pub has_library : List BuiltFile → List ℕ → Bool
 has_library files library = list_any (in_library library) files
 
@@ -36,16 +38,17 @@ has_library files library = list_any (in_library library) files
 abbrev pub exports : List BuiltFile → UnitName → Bool
 exports files unit = list_any (λ file. in_library unit.library file && exports_unit file.artefact unit.name) files
 
--- one is of this library, and none of these exports the unit
+-- one of the files is of the library of a unit, and none of that library exports the unit
 abbrev pub is_missing : List BuiltFile → UnitName → Bool
 is_missing files unit = has_library files unit.library && not (exports files unit)
 
+-- the first of these units that is missing, where one is
 abbrev pub first_missing : List BuiltFile → List UnitName → Option UnitName
 first_missing files units = find (is_missing files) units
 
 -- ## References
 
--- `work` is the library of the file itself (13.2)
+-- the library that a reference names: `work` is the library of the file itself (13.2)
 abbrev pub named_library : List ℕ → List ℕ → List ℕ
 named_library own library = if bytes_eq library work then own else library
 
@@ -53,9 +56,10 @@ named_library own library = if bytes_eq library work then own else library
 unfoldable pub strict_unit : List ℕ → Ref → List UnitName
 strict_unit own ref = if ref.strict then record { library = named_library own ref.library; name = ref.name } ∷ [] else []
 
+-- the units that the strict references of a file of this library name, in order
 abbrev pub strict_units : List ℕ → List Ref → List UnitName
 strict_units own refs = flat_map (strict_unit own) refs
 
--- those of all units of a file, in order
+-- the units that the strict references of all units of a file name, in order
 unfoldable pub wanted_units : List ℕ → List ℕ → Scan → List UnitName
 wanted_units own text scan = flat_map (λ unit. strict_units own (refs_of text scan.tokens.list unit)) scan.units

@@ -6,6 +6,7 @@ use Rattle.base.specs.PresentGraph.{below}
 
 -- ## The project file
 
+-- the path of the project file
 unfoldable pub toml_path : List ℕ
 toml_path = codes "vunit.toml"
 
@@ -15,9 +16,11 @@ toml_text = codes "[[library]]" ++ (10 ∷ (codes "name = \"lib\"" ++ (10 ∷ (c
 
 -- ## A package
 
+-- what the path of a package begins with, before its number
 unfoldable pub source_folder : List ℕ
 source_folder = codes "src/f"
 
+-- what the path of a package ends with, after its number
 unfoldable pub source_end : List ℕ
 source_end = codes ".vhd"
 
@@ -25,9 +28,11 @@ source_end = codes ".vhd"
 abbrev pub package_path : ℕ → List ℕ
 package_path number = source_folder ++ (decimal number ++ source_end)
 
+-- the line that names the library, and the next one up to the number of the package that is used
 unfoldable pub library_words : List ℕ
 library_words = codes "library lib;" ++ (10 ∷ codes "use lib.p")
 
+-- the end of the line that uses a package, after its number
 unfoldable pub all_words : List ℕ
 all_words = codes ".all;" ++ 10 ∷ []
 
@@ -35,22 +40,27 @@ all_words = codes ".all;" ++ 10 ∷ []
 abbrev pub use_lines : ℕ → List ℕ
 use_lines number = library_words ++ (decimal number ++ all_words)
 
+-- the first line of a package, up to its number
 unfoldable pub package_words : List ℕ
 package_words = codes "package p"
 
+-- from the number of a package to where it is named again: the package has one constant
 unfoldable pub constant_words : List ℕ
 constant_words = codes " is" ++ (10 ∷ (codes "  constant c : integer := 0;" ++ (10 ∷ codes "end package p")))
 
+-- the end of a package, after its number
 unfoldable pub end_words : List ℕ
 end_words = codes ";" ++ 10 ∷ []
 
--- the package of a number, up to where it is named again, and from there on
+-- the package of a number, up to where it is named again
 abbrev pub package_begin : ℕ → List ℕ
 package_begin number = package_words ++ (decimal number ++ constant_words)
 
+-- the end of the package of a number, from its number on
 abbrev pub package_end : ℕ → List ℕ
 package_end number = decimal number ++ end_words
 
+-- the three lines of the package of a number
 abbrev pub package_lines : ℕ → List ℕ
 package_lines number = package_begin number ++ package_end number
 
@@ -62,6 +72,7 @@ note_line = codes "-- child: note 1" ++ 10 ∷ []
 abbrev pub used_lines : ℕ → List ℕ
 used_lines number = if number == 1 then [] else use_lines (number / 2)
 
+-- the line that an edit adds, or none
 abbrev pub noted_lines : (noted : Bool) → List ℕ
 noted_lines noted = if noted then note_line else []
 
@@ -71,21 +82,25 @@ package_text number noted = used_lines number ++ (package_lines number ++ noted_
 
 -- ## The bench
 
+-- the path of the file of the bench
 unfoldable pub bench_path : List ℕ
 bench_path = codes "tb.vhd"
 
+-- the entity of the bench, which uses the first package
 unfoldable pub bench_head : List ℕ
 bench_head = codes "library lib;" ++ (10 ∷ (codes "use lib.p1.all;" ++ (10 ∷ (codes "entity tb is generic (runner_cfg : string); end;" ++ 10 ∷ []))))
 
+-- the architecture of the bench, which has two cases
 unfoldable pub bench_body : List ℕ
 bench_body = codes "architecture a of tb is begin" ++ (10 ∷ (codes "  x <= run(\"one\");" ++ (10 ∷ (codes "  y <= run(\"two\");" ++ (10 ∷ (codes "end;" ++ 10 ∷ []))))))
 
 -- ## All
 
--- the project file, and the bench, which uses the first package
+-- the project file
 abbrev pub toml_file : NamedText
 toml_file = record { path = toml_path; bytes = toml_text }
 
+-- the file of the bench, which uses the first package
 abbrev pub bench_file : NamedText
 bench_file = record { path = bench_path; bytes = bench_head ++ bench_body }
 

@@ -3,18 +3,23 @@ use Rattle.std.specs.Prelude.{ℕ, List, [], ◌∷◌, ◌++◌, codes}
 use Rattle.std.specs.Fmt.{decimal}
 use Rattle.generated_project.specs.declared.lines.Counts.{Counts}
 
+-- before the number of files
 unfoldable pub files_words : List ℕ
 files_words = codes "files "
 
+-- before the number of files that the first build compiled
 unfoldable pub first_words : List ℕ
 first_words = codes "first build compiled "
 
+-- before the number of files that the second build compiled
 unfoldable pub second_words : List ℕ
 second_words = codes "second build compiled "
 
+-- before the number of cases that passed
 unfoldable pub passed_words : List ℕ
 passed_words = codes "tests passed "
 
+-- between the number of cases that passed and the number of all
 unfoldable pub of_word : List ℕ
 of_word = codes " of "
 

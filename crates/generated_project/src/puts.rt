@@ -6,6 +6,7 @@ ghost use Rattle.std.specs.Fmt.{decimal};
 use base::NoMemory;
 use std::alloc::Global;
 
+/// Puts bytes at the end of `out`.
 pub fn put(out: &mut Vec<u8>, bytes: &[u8]) -> Result<(), NoMemory>
     ensures { OnOk result (out.new.items ≡ out.old.items ++ bytes.now) }
 {
@@ -20,7 +21,7 @@ pub fn put_number(alloc: Global, out: &mut Vec<u8>, number: u64) -> Result<(), N
     put(out, number.to_string(alloc)?.as_bytes())
 }
 
-/// The same of a number that may be larger.
+/// Puts the decimal digits of a number of 128 bits.
 pub fn put_wide(alloc: Global, out: &mut Vec<u8>, number: u128) -> Result<(), NoMemory>
     ensures { OnOk result (out.new.items ≡ out.old.items ++ decimal number) }
 {

@@ -41,16 +41,17 @@ pub record RanBuild (answer : Request → Exit) (work : Work) (whole : Type 0 �
   pub answered : Answered answer events
   pub ended : whole (IsWhole work events)
 
--- What follows of it where what is recorded is what a clean build makes: each compiler is asked for its file what a clean build
--- asks it. Where there is no fault, and no file is refused, the started files are exactly those for which the settled build has
--- a request, and the marks are those that it says.
+-- What follows of a build where what is recorded is what a clean build makes: each compiler is asked for its file what a clean
+-- build asks it. Where there is no fault, and no file is refused, the started files are exactly those for which the settled
+-- build has a request, and the marks are those that it says.
 pub record IsRightBuild (answer : Request → Exit) (work : Work) (whole : Type 0 → Type 0) (events : List Event) : Type 0 where
   pub asked : (before rest : List Event) (ticket : ℕ) (request : Request) → events ≡ before ++ Started ticket request ∷ rest →
       (position : ℕ) × (next_position work (book_of work before) ≡ Some position) × (clean_request answer work.graph position ≡ Some request)
   pub started : whole (list_any is_refused (marks_of work events) ≡ false → (position : ℕ) → Contains (book_of work events).taken position ↔ ((request : Request) × (request_unless answer work.graph work.current position ≡ Some request)))
   pub steady : whole (list_any is_refused (marks_of work events) ≡ false → marks_of work events ≡ steady_marks answer work.graph work.current)
 
--- The same of a build and its tests, whose starts are over exactly the libraries of a clean build.
+-- What follows of a build and its tests where what is recorded is what a clean build makes: the build is right, and each test
+-- is started over exactly the libraries of a clean build.
 pub record IsRightSecond (answer : Request → Exit) (options : GenerateOptions) (work : Work) (read : ReadProject) (whole : Type 0 → Type 0) (events : List Event) : Type 0 where
   pub build : IsRightBuild answer work whole (compile_part events)
   pub tests : AreRightTests answer (second_order options read.graph) (plan_of read) (test_part events)
@@ -75,7 +76,8 @@ pub record RanSecond (answer : Request → Exit) (work : Work) (setting : List E
   pub replied : Answered answer (test_part events)
   pub all_tested : whole (list_all is_made (marks_of work (compile_part events)) ≡ true → IsWholeTests (setting (compile_part events)) (test_part events))
 
--- the same, with what is said of them
+-- What a build and its tests did, as `RanSecond` has it; and where there is no fault, the marks and the ends of tests that are
+-- answered are those of what happened.
 pub record RanTested (answer : Request → Exit) (work : Work) (options : GenerateOptions) (read : ReadProject) (result : Result Tested BuildFault) (events : List Event) : Type 0 where
   pub ran : RanSecond answer work (setting_of options read work) (OnOk result) events
   pub marks : IfOk result (λ tested. tested.marks ≡ marks_of work (compile_part events))

@@ -35,6 +35,7 @@ IsAnswer answer = Unit {0}
 abbrev pub refusal_said : Refusal → GeneratedSaid
 refusal_said reason = record { outcome = outcome.Refused reason; text = refusal_text reason }
 
+-- what is said where a quantity is over this limit
 abbrev pub limit_said : Limit → (number : ℕ) → GeneratedSaid
 limit_said limit number = record { outcome = outcome.OverLimit limit; text = limit_text limit number }
 

@@ -37,17 +37,19 @@ wish_for extent = record { extent = extent; patterns = any_name ∷ [] }
 abbrev pub files_reading : (List ℕ → Finding) → List NamedText → Wish → SourceReading
 files_reading scan files wish = project_reading scan (file_at files) (listed_of files) wish
 
--- the reading of the generated project before its edit, and after it with its tests
+-- the reading of the generated project before its edit: its files alone
 abbrev pub first_reading : (List ℕ → Finding) → GenerateOptions → SourceReading
 first_reading scan options = files_reading scan (generated_files options.packages unedited) (wish_for Graph)
 
+-- the reading of the generated project after its edit, with its tests
 abbrev pub second_reading : (List ℕ → Finding) → GenerateOptions → SourceReading
 second_reading scan options = files_reading scan (generated_files options.packages (edited_package options.packages)) (wish_for Tests)
 
--- what is built first: all, over no record
+-- no file has a record, so the first build compiles all
 abbrev pub no_record : FileName → Option Record
 no_record name = None
 
+-- what is built first: all files, over no record, not going on after a refusal
 abbrev pub first_work : GenerateOptions → List Entry → Work
 first_work options graph = work_of no_record graph options.slots false
 
@@ -55,11 +57,11 @@ first_work options graph = work_of no_record graph options.slots false
 abbrev pub first_records : GenerateOptions → List Entry → List Event → List Record
 first_records options graph events = commits (first_work options graph) events
 
--- what is built then, over the latest of these records of each name
+-- what the second build works on: the latest record of each name among those of the first build, not going on after a refusal
 abbrev pub second_work : GenerateOptions → List Record → List Entry → Work
 second_work options records graph = work_of (λ name. latest name records) graph options.slots false
 
--- the order of it: over the records that are there, not going on after a refusal
+-- the order of the second build: over the records that are there, not going on after a refusal
 abbrev pub second_order : GenerateOptions → List Entry → Order
 second_order options graph = order_by (record { slots = options.slots; keep_going = false; clean = false }) graph
 
@@ -67,10 +69,10 @@ second_order options graph = order_by (record { slots = options.slots; keep_goin
 abbrev pub runs_in : ReadProject → List TestRun
 runs_in read = test_runs read.project.files (chosen (any_name ∷ []) read.tests)
 
--- the plan of these runs
+-- the plan of all tests of a project, going on after a failed one
 abbrev pub plan_of : ReadProject → TestPlan
 plan_of read = record { runs = runs_in read; simulator = read.project.simulator; fail_fast = false }
 
--- what they work on after a build with these events
+-- what the tests work on after a build with these events
 abbrev pub setting_of : GenerateOptions → ReadProject → Work → List Event → TestSetting
 setting_of options read work compiled = record { plan = plan_of read; built = built_by work compiled; slots = options.slots }

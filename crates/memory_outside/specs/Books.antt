@@ -59,7 +59,7 @@ pub record EndsChild (ticket : ℕ) (end : Event) (old new : HeldBook) : Type 0 
   pub starts : new.calls.failed ≡ old.calls.failed
   pub children : new.lost_children ≡ old.lost_children
 
--- the same of a wait that lost the child
+-- a wait lost a child
 pub record LosesChild (ticket : ℕ) (old new : HeldBook) : Type 0 where
   pub running : new.running ≡ without ticket old.running
   pub journal : new.journal ≡ old.journal ++ event.Gone ticket ∷ []

@@ -47,9 +47,11 @@ abbrev pub on_bytes : Side → (List ℕ → List ℕ) → Image → Image
 on_bytes A change image = record { a = change image.a; b = image.b }
 on_bytes B change image = record { a = image.a; b = change image.b }
 
+-- the disk inside a call of one of its sides
 abbrev pub disk_inside : LoggedCall → DiskState → DiskState
 disk_inside kept disk = on_side kept.side (side_inside kept.act) disk
 
+-- the disk after a call of one of its sides, done or failed
 abbrev pub disk_after : LoggedCall → DiskState → DiskState
 disk_after kept disk = on_side kept.side (side_after kept.done kept.act) disk
 
@@ -78,6 +80,7 @@ pub record Log : Type 0 where
 abbrev pub beginning : List ℕ → SideState
 beginning bytes = if nat_lt (length bytes) (2 ^ 63) then settled bytes else settled []
 
+-- a disk that begins with the bytes of an image
 abbrev pub start_of : Image → DiskState
 start_of first = record { a = beginning first.a; b = beginning first.b }
 
@@ -126,7 +129,7 @@ pub record IsFilled (side : SideState) (wanted fill : ℕ) (bytes : List ℕ) : 
   pub size : length bytes ≡ nearest side wanted
   pub bytes_are : (k : ℕ) → k < length bytes → slice_index bytes k ≡ filled_byte side fill k
 
--- the same of both sides
+-- both sides have bytes of the nearest length, whose free ones are filled
 pub record AreFilled (disk : DiskState) (wanted fill : ℕ) (image : Image) : Type 0 where
   pub a : IsFilled disk.a wanted fill image.a
   pub b : IsFilled disk.b wanted fill image.b

@@ -38,13 +38,13 @@ TreeFails (Ok value) calls = fails_next calls ≡ false
 TreeFails (Err tree.NoMemory) calls = fails_next calls ≡ false
 TreeFails (Err tree.Failed) calls = fails_next calls ≡ true
 
--- the same of a start
+-- A start that is listed fails, and any other finds no fault but out of memory.
 abbrev pub StartFails : {T : Type 0} → Result T StartFault → Calls → Type 0
 StartFails (Ok value) calls = fails_next calls ≡ false
 StartFails (Err start.NoMemory) calls = fails_next calls ≡ false
 StartFails (Err start.Failed) calls = fails_next calls ≡ true
 
--- the same of a wait
+-- A wait that is listed loses its child, and any other finds no fault but out of memory.
 abbrev pub WaitFails : {T : Type 0} → Result T WaitFault → Calls → Type 0
 WaitFails (Ok value) calls = fails_next calls ≡ false
 WaitFails (Err (wait.NoMemory ticket)) calls = fails_next calls ≡ false

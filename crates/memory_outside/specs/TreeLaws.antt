@@ -19,12 +19,15 @@ use Rattle.base.specs.declared.file.NamedText.{NamedText}
 use Rattle.outside.specs.Trees.{IsRising, IsListOf, Lists, is_listed}
 use Rattle.memory_outside.specs.Trees.{file_at, paths_of, rising_paths, listed_of}
 
+-- a path, as bytes
 abbrev Path : Type 0
 Path = List ℕ
 
+-- the order of paths: byte by byte
 abbrev cmp : Path → Path → Ordering
 cmp = slice_cmp nat_cmp
 
+-- each path comes before the next one, so none is there twice
 abbrev Sorted : List Path → Type 0
 Sorted paths = IsStrictlySortedBy (slice_cmp nat_cmp) paths
 
@@ -152,6 +155,7 @@ inserted_from xs k p there =
     All-contains (λ y. (k ≡ y) ⊎ Contains xs y) (insert_key (slice_cmp nat_cmp) xs k) p
     (All-insert_key (slice_cmp nat_cmp) k (λ y. (k ≡ y) ⊎ Contains xs y) xs (All-weaker (Contains xs) (λ y. (k ≡ y) ⊎ Contains xs y) (λ y here. inr here) xs (All-contains_itself xs)) (inl refl)) there
 
+-- sorting paths gives sorted ones
 pub sorted_rising : (paths : List Path) → Sorted (rising_paths paths)
 unfolding IsStrictlySortedBy
 sorted_rising [] = tt
@@ -161,6 +165,7 @@ one_or_rest : (path : Path) (rest : List Path) (p : Path) → (Contains (rising_
 one_or_rest path rest p to (inl is) = subst (Contains (path ∷ rest)) is (first_in path rest)
 one_or_rest path rest p to (inr later) = later_in path rest p (to later)
 
+-- a path among the sorted ones is one of the paths
 pub from_rising : (paths : List Path) (p : Path) → Contains (rising_paths paths) p → Contains paths p
 from_rising [] p there = there
 from_rising (path ∷ rest) p there = one_or_rest path rest p (from_rising rest p) (inserted_from (rising_paths rest) path p there)
@@ -169,6 +174,7 @@ put_in : (path : Path) (rest : List Path) (p : Path) → (Contains rest p → Co
 put_in path rest p to (inl is) = subst (Contains (rising_paths (path ∷ rest))) is (inserted_here (rising_paths rest) path)
 put_in path rest p to (inr later) = inserted_has (rising_paths rest) path p (to later)
 
+-- each path is among the sorted ones
 pub to_rising : (paths : List Path) (p : Path) → Contains paths p → Contains (rising_paths paths) p
 to_rising [] p there = there
 to_rising (path ∷ rest) p there = put_in path rest p (to_rising rest p) (in_cons path rest p there)

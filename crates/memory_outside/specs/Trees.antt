@@ -25,7 +25,7 @@ pub record IsPath (path : List ℕ) : Type 0 where
   pub some : 1 ≤ length path
   pub text : IsUtf8 path
 
--- each path of the files is one
+-- the path of each file is a text and not empty
 abbrev pub HavePaths : List NamedText → Type 0
 HavePaths files = AllByRecursion (λ file. IsPath file.path) files
 

@@ -26,6 +26,7 @@ impl Model for DiskSides {
 }
 
 impl DiskSides {
+    /// A disk of these two sides.
     pub fn new(a: SideBook, b: SideBook) -> DiskSides
         ensures { result ≡ record { a = a; b = b } }
     {

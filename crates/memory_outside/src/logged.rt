@@ -20,4 +20,5 @@ pub struct LoggedCall {
     pub done: bool,
 }
 
+/// The calls of a disk that may have changed it, in order.
 pub type LoggedCalls = RoomItems<LoggedCall>;

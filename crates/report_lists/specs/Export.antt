@@ -19,6 +19,7 @@ use Rattle.test_select.specs.Selection.{full_name}
 abbrev pub text_data : List ℕ → Data
 text_data bytes = string (utf8_lossy bytes)
 
+-- a number from 0 on
 abbrev pub number_data : ℕ → Data
 number_data n = number (unsigned n)
 
@@ -26,7 +27,7 @@ number_data n = number (unsigned n)
 unfoldable pub version_data : Data
 version_data = object (member (codes "major") (number_data 1) (member (codes "minor") (number_data 0) (member (codes "patch") (number_data 0) no_members)))
 
--- a file
+-- a file: its path and its library
 unfoldable pub file_data : FileName → Data
 file_data name = object (member (codes "file_name") (text_data name.path) (member (codes "library_name") (text_data name.library) no_members))
 
@@ -60,7 +61,7 @@ unfoldable pub export_data : List Entry → List ProjectFile → List Bench → 
 export_data graph files tests =
     object (member (codes "export_format_version") version_data (member (codes "files") (array (items_of (files_data graph))) (member (codes "tests") (array (items_of (tests_data files tests))) no_members)))
 
--- its text: the JSON without a space, and a line feed
+-- the text of an export: the JSON without a space, and a line feed
 abbrev pub export_text : List Entry → List ProjectFile → List Bench → List ℕ
 export_text graph files tests = compact_text (export_data graph files tests) ++ 10 ∷ []
 

@@ -39,12 +39,15 @@ shown_bytes = 4096
 unfoldable pub compiling : Entry → List ℕ
 compiling entry = codes "Compiling into " ++ (entry.name.library ++ (codes ": " ++ entry.name.path))
 
+-- the end of the line of a file that was compiled
 unfoldable pub passed : List ℕ
 passed = codes " passed" ++ 10 ∷ []
 
+-- the end of the line of a file that the compiler refused
 unfoldable pub failed : List ℕ
 failed = codes " failed" ++ 10 ∷ []
 
+-- the end of the line of a file that depends on a refused one
 unfoldable pub skipped : List ℕ
 skipped = codes " skipped" ++ 10 ∷ []
 
@@ -62,12 +65,15 @@ files_text limit [] marks = []
 files_text limit (entry ∷ entries) [] = []
 files_text limit (entry ∷ entries) (mark ∷ marks) = file_text limit entry mark ++ files_text limit entries marks
 
+-- the last line where a file was refused
 unfoldable pub compile_failed : List ℕ
 compile_failed = codes "Compile failed" ++ 10 ∷ []
 
+-- the last line where files were compiled, and none was refused
 unfoldable pub compile_passed : List ℕ
 compile_passed = codes "Compile passed" ++ 10 ∷ []
 
+-- the last line where no file was compiled or refused
 unfoldable pub not_needed : List ℕ
 not_needed = codes "Re-compile not needed" ++ 10 ∷ []
 
@@ -83,9 +89,11 @@ build_text limit graph marks = files_text limit graph marks ++ build_line marks
 unfoldable pub program : List ℕ
 program = codes "vunit_run: "
 
+-- before the number of a line of `vunit.csv` that can't be read
 unfoldable pub bad_line : List ℕ
 bad_line = codes "vunit.csv: bad line "
 
+-- the folder has no project file
 unfoldable pub no_project : List ℕ
 no_project = codes "no vunit.toml and no vunit.csv"
 
@@ -93,28 +101,35 @@ no_project = codes "no vunit.toml and no vunit.csv"
 unfoldable pub file_words : FileName → List ℕ
 file_words file = file.library ++ (codes ", " ++ file.path)
 
+-- the project file can't be read as TOML
 unfoldable pub not_toml : List ℕ
 not_toml = codes "vunit.toml isn't TOML"
 
--- what is wrong with a key of a project file, or a part of it
+-- a key that `vunit.toml` has to have is missing
 unfoldable pub no_key : List ℕ → List ℕ
 no_key key = codes "vunit.toml: no key " ++ key
 
+-- a key of `vunit.toml` has a value of another form than it has to have
 unfoldable pub wrong_value : List ℕ → List ℕ
 wrong_value key = codes "vunit.toml: wrong value of " ++ key
 
+-- a library has the name `work`, which stands for the library of the file itself
 unfoldable pub work_library : List ℕ
 work_library = codes "a library may not be named work"
 
+-- after the name of what the project has twice
 unfoldable pub stands_twice : List ℕ
 stands_twice = codes " stands twice"
 
+-- two libraries of the project have this name
 unfoldable pub library_twice : List ℕ → List ℕ
 library_twice name = codes "library " ++ (name ++ stands_twice)
 
+-- no file has a path that this pattern of the project matches
 unfoldable pub nothing_matches : List ℕ → List ℕ
 nothing_matches pattern = codes "nothing matches " ++ pattern
 
+-- after a file that isn't in the project, though another one is said to depend on it
 unfoldable pub not_in_project : List ℕ
 not_in_project = codes " isn't in the project"
 
@@ -130,29 +145,37 @@ fault_words (fault.NothingMatches pattern) = nothing_matches pattern
 fault_words (fault.BadLine line) = bad_line ++ decimal line
 fault_words (fault.UnknownDependency name) = file_words name ++ not_in_project
 
+-- before the offset at which a string literal begins that doesn't end
 unfoldable pub unclosed_string : List ℕ
 unclosed_string = codes ": unclosed string at "
 
+-- before the offset at which an extended identifier begins that doesn't end
 unfoldable pub unclosed_extended : List ℕ
 unclosed_extended = codes ": unclosed extended identifier at "
 
+-- before the offset at which a delimited comment begins that doesn't end
 unfoldable pub unclosed_comment : List ℕ
 unclosed_comment = codes ": unclosed comment at "
 
+-- what is wrong with the tokens of a text, and at which offset
 abbrev pub lex_words : LexFault → List ℕ
 lex_words (lex.UnclosedString at) = unclosed_string ++ decimal at
 lex_words (lex.UnclosedExtended at) = unclosed_extended ++ decimal at
 lex_words (lex.UnclosedComment at) = unclosed_comment ++ decimal at
 
+-- after a file that the folder doesn't have
 unfoldable pub is_absent : List ℕ
 is_absent = codes " is absent"
 
+-- before the offset of a token that begins neither a context item nor a design unit
 unfoldable pub no_unit : List ℕ
 no_unit = codes ": no design unit at "
 
+-- before the offset at which a context item or design unit begins that has no end
 unfoldable pub not_ended : List ℕ
 not_ended = codes ": design unit not ended at "
 
+-- what is wrong with the design units of a text, and at which offset
 abbrev pub unit_words : UnitFault → List ℕ
 unit_words (unit.NotUnit at) = no_unit ++ decimal at
 unit_words (unit.NotEnded at) = not_ended ++ decimal at
@@ -169,31 +192,35 @@ unit_name library unit = library ++ (codes "." ++ unit)
 unfoldable pub missing_unit : List ℕ → List ℕ → List ℕ
 missing_unit library unit = codes ": no unit " ++ unit_name library unit
 
+-- before the name of an architecture that an entity doesn't have
 unfoldable pub no_architecture : List ℕ
 no_architecture = codes ": no architecture "
 
--- or an architecture of an entity
+-- what a file refers to and a library doesn't have: an architecture of an entity
 unfoldable pub missing_architecture : List ℕ → List ℕ → List ℕ → List ℕ
 missing_architecture library entity architecture = no_architecture ++ (architecture ++ (codes " of " ++ unit_name library entity))
 
--- the end of a line, and a file on the next
+-- the end of a line, and a file of a cycle on the next
 unfoldable pub cycle_line : FileName → List ℕ
 cycle_line file = 10 ∷ (codes "  " ++ file_words file)
 
+-- before the files of a cycle
 unfoldable pub cycle_word : List ℕ
 cycle_word = codes "cycle"
 
--- what is wrong with a bench, by its name
+-- a bench has more than one architecture
 unfoldable pub two_architectures : List ℕ → List ℕ
 two_architectures bench = codes "bench " ++ (bench ++ codes " has two architectures")
 
+-- a bench has no architecture
 unfoldable pub lacks_architecture : List ℕ → List ℕ
 lacks_architecture bench = codes "bench " ++ (bench ++ codes " has no architecture")
 
+-- a bench has a case without a name, or whose full name isn't UTF-8 or has a control character
 unfoldable pub bad_test_name : List ℕ → List ℕ
 bad_test_name bench = codes "bench " ++ (bench ++ codes " has a bad test name")
 
--- or with the full name of a test
+-- two cases have this full name
 unfoldable pub test_twice : List ℕ → List ℕ
 test_twice name = codes "test " ++ (name ++ stands_twice)
 
@@ -204,6 +231,7 @@ test_words (test.NoArchitecture bench) = lacks_architecture bench
 test_words (test.DuplicateTest name) = test_twice name
 test_words (test.BadName bench) = bad_test_name bench
 
+-- why the program refuses what it was asked, without its name before it; nothing where the compiler refused a file
 abbrev pub refusal_words : Refusal → List ℕ
 refusal_words refusal.NoProject = no_project
 refusal_words (refusal.Project fault) = fault_words fault
@@ -221,6 +249,7 @@ refusal_words (refusal.Compiler files) = []
 abbrev pub refusal_text : Refusal → List ℕ
 refusal_text reason = program ++ (refusal_words reason ++ 10 ∷ [])
 
+-- before the quantity that is over its limit
 unfoldable pub over_limit : List ℕ
 over_limit = codes "over limit: "
 
@@ -245,6 +274,7 @@ usage_text = codes "usage: vunit_run [-lfkmvq] [--compile] [--fail-fast] [--clea
 unfoldable pub bad_request : List ℕ
 bad_request = codes "bad request" ++ 10 ∷ []
 
+-- before each warning
 unfoldable pub warning_word : List ℕ
 warning_word = codes "warning: "
 

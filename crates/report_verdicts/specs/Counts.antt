@@ -9,11 +9,13 @@ use Rattle.test_spec.specs.declared.ends.Verdict.TheVariants.{Passed, Failed, Sk
 use Rattle.test_spec.specs.Verdicts.{is_passed_verdict}
 use Rattle.report_verdicts.specs.declared.tally.Tally.{Tally}
 
+-- the case has failed
 abbrev pub is_failed_verdict : Verdict → Bool
 is_failed_verdict Passed = false
 is_failed_verdict Failed = true
 is_failed_verdict Skipped = false
 
+-- the case was never started
 abbrev pub is_skipped_verdict : Verdict → Bool
 is_skipped_verdict Passed = false
 is_skipped_verdict Failed = false

@@ -43,6 +43,7 @@ xml_character character = if character == 65534 || character == 65535 then encod
 
 -- ## Lines
 
+-- the first line: XML 1.0 in UTF-8
 unfoldable pub xml_line : List ℕ
 xml_line = codes "<?xml version=\"1.0\" encoding=\"utf-8\"?>\n"
 
@@ -54,6 +55,7 @@ suite_line counts =
     ++ (codes "\" skipped=\"" ++ (decimal counts.skipped
     ++ codes "\" errors=\"0\">\n")))))
 
+-- the last line, which ends all cases
 unfoldable pub last_line : List ℕ
 last_line = codes "</testsuite>\n"
 
@@ -67,12 +69,13 @@ case_start run name =
     codes "  <testcase classname=\"" ++ (class_of run
     ++ (codes "\" name=\"" ++ (value name ++ codes "\"")))
 
--- and from there on
+-- a case from its verdict on
 unfoldable pub case_end : Verdict → List ℕ
 case_end Passed = codes "/>\n"
 case_end Failed = codes ">\n    <failure message=\"Failed\"/>\n  </testcase>\n"
 case_end Skipped = codes ">\n    <skipped/>\n  </testcase>\n"
 
+-- a case with its verdict
 abbrev pub case_element : TestRun → List ℕ → Verdict → List ℕ
 case_element run name verdict = case_start run name ++ case_end verdict
 

@@ -10,6 +10,7 @@ use Rattle.test_spec.specs.declared.ends.TheConstants.{SHOWN_LIMIT}
 use Rattle.report_verdicts.specs.declared.tally.Tally.{Tally}
 use Rattle.report_verdicts.specs.Counts.{all_verdicts, has_run_passed, have_all_passed, tally}
 
+-- the word for a verdict, with a space after it
 unfoldable pub verdict_word : Verdict → List ℕ
 verdict_word Passed = codes "pass "
 verdict_word Failed = codes "fail "
@@ -36,6 +37,7 @@ run_text verbose quiet run = (if shows_output verbose quiet run then shown SHOWN
 unfoldable pub count_line : Verdict → ℕ → ℕ → List ℕ
 count_line verdict count total = verdict_word verdict ++ (decimal count ++ (codes " of " ++ (decimal total ++ 10 ∷ [])))
 
+-- the line before the counts
 unfoldable pub summary_line : List ℕ
 summary_line = codes "==== Summary" ++ 10 ∷ []
 
@@ -48,6 +50,7 @@ verdict_line false = codes "Some failed!" ++ 10 ∷ []
 abbrev pub summary : Tally → Bool → List ℕ
 summary counts all = summary_line ++ (count_line Passed counts.passed counts.total ++ (count_line Failed counts.failed counts.total ++ (count_line Skipped counts.skipped counts.total ++ verdict_line all)))
 
+-- what is put where no run has a case
 unfoldable pub no_tests : List ℕ
 no_tests = codes "No tests were run!" ++ 10 ∷ []
 

@@ -7,6 +7,7 @@ ghost use Rattle.report_run.specs.Texts.{line_end, shown};
 use base::NoMemory;
 use std::alloc::Global;
 
+/// Puts bytes at the end of `out`.
 pub fn put(out: &mut Vec<u8>, bytes: &[u8]) -> Result<(), NoMemory>
     ensures { OnOk result (out.new.items ≡ out.old.items ++ bytes.now) }
 {

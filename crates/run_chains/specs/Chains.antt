@@ -30,9 +30,11 @@ pub record Deeds : Type 0 where
   pub events : List Event
   pub later : List DiskState
 
+-- the run of the program with these words and this answer that did this
 abbrev pub run_by : List (List ℕ) → Outcome → Deeds → ProgramRun
 run_by words result deeds = run_of words result deeds.disk_failed deeds.events deeds.later
 
+-- the run of the program with these words and this answer that did this, with the events of its tests
 abbrev pub tested_by : List (List ℕ) → Outcome → Deeds → TestedRun
 tested_by words result deeds = record { run = run_by words result deeds; tests = test_part deeds.events }
 

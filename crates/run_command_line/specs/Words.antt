@@ -30,7 +30,7 @@ valued name = record (new_rule name) { long = Some name }
 abbrev pub numbered : Text → Rule
 numbered name = record (valued name) { parser = Some (Unsigned 1 (2 ^ 64 - 1)) }
 
--- a short name for it, too
+-- an option with a short name too, as `-p`
 abbrev pub lettered : ℕ → Rule → Rule
 lettered letter rule = record rule { short = Some letter }
 
@@ -42,7 +42,7 @@ threads = record (lettered 112 (numbered (codes "num-threads"))) { defaults = co
 abbrev pub patterns : Rule
 patterns = record (new_rule (codes "patterns")) { range = Some (record { start_inclusive = 0; end_inclusive = usize_max }); defaults = codes "*" ∷ [] }
 
--- with the options that say what is to be done, and how
+-- the command with the options that say what is to be done, and how
 abbrev pub with_modes : App → App
 with_modes app =
     with_rule (with_rule (with_rule (with_rule (with_rule (with_rule (with_rule app
@@ -54,7 +54,7 @@ with_modes app =
     (flag (codes "fail-fast")))
     (flag (codes "clean"))
 
--- with those that say what is written, and the others
+-- the command with the options that say what is written, all others, and the patterns
 abbrev pub with_outputs : App → App
 with_outputs app =
     with_rule (with_rule (with_rule (with_rule (with_rule (with_rule (with_rule (with_rule app
@@ -78,6 +78,7 @@ bare_command = record {
   subs = [];
 }
 
+-- the whole command: all options, and the patterns
 abbrev pub command_line : App
 command_line = with_outputs (with_modes bare_command)
 
@@ -87,6 +88,7 @@ command_line = with_outputs (with_modes bare_command)
 abbrev pub has_flag : List Row → Text → Bool
 has_flag rows name = option_map_or (bytes_eq (codes "true")) (first_of name rows) false
 
+-- a text that may be missing, as the program holds it
 abbrev pub maybe : Option Text → MaybeText
 maybe None = Nothing
 maybe (Some text) = Given text
@@ -99,7 +101,7 @@ number_of text = if is_unsigned_in 1 (2 ^ 64 - 1) text then Some (digits_value 1
 abbrev pub number_in : List Row → Text → ℕ → Option ℕ
 number_in rows name other = option_map_or number_of (first_of name rows) (Some other)
 
--- what is found says, over these two numbers
+-- what found options say, with these numbers of threads and of packages
 abbrev pub setting_over : List Row → ℕ → ℕ → Setting
 setting_over rows threads size = record {
   list = has_flag rows (codes "list");
@@ -119,10 +121,11 @@ setting_over rows threads size = record {
   patterns = unwrap_or (all_of (codes "patterns") rows) [];
 }
 
+-- what found options say; nothing where the number of threads or of packages isn't one from 1 to 2^64 - 1
 abbrev pub setting_in : List Row → Option Setting
 setting_in rows = option_and_then (λ threads. option_map (setting_over rows threads) (number_in rows (codes "generate") 0)) (number_in rows (codes "num-threads") 1)
 
--- nothing is wrong
+-- a list has no items: nothing is wrong
 abbrev pub has_none : {X : Type 0} → List X → Bool
 has_none [] = true
 has_none (x ∷ xs) = false

@@ -58,7 +58,7 @@ pub data HistoryStep : Type 0 where
   Ran : ProgramRun → HistoryStep
   Stopped : ProgramRun → Stop → HistoryStep
 
--- an empty disk's
+-- the image of an empty disk: neither side has a byte
 abbrev pub empty_image : Image
 empty_image = record { a = []; b = [] }
 

@@ -19,7 +19,8 @@ pub record IsRightRun (world : World) (order : Order) (run : ProgramRun) (first 
   pub asked : (before rest : List Event) (ticket : ℕ) (request : Request) → run.events ≡ before ++ Started ticket request ∷ rest →
       (position : ℕ) × (next_position (work_over world.records_of order first) (book_of (work_over world.records_of order first) before) ≡ Some position) × (clean_request world.answer order.graph position ≡ Some request)
 
--- the same of a run that words and sources give no order: it does nothing
+-- A run is right where words and sources give it an order. Where they give none it does nothing, and the disk has true records
+-- alone.
 abbrev pub IsRightStep : World → Option Order → ProgramRun → DiskState → Type 0
 IsRightStep world None run first = IsIdleRun run × IsFaithfulDisk world.answer world.records_of first
 IsRightStep world (Some order) run first = IsRightRun world order run first

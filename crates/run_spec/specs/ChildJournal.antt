@@ -43,6 +43,7 @@ pub record Book : Type 0 where
   pub ends : List End
   pub halted : Bool
 
+-- before the first event of a build
 abbrev pub empty_book : Book
 empty_book = record { taken = []; runs = []; ends = []; halted = false }
 
@@ -56,6 +57,7 @@ unfoldable pub output_at : List EndedChild → ℕ → Option (List ℕ)
 output_at [] position = None
 output_at (end ∷ ended) position = if end.position == position && end.ok then Some end.output else output_at ended position
 
+-- the first artefact, or the second where there is no first
 abbrev pub or_else : Option (List ℕ) → Option (List ℕ) → Option (List ℕ)
 or_else None other = other
 or_else (Some artefact) other = Some artefact
@@ -84,10 +86,11 @@ next_artefact work ended so_far position =
 unfoldable pub artefact_by : Work → List EndedChild → ℕ → Option (List ℕ)
 artefact_by work ended position = upto (next_artefact work ended) None (length work.graph) position
 
--- a running and an ended child, apart from its request and its exit
+-- a running child without its request
 abbrev pub child_of_run : Run → RunningChild
 child_of_run run = record { ticket = run.ticket; position = run.position }
 
+-- an ended child without its request: it ended well where its code is 0
 abbrev pub child_of_end : End → EndedChild
 child_of_end end = record { position = end.position; ok = end.exit.code == 0; output = end.exit.output }
 
@@ -171,6 +174,7 @@ unfoldable pub moves_after : Work → Book → List Event → List Move
 moves_after setting book [] = []
 moves_after setting book (event ∷ events) = move_of setting book event ∷ moves_after setting (after setting book event) events
 
+-- the moves of the events of a build, from its beginning on
 abbrev pub moves_of : Work → List Event → List Move
 moves_of setting events = moves_after setting empty_book events
 
@@ -180,6 +184,7 @@ IsRequested setting book (Started ticket request) = option_and_then (request_at 
 IsRequested setting book (Ended ticket exit) = Unit {0}
 IsRequested setting book (Gone ticket) = Unit {0}
 
+-- each start is made with what its file's compiler is started with, over what has happened before it
 unfoldable pub AreRequested : Work → Book → List Event → Type 0
 AreRequested setting book [] = Unit {0}
 AreRequested setting book (event ∷ events) = IsRequested setting book event × AreRequested setting (after setting book event) events

@@ -14,6 +14,7 @@ pub data Result : Type 0 where
   Refused : ℕ → List ℕ → Result
   Blocked : Result
 
+-- the file that was made with its artefact; nothing where it was refused or blocked
 abbrev pub built_of : Option Result → Option BuiltFile
 built_of (Some (Made file)) = Some file
 built_of (Some (Refused code output)) = None
@@ -41,6 +42,8 @@ unfoldable pub results_after : (Request → Exit) → List Result → List Entry
 results_after answer results [] = results
 results_after answer results (entry ∷ entries) = results_after answer (results ++ next_result answer results entry ∷ []) entries
 
+-- What a compiler that answers so makes of each file of a graph, in order, where nothing is recorded. A file is compiled where
+-- all that it depends on is made.
 abbrev pub clean_build : (Request → Exit) → List Entry → List Result
 clean_build answer graph = results_after answer [] graph
 

@@ -27,6 +27,7 @@ record_at graph position below artefact = record { asked = asked_over graph posi
 abbrev pub commit_of : List Entry → End → List Record
 commit_of graph end = if end.exit.code == 0 then record_at graph end.position end.below end.exit.output ∷ [] else []
 
+-- what is committed of all children that ended, in the order of their ends
 abbrev pub commits_of : List Entry → List End → List Record
 commits_of graph ends = flat_map (commit_of graph) ends
 

@@ -42,6 +42,7 @@ steady_mark (settled.Refused code output) = Refused code output
 abbrev pub steady_marks : (Request → Exit) → List Entry → (ℕ → List BuiltFile → Option (List ℕ)) → List Mark
 steady_marks answer graph current = map (λ position. steady_mark (settle answer graph current position)) (below (length graph))
 
+-- the compiler ended with another code than 0
 abbrev pub is_refused : Mark → Bool
 is_refused Fresh = false
 is_refused Compiled = false
@@ -53,6 +54,7 @@ is_refused Left = false
 abbrev pub NoRefusalHalts : Work → List Event → Type 0
 NoRefusalHalts setting events = (setting.keep_going ≡ true) ⊎ (list_any is_refused (marks_of setting events) ≡ false)
 
+-- the compiler made the file in this build
 abbrev pub is_compiled : Mark → Bool
 is_compiled Fresh = false
 is_compiled Compiled = true

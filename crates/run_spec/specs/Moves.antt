@@ -30,6 +30,7 @@ pub record Core : Type 0 where
   pub ended : List EndedChild
   pub halted : Bool
 
+-- before the first move
 abbrev pub empty_core : Core
 empty_core = record { taken = []; running = []; ended = []; halted = false }
 
@@ -131,6 +132,7 @@ IsGreedyMove job core (Ends ticket ok output) = start_now job core ≡ None
 IsGreedyMove job core (Loses ticket) = start_now job core ≡ None
 IsGreedyMove job core Halts = Unit {0}
 
+-- each end and each loss comes only where nothing is to be started at that moment
 unfoldable pub GreedyMoves : Job → Core → List Move → Type 0
 GreedyMoves job core [] = Unit {0}
 GreedyMoves job core (move ∷ moves) = IsGreedyMove job core move × GreedyMoves job (after_move job core move) moves

@@ -20,6 +20,7 @@ pub data Settled : Type 0 where
   Compiled : List ℕ → Settled
   Refused : ℕ → List ℕ → Settled
 
+-- the artefact of a file that is fresh or compiled; none where it is blocked or refused
 abbrev pub settled_artefact : Settled → Option (List ℕ)
 settled_artefact Blocked = None
 settled_artefact (Fresh artefact) = Some artefact

@@ -7,6 +7,7 @@ use base::{Items, Text};
 pub enum Mark {
     /// Its record is current, so it wasn't compiled.
     Fresh,
+    /// The compiler made it in this build.
     Compiled,
     /// The compiler ended with this code, which isn't 0, and printed this.
     Refused { code: u32, output: Text },
@@ -16,4 +17,5 @@ pub enum Mark {
     Left,
 }
 
+/// What became of the files of a build, one mark for each, in compile order.
 pub type MarkList = Items<Mark>;

@@ -26,7 +26,7 @@ pub record TestedRun : Type 0 where
   pub run : ProgramRun
   pub tests : List Event
 
--- a stop of it, and the events of its tests so far
+-- a stop of a run, and the events of its tests so far
 pub record TestedStop : Type 0 where
   pub stop : Stop
   pub tests : List Event

@@ -25,7 +25,7 @@ pub record AreRightTests (answer : Request → Exit) (order : Order) (plan : Tes
       (position : ℕ) × (next_run (clean_setting answer order plan) (book_of_tests (clean_setting answer order plan) before) ≡ Some position)
       × (test_request_at (clean_setting answer order plan) position ≡ Some request)
 
--- the same of a run whose words and sources give no order or no plan: it starts no test
+-- The tests of a run are right where words and sources give an order and a plan. Where they give none, no test is started.
 abbrev pub IsRightTesting : (Request → Exit) → Option Order → Option TestPlan → (tests : List Event) → Type 0
 IsRightTesting answer None plan tests = tests ≡ []
 IsRightTesting answer (Some order) None tests = tests ≡ []

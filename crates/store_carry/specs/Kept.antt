@@ -22,7 +22,7 @@ pub record IsKeptRequest (kept : RequestRecord) : Type 0 where
   pub apart : AllPairs (λ a b. a.name ≢ b.name) kept.asked.below
   pub others : All (λ other. other.name ≢ kept.asked.name) kept.asked.below
 
--- All products and records of a shelf are such ones.
+-- Each product and each record of a shelf is within the limits that payloads have.
 pub record IsKeptShelf (shelf : RequestShelf) : Type 0 where
   pub products : All IsKeptProduct shelf.products
   pub records : All IsKeptRequest shelf.records

@@ -21,12 +21,15 @@ use Rattle.store_carry.specs.declared.plan.CarryStep.TheVariants as steps
 use Rattle.store_carry.specs.declared.plan.CarryPlan.{CarryPlan}
 use Rattle.store_carry.specs.Kept.{IsKeptShelf}
 
+-- a record whose parts are all empty, for a number that no record has
 abbrev pub blank_request : RequestRecord
 blank_request = record { asked = record { command = []; name = record { library = []; path = [] }; text = []; below = [] }; artefact = [] }
 
+-- the record of a number; the blank one where no record has it
 abbrev pub shelf_record_at : List RequestRecord → ℕ → RequestRecord
 shelf_record_at records number = slice_index_or records number blank_request
 
+-- the text of a number; no bytes where no text has it
 abbrev pub text_of : List (List ℕ) → ℕ → List ℕ
 text_of texts number = slice_index_or texts number []
 
@@ -82,7 +85,7 @@ pub record AreNumbers (size : ℕ) (set : NumbersBelow) : Type 0 where
 abbrev pub carried_by : RequestShelf → CarryPlan → CarriedSoFar
 carried_by shelf plan = record { texts = map (text_of shelf.texts) plan.texts.numbers; products = numbered_products shelf plan.products.numbers; payloads = map (step_payload shelf plan.products.numbers) plan.steps.items }
 
--- with one more payload
+-- what is carried so far, with one more payload
 abbrev pub with_carried_payload : CarriedSoFar → RequestPayload → CarriedSoFar
 with_carried_payload so_far payload = record { texts = so_far.texts; products = so_far.products; payloads = so_far.payloads ++ payload ∷ [] }
 

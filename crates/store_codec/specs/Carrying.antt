@@ -15,6 +15,7 @@ pub record CarriedSoFar : Type 0 where
   pub products : List BuiltFile
   pub payloads : List RequestPayload
 
+-- what is carried before the first record
 abbrev pub none_carried : CarriedSoFar
 none_carried = record { texts = []; products = []; payloads = [] }
 
@@ -30,7 +31,7 @@ with_carried_text texts text = with_text texts (carried_ref texts text)
 abbrev pub number_of_built : List BuiltFile → BuiltFile → ℕ
 number_of_built products product = position_or_len (λ other. is_same_built other product) products
 
--- a product alone, where it isn't there yet
+-- what is carried so far, with a product that may be there already
 unfoldable pub carry_product : CarriedSoFar → BuiltFile → CarriedSoFar
 carry_product so_far product =
     if list_any (is_same_built product) so_far.products then so_far
@@ -40,14 +41,15 @@ carry_product so_far product =
 abbrev pub carried_draft : CarriedSoFar → RequestRecord → RequestDraft
 carried_draft so_far kept = record { name = kept.asked.name; command = kept.asked.command; source = carried_ref so_far.texts kept.asked.text; deps = map (number_of_built so_far.products) kept.asked.below; artefact = carried_ref (with_carried_text so_far.texts kept.asked.text) kept.artefact }
 
+-- a record after the products below it: its text, its artefact and its product, each added only where it is new, and its payload
 unfoldable pub carry_own : CarriedSoFar → RequestRecord → CarriedSoFar
 carry_own so_far kept = record { texts = with_carried_text (with_carried_text so_far.texts kept.asked.text) kept.artefact; products = with_built so_far.products (built_of_record kept); payloads = so_far.payloads ++ OfRequest (carried_draft so_far kept) ∷ [] }
 
--- a record: the products of its dependencies, in its order, and then itself
+-- what is carried so far, with a record: first the products below it, in their order, and then the record itself
 unfoldable pub carry_request : CarriedSoFar → RequestRecord → CarriedSoFar
 carry_request so_far kept = carry_own (fold carry_product so_far kept.asked.below) kept
 
--- records, in order
+-- what is carried after these records, in order
 unfoldable pub carried_from : CarriedSoFar → List RequestRecord → CarriedSoFar
 carried_from so_far records = fold carry_request so_far records
 

@@ -18,23 +18,28 @@ use Rattle.store_codec.specs.Forms.RequestPayload.{OfProduct, OfRequest}
 abbrev pub ranged : List ℕ → ByteRange → List ℕ
 ranged bytes range = take range.count (drop range.start bytes)
 
--- the words and the numbers that are counted from the start of a range
+-- the texts that are counted from the start of a range; none where they can't be read
 abbrev pub counted_words : List ℕ → ByteRange → List (List ℕ)
 counted_words bytes range = option_map_or (λ read. read.0) (counted_at text_at (drop range.start bytes)) []
 
+-- the numbers of eight bytes that are counted from the start of a range; none where they can't be read
 abbrev pub counted_numbers : List ℕ → ByteRange → List ℕ
 counted_numbers bytes range = option_map_or (λ read. read.0) (counted_at (number_at w64) (drop range.start bytes)) []
 
+-- the text that was found in bytes: by its number, or the bytes of its range
 abbrev pub ref_in_range : List ℕ → TextRange → TextRef
 ref_in_range bytes (Known number) = ByNumber number
 ref_in_range bytes (Full range) = InFull (ranged bytes range)
 
+-- the product whose parts are at these ranges of bytes
 abbrev pub product_in_ranges : List ℕ → ProductRanges → ProductDraft
 product_in_ranges bytes draft = record { name = record { library = ranged bytes draft.library; path = ranged bytes draft.path }; artefact = ref_in_range bytes draft.artefact }
 
+-- the record whose parts are at these ranges of bytes
 abbrev pub request_in_ranges : List ℕ → RequestRanges → RequestDraft
 request_in_ranges bytes draft = record { name = record { library = ranged bytes draft.library; path = ranged bytes draft.path }; command = counted_words bytes draft.words; source = ref_in_range bytes draft.source; deps = counted_numbers bytes draft.deps; artefact = ref_in_range bytes draft.artefact }
 
+-- the payload whose parts are at these ranges of bytes
 abbrev pub payload_in_ranges : List ℕ → PayloadRanges → RequestPayload
 payload_in_ranges bytes (ranges.OfProduct draft) = OfProduct (product_in_ranges bytes draft)
 payload_in_ranges bytes (ranges.OfRequest draft) = OfRequest (request_in_ranges bytes draft)
@@ -48,7 +53,7 @@ abbrev pub IsRangeAt : {Y : Type 0} → ℕ → (ByteRange → Y) → List ℕ �
 IsRangeAt at view bytes None read = read ≡ None
 IsRangeAt at view bytes (Some range) read = (read ≡ Some (view range, drop (range_end range) bytes)) × (at ≤ range_end range) × (range_end range ≤ length bytes)
 
--- The same of a thing that is found with the offset after it.
+-- What was found from an offset on, with the offset after it, seen by view, is what is read there, and reading goes on after it.
 abbrev pub IsReadAt : {X Y : Type 0} → ℕ → (X → Y) → List ℕ → Option (X × ℕ) → Option (Y × List ℕ) → Type 0
 IsReadAt at view bytes None read = read ≡ None
 IsReadAt at view bytes (Some found) read = (read ≡ Some (view found.0, drop found.1 bytes)) × (at ≤ found.1) × (found.1 ≤ length bytes)

@@ -18,10 +18,11 @@ pub record RequestShelf : Type 0 where
   pub products : List BuiltFile
   pub records : List RequestRecord
 
+-- what no payloads stand for
 abbrev pub bare_shelf : RequestShelf
 bare_shelf = record { texts = []; products = []; records = [] }
 
--- from low to high
+-- a number from low to high, both included
 abbrev pub is_within : ℕ → ℕ → ℕ → Bool
 is_within low high n = nat_le low n && nat_le n high
 
@@ -43,17 +44,20 @@ abbrev pub told_text : List (List ℕ) → TextRef → List ℕ
 told_text texts (ByNumber number) = slice_index_or texts number []
 told_text texts (InFull text) = text
 
--- the texts with a new one
+-- the texts with one that may be new
 abbrev pub with_text : List (List ℕ) → TextRef → List (List ℕ)
 with_text texts (ByNumber number) = texts
 with_text texts (InFull text) = texts ++ text ∷ []
 
+-- the same name and the same artefact
 abbrev pub is_same_built : BuiltFile → BuiltFile → Bool
 is_same_built a b = is_same_name a.name b.name && bytes_eq a.artefact b.artefact
 
+-- a product whose parts are all empty, for a number that no product has
 abbrev pub no_product : BuiltFile
 no_product = record { name = record { library = []; path = [] }; artefact = [] }
 
+-- the product of a number; the empty one where no product has it
 abbrev pub product_at : List BuiltFile → ℕ → BuiltFile
 product_at products number = slice_index_or products number no_product
 
@@ -70,6 +74,7 @@ unfoldable pub is_new_product : RequestShelf → ProductDraft → Bool
 is_new_product shelf draft =
     has_name_sizes draft.name && (is_text_ref shelf.texts draft.artefact && (nat_le (length (told_text shelf.texts draft.artefact)) ARTEFACT_LIMIT && not (list_any (is_same_built (drafted_product shelf.texts draft)) shelf.products)))
 
+-- one more product, with its artefact where that is new
 abbrev pub with_product : RequestShelf → ProductDraft → RequestShelf
 with_product shelf draft = record { texts = with_text shelf.texts draft.artefact; products = shelf.products ++ drafted_product shelf.texts draft ∷ []; records = shelf.records }
 
@@ -95,14 +100,16 @@ drafted_record shelf draft = record { asked = record { command = draft.command; 
 abbrev pub with_request : RequestShelf → RequestDraft → RequestShelf
 with_request shelf draft = record { texts = with_text (with_text shelf.texts draft.source) draft.artefact; products = with_built shelf.products (record { name = draft.name; artefact = drafted_artefact shelf.texts draft }); records = shelf.records ++ drafted_record shelf draft ∷ [] }
 
+-- one more payload, taken up only where what it adds is new and valid after those before it
 unfoldable pub with_request_payload : RequestShelf → RequestPayload → RequestShelf
 with_request_payload shelf (OfProduct draft) = if is_new_product shelf draft then with_product shelf draft else shelf
 with_request_payload shelf (OfRequest draft) = if is_request shelf draft then with_request shelf draft else shelf
 
--- bytes that spell no payload add nothing
+-- what payloads stand for after one more, which is given as bytes; bytes that spell none add nothing
 unfoldable pub after_request_payload : RequestShelf → List ℕ → RequestShelf
 after_request_payload shelf bytes = option_map_or (with_request_payload shelf) (request_payload_in bytes) shelf
 
+-- what payloads stand for, taken up in order
 unfoldable pub request_shelf_of : List (List ℕ) → RequestShelf
 request_shelf_of payloads = fold after_request_payload bare_shelf payloads
 
@@ -110,7 +117,8 @@ request_shelf_of payloads = fold after_request_payload bare_shelf payloads
 abbrev pub requests_among : List (List ℕ) → List RequestRecord
 requests_among payloads = (request_shelf_of payloads).records
 
--- What a draft of a record has.
+-- A draft of a record is valid on a shelf: its parts are within their limits, its texts are there or new, and the products
+-- below it are there, of other files with different names.
 pub record IsRequest (shelf : RequestShelf) (draft : RequestDraft) : Type 0 where
   pub name : FitsName draft.name
   pub command : FitsCommand draft.command
@@ -123,7 +131,8 @@ pub record IsRequest (shelf : RequestShelf) (draft : RequestDraft) : Type 0 wher
   pub apart : AllPairs (λ a b. a.name ≢ b.name) (map (product_at shelf.products) draft.deps)
   pub others : All (λ other. other.name ≢ draft.name) (map (product_at shelf.products) draft.deps)
 
--- What a draft of a new product has.
+-- A draft of a product is valid on a shelf: its parts are within their limits, its artefact is there or new, and no product
+-- there is the same.
 pub record IsNewProduct (shelf : RequestShelf) (draft : ProductDraft) : Type 0 where
   pub name : FitsName draft.name
   pub artefact : is_text_ref shelf.texts draft.artefact ≡ true

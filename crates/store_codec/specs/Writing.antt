@@ -13,24 +13,29 @@ abbrev pub ref_or : Option ℕ → List ℕ → TextRef
 ref_or (Some number) text = ByNumber number
 ref_or None text = InFull text
 
+-- the text of a part: by its number, where it has one, and else in full
 abbrev pub part_ref : TextPart → TextRef
 part_ref part = ref_or part.known part.text.now
 
+-- the product that has these parts
 abbrev pub product_of_parts : ProductParts → ProductDraft
 product_of_parts parts = record { name = parts.name.now; artefact = part_ref parts.artefact }
 
--- the words are handed in apart, since the parts have their bytes
+-- the record that has these parts; the words of its command are handed in apart, since the parts have their bytes
 abbrev pub request_of_parts : List (List ℕ) → RequestParts → RequestDraft
 request_of_parts command parts = record { name = parts.name.now; command = command; source = part_ref parts.source; deps = parts.deps.now; artefact = part_ref parts.artefact }
 
--- The sizes of what is written.
+-- a text has at most 4,194,304 bytes
 abbrev pub HasPartSizes : TextPart → Type 0
 HasPartSizes part = length part.text.now ≤ TEXT_LIMIT
 
+-- The parts of a product are within their limits.
 pub record HasProductSizes (parts : ProductParts) : Type 0 where
   pub name : FitsName parts.name.now
   pub artefact : HasPartSizes parts.artefact
 
+-- The parts of a record are within their limits. The words are handed in as bytes: 64 words of 1,024 bytes, with their count
+-- and lengths, take 65,796.
 pub record HasRequestSizes (parts : RequestParts) : Type 0 where
   pub name : FitsName parts.name.now
   pub words : length parts.words.now ≤ 65796

@@ -17,6 +17,7 @@ use Rattle.store_holdings.specs.declared.additions.RequestAddition.{RequestAddit
 use Rattle.store_holdings.specs.declared.asking.TextRefs.{TextRefs}
 use Rattle.outside.specs.Records.{HasLatest, latest_built}
 
+-- a file whose parts are all empty, for a position that no file has
 abbrev pub no_entry : Entry
 no_entry = record { name = record { library = []; path = [] }; command = []; text = []; deps = [] }
 

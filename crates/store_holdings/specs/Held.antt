@@ -28,6 +28,7 @@ pub record TakenState : Type 0 where
 abbrev pub AreLentBy : List Entry → List (List ℕ) → Type 0
 AreLentBy files lent = (number : ℕ) (other : Entry) → number < length lent → slice_index_or lent number [] ≡ (slice_index_or files number other).text
 
+-- the least room of the lists and tables that a payload adds to: where it isn't 0, one more record fits, which may add two texts
 abbrev pub held_room : HeldList → PlacedShelf → ℕ
 held_room held shelf = min held.room (min (text_room shelf.texts - 1) (min shelf.products.room (min (vec_capacity shelf.rows - vec_len shelf.rows) shelf.latest.room)))
 

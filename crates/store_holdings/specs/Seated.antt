@@ -14,7 +14,7 @@ pub record HasSeat (shelf : RequestShelf) (name : FileName) (seat : Seat) : Type
   pub product : seat.product < length shelf.products
   pub built : (kept : RequestRecord) → slice_get shelf.records seat.row ≡ Some kept → product_at shelf.products seat.product ≡ built_of_record kept
 
--- such a seat, or that the name has no record
+-- the seat of a name, or none where the name has no record
 abbrev pub IsSeat : RequestShelf → FileName → Option Seat → Type 0
 IsSeat shelf name None = latest_request name shelf.records ≡ None
 IsSeat shelf name (Some seat) = HasSeat shelf name seat
@@ -24,7 +24,7 @@ abbrev pub HasTextSaid : RequestShelf → Entry → Option Seat → Type 0
 HasTextSaid shelf entry None = Unit {0}
 HasTextSaid shelf entry (Some seat) = seat.has_text ≡ true → (kept : RequestRecord) → slice_get shelf.records seat.row ≡ Some kept → kept.asked.text ≡ entry.text
 
--- one for each file of a graph
+-- one seat, or none, for each file of a graph, by its name
 pub record AreSeats (shelf : RequestShelf) (graph : List Entry) (seats : List (Option Seat)) : Type 0 where
   pub each : length seats ≡ length graph
   pub is : (at : ℕ) (other : Entry) → at < length graph → IsSeat shelf (slice_index_or graph at other).name (slice_index_or seats at None)
@@ -41,7 +41,7 @@ pub record HasLatestProduct (shelf : RequestShelf) (name : FileName) (product : 
   pub there : product < length shelf.products
   pub built : product_at shelf.products product ≡ built_of_record kept
 
--- such a number, or that the name has no record
+-- the number of the product that the latest record of a name built, or none where the name has no record
 abbrev pub IsLatestProduct : RequestShelf → FileName → Option ℕ → Type 0
 IsLatestProduct shelf name None = latest_request name shelf.records ≡ None
 IsLatestProduct shelf name (Some product) = HasLatestProduct shelf name product

@@ -172,7 +172,8 @@ impl<'g> RequestHoldings<'g> {
         self.seats_in(alloc, graph, false)
     }
 
-    /// The same of a graph whose texts are lent, which aren't compared with themselves then.
+    /// For each file of a graph whose texts are lent the seat of its latest record, if it has one. A lent text isn't compared with
+    /// itself.
     pub fn lent_seats(&self, alloc: Global, graph: &Graph) -> Result<Seats, NoMemory>
         requires { AreLentBy graph.now self.now.lent }
         ensures { IfOk result (AreSeats (request_shelf_of self.now.payloads) graph.now) }

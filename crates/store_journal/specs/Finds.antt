@@ -4,7 +4,7 @@ use Rattle.store_journal.specs.declared.finding.FoundForm.{FoundForm}
 use Rattle.store_journal.specs.declared.finding.FoundForm.TheVariants.{Newer, Older}
 use Rattle.store_journal.specs.Journals.{JournalState}
 
--- the journal
+-- the journal that was opened, for either form
 abbrev pub found_journal : {N O : Type 0} → FoundForm N O → JournalState
 found_journal (Newer opened) = opened.journal
 found_journal (Older opened) = opened.journal
@@ -14,12 +14,13 @@ abbrev pub found_taken : {N O : Type 0} → (N → List (List ℕ)) → (O → L
 found_taken newer older (Newer opened) = newer opened.payloads
 found_taken newer older (Older opened) = older opened.payloads
 
--- it is of the form that was found
+-- the journal is of the form that was found
 abbrev pub IsOfFoundForm : {N O : Type 0} → (newer older : ℕ) → FoundForm N O → Type 0
 IsOfFoundForm newer older (Newer opened) = opened.journal.form ≡ newer
 IsOfFoundForm newer older (Older opened) = opened.journal.form ≡ older
 
--- what took its payloads lends these texts, what takes those of the newer form or of the older one
+-- what took the payloads of the journal lends these texts: the first ones where they are of the newer form, and the others
+-- where they are of the older one
 abbrev pub LendsStill : {N O : Type 0} → (N → List (List ℕ)) → (O → List (List ℕ)) → (newer older : List (List ℕ)) → FoundForm N O → Type 0
 LendsStill of_newer of_older newer older (Newer opened) = of_newer opened.payloads ≡ newer
 LendsStill of_newer of_older newer older (Older opened) = of_older opened.payloads ≡ older

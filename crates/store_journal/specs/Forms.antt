@@ -19,7 +19,7 @@ pub record HoldsFormAs (form : ℕ) (before image : Image) : Type 0 where
   pub live : has_form form image ≡ has_form form before
   pub same : payloads form image ≡ payloads form before
 
--- the same of each form
+-- each form is live where it was, with the payloads that it had
 abbrev pub HoldsSame : (before image : Image) → Type 0
 HoldsSame before image = (form : ℕ) → HoldsFormAs form before image
 

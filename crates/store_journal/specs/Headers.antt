@@ -10,7 +10,7 @@ use Rattle.store_journal.specs.Payloads.{counting, generation_of, is_live}
 abbrev pub header_in : ℕ → List ℕ → Option Header
 header_in form bytes = if is_live form bytes then Some (record { generation = generation_of bytes; len = length bytes }) else None
 
--- the same of both sides
+-- what both sides of an image say of themselves, for a form
 abbrev pub headers_in : ℕ → Image → Headers
 headers_in form image = record { a = header_in form image.a; b = header_in form image.b }
 

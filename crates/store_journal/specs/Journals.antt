@@ -32,12 +32,12 @@ pub record IsSpelled (count : ℕ) (payloads : List (List ℕ)) (bytes : List �
   pub count_is : count ≡ 19 + length (flat_map block payloads)
   pub small : All (λ payload. length payload < 2 ^ 32) payloads
 
--- no payload follows
+-- No payload follows these ones on a side.
 pub record EndsAt (count : ℕ) (payloads : List (List ℕ)) (bytes : List ℕ) : Type 0 where
   pub spelled : IsSpelled count payloads bytes
   pub none : payload_at (spelled.gate ∷ spelled.rest) ≡ None
 
--- the gate isn't open
+-- The gate after these payloads of a side isn't open.
 pub record HasClosedGateAt (count : ℕ) (payloads : List (List ℕ)) (bytes : List ℕ) : Type 0 where
   pub spelled : IsSpelled count payloads bytes
   pub closed : spelled.gate ≢ 1
@@ -78,6 +78,7 @@ abbrev pub OpensAt : Image → Option Side → JournalState → Type 0
 OpensAt image None journal = CountsAs A 1 journal
 OpensAt image (Some side) journal = CountsAs side (generation_of (image_side side image)) journal
 
+-- the journal that is opened on an image for a form: of the side that counts, with its generation, or of A and 1 where none counts
 abbrev pub OpensAs : ℕ → Image → JournalState → Type 0
 OpensAs form image journal = OpensAt image (counting form image) journal
 

@@ -10,7 +10,7 @@ use Rattle.outside.specs.declared.disk.Side.{Side}
 use Rattle.outside.specs.declared.disk.Side.TheVariants.{A, B}
 use Rattle.outside.specs.Disks.{Image, image_side}
 
--- what a live side of a form begins with: a 1, the mark, and the form
+-- what a live side of a form begins with: a 1, the eight bytes `VUNITREC`, and the form
 abbrev pub mark : ℕ → List ℕ
 mark form = 1 ∷ (codes "VUNITREC" ++ form ∷ [])
 

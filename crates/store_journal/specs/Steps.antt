@@ -13,9 +13,11 @@ unfoldable pub Went : List Step → Moments → Moments → Type 0
 Went [] old new = ⊥
 Went (step ∷ steps) old new = Goes step.during old new ⊎ ((middle : Moments) × Goes step.during old middle × (middle.now ≡ step.after) × Went steps middle new)
 
+-- a write of bytes to a side from an offset on, with the sync that makes it last
 abbrev pub write_step : Side → ℕ → List ℕ → DiskState → Step
 write_step side at bytes disk = record { during = on_side side (writing at (length bytes)) disk; after = on_side side (written_through at bytes) disk }
 
+-- a cut of a side to no bytes, with the sync that makes it last
 abbrev pub cut_step : Side → DiskState → Step
 cut_step side disk = record { during = on_side side (cutting 0) disk; after = on_side side (cut_through 0) disk }
 

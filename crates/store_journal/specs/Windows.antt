@@ -6,11 +6,11 @@ use Rattle.outside.specs.Disks.{bytes_at}
 use Rattle.store_journal.specs.declared.windows.Window.{Window}
 use Rattle.store_journal.specs.Payloads.{block, payload_at}
 
--- these are the bytes of a side from where it begins on
+-- the bytes of a window are those of a side from the start of the window on
 abbrev pub IsWindowOf : List ℕ → Window → Type 0
 IsWindowOf reads window = window.bytes.items ≡ bytes_at window.start (length window.bytes.items) reads
 
--- so many bytes from an offset on are among them
+-- A window has so many bytes from an offset on.
 pub record Covers (window : Window) (at count : ℕ) : Type 0 where
   pub from : window.start ≤ at
   pub to : at + count ≤ window.start + length window.bytes.items
@@ -20,7 +20,7 @@ abbrev pub IsCountOf : List ℕ → Option ℕ → Type 0
 IsCountOf bytes None = payload_at bytes ≡ None
 IsCountOf bytes (Some count) = take 5 bytes ≡ 1 ∷ number_bytes count
 
--- The payload that it opens, if it opens one.
+-- The payload that is opened by the gate that these bytes begin with, if it opens one.
 abbrev pub IsNextOf : List ℕ → Option (List ℕ) → Type 0
 IsNextOf bytes None = payload_at bytes ≡ None
 IsNextOf bytes (Some payload) = bytes ≡ block payload ++ drop (5 + length payload) bytes

@@ -21,7 +21,7 @@ pub struct Header {
     pub len: u64,
 }
 
-/// The same of each side that is live.
+/// What each side says of itself that is live.
 #[derive(Clone, Copy)]
 pub struct Headers {
     pub a: Option<Header>,

@@ -41,6 +41,7 @@ impl Payloads {
         self.list.len() as u64
     }
 
+    /// Whether there is no payload.
     pub fn is_empty(&self) -> bool
         ensures { result ≡ (length self.now == 0) }
     {

@@ -14,12 +14,15 @@ pub record NodeRecord : Type 0 where
   pub node : ℕ
   pub artefact : List ℕ
 
+-- a node whose parts are all empty, for a number that no node has
 abbrev pub unnamed_node : Node
 unnamed_node = record { name = record { library = []; path = [] }; command = []; text = 0; deps = [] }
 
+-- the node of a number; the empty one where no node has it
 abbrev pub numbered_node : List Node → ℕ → Node
 numbered_node nodes number = slice_index_or nodes number unnamed_node
 
+-- the name of the node of a number
 abbrev pub named_by : List Node → ℕ → FileName
 named_by nodes number = (numbered_node nodes number).name
 

@@ -34,7 +34,7 @@ request_over entry artefact built = record { asked = asked_of entry built; artef
 unfoldable pub request_for : List ViewRecord → ViewRecord → Option Record
 request_for records kept = option_and_then (λ entry. option_map (request_over entry kept.artefact) (each_of (map (built_in records kept.view) entry.deps))) (last_file kept.view)
 
--- those over fewer files first; of as many, by library and path as bytes
+-- records over fewer files come first; of as many, those are ordered by library and path, as bytes
 abbrev pub rank_cmp : Record → Record → Ordering
 rank_cmp = then_cmp (on (λ kept. length kept.asked.below) nat_cmp) (then_cmp (on (λ kept. kept.asked.name.library) (slice_cmp nat_cmp)) (on (λ kept. kept.asked.name.path) (slice_cmp nat_cmp)))
 

@@ -23,6 +23,7 @@ AreOfNodes numbers records = map (λ kept. kept.node) records ≡ numbers
 abbrev pub has_later : List Node → List NodeRecord → ℕ → ℕ → Bool
 has_later nodes records place node = list_any (λ kept. is_same_name (named_by nodes kept.node) (named_by nodes node)) (drop (place + 1) records)
 
+-- a record of node 0 without an artefact, for a number that no record has
 abbrev pub no_record : NodeRecord
 no_record = record { node = 0; artefact = [] }
 

@@ -8,11 +8,11 @@ use Rattle.store_node_codec.specs.Nodes.{Node}
 use Rattle.store_migration.specs.ByNumber.{named_by, numbered_node}
 use Rattle.store_migration.specs.declared.ranks.RankedRow.{RankedRow}
 
--- by library and path, as bytes
+-- names are ordered by library and path, as bytes
 abbrev pub name_cmp : FileName → FileName → Ordering
 name_cmp = then_cmp (on (λ name. name.library) (slice_cmp nat_cmp)) (on (λ name. name.path) (slice_cmp nat_cmp))
 
--- those over fewer files first; of as many, by name
+-- rows over fewer files come first; of as many, those are ordered by name
 abbrev pub row_cmp : RankedRow → RankedRow → Ordering
 row_cmp = then_cmp (on (λ row. row.count) nat_cmp) (on (λ row. row.name.now) name_cmp)
 

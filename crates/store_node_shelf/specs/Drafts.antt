@@ -30,7 +30,7 @@ pub record IsRowOfDraft (texts : List (List ℕ)) (table : NodesByNumber) (draft
   pub new : list_any (is_same_node (draft_node texts draft)) table.nodes ≡ false
   pub there : All (λ dep. dep < length table.nodes) draft.deps
 
--- such a row, or that the draft is none
+-- the row of a draft, or none where the draft isn't a new node
 abbrev pub IsNewRow : List (List ℕ) → NodesByNumber → Draft → Option Row → Type 0
 IsNewRow texts table draft None = (records : List Record) → is_draft (record { texts = texts; nodes = table.nodes; records = records }) draft ≡ false
 IsNewRow texts table draft (Some row) = IsRowOfDraft texts table draft row

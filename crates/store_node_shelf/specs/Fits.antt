@@ -9,9 +9,11 @@ use Rattle.store_node_codec.specs.Nodes.{AreNodes, Node, node_file, node_files, 
 use Rattle.store_node_shelf.specs.declared.rows.Row.{Row}
 use Rattle.store_node_shelf.specs.Rows.{NodesByNumber, no_name, node_in}
 
+-- a row of zeros without dependencies, for a number that no row has
 abbrev pub blank_row : Row
 blank_row = record { name = 0; command = 0; text = 0; deps = [] }
 
+-- a node whose parts are all empty, for a number that no node has
 abbrev pub blank_node : Node
 blank_node = record { name = no_name; command = []; text = 0; deps = [] }
 
@@ -36,7 +38,7 @@ pub record AreSomeNodes (nodes : List Node) : Type 0 where
   pub texts : List (List ℕ)
   pub are : AreNodes texts nodes
 
--- The same of texts of these lengths.
+-- Some texts of these lengths make these nodes, each once.
 pub record HaveTexts (lengths : List ℕ) (nodes : List Node) : Type 0 where
   pub texts : List (List ℕ)
   pub lengths_are : map length texts ≡ lengths

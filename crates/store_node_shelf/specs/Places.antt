@@ -20,12 +20,15 @@ use Rattle.store_node_shelf.specs.declared.shelf.ShelfPlaces.{ShelfPlaces}
 pub record PieceList : Type 0 where
   pub payloads : List (List ℕ)
 
+-- the payload of a number; no bytes where no payload has it
 abbrev pub payload_at : List (List ℕ) → ℕ → List ℕ
 payload_at payloads number = slice_index_or payloads number []
 
+-- the text at a span of a payload
 abbrev pub text_in : List (List ℕ) → TextPlace → List ℕ
 text_in payloads place = spanned (payload_at payloads place.payload) place.span
 
+-- the texts at all places, in the order of their numbers
 abbrev pub texts_in : List (List ℕ) → TextPlaces → List (List ℕ)
 texts_in payloads texts = map (text_in payloads) texts.places.items
 
@@ -34,9 +37,11 @@ pub record AreTexts (payloads : List (List ℕ)) (texts : TextPlaces) : Type 0 w
   pub placed : All (λ place. place.payload < length payloads) texts.places.items
   pub marked : texts.marks.marks ≡ map mark_of (texts_in payloads texts)
 
+-- the artefact of a record, at its span of a payload
 abbrev pub artefact_in : List (List ℕ) → RecordPlace → List ℕ
 artefact_in payloads place = spanned (payload_at payloads place.payload) place.artefact
 
+-- the record of a place: the view that its node unfolds to, and its artefact
 abbrev pub record_in : List (List ℕ) → List (List ℕ) → List Node → RecordPlace → Record
 record_in payloads texts nodes place = record { view = unfolded texts nodes place.node; artefact = artefact_in payloads place }
 
@@ -68,11 +73,12 @@ pub record IsUpTo (texts : List (List ℕ)) (marks : List ℕ) (text : List ℕ)
   pub last : IsLastWith marks (mark_of text) bound candidate
   pub others : (k : ℕ) → bound ≤ k → k < length texts → slice_index_or texts k [] ≢ text
 
--- there is room for one more text, and for one more record
+-- there is room for one more text, and for its mark
 pub record HasTextRoom (texts : TextPlaces) : Type 0 where
   pub place : vec_len texts.places < vec_capacity texts.places
   pub mark : 0 < texts.marks.room
 
+-- there is room for one more record, and for the number of its name
 pub record HasRecordRoom (records : RecordPlaces) : Type 0 where
   pub place : vec_len records.places < vec_capacity records.places
   pub name : 0 < records.names.room

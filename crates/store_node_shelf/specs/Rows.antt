@@ -11,10 +11,11 @@ use Rattle.store_node_codec.specs.Nodes.{Node}
 use Rattle.store_node_shelf.specs.declared.commands.Command.{Command}
 use Rattle.store_node_shelf.specs.declared.rows.Row.{Row}
 
--- the same numbers
+-- the same numbers of the name, the command, the text and the dependencies
 abbrev pub is_same_row : Row → Row → Bool
 is_same_row a b = a.name == b.name && (a.command == b.command && (a.text == b.text && pointwise nat_eq a.deps b.deps))
 
+-- the last of some numbers; 0 where there are none
 abbrev pub last_of : List ℕ → ℕ
 last_of numbers = slice_index numbers (length numbers - 1)
 
@@ -22,9 +23,11 @@ last_of numbers = slice_index numbers (length numbers - 1)
 abbrev pub row_sample : Row → List (List ℕ)
 row_sample row = fed.usize row.name ++ (fed.usize row.text ++ fed.usize (last_of row.deps))
 
+-- a row of these numbers: of the name, the command, the text, and the nodes that it depends on
 abbrev pub row_by : ℕ → ℕ → ℕ → List ℕ → Row
 row_by name command text deps = record { name = name; command = command; text = text; deps = deps }
 
+-- the test of two rows is true exactly where they are equal
 pub rows_decide : (a b : Row) → Decides (is_same_row a b) (a ≡ b)
 rows_decide a b =
     let deps = bytes_eq-Decides a.deps b.deps in
@@ -40,6 +43,7 @@ rows_decide a b =
       λ e. all.1 (ap (λ (r : Row). r.name) e, (ap (λ (r : Row). r.command) e, (ap (λ (r : Row). r.text) e, ap (λ (r : Row). r.deps) e))),
     )
 
+-- rows that the test finds the same give the hash the same input
 pub row_alike : (a b : Row) → is_same_row a b ≡ true → row_sample a ≡ row_sample b
 row_alike a b e = ap row_sample ((rows_decide a b).0 e)
 
@@ -48,6 +52,7 @@ pub record IsRowIn (names : List FileName) (commands : List (List (List ℕ))) (
   pub name : row.name < length names
   pub command : row.command < length commands
 
+-- an empty name, for a number that no name has
 abbrev pub no_name : FileName
 no_name = record { library = []; path = [] }
 
@@ -67,6 +72,7 @@ pub record NodesByNumber : Type 0 where
 abbrev pub node_in : NodesByNumber → Row → Node
 node_in table row = node_of table.names table.commands row
 
+-- the words of each command
 abbrev pub words_of : List Command → List (List (List ℕ))
 words_of commands = map (λ command. command.words) commands
 

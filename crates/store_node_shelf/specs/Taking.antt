@@ -20,7 +20,7 @@ pub record TookDraft (payloads : List (List ℕ)) (texts : List (List ℕ)) (nod
   pub texts_are : TextsAre payloads places lengths (if taken then with_source texts draft.source else texts)
   pub nodes_are : now ≡ (if taken then nodes ++ draft_node texts draft ∷ [] else nodes)
 
--- A payload was taken up.
+-- A payload was taken up: the places stand for what they stood for and the payload.
 pub record TookUp (payloads : List (List ℕ)) (old new : ShelfPlaces) (lengths : List ℕ) (payload : List ℕ) : Type 0 where
   pub are : IsShelf payloads new
   pub is : shelf_in payloads new ≡ after_payload (shelf_in payloads old) payload

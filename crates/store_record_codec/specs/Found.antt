@@ -14,6 +14,7 @@ unfoldable pub all_pairs : {X : Type 0} → (X → X → Bool) → List X → Bo
 all_pairs test [] = true
 all_pairs test (first ∷ others) = list_all (test first) others && all_pairs test others
 
+-- from low to high, both included
 abbrev pub is_between : ℕ → ℕ → ℕ → Bool
 is_between low high n = nat_le low n && nat_le n high
 
@@ -50,6 +51,7 @@ is_graph files =
 unfoldable pub is_whole : List Entry → Bool
 is_whole files = nat_lt 0 (length files) && holds_all (found_deps files (length files - 1)) (range_with_len 0 (length files - 1))
 
+-- a graph whose last file depends on all others
 abbrev pub is_view : List Entry → Bool
 is_view files = is_graph files && is_whole files
 

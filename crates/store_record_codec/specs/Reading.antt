@@ -5,6 +5,7 @@ use Rattle.base.specs.declared.graph.Entry.{Entry}
 use Rattle.base_bytes.specs.Reading.{◌>>=◌, number_at, text_at, counted_at}
 use Rattle.base_bytes.specs.Names.{name_at}
 
+-- a file: its name, its command, its text, and the positions that it depends on, of four bytes each; and the bytes after it
 unfoldable pub entry_at : List ℕ → Option (Entry × List ℕ)
 entry_at bytes = do
   name ← name_at bytes

@@ -32,6 +32,7 @@ pub record PreparedState : Type 0 where
   pub payload : List ℕ
   pub addition : RequestAddition
 
+-- a payload, with what it adds
 abbrev pub prepared_of : List ℕ → RequestAddition → PreparedState
 prepared_of payload addition = record { payload = payload; addition = addition }
 
@@ -47,6 +48,7 @@ requests_in image = if older_counts 3 2 image then migrated_requests (node_shelf
 abbrev pub kept_payloads : Image → List (List ℕ)
 kept_payloads image = if older_counts 3 2 image then taken_payloads (payloads 2 image) else payloads 3 image
 
+-- a store of this journal and these payloads
 abbrev pub store_of : JournalState → HeldState → RequestStoreState
 store_of journal held = record { journal = journal; held = held }
 
@@ -96,7 +98,7 @@ pub record HasManyDead (len live : ℕ) : Type 0 where
   pub many : dead_limit < len - live
   pub most : live < len - live
 
--- and there is a next generation
+-- A side of this generation is to be compacted: many of its bytes are dead, and there is a next generation.
 pub record AsksAt (generation len live : ℕ) : Type 0 where
   pub next : generation + 1 < 2 ^ 64
   pub dead : HasManyDead len live
@@ -122,6 +124,7 @@ AsksCarrying generation payloads = AsksAt generation (closed_length payloads) (l
 abbrev pub opened_generation : Image → ℕ
 opened_generation image = option_map_or (λ side. generation_of (image_side side image)) (counting 3 image) 1
 
+-- an image whose store is compacted as it is opened
 abbrev pub ImageAsksCarrying : Image → Type 0
 ImageAsksCarrying image = AsksCarrying (opened_generation image) (payloads 3 image)
 

@@ -154,7 +154,8 @@ impl<'g> RequestStore<'g> {
         self.held.seats(alloc, graph)
     }
 
-    /// The same of the graph whose texts the store lends, which aren't compared with themselves then.
+    /// For each file of the graph whose texts are lent to the store the seat of its latest record, if it has one. A lent text isn't
+    /// compared with itself.
     pub fn lent_seats(&self, alloc: Global, graph: &Graph) -> Result<Seats, NoMemory>
         requires { AreLentBy graph.now self.now.held.lent }
         ensures { IfOk result (AreSeats (request_shelf_of self.now.held.payloads) graph.now) }

@@ -34,6 +34,7 @@ pub record AreTextNumbers (texts : List (List ℕ)) (draft : RequestDraft) (numb
   pub text : numbers.text ≡ ref_number texts draft.source
   pub artefact : numbers.artefact ≡ ref_number (with_text texts draft.source) draft.artefact
 
+-- the numbers of the texts of a record, or none where a text isn't there or new as it says, or is over its limit
 abbrev pub AreRequestTexts : List (List ℕ) → RequestDraft → Option TextNumbers → Type 0
 AreRequestTexts texts draft None = ¬ HasRequestTexts texts draft
 AreRequestTexts texts draft (Some numbers) = HasRequestTexts texts draft × AreTextNumbers texts draft numbers
@@ -69,7 +70,7 @@ pub record PutsProduct (row : ProductRow) (number : ℕ) (old new : List Product
   pub numbered : slice_get new number ≡ Some row
   pub new_is : new ≡ (if list_any (is_same_product_row row) old then old else old ++ row ∷ [])
 
--- A payload was taken up.
+-- A payload was taken up: what is placed stands for what was there before and the payload.
 pub record Took (payloads : List (List ℕ)) (old : RequestShelf) (new : PlacedShelf) (payload : RequestPayload) : Type 0 where
   pub are : IsShelfPlaced payloads new
   pub is : placed_shelf payloads new ≡ with_request_payload old payload

@@ -35,7 +35,7 @@ pub record IsCutOf (bytes : List ℕ) (draft : RequestRanges) (range : ByteRange
   pub source : cut.draft.source ≡ Known number
   pub file_is : cut.payload.file ≡ file
 
--- one more text
+-- a shelf with one more text
 abbrev pub with_new_text : RequestShelf → List ℕ → RequestShelf
 with_new_text shelf text = record { texts = shelf.texts ++ text ∷ []; products = shelf.products; records = shelf.records }
 
@@ -45,7 +45,7 @@ pub record HasTaken (old new : HeldList) (shelf : PlacedShelf) (payload : List �
   pub payloads : new.payloads ≡ old.payloads ++ payload ∷ []
   pub lent : new.lent ≡ old.lent
 
--- Nothing was added.
+-- No payload was added.
 pub record HasLeft (old new : HeldList) (shelf : PlacedShelf) : Type 0 where
   pub held : IsHeld new.pieces new.payloads shelf
   pub same : new.payloads ≡ old.payloads

@@ -41,6 +41,7 @@ held_payload texts (Whole payload) = payload
 held_payload texts (Cut cut) = with_cut (slice_index_or texts cut.file []) cut
 held_payload texts (Written payload) = payload
 
+-- the texts of files, in order
 abbrev pub file_texts : List Entry → List (List ℕ)
 file_texts files = map (λ file. file.text) files
 
@@ -48,15 +49,20 @@ file_texts files = map (λ file. file.text) files
 abbrev pub held_pieces : List Entry → List (List ℕ) → List HeldPayload → List (List ℕ)
 held_pieces files opened more = file_texts files ++ (opened ++ map held_piece more)
 
+-- the payloads in order: first those that a store was opened with, then those that came later; where the text of a file was cut
+-- from one, it is put back
 abbrev pub held_payloads : List Entry → List (List ℕ) → List HeldPayload → List (List ℕ)
 held_payloads files opened more = opened ++ map (held_payload (file_texts files)) more
 
+-- the payload of a number; no bytes where no payload has it
 abbrev pub nth_payload : List (List ℕ) → ℕ → List ℕ
 nth_payload payloads number = slice_index_or payloads number []
 
+-- the text at a range of a payload
 abbrev pub placed_text : List (List ℕ) → PlacedText → List ℕ
 placed_text payloads place = ranged (nth_payload payloads place.payload) place.range
 
+-- the texts at all places, in the order of their numbers
 abbrev pub placed_texts : List (List ℕ) → PlacedTexts → List (List ℕ)
 placed_texts payloads texts = map (placed_text payloads) texts.places.items
 
@@ -65,6 +71,7 @@ pub record AreTextsPlaced (payloads : List (List ℕ)) (texts : PlacedTexts) : T
   pub within : All (λ place. place.payload < length payloads) texts.places.items
   pub split : AreSplit (placed_texts payloads texts) texts.index.splits
 
+-- an empty name, for a number that no name has
 abbrev pub no_name : FileName
 no_name = record { library = []; path = [] }
 
@@ -72,6 +79,7 @@ no_name = record { library = []; path = [] }
 abbrev pub row_product : List FileName → List (List ℕ) → ProductRow → BuiltFile
 row_product names texts row = record { name = slice_index_or names row.name no_name; artefact = slice_index_or texts row.text [] }
 
+-- the products of all rows, in order
 abbrev pub row_products : List FileName → List (List ℕ) → List ProductRow → List BuiltFile
 row_products names texts rows = map (row_product names texts) rows
 
@@ -87,9 +95,11 @@ row_record payloads names texts products row = record { asked = record { command
 abbrev pub shelf_by : List (List ℕ) → List FileName → List (List ℕ) → List ProductRow → List RecordRow → RequestShelf
 shelf_by payloads names texts products rows = record { texts = texts; products = row_products names texts products; records = map (row_record payloads names texts (row_products names texts products)) rows }
 
+-- the texts, products and records that are placed in payloads
 abbrev pub placed_shelf : List (List ℕ) → PlacedShelf → RequestShelf
 placed_shelf payloads shelf = shelf_by payloads shelf.names.keys (placed_texts payloads shelf.texts) shelf.products.keys shelf.rows.items
 
+-- a row of zeros, for a number that no product has
 abbrev pub no_row : ProductRow
 no_row = record { name = 0; text = 0 }
 
@@ -124,10 +134,11 @@ pub record IsHeld (pieces payloads : List (List ℕ)) (shelf : PlacedShelf) : Ty
   pub are : IsShelfPlaced pieces shelf
   pub is : placed_shelf pieces shelf ≡ request_shelf_of payloads
 
--- for how many more texts, and for how many more products and records, there is room
+-- for how many more texts there is room
 abbrev pub text_room : PlacedTexts → ℕ
 text_room texts = min (vec_capacity texts.places - vec_len texts.places) texts.index.room
 
+-- There is room for what one record adds: two texts, a product, a row, and the number of its name.
 pub record HasRowRoom (shelf : PlacedShelf) : Type 0 where
   pub texts : 2 ≤ text_room shelf.texts
   pub product : 0 < shelf.products.room

@@ -22,6 +22,7 @@ alone entry = record { name = entry.name; command = entry.command; text = entry.
 abbrev pub record_at_place : List (List ℕ) → RecordPlace → NodeRecord
 record_at_place payloads place = record { node = place.node; artefact = artefact_in payloads place }
 
+-- the records of all places, in order
 abbrev pub node_records : List (List ℕ) → ShelfPlaces → List NodeRecord
 node_records payloads shelf = map (record_at_place payloads) shelf.records.places.items
 

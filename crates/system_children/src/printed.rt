@@ -17,6 +17,7 @@ pub struct Printed {
 }
 
 impl Printed {
+    /// Nothing is printed yet. It takes no memory.
     pub fn new(alloc: Global) -> Printed
         ensures { IsPrefix ARTEFACT_LIMIT (Some []) result.kept.items result.more }
     {
@@ -43,6 +44,7 @@ impl Printed {
         Ok(())
     }
 
+    /// What was kept: at most 262,144 bytes, and whether there were more.
     pub fn into_prefix(self) -> Prefix
         ensures kept { result.kept.items ≡ self.kept.items }
         ensures more { result.more ≡ self.more }

@@ -8,6 +8,6 @@ use Rattle.outside.proofs.ImageLaws.{settled_sound}
 abbrev pub nothing_so_far : Moments
 nothing_so_far = record { past = []; now = settled_disk (record { a = []; b = [] }) }
 
--- and these are sound
+-- at each moment of which nothing is said, what reads gave is an image
 pub nothing_is_sound : AreSound nothing_so_far
 nothing_is_sound = (record { a = settled_sound [] (omega arith); b = settled_sound [] (omega arith) }, tt)

@@ -21,6 +21,7 @@ pub struct Paths {
 }
 
 impl Paths {
+    /// The paths of the files of a disk in this folder. No file is opened or made.
     pub fn new(alloc: Global, folder: &str) -> Result<Paths, AllocError> {
         Ok(Paths {
             folder: String::from_str(alloc, folder)?,
@@ -29,6 +30,7 @@ impl Paths {
         })
     }
 
+    /// The path of a file of the disk, of their folder, or of the folder around that.
     pub fn path_of(&self, part: Part) -> &str {
         match part {
             Part::Around => folder_of(self.folder.as_str()),
@@ -44,8 +46,11 @@ impl Paths {
 pub enum Part {
     /// The folder that the folder of the files is in.
     Around,
+    /// The folder of the files.
     Folder,
+    /// The file of side A.
     A,
+    /// The file of side B.
     B,
 }
 

@@ -22,6 +22,7 @@ pub struct Storage {
 }
 
 impl Storage {
+    /// An open file that was neither cut nor synced since it was opened.
     pub fn new(file: File) -> Storage {
         Storage {
             file,

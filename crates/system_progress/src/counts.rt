@@ -21,6 +21,7 @@ pub struct Counts {
 }
 
 impl Counts {
+    /// Nothing is due, and nothing has happened.
     pub fn new() -> Counts {
         Counts {
             due: 0,

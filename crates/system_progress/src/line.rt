@@ -13,6 +13,7 @@ pub const EMPTY_LINE: &[u8] = b"\r\x1b[K";
 #[derive(Clone, Copy)]
 pub struct Failure<'a> {
     pub name: &'a [u8],
+    /// How long it ran, in milliseconds.
     pub millis: u64,
     /// The folder of its output; nothing of a file.
     pub folder: &'a [u8],

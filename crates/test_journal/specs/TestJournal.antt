@@ -35,6 +35,7 @@ pub record TestBook : Type 0 where
   pub core : Core
   pub ends : List TestExit
 
+-- before the first event of a test
 abbrev pub empty_tests : TestBook
 empty_tests = record { core = empty_core; ends = [] }
 
@@ -47,6 +48,7 @@ abbrev pub has_passed : Option TestRun → Exit → Bool
 has_passed None exit = false
 has_passed (Some run) exit = is_passed run exit
 
+-- the run at a position has passed with this exit; false where there is no position
 abbrev pub passed_at : TestSetting → Option ℕ → Exit → Bool
 passed_at setting None exit = false
 passed_at setting (Some position) exit = has_passed (slice_get setting.plan.runs position) exit
@@ -61,10 +63,12 @@ test_move setting book (Started ticket request) = Starts (unwrap_or (next_run se
 test_move setting book (Ended ticket exit) = Ends ticket (passed_at setting (position_of ticket book.core.running) exit) exit.output
 test_move setting book (Gone ticket) = Loses ticket
 
+-- the exit as that of the run at a position; none where there is no position
 abbrev pub exits_of : Option ℕ → Exit → List TestExit
 exits_of None exit = []
 exits_of (Some position) exit = record { position = position; exit = exit } ∷ []
 
+-- the exits that an event adds: one where a child ends that runs, and else none
 abbrev pub new_exits : TestBook → Event → List TestExit
 new_exits book (Started ticket request) = []
 new_exits book (Ended ticket exit) = exits_of (position_of ticket book.core.running) exit
@@ -74,10 +78,12 @@ new_exits book (Gone ticket) = []
 unfoldable pub after_test : TestSetting → TestBook → Event → TestBook
 after_test setting book event = record { core = after_move (test_job setting) book.core (test_move setting book event); ends = book.ends ++ new_exits book event }
 
+-- what has happened after more events, in order
 unfoldable pub after_tests : TestSetting → TestBook → List Event → TestBook
 after_tests setting book [] = book
 after_tests setting book (event ∷ events) = after_tests setting (after_test setting book event) events
 
+-- what has happened after all of these events
 abbrev pub book_of_tests : TestSetting → List Event → TestBook
 book_of_tests setting events = after_tests setting empty_tests events
 
@@ -96,6 +102,7 @@ IsTestRequested setting book (Started ticket request) = option_and_then (test_re
 IsTestRequested setting book (Ended ticket exit) = Unit {0}
 IsTestRequested setting book (Gone ticket) = Unit {0}
 
+-- each start is made with what its run is started with, at the moment where it comes
 unfoldable pub AreTestsRequested : TestSetting → TestBook → List Event → Type 0
 AreTestsRequested setting book [] = Unit {0}
 AreTestsRequested setting book (event ∷ events) = IsTestRequested setting book event × AreTestsRequested setting (after_test setting book event) events

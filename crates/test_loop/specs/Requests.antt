@@ -13,7 +13,7 @@ use Rattle.outside.specs.Records.{Record}
 abbrev pub lent_file : (FileName → Option Record) → Entry → Option BuiltFile
 lent_file latest_of entry = option_map (λ kept. record { name = entry.name; artefact = kept.artefact }) (latest_of entry.name)
 
--- the same of the file at a position
+-- the file at a position with the artefact of its latest record
 unfoldable pub lent_at : (FileName → Option Record) → List Entry → ℕ → Option BuiltFile
 lent_at latest_of graph position = option_and_then (lent_file latest_of) (slice_get graph position)
 

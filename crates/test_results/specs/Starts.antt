@@ -27,6 +27,7 @@ pub record Adds (cases lines : List (List ℕ)) (earlier later : Sayings) : Type
 abbrev pub HasAll : List (List ℕ) → List (List ℕ) → Type 0
 HasAll set names = (name : List ℕ) → has_case set name ≡ has_case names name
 
+-- this case is the last that was started; false where none was
 abbrev pub is_last : Option (List ℕ) → List ℕ → Bool
 is_last last name = option_map_or (λ other. bytes_eq other name) last false
 

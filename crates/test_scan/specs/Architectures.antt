@@ -21,11 +21,12 @@ abbrev pub one_more : Option Architectures → UnitId → Architectures
 one_more None id = record { first = id; several = false }
 one_more (Some found) id = record { first = found.first; several = true }
 
--- those of some units, by the library and the name of their entity
+-- an index has the first of these units that is an architecture of an entity, and whether there are more, by the library and
+-- the name of the entity
 abbrev pub HoldsArchitectures : ScannedFiles → List UnitId → Entries EntityKey Architectures → Type 0
 HoldsArchitectures sources ids index = (key : EntityKey) → get is_same_entity index key ≡ first_of_some (filter (is_architecture_of key.library key.entity sources) ids)
 
--- each is a unit of the files
+-- each architecture of an index is a unit of the files
 abbrev pub AreFoundInFiles : Files → Entries EntityKey Architectures → Type 0
 AreFoundInFiles files index = (key : EntityKey) (found : Architectures) → get is_same_entity index key ≡ Some found → IsInFiles files found.first
 

@@ -35,34 +35,43 @@ pub record ScannedFiles : Type 0 where
   pub texts : List (List ℕ)
   pub scans : List Scan
 
+-- the files of a project with these texts and scans, one of each for each file
 abbrev pub sources_of : Project → List (List ℕ) → List Scan → ScannedFiles
 sources_of project texts scans = record { files = project.files; texts = texts; scans = scans }
 
+-- a file whose parts are all empty, for a position that no file has
 abbrev pub no_source : ProjectFile
 no_source = record { name = record { library = []; path = [] }; command = [] }
 
+-- a scan of no tokens, comments and units, for a position that no file has
 abbrev pub no_scan : Scan
 no_scan = record { tokens = record { list = []; comments = [] }; units = [] }
 
+-- an empty context declaration, for a number that no unit has
 abbrev pub no_design_unit : DesignUnit
 no_design_unit = record { kind = kinds.Context; name = []; owner = Nothing; lead = 0; first = 0; last = 0 }
 
--- the library, the text, the scan and the design unit of a number
+-- the library of the file that a unit is in
 abbrev pub unit_library : ScannedFiles → UnitId → List ℕ
 unit_library sources id = (slice_index_or sources.files id.file no_source).name.library
 
+-- the text of the file that a unit is in
 abbrev pub unit_text : ScannedFiles → UnitId → List ℕ
 unit_text sources id = slice_index_or sources.texts id.file []
 
+-- the scan of the file that a unit is in
 abbrev pub unit_scan : ScannedFiles → UnitId → Scan
 unit_scan sources id = slice_index_or sources.scans id.file no_scan
 
+-- the tokens of the file that a unit is in
 abbrev pub unit_tokens : ScannedFiles → UnitId → List Token
 unit_tokens sources id = (unit_scan sources id).tokens.list
 
+-- the design unit of a number, by the scan of its file
 abbrev pub design_unit : ScannedFiles → UnitId → DesignUnit
 design_unit sources id = slice_index_or (unit_scan sources id).units id.unit no_design_unit
 
+-- a unit by the position of its file and its index in that file, both from 0
 abbrev pub unit_number : ℕ → ℕ → UnitId
 unit_number file unit = record { file = file; unit = unit }
 
@@ -88,6 +97,7 @@ bench_numbers sources = filter (is_bench sources) (unit_numbers sources.scans)
 abbrev pub is_architecture_of : List ℕ → List ℕ → ScannedFiles → UnitId → Bool
 is_architecture_of library entity sources id = is_architecture_kind (design_unit sources id).kind && (bytes_eq (unit_library sources id) library && bytes_eq (owner_name (design_unit sources id).owner) entity)
 
+-- the architectures of an entity of a library, in project and unit order
 abbrev pub architectures_of : ScannedFiles → List ℕ → List ℕ → List UnitId
 architectures_of sources library entity = filter (is_architecture_of library entity sources) (unit_numbers sources.scans)
 
@@ -117,6 +127,7 @@ bench_with sources entity [] = Err (NoArchitecture (bench_name (unit_library sou
 bench_with sources entity (architecture ∷ []) = Ok (bench_of sources entity architecture)
 bench_with sources entity (first ∷ second ∷ others) = Err (TwoArchitectures (bench_name (unit_library sources entity) (design_unit sources entity).name))
 
+-- the bench of an entity with the architectures that the project has for it, or what is wrong with these
 abbrev pub bench_at : ScannedFiles → UnitId → Result Bench TestFault
 bench_at sources entity = bench_with sources entity (architectures_of sources (unit_library sources entity) (design_unit sources entity).name)
 
@@ -147,10 +158,12 @@ case_fault before bench =
 
 -- ## The tests of a project
 
+-- what is wrong with a bench that comes after these full names: with its architectures, or with its names
 abbrev pub bench_fault : List (List ℕ) → Result Bench TestFault → Option TestFault
 bench_fault before (Ok bench) = case_fault before bench
 bench_fault before (Err fault) = Some fault
 
+-- the full names of a bench; none where it has a fault
 abbrev pub names_of_found : Result Bench TestFault → List (List ℕ)
 names_of_found (Ok bench) = bench_names bench
 names_of_found (Err fault) = []
@@ -160,6 +173,7 @@ abbrev pub first_bench_fault : List (List ℕ) → List (Result Bench TestFault)
 first_bench_fault before [] = None
 first_bench_fault before (found ∷ rest) = option_or (bench_fault before found) (first_bench_fault (before ++ names_of_found found) rest)
 
+-- the bench alone; none where it has a fault
 abbrev pub found_bench : Result Bench TestFault → List Bench
 found_bench (Ok bench) = bench ∷ []
 found_bench (Err fault) = []
@@ -168,6 +182,7 @@ found_bench (Err fault) = []
 abbrev pub tests_found : List (Result Bench TestFault) → Result (List Bench) TestFault
 tests_found found = option_map_or (λ fault. Err fault) (first_bench_fault [] found) (Ok (flat_map found_bench found))
 
+-- the benches of a project in project and unit order, or the first fault of one
 abbrev pub tests_of : ScannedFiles → Result (List Bench) TestFault
 tests_of sources = tests_found (map (bench_at sources) (bench_numbers sources))
 

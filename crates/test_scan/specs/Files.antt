@@ -25,15 +25,19 @@ pub record AreFiles (files : Files) : Type 0 where
 abbrev pub AreScannedAs : Files → List Scan → Type 0
 AreScannedAs files scans = FilesAreOf files.texts.now scans files.outlines.now
 
+-- the files of a project with their texts and these scans
 abbrev pub scanned : Files → List Scan → ScannedFiles
 scanned files scans = record { files = files.project.now.files; texts = files.texts.now; scans = scans }
 
+-- what a unit says that is no bench and calls no case
 abbrev pub no_runs : UnitRuns
 no_runs = record { bench = None; strings = [] }
 
+-- an outline without units, for a position that no file has
 abbrev pub no_outline : FileOutline
 no_outline = record { units = []; scopes = []; mentions = []; runs = record { units = []; same_sim = false } }
 
+-- the outline of the file that a unit is in
 abbrev pub outline_at : Files → UnitId → FileOutline
 outline_at files id = slice_index_or files.outlines.now id.file no_outline
 
@@ -46,6 +50,7 @@ pub record IsInFiles (files : Files) (id : UnitId) : Type 0 where
   pub file : id.file < length files.outlines.now
   pub unit : id.unit < length (outline_at files id).units
 
+-- there is a unit of each number
 abbrev pub AreInFiles : Files → List UnitId → Type 0
 AreInFiles files ids = All (IsInFiles files) ids
 
@@ -61,5 +66,6 @@ pub record IsLocated (sources : ScannedFiles) (id : UnitId) (found : Found) : Ty
 abbrev pub IsNamed : Files → UnitId → Type 0
 IsNamed files id = is_some (runs_at files id).bench ≡ true
 
+-- the unit of each number is a bench
 abbrev pub AreNamed : Files → List UnitId → Type 0
 AreNamed files ids = All (IsNamed files) ids

@@ -6,6 +6,7 @@ use Rattle.std.specs.Hash as fed
 use Rattle.std.proofs.lemmas.Bool.Decides.{Decides-and, Decides-eqb}
 use Rattle.test_scan.specs.declared.steps.Step.{Step}
 
+-- the same place and the same byte
 abbrev pub is_same_step : Step → Step → Bool
 is_same_step a b = a.from == b.from && a.byte == b.byte
 
@@ -13,9 +14,11 @@ is_same_step a b = a.from == b.from && a.byte == b.byte
 abbrev pub step_sample : Step → List (List ℕ)
 step_sample step = fed.usize step.from ++ fed.u8 step.byte
 
+-- a step from a place by a byte
 abbrev pub step_by : ℕ → ℕ → Step
 step_by from byte = record { from = from; byte = byte }
 
+-- the test of two steps is true exactly where they are equal
 pub steps_decide : (a b : Step) → Decides (is_same_step a b) (a ≡ b)
 steps_decide a b =
     let both = Decides-and _ _ (Decides-eqb a.from b.from) (Decides-eqb a.byte b.byte) in (
@@ -23,5 +26,6 @@ steps_decide a b =
       λ e. both.1 (ap (λ (s : Step). s.from) e, ap (λ (s : Step). s.byte) e),
     )
 
+-- steps that the test finds the same give the hash the same input
 pub step_alike : (a b : Step) → is_same_step a b ≡ true → step_sample a ≡ step_sample b
 step_alike a b e = ap step_sample ((steps_decide a b).0 e)

@@ -17,10 +17,11 @@ is_asked_for names name = list_any (λ key. bytes_eq name key.items) names.keys
 abbrev pub matches_at : List (List Piece) → List ℕ → ℕ → Bool
 matches_at patterns name number = is_match (slice_index_or patterns number []) name
 
+-- one of the patterns with these numbers matches a name
 abbrev pub some_matches : List (List Piece) → List ℕ → List ℕ → Bool
 some_matches patterns numbers name = list_any (matches_at patterns name) numbers
 
--- a name is chosen
+-- a name is chosen: all names are, or it is asked for as it is, or one of the other patterns matches it
 abbrev pub is_chosen : List (List Piece) → Choice → List ℕ → Bool
 is_chosen patterns choice name = choice.all || (is_asked_for choice.plain name || some_matches patterns choice.others.items name)
 
@@ -32,6 +33,7 @@ AreNumbersOf patterns numbers = All (λ number. number < length patterns) number
 abbrev pub AreUpTo : {S : Type 0} → IndexSet (Vec ℕ Global) S → ℕ → Type 0
 AreUpTo names longest = (name : List ℕ) → is_asked_for names name ≡ true → length name ≤ longest
 
+-- no name that is asked for as it is has more bytes than the choice says
 abbrev pub IsBounded : Choice → Type 0
 IsBounded choice = AreUpTo choice.plain choice.longest
 

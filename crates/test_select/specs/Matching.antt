@@ -9,6 +9,7 @@ use Rattle.test_select.specs.declared.pattern.Piece.TheVariants.{AnyBytes, AnyBy
 abbrev pub is_in_range : ℕ → ByteRange → Bool
 is_in_range byte range = nat_le range.first byte && nat_le byte range.last
 
+-- a byte is in one of the ranges, or in none where the set is negated
 abbrev pub is_in_set : Bool → List ByteRange → ℕ → Bool
 is_in_set negated ranges byte = if negated then not (list_any (is_in_range byte) ranges) else list_any (is_in_range byte) ranges
 

@@ -5,22 +5,27 @@ use Rattle.test_select.specs.declared.pattern.ByteRange.{ByteRange}
 use Rattle.test_select.specs.declared.pattern.Piece.{Piece}
 use Rattle.test_select.specs.declared.pattern.Piece.TheVariants.{AnyBytes, AnyByte, Byte, OneOf}
 
--- the bytes with a meaning of their own: `*`, `?`, `[`, `!`, `-` and `]`
+-- `*`, which stands for any number of bytes
 abbrev pub star_byte : ℕ
 star_byte = 42
 
+-- `?`, which stands for any one byte
 abbrev pub question : ℕ
 question = 63
 
+-- `[`, which opens a set
 abbrev pub opening : ℕ
 opening = 91
 
+-- `!`, which negates a set where it comes first in it
 abbrev pub negation : ℕ
 negation = 33
 
+-- `-`, which stands between the ends of a range in a set
 abbrev pub dash_byte : ℕ
 dash_byte = 45
 
+-- `]`, which closes a set where it isn't the first byte of it
 abbrev pub closing : ℕ
 closing = 93
 

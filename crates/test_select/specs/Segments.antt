@@ -11,6 +11,7 @@ use Rattle.test_select.specs.Fits.{fits_pieces}
 abbrev pub found_piece : Found → Piece × ℕ
 found_piece found = (found.piece, found.taken)
 
+-- the piece is `*`, which stands for any number of bytes
 abbrev pub is_any_bytes : Piece → Bool
 is_any_bytes AnyBytes = true
 is_any_bytes AnyByte = false
@@ -49,6 +50,7 @@ pub record IsFirstPlace (pieces : List Piece) (name : List ℕ) (at : ℕ) : Typ
   pub is : has_prefix pieces (drop at name) ≡ true
   pub first : (before : ℕ) → before < at → has_prefix pieces (drop before name) ≡ false
 
+-- from no offset on does a name have a byte for each of these pieces
 abbrev pub HasNoPlace : List Piece → List ℕ → Type 0
 HasNoPlace pieces name = (at : ℕ) → at ≤ length name → has_prefix pieces (drop at name) ≡ false
 

@@ -15,7 +15,7 @@ full_name bench test_case = bench.library ++ (codes "." ++ (bench.name ++ (codes
 abbrev pub name_start : Bench → List ℕ
 name_start bench = bench.library ++ (codes "." ++ (bench.name ++ codes "."))
 
--- the full names of the cases of benches, in order
+-- the full names of the cases of a bench, in order
 abbrev pub bench_names : Bench → List (List ℕ)
 bench_names bench = map (full_name bench) bench.cases
 
@@ -35,9 +35,11 @@ with_cases bench cases = record { library = bench.library; name = bench.name; ar
 abbrev pub selected_cases : List (List Piece) → Bench → List TestCase
 selected_cases patterns bench = filter (λ test_case. is_selected patterns (full_name bench test_case)) bench.cases
 
+-- the bench with only the cases whose full name some pattern matches
 abbrev pub selected_bench : List (List Piece) → Bench → Bench
 selected_bench patterns bench = with_cases bench (selected_cases patterns bench)
 
+-- a bench with at least one case
 abbrev pub has_cases : Bench → Bool
 has_cases bench = not (length bench.cases == 0)
 

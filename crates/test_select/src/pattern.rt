@@ -31,6 +31,7 @@ pub struct Pattern {
     pieces: Items<Piece>,
 }
 
+/// Patterns of names, in order. Contracts see the pieces of each.
 pub type PatternList = Items<Pattern>;
 
 impl Model for Pattern {

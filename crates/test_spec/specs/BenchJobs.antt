@@ -21,7 +21,7 @@ unfoldable pub bench_input : BenchJob → List ℕ
 bench_input job =
     codes "VRB1" ++ (text_bytes job.library ++ (text_bytes job.bench ++ (text_bytes job.architecture ++ (texts_bytes job.cases ++ (text_bytes job.runner_cfg ++ (text_bytes job.results ++ all_built_bytes job.built))))))
 
--- its texts and their number have a spelling, and its files were built
+-- A job of a simulator: its texts and their number can be spelled, and its files were built.
 pub record IsBenchJob (job : BenchJob) : Type 0 where
   pub library : length job.library < 2 ^ 32
   pub bench : length job.bench < 2 ^ 32

@@ -4,12 +4,15 @@ use Rattle.std.specs.List.{flat_map, join_by}
 use Rattle.test_spec.specs.declared.runs.TestRun.{TestRun}
 use Rattle.test_spec.specs.Runs.{output_path}
 
+-- `,`, which separates pairs and cases
 abbrev pub comma_byte : ℕ
 comma_byte = 44
 
+-- `:`, which separates a key and its value
 abbrev pub colon_byte : ℕ
 colon_byte = 58
 
+-- `/`, which separates the folders of a path
 abbrev pub slash_byte : ℕ
 slash_byte = 47
 
@@ -17,6 +20,7 @@ slash_byte = 47
 abbrev pub doubled : (ℕ → Bool) → List ℕ → List ℕ
 doubled test bytes = flat_map (λ byte. if test byte then byte ∷ byte ∷ [] else byte ∷ []) bytes
 
+-- the byte is a comma
 abbrev pub is_comma : ℕ → Bool
 is_comma byte = byte == comma_byte
 

@@ -87,6 +87,7 @@ hex_digit worth = if nat_lt worth 10 then 48 + worth else 87 + worth
 unfoldable pub escaped_byte : ℕ → List ℕ
 escaped_byte byte = if is_name_byte byte then byte ∷ [] else 61 ∷ hex_digit (byte / 16) ∷ hex_digit (byte % 16) ∷ []
 
+-- the name of a folder in which each byte but letters, digits, `_`, `-` and `.` is written as `=` and two hexadecimal digits
 abbrev pub escaped : List ℕ → List ℕ
 escaped name = flat_map escaped_byte name
 

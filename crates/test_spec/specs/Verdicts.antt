@@ -24,6 +24,7 @@ result_lines text = map strip_carriage_return (slice_split (λ byte. byte == 10)
 unfoldable pub started_name : List ℕ → Option (List ℕ)
 started_name line = if bytes_eq (take 11 line) (codes "test_start:") then Some (drop 11 line) else None
 
+-- the line that says that all is done
 abbrev pub is_done_line : List ℕ → Bool
 is_done_line line = bytes_eq line (codes "test_suite_done")
 
@@ -47,6 +48,7 @@ is_last_start starts name = option_map_or (λ last. bytes_eq last name) (last_or
 
 -- ## Verdicts
 
+-- passed or failed, by whether the run ended well
 abbrev pub passed_if : Bool → Verdict
 passed_if true = Passed
 passed_if false = Failed
@@ -66,11 +68,13 @@ verdicts cases true code (Given text) = passed_if (ends_well code (result_lines 
 verdicts cases false code Nothing = map (λ name. Failed) cases
 verdicts cases false code (Given text) = map (case_verdict (case_starts cases (result_lines text)) (ends_well code (result_lines text))) cases
 
+-- the case has passed
 abbrev pub is_passed_verdict : Verdict → Bool
 is_passed_verdict Passed = true
 is_passed_verdict Failed = false
 is_passed_verdict Skipped = false
 
+-- the verdicts of the cases of a run that ended so, in order
 abbrev pub run_verdicts : TestRun → Exit → List Verdict
 run_verdicts run exit = verdicts run.cases run.whole exit.code exit.results
 
@@ -78,9 +82,10 @@ run_verdicts run exit = verdicts run.cases run.whole exit.code exit.results
 abbrev pub is_passed : TestRun → Exit → Bool
 is_passed run exit = list_all is_passed_verdict (run_verdicts run exit)
 
--- what became of a run that ended, and of one that was never started
+-- what became of a run that ended, with the first 4,096 bytes of what it printed
 abbrev pub ended_run : TestRun → Exit → RunEnd
 ended_run run exit = record { names = case_names run; verdicts = run_verdicts run exit; output = take SHOWN_LIMIT exit.output }
 
+-- what became of a run that was never started: each case is skipped
 abbrev pub unstarted_run : TestRun → RunEnd
 unstarted_run run = record { names = case_names run; verdicts = map (λ name. Skipped) (case_names run); output = [] }

@@ -38,7 +38,7 @@ pub data Object : Type 0 where
   Out : Object
   Reports : Object
 
--- what holds of each of them
+-- what holds of an object, by which one it is
 abbrev pub of_each : (disk children out reports : Type 0) → Object → Type 0
 of_each disk children out reports Disk = disk
 of_each disk children out reports Children = children
@@ -54,6 +54,7 @@ pub record Seen : Type 0 where
   pub put : List ℕ
   pub report : List ℕ → Option (List ℕ)
 
+-- what objects tell at a moment, from its parts
 abbrev pub seen : List Event → Moments → (disk_failures : ℕ) → (put : List ℕ) → (report : List ℕ → Option (List ℕ)) → Seen
 seen journal moments disk_failures put report = record { journal = journal; moments = moments; disk_failures = disk_failures; put = put; report = report }
 
@@ -66,20 +67,20 @@ run_between words result before after =
 abbrev pub marks_between : Order → Seen → Seen → List Mark
 marks_between order before after = marks_of (work_over records_in_image order before.moments.now) (compile_part (since before.journal after.journal))
 
--- the events of its tests
+-- the events of tests between two moments
 abbrev pub tests_since : Seen → Seen → List Event
 tests_since before after = test_part (since before.journal after.journal)
 
--- what they worked on, where its compilers made all files
+-- what the tests of a run work on, where its compilers made all files between two moments
 abbrev pub setting_between : Testing → Seen → Seen → TestSetting
 setting_between asked before after = setting_after asked.order asked.plan (work_over records_in_image asked.order before.moments.now) (compile_part (since before.journal after.journal))
 
--- what became of them: nothing, where a file isn't made
+-- what became of the tests of a run between two moments: nothing, where a file isn't made
 abbrev pub tests_between : Testing → Seen → Seen → Option TestEnd
 tests_between asked before after =
     if list_all is_made (marks_between asked.order before after) then Some (record { runs = test_ends (setting_between asked before after) (tests_since before after) }) else None
 
--- what is said of both
+-- what is said of a build and of its tests between two moments
 abbrev pub said_between : Testing → Seen → Seen → RunSaid
 said_between asked before after = run_said asked.warnings asked.order.graph (marks_between asked.order before after) asked.plan.runs asked.words (tests_between asked before after)
 

@@ -43,7 +43,7 @@ WritesLast (outcome.OutsideFault which.Report) path text old new = IsSameBut pat
 WritesLast (outcome.OutsideFault other) path text old new = new ≡ old
 WritesLast answer path text old new = HasWritten path text old new
 
--- What a run leaves of them where this report is said, if any, and this is its file, if it has one.
+-- What a run leaves of the files of reports, where this report is said, if any, and this is its file, if it has one.
 abbrev pub WritesReport : MaybeText → Option (List ℕ) → Outcome → (old new : List ℕ → Option (List ℕ)) → Type 0
 WritesReport Nothing said answer old new = new ≡ old
 WritesReport (Given path) None answer old new = new ≡ old

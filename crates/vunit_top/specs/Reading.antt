@@ -34,7 +34,7 @@ use Rattle.vunit_top.specs.declared.words.RunOptions.{RunOptions}
 use Rattle.vunit_top.specs.declared.words.Job.{Job}
 use Rattle.vunit_top.specs.declared.words.Job.TheVariants as job
 
--- which child of the program
+-- which child of the program it is: its own compiler, or its own simulator
 pub data Tool : Type 0 where
   Compiler : Tool
   Simulator : Tool
@@ -64,17 +64,20 @@ pub data Reading : Type 0 where
   Runs : Testing → Reading
   Generates : GenerateOptions → Reading
 
+-- the first of the words is this one
 abbrev pub begins_with : List ℕ → List (List ℕ) → Bool
 begins_with first [] = false
 begins_with first (word ∷ words) = bytes_eq word first
 
--- the program is the compiler child, or the simulator child
+-- the program is the compiler child: its first word is `child-analyse`
 abbrev pub begins_as_compiler : List (List ℕ) → Bool
 begins_as_compiler words = begins_with (codes "child-analyse") words
 
+-- the program is the simulator child: its first word is `child-bench`
 abbrev pub begins_as_simulator : List (List ℕ) → Bool
 begins_as_simulator words = begins_with (codes "child-bench") words
 
+-- the program is one of its two children
 abbrev pub begins_as_child : List (List ℕ) → Bool
 begins_as_child words = begins_as_compiler words || begins_as_simulator words
 
@@ -90,7 +93,7 @@ extent_of minimal other = if minimal then Needed else other
 abbrev pub wish_by : Setting → Extent → Wish
 wish_by setting extent = record { extent = extent; patterns = setting.patterns }
 
--- how it says that their tests are run
+-- how a setting says that files are built and tests are run
 abbrev pub run_options_of : Setting → RunOptions
 run_options_of setting = record {
   build = options_of setting;
@@ -106,6 +109,7 @@ job_but_export setting =
     if setting.list then job.ListTests (wish_by setting Tests) else if setting.files then job.ListFiles (wish_by setting (extent_of setting.minimal Graph))
     else if setting.compile then job.Build (options_of setting) (wish_by setting (extent_of setting.minimal Graph)) else job.Run (run_options_of setting)
 
+-- the export of files and tests, where it has a path, and else what another mode asks for
 abbrev pub job_or_export : MaybeText → Setting → Job
 job_or_export (Given path) setting = job.Export path (wish_by setting Tests)
 job_or_export Nothing setting = job_but_export setting
@@ -143,7 +147,7 @@ abbrev pub is_run : Job → Bool
 is_run (job.Run options) = true
 is_run _ = false
 
--- whether words may
+-- whether words may start a test
 abbrev pub may_test : Result Job Reading → Bool
 may_test (Ok job) = is_run job
 may_test (Err (Generates options)) = true
@@ -169,6 +173,7 @@ generate_job setting = if nat_lt setting.generate FILE_LIMIT then Err (Generates
 abbrev pub setting_job : Setting → Result Job Reading
 setting_job setting = if nat_lt SLOT_LIMIT setting.num_threads then Err (Over limit.Slots SLOT_LIMIT) else if nat_lt 0 setting.generate then generate_job setting else Ok (job_of setting)
 
+-- what a setting asks for; words that give none are no command line
 abbrev pub maybe_job : Option Setting → Result Job Reading
 maybe_job None = Err Bad
 maybe_job (Some setting) = setting_job setting

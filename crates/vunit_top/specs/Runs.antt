@@ -25,7 +25,7 @@ use Rattle.vunit_top.specs.Said.{HasEnded, HasBuilt, order_of, order_in, plan_in
 abbrev pub world_of : (List ℕ → Finding) → (Request → Exit) → World
 world_of scan answer = record { answer = answer; records_of = records_in_image; reading = λ words sources. order_of (reading scan words sources) }
 
--- the same of runs with tests
+-- what runs of the program with tests have in common, over one compiler
 abbrev pub tested_world_of : (List ℕ → Finding) → (Request → Exit) → TestedWorld
 tested_world_of scan answer = record { world = world_of scan answer; plan = λ words sources. plan_in (reading scan words sources) }
 

@@ -70,7 +70,7 @@ input_bytes = 2147483648
 abbrev pub exit_said : Exit → Said
 exit_said exit = record { outcome = outcome.Child exit.code; text = exit.output }
 
--- what it says to its input: that of its end, or that the input is too long
+-- what a child of the program says to its input: that of its end, or that the input is too long
 abbrev pub child_said : (List ℕ → Exit) → List ℕ → Said
 child_said answer input = if nat_le (length input) input_bytes then exit_said (answer input) else record { outcome = outcome.Child 2; text = bad_request }
 
@@ -80,7 +80,7 @@ left_results None results = None
 left_results (Some job) Nothing = None
 left_results (Some job) (Given text) = Some (record { path = job.results; text = text })
 
--- those that it leaves for its input
+-- the results that the simulator child leaves for its input, if any
 abbrev pub child_results : List ℕ → Option Results
 child_results input = if nat_le (length input) input_bytes then left_results (bench_at input) (simulation input).results else None
 
@@ -102,7 +102,7 @@ Says (outcome.OutsideFault which.Out) s old new = AddsPrefix s.text old new
 Says (outcome.OutsideFault other) s old new = new ≡ old
 Says answer s old new = (answer ≡ s.outcome) × (new ≡ old ++ s.text)
 
--- The same of a run with tests: where its report couldn't be written, its text was put all the same.
+-- What a run with tests says, as `Says` has it; but where its report couldn't be written, its text was put all the same.
 abbrev pub SaysRun : Outcome → Said → List ℕ → List ℕ → Type 0
 SaysRun (outcome.OutsideFault which.Report) s old new = new ≡ old ++ s.text
 SaysRun answer s old new = Says answer s old new
