@@ -72,7 +72,7 @@ def definitions_of(top, crates):
                 if line.startswith("--"):
                     comment.append(line[2:].strip())
                     continue
-                head = re.match(r"(?:abbrev pub|unfoldable pub|abbrev|unfoldable|pub record|pub data|record|data) (\w+)", line)
+                head = re.match(r"(?:abbrev pub|unfoldable pub|abbrev|unfoldable|pub record|pub data|record|data) (\S+)", line)
                 if head:
                     found[crate, path.stem, head[1]] = " ".join(comment)
                     data = head[1] if " data " in " " + line else None

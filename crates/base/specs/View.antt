@@ -20,6 +20,7 @@ renumbered positions entry = record { name = entry.name; command = entry.command
 unfoldable pub part : List Entry → List ℕ → List Entry
 part graph positions = map (renumbered positions) (filter_map (slice_get graph) positions)
 
+-- a file of a graph with all that it depends on, as a graph of its own with new positions
 abbrev pub view : List Entry → ℕ → List Entry
 view graph at = part graph (viewed graph at)
 

@@ -23,6 +23,7 @@ hash_of input = folding.finish (fold folding.write folding.initial input)
 abbrev pub first_of : ℕ → ℕ → ℕ
 first_of places hash = hash % places
 
+-- the second of the two, by the upper half of the hash
 abbrev pub second_of : ℕ → ℕ → ℕ
 second_of places hash = hash / 2 ^ 32 % places
 
@@ -30,6 +31,7 @@ second_of places hash = hash / 2 ^ 32 % places
 abbrev pub slot_of : ℕ → Option ℕ
 slot_of kept = if kept == 0 then None else Some (kept - 1)
 
+-- what the table holds at an index
 abbrev pub slot_at : List ℕ → ℕ → Option ℕ
 slot_at slots at = slot_of (slice_index slots at)
 

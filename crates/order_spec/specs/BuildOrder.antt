@@ -74,6 +74,7 @@ reported_cycle edges = repeated (untaken_dep edges (all_taken edges)) (suc (leng
 
 -- ## The order, or the cycle
 
+-- positions of files in compile order, or positions of files that form a cycle
 pub data FileOrder : Type 0 where
   Ordered : List ℕ → FileOrder
   Cyclic : List ℕ → FileOrder

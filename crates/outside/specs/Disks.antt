@@ -24,6 +24,7 @@ pub record Image : Type 0 where
   pub a : List ℕ
   pub b : List ℕ
 
+-- the state of one side
 abbrev pub side_of : Side → DiskState → SideState
 side_of A disk = disk.a
 side_of B disk = disk.b

@@ -70,6 +70,7 @@ pub record HasRecordsOf (records_of : Image → List Record) (disk : DiskState) 
 abbrev pub deps_at : List Entry → ℕ → List ℕ
 deps_at graph at = option_map_or (λ entry. entry.deps) (slice_get graph at) []
 
+-- a built file without name and artefact, for positions past the end
 abbrev pub no_built : BuiltFile
 no_built = record { name = record { library = []; path = [] }; artefact = [] }
 

@@ -17,6 +17,7 @@ use Rattle.base.specs.Names.{has_name}
 abbrev pub is_library_byte : ℕ → Bool
 is_library_byte byte = is_ascii_alphabetic byte || is_ascii_digit byte || byte == 95
 
+-- an ASCII letter comes first
 abbrev pub begins_with_letter : List ℕ → Bool
 begins_with_letter [] = false
 begins_with_letter (byte ∷ bytes) = is_ascii_alphabetic byte
@@ -102,9 +103,11 @@ csv_files bytes = files_after [] 1 (lines bytes)
 abbrev pub listed_command : List (List ℕ)
 listed_command = codes "@self" ∷ codes "child-analyse" ∷ []
 
+-- the command that runs the program as its own simulator
 abbrev pub listed_simulator : List (List ℕ)
 listed_simulator = codes "@self" ∷ codes "child-bench" ∷ []
 
+-- a listed file, which is compiled by the program itself
 abbrev pub listed_file : FileName → ProjectFile
 listed_file name = record { name = name; command = listed_command }
 

@@ -17,6 +17,7 @@ file_paths files = map (λ file. file.name.path) files
 abbrev pub source_paths : Project → List (List ℕ)
 source_paths project = if nat_le (length project.files) FILE_LIMIT then file_paths project.files else []
 
+-- the paths of a project's files, and none where there is no project
 abbrev pub maybe_paths : Result Project SourceReading → List (List ℕ)
 maybe_paths (Ok project) = source_paths project
 maybe_paths (Err reading) = []

@@ -15,12 +15,15 @@ use Rattle.vhdl_graph.specs.Keys.{UnitKey, is_same_flag, is_same_key}
 abbrev pub flags_cmp : UnitKey → UnitKey → Ordering
 flags_cmp = then_cmp (on (λ k. k.body) bool_cmp) (on (λ k. k.primary) bool_cmp)
 
+-- by library, and then by what the key is of
 abbrev pub libraries_cmp : UnitKey → UnitKey → Ordering
 libraries_cmp = then_cmp (on (λ k. k.library) (slice_cmp nat_cmp)) flags_cmp
 
+-- by entity, and then as above
 abbrev pub entities_cmp : UnitKey → UnitKey → Ordering
 entities_cmp = then_cmp (on (λ k. k.entity) (slice_cmp nat_cmp)) libraries_cmp
 
+-- by name, and then as above: a total order of keys
 abbrev pub key_cmp : UnitKey → UnitKey → Ordering
 key_cmp = then_cmp (on (λ k. k.name) (slice_cmp nat_cmp)) entities_cmp
 
@@ -82,6 +85,7 @@ flag_itself : (a : Bool) → is_same_flag a a ≡ true
 flag_itself true = refl
 flag_itself false = refl
 
+-- a key by its parts
 abbrev key : Bool → Bool → List ℕ → List ℕ → List ℕ → UnitKey
 key primary body library entity name = record { primary = primary; body = body; library = library; entity = entity; name = name }
 

@@ -28,6 +28,7 @@ pub record NeedSources : Type 0 where
   pub scans : List Scan
   pub edges : Option (List (List ℕ))
 
+-- the files of a project with their texts, their scans and, where it isn't listed, what each depends on
 abbrev pub said_of : Project → List (List ℕ) → List Scan → Option (List (List ℕ)) → NeedSources
 said_of project texts scans edges = record { files = project.files; texts = texts; scans = scans; edges = edges }
 
@@ -36,9 +37,11 @@ pub record NeedUnit : Type 0 where
   pub scope : ScopeUnit
   pub components : List (List ℕ)
 
+-- a unit with what decides the libraries that it sees, and with the names of its components
 abbrev pub need_unit : List ℕ → List ℕ → Scan → DesignUnit → NeedUnit
 need_unit library text scan unit = record { scope = scope_unit library text scan unit; components = component_names text scan.tokens.list unit }
 
+-- the units of a file, and none where the file, its text or its scan is missing
 abbrev pub units_of : Option ProjectFile → Option (List ℕ) → Option Scan → List NeedUnit
 units_of (Some file) (Some text) (Some scan) = map (need_unit file.name.library text scan) scan.units
 units_of (Some file) (Some text) None = []
@@ -56,6 +59,7 @@ abbrev pub uses : Option (List (List ℕ)) → ℕ → ℕ → Bool
 uses None user used = nat_lt used user
 uses (Some edges) user used = list_any (λ dep. dep == used) (deps_in edges user)
 
+-- an entity
 abbrev pub is_entity_kind : UnitKind → Bool
 is_entity_kind kinds.Entity = true
 is_entity_kind _ = false
@@ -83,6 +87,7 @@ may_bind scopes user names entity = looks_into scopes user entity.library && (is
 abbrev pub wants : List ScopeUnit → NeedUnit → NeedUnit → Bool
 wants scopes unit other = has_architecture unit.scope other.scope || (has_body unit.scope other.scope || may_bind scopes unit.scope unit.components other.scope)
 
+-- all units of the project, with what decides the libraries that they see
 abbrev pub scopes_of : NeedSources → List ScopeUnit
 scopes_of sources = scope_units sources.files sources.texts sources.scans
 

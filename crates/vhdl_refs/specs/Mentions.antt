@@ -16,6 +16,7 @@ use Rattle.vhdl_refs.specs.Components.{component_names}
 use Rattle.vhdl_refs.specs.declared.mentions.NamedRef.{NamedRef}
 use Rattle.vhdl_refs.specs.declared.mentions.Mentions.{Mentions}
 
+-- the name of an architecture by a copy of its token, if there is one
 abbrev pub named_architecture : List ℕ → Option Token → MaybeText
 named_architecture text None = Nothing
 named_architecture text (Some token) = Given (token_name text token)
@@ -24,10 +25,12 @@ named_architecture text (Some token) = Given (token_name text token)
 abbrev pub named_ref : List ℕ → NamedRef → Ref
 named_ref text named = record { library = token_name text named.library; name = token_name text named.name; architecture = named_architecture text named.architecture; strict = named.strict; at = named.at }
 
+-- a token, if there is one, ends within the text
 abbrev pub SomeLiesIn : List ℕ → Option Token → Type 0
 SomeLiesIn text None = Unit {0}
 SomeLiesIn text (Some token) = LiesIn text token
 
+-- the tokens that a reference was kept by end within the text
 pub record NamedLiesIn (text : List ℕ) (named : NamedRef) : Type 0 where
   pub library : LiesIn text named.library
   pub name : LiesIn text named.name
@@ -48,6 +51,7 @@ pub record AreMentionsOf (text : List ℕ) (tokens : List Token) (unit : DesignU
   pub whole : map (token_name text) mentions.whole ≡ map (name_of text tokens) (uses_of_all (roles_of text tokens) unit)
   pub components : map (token_name text) mentions.components ≡ component_names text tokens unit
 
+-- all tokens that were kept of a unit end within the text
 pub record MentionsLieIn (text : List ℕ) (mentions : Mentions) : Type 0 where
   pub contexts : All (NamedLiesIn text) mentions.contexts
   pub refs : All (NamedLiesIn text) mentions.refs

@@ -23,5 +23,6 @@ pub record IsRefPlace (roles : List Role) (place : RefPlace) : Type 0 where
   pub within : place.at + 2 < length roles
   pub strict : place.strict ≡ is_strict roles place.at
 
+-- a reference is at each of the token numbers that were found
 abbrev pub AreRefPlaces : List Role → List RefPlace → Type 0
 AreRefPlaces roles found = All (IsRefPlace roles) found

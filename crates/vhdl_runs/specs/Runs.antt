@@ -13,6 +13,7 @@ use Rattle.vhdl_runs.specs.Calls.{asks_same_sim, has_runner, run_strings}
 use Rattle.vhdl_runs.specs.declared.runs.FileRuns.{FileRuns}
 use Rattle.vhdl_runs.specs.declared.runs.UnitRuns.{UnitRuns}
 
+-- an entity
 abbrev pub is_entity_kind : UnitKind → Bool
 is_entity_kind kinds.Entity = true
 is_entity_kind _ = false
@@ -41,6 +42,7 @@ file_runs text scan = record { units = map (unit_runs text scan.tokens.list) sca
 abbrev pub IsStringIn : List ℕ → Token → Type 0
 IsStringIn text token = (token.start + 2 ≤ token.end) × (token.end ≤ length text)
 
+-- the token that names a bench, if there is one, ends within the text
 abbrev pub BenchLiesIn : List ℕ → Option Token → Type 0
 BenchLiesIn text None = Unit {0}
 BenchLiesIn text (Some token) = LiesIn text token

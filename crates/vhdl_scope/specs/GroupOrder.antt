@@ -51,6 +51,7 @@ same_text a b told = (bytes_eq-Decides a b).0 told
 text_itself : (a : List ℕ) → bytes_eq a a ≡ true
 text_itself a = (bytes_eq-Decides a a).1 refl
 
+-- a group by its parts
 abbrev group : Bool → Bool → List ℕ → List ℕ → List ℕ → Group
 group context architecture library owner name = record { context = context; architecture = architecture; library = library; owner = owner; name = name }
 

@@ -22,6 +22,7 @@ pub record Table : Type 0 where
 abbrev pub row_names : List (List ℕ) → List ℕ → List (List ℕ)
 row_names names row = filter (λ name. row_has row (number_of names name)) names
 
+-- the table of rows of bits, one row a unit and one bit a name
 unfoldable pub table_of : List ℕ → List (List ℕ) → List (List ℕ) → Table
 table_of starts names rows = record { starts = starts; sets = map (row_names names) rows }
 

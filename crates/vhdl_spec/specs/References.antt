@@ -22,6 +22,7 @@ abbrev pub role_before : List Role → ℕ → Role
 role_before roles zero = Other
 role_before roles (suc before) = role_at roles before
 
+-- `;`
 abbrev pub is_semicolon : Role → Bool
 is_semicolon Semicolon = true
 is_semicolon _ = false
@@ -42,6 +43,7 @@ places test start end = filter test (range_with_len start (end - start))
 
 -- ## References by name
 
+-- `,`
 abbrev pub is_comma : Role → Bool
 is_comma Comma = true
 is_comma _ = false
@@ -61,10 +63,12 @@ precedes_unit Configuration = true
 precedes_unit New = true
 precedes_unit _ = false
 
+-- a name that isn't a reserved word
 abbrev pub is_name : Role → Bool
 is_name Name = true
 is_name _ = false
 
+-- `.`
 abbrev pub is_dot : Role → Bool
 is_dot Dot = true
 is_dot _ = false
@@ -77,9 +81,11 @@ is_reference roles at = is_name (role_at roles at) && is_dot (role_at roles (at 
 abbrev pub is_in_name_list : List Role → ℕ → Bool
 is_in_name_list roles at = list_any lists_names (back_to is_semicolon roles at)
 
+-- whether a reference can't mean anything but a design unit, by what comes before it
 abbrev pub is_strict : List Role → ℕ → Bool
 is_strict roles at = precedes_unit (role_before roles at) || (is_comma (role_before roles at) && is_in_name_list roles at)
 
+-- `entity`
 abbrev pub is_entity_word : Role → Bool
 is_entity_word Entity = true
 is_entity_word _ = false
@@ -88,10 +94,12 @@ is_entity_word _ = false
 abbrev pub has_architecture : List Role → ℕ → Bool
 has_architecture roles at = is_entity_word (role_before roles at) && is_opening (role_at roles (at + 3)) && is_name (role_at roles (at + 4)) && is_closing (role_at roles (at + 5))
 
+-- `use`
 abbrev pub is_use_word : Role → Bool
 is_use_word Use = true
 is_use_word _ = false
 
+-- `for`
 abbrev pub is_for : Role → Bool
 is_for For = true
 is_for _ = false
@@ -107,6 +115,7 @@ follows_label _ = false
 abbrev pub has_block : List Role → ℕ → Bool
 has_block roles at = is_use_word (role_before roles (at - 1)) && is_entity_word (role_before roles at) && is_semicolon (role_at roles (at + 3)) && is_for (role_at roles (at + 4)) && is_name (role_at roles (at + 5)) && not (follows_label (role_at roles (at + 6)))
 
+-- a configuration declaration
 abbrev pub is_configuration : UnitKind → Bool
 is_configuration kinds.Configuration = true
 is_configuration _ = false
@@ -129,9 +138,11 @@ named_refs text tokens unit = map (ref_at text tokens unit.kind) (places (is_ref
 
 -- ## References by structure
 
+-- the name by which a unit refers to its own library
 abbrev pub work : List ℕ
 work = codes "work"
 
+-- the name of a unit's owner, empty where it has none
 abbrev pub owner_name : MaybeText → List ℕ
 owner_name Nothing = []
 owner_name (Given name) = name
@@ -140,6 +151,7 @@ owner_name (Given name) = name
 abbrev pub first_for : List Role → ℕ → ℕ → Option ℕ
 first_for roles start end = find (λ at. is_for (role_at roles at)) (range_with_len start (end - start))
 
+-- a name, where the role of its token is that of a name
 abbrev pub name_if : Role → List ℕ → MaybeText
 name_if Name name = Given name
 name_if _ name = Nothing
@@ -168,14 +180,17 @@ refs_of text tokens unit = structural_by text tokens unit unit.kind ++ named_ref
 
 -- ## Context items
 
+-- a context declaration
 abbrev pub is_context_kind : UnitKind → Bool
 is_context_kind kinds.Context = true
 is_context_kind _ = false
 
+-- `context`
 abbrev pub is_context_word : Role → Bool
 is_context_word Context = true
 is_context_word _ = false
 
+-- `library`
 abbrev pub is_library_word : Role → Bool
 is_library_word Library = true
 is_library_word _ = false
@@ -201,6 +216,7 @@ clause_start roles at = at - length (back_to is_semicolon roles at)
 abbrev pub is_in_library_clause : List Role → ℕ → ℕ → Bool
 is_in_library_clause roles first at = if nat_lt at first then is_library_word (role_at roles (clause_start roles at)) else list_any is_library_word (back_to is_semicolon roles at)
 
+-- a name in a library clause of a unit whose keyword is the token `first`
 abbrev pub is_library_name : List Role → ℕ → ℕ → Bool
 is_library_name roles first at = is_name (role_at roles at) && is_in_library_clause roles first at
 
@@ -210,6 +226,7 @@ library_names text tokens unit = map (name_of text tokens) (places (is_library_n
 
 -- ## `use L.all`
 
+-- `all`
 abbrev pub is_all_word : Role → Bool
 is_all_word All = true
 is_all_word _ = false

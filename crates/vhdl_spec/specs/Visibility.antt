@@ -27,6 +27,7 @@ pub record ScopeUnit : Type 0 where
   pub contexts : List Ref
   pub configured : MaybeText
 
+-- what decides the libraries that a unit sees, read from the tokens of its file
 abbrev pub scope_unit : List ℕ → List ℕ → Scan → DesignUnit → ScopeUnit
 scope_unit library text scan unit = record { library = library; unit = unit; names = library_names text scan.tokens.list unit; contexts = context_refs text scan.tokens.list unit; configured = configured text scan.tokens.list unit }
 
@@ -47,15 +48,18 @@ primary_name kinds.Configuration unit = unit.owner
 primary_name kinds.PackageBody unit = Given unit.name
 primary_name _ unit = Nothing
 
+-- an architecture or a package body
 abbrev pub is_secondary : UnitKind → Bool
 is_secondary kinds.Architecture = true
 is_secondary kinds.PackageBody = true
 is_secondary _ = false
 
+-- an architecture
 abbrev pub is_architecture_kind : UnitKind → Bool
 is_architecture_kind kinds.Architecture = true
 is_architecture_kind _ = false
 
+-- whether there is a name, and it is this one
 abbrev pub is_given : MaybeText → List ℕ → Bool
 is_given Nothing name = false
 is_given (Given other) name = bytes_eq other name
