@@ -75,7 +75,8 @@ overwritten at bytes old = take at old ++ (bytes ++ drop (at + length bytes) old
 abbrev pub touching : (at count : ℕ) → SideState → SideState
 touching at count side = record { reads = side.reads; synced = side.synced; low = side.low; high = max side.high (at + count); touched = (at, count) ∷ side.touched }
 
--- A side inside a write, and after a write that failed. One that would end at 2^63 or above touches nothing.
+-- A side inside a write, and after a write that failed: each byte that it reaches may be any. A write that would end
+-- at 2^63 or above reaches none.
 abbrev pub writing : (at count : ℕ) → SideState → SideState
 writing at count side = if nat_lt (at + count) (2 ^ 63) then touching at count side else side
 
@@ -83,7 +84,7 @@ writing at count side = if nat_lt (at + count) (2 ^ 63) then touching at count s
 abbrev pub written : (at : ℕ) (bytes : List ℕ) → SideState → SideState
 written at bytes side = record { reads = overwritten at bytes side.reads; synced = side.synced; low = side.low; high = max side.high (at + length bytes); touched = (at, length bytes) ∷ side.touched }
 
--- a side inside a cut, and after a cut that failed
+-- a side inside a cut to a length, and after a cut that failed: any length between both may be left
 abbrev pub cutting : (len : ℕ) → SideState → SideState
 cutting len side = record { reads = side.reads; synced = side.synced; low = min side.low len; high = side.high; touched = side.touched }
 
@@ -95,7 +96,7 @@ shortened len side = record { reads = take len side.reads; synced = side.synced;
 abbrev pub settled : List ℕ → SideState
 settled bytes = record { reads = bytes; synced = bytes; low = length bytes; high = length bytes; touched = [] }
 
--- a disk of these bytes alone
+-- a disk of which a stop leaves exactly these bytes
 abbrev pub settled_disk : Image → DiskState
 settled_disk image = record { a = settled image.a; b = settled image.b }
 
@@ -147,7 +148,7 @@ abbrev pub Shrinks : DiskState → List DiskState → Type 0
 Shrinks during [] = Unit {0}
 Shrinks during (disk ∷ later) = IsWithin during disk × IsImage disk (reads_of disk) × Shrinks disk later
 
--- One call, inside of which images were those of `during` at most. Its moments follow those before it.
+-- One call of a disk: the moments inside it follow those before it, and their images are among those of `during`.
 pub record Goes (during : DiskState) (old new : Moments) : Type 0 where
   pub inside : List DiskState
   pub added : all_of new ≡ all_of old ++ inside
@@ -181,7 +182,7 @@ pub record NeverLoses (old new : Moments) (P : Image → Type 0) : Type 0 where
   pub follows : Follows old new
   pub keeps : StaysTrue P old.now (added_since old new)
 
--- one of two values, as of what an image holds inside a call: what was before it or what is after it
+-- one of two values: what an image held before a call, or what it holds after it
 abbrev pub IsEither : {T : Type 0} → T → T → T → Type 0
 IsEither value one other = (value ≡ one) ⊎ (value ≡ other)
 

@@ -115,6 +115,7 @@ listed_file name = record { name = name; command = listed_command }
 abbrev pub listed_project : List FileName → Project
 listed_project names = record { files = map listed_file names; simulator = listed_simulator; external = []; bodies = false; depends = []; listed = true }
 
--- the project of the bytes, or its first fault
+-- The project that the bytes of a `vunit.csv` list, or its first fault. `lib,a.vhd` and `LIB,a.vhd` on two lines name
+-- the same file twice, since libraries are in lower case.
 abbrev pub csv_project : List ℕ → Result Project ProjectFault
 csv_project bytes = then_read (csv_files bytes) (λ names. Ok (listed_project names))

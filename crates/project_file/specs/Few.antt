@@ -18,7 +18,7 @@ use Rattle.project_file.specs.Libraries.{alone, libraries_of}
 abbrev pub few_of : Project → Option Project
 few_of project = if nat_le (length project.files) FILE_LIMIT then Some project else None
 
--- what is said of a project, or its fault
+-- A project or its fault, with nothing in place of a project of over 4,096 files.
 abbrev pub few_said : Result Project ProjectFault → Result (Option Project) ProjectFault
 few_said said = then_read said (λ project. Ok (few_of project))
 

@@ -12,7 +12,7 @@ TakesLine old number line (Ok done) new = (rest : List (List ℕ)) → files_aft
 TakesLine old number line (Err memory.NoMemory) new = Unit {0}
 TakesLine old number line (Err (memory.Fault fault)) new = (rest : List (List ℕ)) → files_after old number (line ∷ rest) ≡ Err fault
 
--- what is read is what the bytes say, unless memory ran out
+-- a call read what the definition says, or ran out of memory
 abbrev pub ReadsStep : {T : Type 0} → Result T ProjectFault → Result T (OrMemory ProjectFault) → Type 0
 ReadsStep said (Ok read) = said ≡ Ok read
 ReadsStep said (Err memory.NoMemory) = Unit {0}

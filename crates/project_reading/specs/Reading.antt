@@ -210,6 +210,8 @@ files_reading wish scan file project = then_read (texts_reading wish scan projec
 abbrev pub sources_reading : Wish → (List ℕ → Finding) → (List ℕ → Option (List ℕ)) → Project → SourceReading
 sources_reading wish scan file project = if nat_le (length project.files) FILE_LIMIT then files_reading wish scan file project else Over limit.Files FILE_LIMIT
 
--- the reading of a tree of these files, which lists these names, over a scanner, with what is wanted of it
+-- What the sources say, a function of a scanner, a map from paths to bytes and the listed names. In order come the
+-- project, the texts of its files, their scans, the graph, the wanted tests, and the part of the graph that these
+-- need; the first thing that is wrong, or over a limit, ends it.
 unfoldable pub project_reading : (List ℕ → Finding) → (List ℕ → Option (List ℕ)) → List (List ℕ) → (wish : Wish) → SourceReading
 project_reading scan file listed wish = then_read (sources_reading wish scan file) (project_in file listed)

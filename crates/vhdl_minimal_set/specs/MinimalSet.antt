@@ -20,8 +20,8 @@ use Rattle.vhdl_refs.specs.Components.{component_names}
 
 -- ## The units of a project
 
--- the files of a project with their texts and scans, and of each the files that it depends on itself; in a listed project,
--- where each depends on all earlier ones, these aren't said
+-- The files of a project with their texts and scans, and what each depends on itself. Without dependencies the project
+-- is a listed one, where each file depends on all before it.
 pub record NeedSources : Type 0 where
   pub files : List ProjectFile
   pub texts : List (List ℕ)
@@ -114,7 +114,8 @@ unfoldable pub needed_after : NeedSources → List Bench → ℕ → ℕ → Boo
 needed_after sources tests zero = is_tested tests
 needed_after sources tests (suc steps) = grown sources (needed_after sources tests steps)
 
--- the tests need a file: as many steps as there are files are enough
+-- A file is in the least set that has the files of some tests and what its own files need. As many steps as there are
+-- files are enough.
 abbrev pub is_needed : NeedSources → List Bench → ℕ → Bool
 is_needed sources tests file = needed_after sources tests (length sources.files) file
 
@@ -122,7 +123,7 @@ is_needed sources tests file = needed_after sources tests (length sources.files)
 abbrev pub needed_places : NeedSources → List Bench → List ℕ → List ℕ
 needed_places sources tests order = filter (λ place. is_needed sources tests (slice_index order place)) (below (length order))
 
--- a set of files has those of tests, and what its own need
+-- a set of files has those of some tests, and of each of its files those that this one needs
 pub record IsNeedy (sources : NeedSources) (tests : List Bench) (set : ℕ → Bool) : Type 0 where
   pub tested : (file : ℕ) → file < length sources.files → is_tested tests file ≡ true → set file ≡ true
   pub grown : (user used : ℕ) → user < length sources.files → used < length sources.files → set user ≡ true → needs sources user used ≡ true → set used ≡ true

@@ -36,14 +36,15 @@ pub record NamedLiesIn (text : List ℕ) (named : NamedRef) : Type 0 where
   pub name : LiesIn text named.name
   pub architecture : SomeLiesIn text named.architecture
 
--- the reference that a unit has by its structure, or none; a configuration configures this architecture
+-- The reference that a unit has by its structure, or none. A configuration configures this architecture.
 abbrev pub structural_of : MaybeText → DesignUnit → UnitKind → List Ref
 structural_of configured unit kinds.Architecture = structural_ref unit (owner_name unit.owner) Nothing ∷ []
 structural_of configured unit kinds.Configuration = structural_ref unit (owner_name unit.owner) configured ∷ []
 structural_of configured unit kinds.PackageBody = structural_ref unit unit.name Nothing ∷ []
 structural_of configured unit _ = []
 
--- all that a unit refers to, and its components, in order
+-- What was kept of a unit is what its tokens say: references to context declarations, by structure and by name,
+-- libraries that are used whole, and components.
 pub record AreMentionsOf (text : List ℕ) (tokens : List Token) (unit : DesignUnit) (mentions : Mentions) : Type 0 where
   pub contexts : map (named_ref text) mentions.contexts ≡ context_refs text tokens unit
   pub structural : structural_of mentions.configured unit unit.kind ≡ structural_by text tokens unit unit.kind

@@ -178,7 +178,10 @@ warnings_of project units unit =
 
 -- ## Linking
 
--- the first fault, or edges and warnings in project order, unit order and text order
+-- Which files depend on which and the warnings about it, or the first fault: two units of one name, or else a missing
+-- unit or architecture. All are in project order, unit order and text order. With `use work.p.all; use work.all;
+-- package a is end;` in a.vhd and `package p is end;` in b.vhd the edges are 1 of a.vhd, and the one warning is of
+-- a.vhd.
 abbrev pub link_of : Project → List LinkUnit → Result Linked LinkFault
 link_of project units =
     option_map_or (λ fault. Err fault) (option_or (first_duplicate [] units) (first_missing project units)) (Ok (record { edges = edges_of project units; warnings = flat_map (warnings_of project units) units }))

@@ -33,7 +33,7 @@ ends_item Semicolon = true
 ends_item Is = true
 ends_item _ = false
 
--- the tokens before a place, nearest first, back to the first that passes a test
+-- the roles of the tokens before a place, nearest first, back to the first that passes a test
 abbrev pub back_to : (Role → Bool) → List Role → ℕ → List Role
 back_to ends roles at = take_while (λ role. not (ends role)) (reverse (take at roles))
 
@@ -174,7 +174,10 @@ structural_by text tokens unit _ = []
 
 -- ## The references of a unit
 
--- first the structural one, if there is one, and then those of its context part and its tokens, in order
+-- The references of a unit: first the one by its structure, if there is one, and then those by name in its context
+-- part and its tokens, in order. In `context work.ctx; package w is constant k : integer := other.q.c; end;` the
+-- package has `work.ctx`, strict, at token 1, and `other.q`, loose, at token 14; `q.c` is none, since a `.` is before
+-- `q`.
 abbrev pub refs_of : List ℕ → List Token → DesignUnit → List Ref
 refs_of text tokens unit = structural_by text tokens unit unit.kind ++ named_refs text tokens unit
 
@@ -247,20 +250,20 @@ is_used roles at = is_use_word (role_before roles at) || (is_comma (role_before 
 abbrev pub is_use_of_all : List Role → ℕ → Bool
 is_use_of_all roles at = is_all_of roles at && is_used roles at
 
--- the token numbers of the L of each, in order
+-- the token numbers of the L of each `L.all` that a unit uses, rising
 abbrev pub uses_of_all : List Role → DesignUnit → List ℕ
 uses_of_all roles unit = places (is_use_of_all roles) unit.lead unit.last
 
 -- ## What the way back to a token says
 
--- a token before a place passes a test, and none from it up to the place ends the way
+-- a token before a place passes a test, and no token from it up to the place ends the way back
 pub record IsBackAt (test ends : Role → Bool) (roles : List Role) (at : ℕ) : Type 0 where
   pub place : ℕ
   pub before : place < at
   pub passes : IsTrue (test (role_at roles place))
   pub open_since : (between : ℕ) → place ≤ between → between < at → ends (role_at roles between) ≡ false
 
--- a clause begins at a token: the file does, or a `;` is before it, and none from it up to a place
+-- The clause of a place begins at a token: the file does, or a `;` is before it, and none between both.
 pub record BeginsClauseOf (roles : List Role) (start at : ℕ) : Type 0 where
   pub within : start ≤ at
   pub after : (start ≡ 0) ⊎ ((before : ℕ) × (start ≡ before + 1) × (role_at roles before ≡ Semicolon))

@@ -225,7 +225,9 @@ abbrev pub Leads : List ℕ → Place → List Piece → Place → Type 0
 Leads text place [] end = place ≡ end
 Leads text place (piece ∷ pieces) end = IsRight text place.last place.at piece × Leads text (place_after place piece) pieces end
 
--- the pieces are the cut of the text
+-- The pieces are the cut of the text: each is right at its offset, from the start to the end. In `x <= std_logic'('1')
+-- & '(' & "a--b";` there are 13 tokens: the first apostrophe is a tick, since the token before it is a name, and no
+-- comment begins in a string.
 pub record IsCut (text : List ℕ) (pieces : List Piece) : Type 0 where
   pub end : Place
   pub leads : Leads text text_start pieces end
@@ -241,7 +243,8 @@ pub record Opens (row : Row) (text : List ℕ) (at : ℕ) : Type 0 where
   pub first : row_at text place.last at ≡ row
   pub no_end : (end : ℕ) → end ≤ length text → HasForm row text at end → ⊥
 
--- the text has the fault
+-- After pieces that are right a string, an extended identifier or a comment opens that has no end. In a text that ends
+-- in `"abc` it is the string, at its quote.
 abbrev pub HasFault : List ℕ → LexFault → Type 0
 HasFault text (UnclosedString at) = Opens (token Str) text at
 HasFault text (UnclosedExtended at) = Opens (token Extended) text at
@@ -266,6 +269,6 @@ Scans text (Ok tokens) = (pieces : List Piece) × IsCut text pieces × AreOf pie
 Scans text (Err NoMemory) = Unit {0}
 Scans text (Err (Fault fault)) = HasFault text fault
 
--- the bytes of a piece
+-- the bytes of a piece of a text
 abbrev pub bytes_of : List ℕ → Piece → List ℕ
 bytes_of text piece = slice_range text piece.start piece.end

@@ -296,7 +296,7 @@ abbrev pub Follow : List Role → ℕ → List Element → ℕ → Type 0
 Follow roles at [] end = at ≡ end
 Follow roles at (element ∷ elements) end = IsElement roles at element × Follow roles (last_of element + 1) elements end
 
--- the elements are the file
+-- the elements, one after the other, are the whole file
 abbrev pub IsOutline : List Role → List Element → Type 0
 IsOutline roles elements = Follow roles 0 elements (length roles)
 
@@ -351,7 +351,8 @@ units_from text tokens lead at (element ∷ elements) = unit_of text tokens lead
 abbrev pub units_of : List ℕ → List Token → List Element → List DesignUnit
 units_of text tokens elements = units_from text tokens 0 0 elements
 
--- the tokens have the fault
+-- After some elements nothing begins that is one, or one begins that has no end; the fault is at its first byte. `foo`
+-- alone begins nothing, and `entity e is` alone has no end: both faults are at byte 0.
 abbrev pub HasUnitFault : List ℕ → List Token → UnitFault → Type 0
 HasUnitFault text tokens (NotUnit place) = (at : ℕ) × IsNoUnit (roles_of text tokens) at × (place ≡ (token_at tokens at).start)
 HasUnitFault text tokens (NotEnded place) = (at : ℕ) × IsUnended (roles_of text tokens) at × (place ≡ (token_at tokens at).start)

@@ -18,8 +18,8 @@ use Rattle.vhdl_spec.specs.References.{work, configured, context_refs, is_contex
 
 -- ## Design units of a project
 
--- a unit with the library of its file, the names of its library clauses, its references to context declarations, and
--- the architecture that it configures, if it is a configuration
+-- What decides the libraries that a unit sees. It has the library of its file, the names of its library clauses, its
+-- references to context declarations, and the architecture that it configures, if it is a configuration.
 pub record ScopeUnit : Type 0 where
   pub library : List ℕ
   pub unit : DesignUnit
@@ -97,7 +97,7 @@ is_implicit name = bytes_eq name work || bytes_eq name (codes "std")
 
 -- ## The sets of each step
 
--- whether a name is in the set of a unit
+-- for each unit a set of library names, as a test
 abbrev pub Sets : Type 0
 Sets = ScopeUnit → List ℕ → Bool
 
@@ -117,7 +117,8 @@ has_by_context units sets user name = not (is_implicit name) && list_any (λ ref
 abbrev pub grown : List ScopeUnit → Sets → Sets
 grown units sets user name = sets user name || has_by_owner units sets user name || has_by_context units sets user name
 
--- the sets after so many steps
+-- The sets after so many steps. First a unit has `work`, `std` and the names of its own clauses; each step adds what
+-- the units that it belongs to have, and what the context declarations that it refers to hand on.
 unfoldable pub seen_after : List ScopeUnit → ℕ → Sets
 seen_after units zero = is_own
 seen_after units (suc steps) = grown units (seen_after units steps)
@@ -126,13 +127,13 @@ seen_after units (suc steps) = grown units (seen_after units steps)
 abbrev pub enough_steps : List ScopeUnit → ℕ
 enough_steps units = length units * length (flat_map (λ unit. unit.names) units)
 
--- the library is visible in the unit
+-- a library is visible in a unit: it is in the sets after which none grows any more
 abbrev pub sees : List ScopeUnit → Sets
 sees units = seen_after units (enough_steps units)
 
 -- ## Closed sets
 
--- each unit of the list has what its own clauses, the units that it belongs to and its context declarations give
+-- no unit of a list lacks what its own clauses, the units that it belongs to and its context declarations give it
 pub record AreClosed (units : List ScopeUnit) (sets : Sets) : Type 0 where
   pub own : (user : ScopeUnit) (name : List ℕ) → Contains units user → IsTrue (is_own user name) → IsTrue (sets user name)
   pub grown : (user : ScopeUnit) (name : List ℕ) → Contains units user → IsTrue (grown units sets user name) → IsTrue (sets user name)
