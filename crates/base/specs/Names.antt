@@ -5,7 +5,7 @@ use Rattle.std.specs.Str.{bytes_eq}
 use Rattle.base.specs.declared.limits.TheConstants.{LIBRARY_LIMIT, PATH_LIMIT, COMMAND_LIMIT, WORD_LIMIT}
 use Rattle.base.specs.declared.file.FileName.{FileName}
 
--- the same library and the same path
+-- whether two names have the same library and the same path
 abbrev pub is_same_name : FileName → FileName → Bool
 is_same_name a b = bytes_eq a.library b.library && bytes_eq a.path b.path
 

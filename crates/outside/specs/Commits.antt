@@ -36,7 +36,7 @@ abbrev pub last_state : DiskState → List DiskState → DiskState
 last_state first [] = first
 last_state first (next ∷ later) = last_state next later
 
--- the same of a state and those after it
+-- A prefix of new records is committed from a state of a disk on, through those after it.
 pub record CommitsFirstIn (acknowledged : ℕ) (broken : Bool) (before more : List Record) (records_of : Image → List Record) (first : DiskState) (later : List DiskState) : Type 0 where
   pub any_moment : AllByRecursion (EachImage (λ image. HasFirst 0 (most_committed broken acknowledged) before more (records_of image))) (first ∷ later)
   pub last : EachImage (λ image. HasFirst acknowledged (most_committed broken acknowledged) before more (records_of image)) (last_state first later)

@@ -112,12 +112,12 @@ written_through at bytes side = settled (overwritten at bytes side.reads)
 abbrev pub cut_through : (len : ℕ) → SideState → SideState
 cut_through len side = settled (take len side.reads)
 
--- what reads give is an image, and no image has 2^63 bytes
+-- a stop can leave what reads give of a side, and nothing of 2^63 bytes or more
 pub record IsSoundSide (side : SideState) : Type 0 where
   pub image : IsSideImage side side.reads
   pub short : side.high < 2 ^ 63
 
--- the same of both sides
+-- a stop can leave what reads give of both sides, and nothing of 2^63 bytes or more
 pub record IsSound (disk : DiskState) : Type 0 where
   pub a : IsSoundSide disk.a
   pub b : IsSoundSide disk.b
@@ -131,15 +131,15 @@ pub record Moments : Type 0 where
 abbrev pub all_of : Moments → List DiskState
 all_of moments = moments.past ++ moments.now ∷ []
 
--- each moment so far is sound
+-- at each moment so far a stop can leave what reads give, and nothing of 2^63 bytes or more
 abbrev pub AreSound : Moments → Type 0
 AreSound moments = AllByRecursion IsSound (all_of moments)
 
--- each image of a moment has P
+-- whatever a stop can leave at a moment has P
 abbrev pub EachImage : (Image → Type 0) → DiskState → Type 0
 EachImage P disk = (image : Image) → IsImage disk image → P image
 
--- each image of a moment is one of another
+-- whatever a stop can leave now, it could leave before
 abbrev pub IsWithin : (old new : DiskState) → Type 0
 IsWithin old new = EachImage (IsImage old) new
 

@@ -38,7 +38,7 @@ is_path_byte byte = nat_le 32 byte && not (byte == 127)
 abbrev pub has_path_bytes : List ℕ → Bool
 has_path_bytes path = nat_le 1 (length path) && nat_le (length path) PATH_LIMIT && list_all is_path_byte path
 
--- its components, between slashes
+-- no component between the slashes of a path is empty, `.` or `..`
 abbrev pub has_components : List ℕ → Bool
 has_components path = list_all is_component (slice_split (λ byte. byte == 47) path)
 
@@ -59,7 +59,7 @@ without_blanks (byte ∷ bytes) = if is_line_blank byte then without_blanks byte
 abbrev pub trim : List ℕ → List ℕ
 trim bytes = reverse (without_blanks (reverse (without_blanks bytes)))
 
--- one comma, no double quote, a library and a path
+-- a line has one comma and no double quote, a library before the comma and a path after it
 abbrev pub names_file : List ℕ → List ℕ → List ℕ → Bool
 names_file line library path = count_by (λ byte. byte == 44) line == 1 && not (list_any (λ byte. byte == 34) line) && is_library library && is_path path
 

@@ -26,7 +26,7 @@ few_said said = then_read said (λ project. Ok (few_of project))
 abbrev pub few_files : List ProjectFile → Option (List ProjectFile)
 few_files files = if nat_le (length files) FILE_LIMIT then Some files else None
 
--- the same of more files after those that were kept
+-- more files after those that were kept, or nothing where they are more than may be
 abbrev pub few_with : Option (List ProjectFile) → List ProjectFile → Option (List ProjectFile)
 few_with None more = None
 few_with (Some files) more = few_files (files ++ more)

@@ -18,7 +18,7 @@ ReadsStep said (Ok read) = said ≡ Ok read
 ReadsStep said (Err memory.NoMemory) = Unit {0}
 ReadsStep said (Err (memory.Fault fault)) = said ≡ Err fault
 
--- the same of what is read as something else
+-- a call read what the definition says, seen by `see`, or ran out of memory
 abbrev pub ReadsAs : {S T : Type 0} → (S → T) → Result T ProjectFault → Result S (OrMemory ProjectFault) → Type 0
 ReadsAs see said (Ok read) = said ≡ Ok (see read)
 ReadsAs see said (Err memory.NoMemory) = Unit {0}

@@ -53,7 +53,7 @@ array_of read value = option_and_then (λ items. all_read read (list_of items)) 
 abbrev pub texts_of : (List ℕ → Option (List ℕ)) → Data → Option (List (List ℕ))
 texts_of form value = array_of (text_of form) value
 
--- so many words at least, and 32 at most
+-- words, where they are at least so many and at most 32
 abbrev pub few : ℕ → List (List ℕ) → Option (List (List ℕ))
 few least words = if nat_le least (length words) && nat_le (length words) LISTED_WORD_LIMIT then Some words else None
 

@@ -176,7 +176,7 @@ ordered_reading wish project texts scans links order tests = Found (record {
 abbrev pub order_reading : Wish → Project → List (List ℕ) → List Scan → Linked → List ℕ → SourceReading
 order_reading wish project texts scans links order = then_read (ordered_reading wish project texts scans links order) (wanted_tests (wants_tests wish.extent) project texts scans)
 
--- the same of files with known edges, which are ordered first
+-- the reading of files with known edges, which are ordered first
 abbrev pub linked_reading : Wish → Project → List (List ℕ) → List Scan → Linked → SourceReading
 linked_reading wish project texts scans links = then_read (order_reading wish project texts scans links) (order_or project.files (file_order links.edges))
 
@@ -189,7 +189,7 @@ found_reading wish project texts scans tests = Found (record {
   tests = tests;
 })
 
--- the same of a listed project, whose order is that of its list
+-- the reading of a listed project with known texts and scans, whose order is that of its list
 abbrev pub listed_reading : Wish → Project → List (List ℕ) → List Scan → SourceReading
 listed_reading wish project texts scans = then_read (found_reading wish project texts scans) (wanted_tests (wants_tests wish.extent) project texts scans)
 
@@ -198,11 +198,11 @@ listed_reading wish project texts scans = then_read (found_reading wish project 
 unfoldable pub scanned_reading : Wish → Project → List (List ℕ) → List Scan → SourceReading
 scanned_reading wish project texts scans = if project.listed then listed_reading wish project texts scans else then_read (linked_reading wish project texts scans) (links_of project texts scans)
 
--- the same of files with known texts, which are scanned first
+-- the reading of files with known texts, which are scanned first
 abbrev pub texts_reading : Wish → (List ℕ → Finding) → Project → List (List ℕ) → SourceReading
 texts_reading wish scan project texts = then_read (scanned_reading wish project texts) (scans_of scan project.files texts)
 
--- the same of a project whose files are read first, from a map of paths to bytes
+-- the reading of a known project, whose files are read first from a map of paths to bytes
 abbrev pub files_reading : Wish → (List ℕ → Finding) → (List ℕ → Option (List ℕ)) → Project → SourceReading
 files_reading wish scan file project = then_read (texts_reading wish scan project) (texts_of file 0 project.files)
 

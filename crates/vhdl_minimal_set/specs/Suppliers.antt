@@ -33,11 +33,11 @@ pub record HasPut (number file : ℕ) (old new : List (List ℕ)) : Type 0 where
 unfoldable pub supplies : Suppliers → SupplierName → ℕ → Bool
 supplies suppliers name at = has_file (files_of suppliers name) at
 
--- there are files for each name
+-- each name has a list of files
 abbrev pub IsPaired : Suppliers → Type 0
 IsPaired suppliers = length suppliers.files.items ≡ length suppliers.names
 
--- they are of a project of so many
+-- each name has a list of files, which are of a project of so many
 pub record FitFiles (count : ℕ) (suppliers : Suppliers) : Type 0 where
   pub paired : IsPaired suppliers
   pub within : All (λ files. All (λ file. file < count) files) suppliers.files.items
@@ -85,11 +85,11 @@ abbrev pub is_called : SupplierName → Option SupplierName → Bool
 is_called name None = false
 is_called name (Some other) = is_same_name name other
 
--- one of some units of a library is called so
+-- whether one of some units of a library is called by this name
 abbrev pub calls_one : Naming → List ℕ → List DesignUnit → SupplierName → Bool
 calls_one naming library units name = list_any (λ unit. is_called name (naming library unit)) units
 
--- the units of a file that are called so were added
+-- the units of a file that a naming calls were added
 pub record Adds (naming : Naming) (library : List ℕ) (units : List DesignUnit) (file count : ℕ) (old new : Suppliers) : Type 0 where
   pub fit : FitFiles count new
   pub all : (name : SupplierName) (at : ℕ) → supplies new name at ≡ (supplies old name at || (file == at && calls_one naming library units name))
@@ -114,7 +114,7 @@ pub record AreVoid (index : Index) : Type 0 where
 
 -- ## The units of a project
 
--- the units of a file of the project that are called so, where it is before a position
+-- whether a file before a position has a unit that is called by this name
 abbrev pub is_supplied : Naming → NeedSources → ℕ → SupplierName → ℕ → Bool
 is_supplied naming sources end name at = nat_lt at end && list_any (λ unit. is_called name (naming unit.scope.library unit.scope.unit)) (units_at sources at)
 

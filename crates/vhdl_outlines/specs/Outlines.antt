@@ -22,7 +22,7 @@ scopes_of (text ∷ texts) (scan ∷ scans) = map (scope_of text scan) scan.unit
 scopes_of (text ∷ texts) [] = []
 scopes_of [] scans = []
 
--- the same, as their outlines have it
+-- what the units of all files name, as their outlines have it
 abbrev pub file_scopes : List FileOutline → List UnitScope
 file_scopes files = flat_map (λ file. file.scopes) files
 

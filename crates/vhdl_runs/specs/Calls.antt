@@ -54,7 +54,7 @@ closing_of roles opening end = first_place (is_level_after roles opening) openin
 abbrev pub names_runner : List ℕ → List Token → ℕ → ℕ → Bool
 names_runner text tokens opening closing = is_some (first_place (is_word_at (codes "runner_cfg") text tokens) opening closing)
 
--- it is between a `(` and the `)` that matches it, if one does
+-- `runner_cfg` is between a `(` and the `)` that matches it, if one does
 abbrev pub lists_runner : List ℕ → List Token → ℕ → ℕ → Bool
 lists_runner text tokens opening end = option_map_or (λ closing. names_runner text tokens opening closing) (closing_of (roles_of text tokens) opening end) false
 

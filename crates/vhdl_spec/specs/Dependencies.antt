@@ -165,7 +165,7 @@ refers_to project units user used =
 abbrev pub depends_on : Project → List LinkUnit → ℕ → ℕ → Bool
 depends_on project units user used = not (user == used) && (refers_to project units user used || list_any (λ pair. pair.user == user && pair.used == used) project.depends)
 
--- of each file those that it depends on, rising
+-- of each file of a project those that it depends on, rising
 abbrev pub edges_of : Project → List LinkUnit → List (List ℕ)
 edges_of project units = map (λ user. filter (depends_on project units user) (below (length project.files))) (below (length project.files))
 

@@ -132,7 +132,7 @@ architecture_at text tokens kind at =
 abbrev pub ref_at : List ℕ → List Token → UnitKind → ℕ → Ref
 ref_at text tokens kind at = record { library = name_of text tokens at; name = name_of text tokens (at + 2); architecture = architecture_at text tokens kind at; strict = is_strict (roles_of text tokens) at; at = at }
 
--- those among all tokens of a unit
+-- the references by name among all tokens of a unit, in order
 abbrev pub named_refs : List ℕ → List Token → DesignUnit → List Ref
 named_refs text tokens unit = map (ref_at text tokens unit.kind) (places (is_reference (roles_of text tokens)) unit.lead unit.last)
 

@@ -179,7 +179,7 @@ pub record Piece : Type 0 where
   pub start : ℕ
   pub end : ℕ
 
--- of the row's form no longer piece fits
+-- a piece has the form of its row, and no longer one that begins there has
 pub record IsLongest (row : Row) (text : List ℕ) (start end : ℕ) : Type 0 where
   pub some : start < end
   pub within : end ≤ length text

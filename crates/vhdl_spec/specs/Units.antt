@@ -140,7 +140,7 @@ pub record HasBody (roles : List Role) (start at : ℕ) : Type 0 where
   pub first : (between : ℕ) → at < between → between < is_at → IsLevel roles start between → (role_at roles between ≢ Is) × (role_at roles between ≢ Semicolon)
   pub no_new : role_at roles (is_at + 1) ≢ New
 
--- a subprogram body
+-- the `function` or `procedure` of a subprogram body
 pub record IsSubprogramOpener (roles : List Role) (start at : ℕ) : Type 0 where
   pub word : (role_at roles at ≡ Function) ⊎ (role_at roles at ≡ Procedure)
   pub may : MayOpen roles start at
@@ -185,7 +185,7 @@ ends_inner Inner = true
 ends_inner Generate = true
 ends_inner _ = false
 
--- any other `end`
+-- an `end` that ends the unit or an item with an `end` of its own, and no statement within it
 pub record IsPlainEnd (roles : List Role) (at : ℕ) : Type 0 where
   pub word : role_at roles at ≡ End
   pub what : ends_inner (role_at roles (at + 1)) ≡ false

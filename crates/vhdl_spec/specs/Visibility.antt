@@ -101,7 +101,7 @@ is_implicit name = bytes_eq name work || bytes_eq name (codes "std")
 abbrev pub Sets : Type 0
 Sets = ScopeUnit → List ℕ → Bool
 
--- by its own clauses (13.2)
+-- `work`, `std` and the names of a unit's own library clauses (13.2)
 abbrev pub is_own : Sets
 is_own user name = is_implicit name || list_any (bytes_eq name) user.names
 
@@ -113,7 +113,7 @@ has_by_owner units sets user name = list_any (λ owner. belongs_to user owner &&
 abbrev pub has_by_context : List ScopeUnit → Sets → Sets
 has_by_context units sets user name = not (is_implicit name) && list_any (λ ref. sets user ref.library && list_any (λ context. is_context_of user ref context && sets context name) units) user.contexts
 
--- one step more
+-- the sets after one step more
 abbrev pub grown : List ScopeUnit → Sets → Sets
 grown units sets user name = sets user name || has_by_owner units sets user name || has_by_context units sets user name
 
