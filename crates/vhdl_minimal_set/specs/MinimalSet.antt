@@ -115,7 +115,8 @@ needed_after sources tests zero = is_tested tests
 needed_after sources tests (suc steps) = grown sources (needed_after sources tests steps)
 
 -- A file is in the least set that has the files of some tests and what its own files need. As many steps as there are
--- files are enough.
+-- files are enough. Where a bench in tb.vhd has a component `leaf`, the entity leaf is in leaf.vhd, and its
+-- architecture in leaf_a.vhd, tb.vhd needs leaf.vhd, and this needs leaf_a.vhd.
 abbrev pub is_needed : NeedSources → List Bench → ℕ → Bool
 is_needed sources tests file = needed_after sources tests (length sources.files) file
 

@@ -44,7 +44,8 @@ structural_of configured unit kinds.PackageBody = structural_ref unit unit.name 
 structural_of configured unit _ = []
 
 -- What was kept of a unit is what its tokens say: references to context declarations, by structure and by name,
--- libraries that are used whole, and components.
+-- libraries that are used whole, and components. Of `context work.ctx; package w is constant k : integer := other.q.c;
+-- end;` the tokens 1 and 3 are kept for the reference to a context declaration, and 1, 3, 14 and 16 for those by name.
 pub record AreMentionsOf (text : List ℕ) (tokens : List Token) (unit : DesignUnit) (mentions : Mentions) : Type 0 where
   pub contexts : map (named_ref text) mentions.contexts ≡ context_refs text tokens unit
   pub structural : structural_of mentions.configured unit unit.kind ≡ structural_by text tokens unit unit.kind

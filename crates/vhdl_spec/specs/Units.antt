@@ -352,7 +352,8 @@ abbrev pub units_of : List ℕ → List Token → List Element → List DesignUn
 units_of text tokens elements = units_from text tokens 0 0 elements
 
 -- After some elements nothing begins that is one, or one begins that has no end; the fault is at its first byte. `foo`
--- alone begins nothing, and `entity e is` alone has no end: both faults are at byte 0.
+-- alone begins nothing, and `entity e is` alone has no end: both faults are at byte 0. In `entity e is end;`, a line
+-- feed and `end;` nothing begins at byte 17.
 abbrev pub HasUnitFault : List ℕ → List Token → UnitFault → Type 0
 HasUnitFault text tokens (NotUnit place) = (at : ℕ) × IsNoUnit (roles_of text tokens) at × (place ≡ (token_at tokens at).start)
 HasUnitFault text tokens (NotEnded place) = (at : ℕ) × IsUnended (roles_of text tokens) at × (place ≡ (token_at tokens at).start)

@@ -118,7 +118,9 @@ abbrev pub grown : List ScopeUnit → Sets → Sets
 grown units sets user name = sets user name || has_by_owner units sets user name || has_by_context units sets user name
 
 -- The sets after so many steps. First a unit has `work`, `std` and the names of its own clauses; each step adds what
--- the units that it belongs to have, and what the context declarations that it refers to hand on.
+-- the units that it belongs to have, and what the context declarations that it refers to hand on. An architecture of
+-- an entity with `library other;` before it has `other` after one step. Two contexts that refer to each other, one
+-- with `library l;` inside and one with `library m;`, both have `l` and `m` after one step.
 unfoldable pub seen_after : List ScopeUnit → ℕ → Sets
 seen_after units zero = is_own
 seen_after units (suc steps) = grown units (seen_after units steps)
