@@ -1,7 +1,7 @@
 #!/bin/sh
 # Every name of this repository's specs that a public clause cites has an entry in docs/proof/HEADLINE.md or DEFINITIONS.md: it
 # stands there in bold, between backticks, in an item or below a heading that names a file of specs. Public are the exported
-# functions and the traits of the library crates. Prints the names that are missing. Ends with 0, with 1 where a name is missing,
+# functions and the traits of the library crates, but for those of tests, benches, objects in memory and the generated project. Prints the names that are missing. Ends with 0, with 1 where a name is missing,
 # and with 77 where python3 is missing.
 cd -- "${TOP:-$(dirname -- "$0")/..}" || exit 1
 . tests/support/needs.sh
@@ -36,7 +36,10 @@ for item in re.split(r"\n(?=- |#)|\n\n", "\n\n".join(pages)):
     if re.search(r"`\w+/specs|the same file|specs/", item + heading) or re.search(r"specs", heading):
         explained |= {word for code in re.findall(r"\*\*`([^`]+)`\*\*", item) for word in re.findall(r"\w+", code)}
 missing = {}
+LEFT_OUT = ("tests_", "bench_", "memory_", "generated_")
 for crate, root in crates.items():
+    if crate.startswith(LEFT_OUT):
+        continue
     lib = root.read_text()
     tests = {*re.findall(r"#\[cfg\(test\)\]\s*mod (\w+);", lib)}
     public = {w for use in re.findall(r"pub use ([^;]+);", lib) for w in re.findall(r"\w+", use)}

@@ -15,7 +15,9 @@ pub record IsEntryAt (graph : List Entry) (i : ℕ) (entry : Entry) : Type 0 whe
   pub command : FitsCommand entry.command
   pub text : length entry.text ≤ TEXT_LIMIT
 
--- at most 4,096 files with distinct names, of at most 67,108,864 bytes together
+-- At most 4,096 files with distinct names, of at most 67,108,864 bytes together. Each has the positions of the files
+-- that it depends on: they rise, are lower than its own, and hold their own dependencies. With the dependencies none,
+-- 0, and 0 and 1, three files are a graph; with none, 0, and 1 alone they aren't, since file 1 depends on 0.
 pub record IsGraph (graph : List Entry) : Type 0 where
   pub few : length graph ≤ FILE_LIMIT
   pub distinct : AllPairs (λ entry other. entry.name ≢ other.name) graph
@@ -27,7 +29,7 @@ pub record IsBuiltFile (file : BuiltFile) : Type 0 where
   pub name : FitsName file.name
   pub artefact : length file.artefact ≤ ARTEFACT_LIMIT
 
--- the files of a graph that were built
+-- at most 4,096 files with names within their limits, each with an artefact of at most 262,144 bytes
 pub record IsBuilt (files : List BuiltFile) : Type 0 where
   pub few : length files ≤ FILE_LIMIT
   pub each : All IsBuiltFile files

@@ -5,7 +5,7 @@ use Rattle.std.specs.Str.{bytes_eq}
 use Rattle.base.specs.declared.limits.TheConstants.{LIBRARY_LIMIT, PATH_LIMIT, COMMAND_LIMIT, WORD_LIMIT}
 use Rattle.base.specs.declared.file.FileName.{FileName}
 
--- the same library and the same path
+-- whether two names have the same library and the same path
 abbrev pub is_same_name : FileName → FileName → Bool
 is_same_name a b = bytes_eq a.library b.library && bytes_eq a.path b.path
 
@@ -13,7 +13,7 @@ is_same_name a b = bytes_eq a.library b.library && bytes_eq a.path b.path
 abbrev pub has_name : List FileName → FileName → Bool
 has_name names name = list_any (λ other. is_same_name other name) names
 
--- from low to high bytes or words
+-- a number is no less than the first bound and no more than the second
 pub record IsBetween (low high n : ℕ) : Type 0 where
   pub at_least : low ≤ n
   pub at_most : n ≤ high

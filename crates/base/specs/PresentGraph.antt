@@ -18,6 +18,7 @@ listed_from position [] texts = []
 listed_from position (file ∷ files) [] = []
 listed_from position (file ∷ files) (text ∷ texts) = listed_entry position file text ∷ listed_from (suc position) files texts
 
+-- the graph of a listed project with these texts: each file depends on all before it
 abbrev pub listed : List ProjectFile → List (List ℕ) → List Entry
 listed files texts = listed_from 0 files texts
 

@@ -5,6 +5,7 @@ use Rattle.base.specs.declared.project.Project.{Project}
 use Rattle.base.specs.declared.limits.TheConstants.{SIMULATOR_LIMIT, WORD_LIMIT}
 use Rattle.base.specs.Names.{IsBetween, FitsName, FitsCommand}
 
+-- the name and the command of a file are within their limits
 pub record IsProjectFile (file : ProjectFile) : Type 0 where
   pub name : FitsName file.name
   pub command : FitsCommand file.command
@@ -14,6 +15,7 @@ pub record FitsSimulator (words : List (List ℕ)) : Type 0 where
   pub count : IsBetween 1 SIMULATOR_LIMIT (length words)
   pub each : All (λ word. IsBetween 1 WORD_LIMIT (length word)) words
 
+-- files with distinct names, and a simulator's command within its limits
 pub record IsProject (project : Project) : Type 0 where
   pub distinct : AllPairs (λ file other. file.name ≢ other.name) project.files
   pub each : All IsProjectFile project.files

@@ -4,11 +4,11 @@ use Rattle.std.specs.List.{filter_map, position_or_len}
 use Rattle.std.specs.Option.{option_map_or}
 use Rattle.base.specs.declared.graph.Entry.{Entry}
 
--- where the files of a view are in the graph: those that the file depends on, and the file itself
+-- the positions of a view's files in the graph: those that the file depends on, and the file itself
 unfoldable pub viewed : List Entry → ℕ → List ℕ
 viewed graph at = option_map_or (λ entry. entry.deps ++ at ∷ []) (slice_get graph at) []
 
--- the new number of a file: its place among the positions
+-- the new position of a file in a part, from its old one
 abbrev pub place_in : List ℕ → ℕ → ℕ
 place_in positions position = position_or_len (λ other. other == position) positions
 
@@ -16,10 +16,12 @@ place_in positions position = position_or_len (λ other. other == position) posi
 abbrev pub renumbered : List ℕ → Entry → Entry
 renumbered positions entry = record { name = entry.name; command = entry.command; text = entry.text; deps = map (place_in positions) entry.deps }
 
--- the files at these positions, in order
+-- The files at these positions, in order, as a graph of their own with new positions. Dependencies outside of the part
+-- are left out.
 unfoldable pub part : List Entry → List ℕ → List Entry
 part graph positions = map (renumbered positions) (filter_map (slice_get graph) positions)
 
+-- a file of a graph with all that it depends on, as a graph of its own with new positions
 abbrev pub view : List Entry → ℕ → List Entry
 view graph at = part graph (viewed graph at)
 

@@ -13,6 +13,7 @@ pub enum MaybeText {
 }
 
 impl MaybeText {
+    /// The same text, or none, in memory of its own.
     pub fn copy(&self, alloc: Global) -> Result<MaybeText, NoMemory>
         ensures { IfOk result (λ copy. copy ≡ self.now) }
     {
@@ -32,6 +33,7 @@ pub struct Request {
 }
 
 impl Request {
+    /// The same request, in memory of its own.
     pub fn copy(&self, alloc: Global) -> Result<Request, NoMemory>
         ensures { IfOk result (λ copy. copy ≡ self.now) }
     {
@@ -52,6 +54,7 @@ pub struct Exit {
 }
 
 impl Exit {
+    /// The same exit, in memory of its own.
     pub fn copy(&self, alloc: Global) -> Result<Exit, NoMemory>
         ensures { IfOk result (λ copy. copy ≡ self.now) }
     {

@@ -48,6 +48,7 @@ impl FileName {
     ghost use Rattle.std.specs.Prelude.{◌≡◌, ◌↔◌, IfOk, IsTrue};
     ghost use Rattle.base.specs.Names.{FitsName};
 
+    /// The same name, in memory of its own.
     pub fn copy(&self, alloc: Global) -> Result<FileName, NoMemory>
         ensures { IfOk result (λ name. name ≡ self.now) }
     {

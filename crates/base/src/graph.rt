@@ -53,6 +53,7 @@ impl Graph {
         self.entries.len() as u64
     }
 
+    /// Whether there is no file.
     pub fn is_empty(&self) -> bool
         ensures { result ≡ (length self.now == 0) }
     {
@@ -130,6 +131,7 @@ impl Built {
         self.files.len() as u64
     }
 
+    /// Whether there is no file.
     pub fn is_empty(&self) -> bool
         ensures { result ≡ (length self.now == 0) }
     {

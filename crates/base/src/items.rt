@@ -65,6 +65,7 @@ impl<T> Items<T> {
         self.list.len() as u64
     }
 
+    /// Whether there is no item.
     pub fn is_empty(&self) -> bool
         ensures { result ≡ (length self.now == 0) }
     {

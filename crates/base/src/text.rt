@@ -56,6 +56,7 @@ impl Text {
         bytes
     }
 
+    /// Its bytes, in order.
     pub fn bytes(&self) -> &[u8]
         ensures { result.now ≡ self.now }
     {
@@ -69,6 +70,7 @@ impl Text {
         self.bytes.as_slice() == other.bytes.as_slice()
     }
 
+    /// The same text, in memory of its own.
     pub fn copy(&self, alloc: Global) -> Result<Text, NoMemory>
         ensures { IfOk result (λ text. text ≡ self.now) }
     {

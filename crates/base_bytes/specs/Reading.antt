@@ -3,6 +3,7 @@ use Rattle.std.specs.Prelude.{◌≡◌, ℕ, zero, suc, ◌<◌, List, [], ◌�
 use Rattle.std.specs.Int.{Width, w32, byte_len, from_le_bytes}
 
 infixl 10 ◌>>=◌
+-- one reading step after another: nothing where the first gives nothing
 abbrev pub ◌>>=◌ : {A B : Type 0} → Option A → (A → Option B) → Option B
 None >>= f = None
 (Some x) >>= f = f x
@@ -11,26 +12,27 @@ None >>= f = None
 abbrev pub number_at : Width → List ℕ → Option (ℕ × List ℕ)
 number_at w bytes = if nat_lt (length bytes) (byte_len w) then None else Some (from_le_bytes w (take (byte_len w) bytes), drop (byte_len w) bytes)
 
--- so many bytes
+-- so many bytes from the start, with those that are left, or nothing where fewer are there
 abbrev pub taken_at : ℕ → List ℕ → Option (List ℕ × List ℕ)
 taken_at count bytes = if nat_lt (length bytes) count then None else Some (take count bytes, drop count bytes)
 
--- a length, and that many bytes
+-- a text at the start of bytes: its length in four bytes, and that many bytes
 unfoldable pub text_at : List ℕ → Option (List ℕ × List ℕ)
 text_at bytes = do
   n ← number_at w32 bytes
   taken_at n.0 n.1
 
--- What a reader answered, seen by view, with the bytes that it has left, is what is read of the bytes that it had.
+-- A reader answered what the definition reads of the bytes that it had, with the bytes that it left. `view` is how its
+-- answer is compared.
 abbrev pub Reads : {X Y : Type 0} → (X → Y) → Option X → List ℕ → Option (Y × List ℕ) → Type 0
 Reads view None left read = read ≡ None
 Reads view (Some x) left read = read ≡ Some (view x, left)
 
--- each is a byte
+-- each number is below 256
 abbrev pub AreBytes : List ℕ → Type 0
 AreBytes bytes = (i : ℕ) → slice_index bytes i < 256
 
--- what was read stood at the start, in this spelling
+-- bytes begin with a spelling, and these are left after it
 pub record Takes (bytes spelling left : List ℕ) : Type 0 where
   pub parts : bytes ≡ spelling ++ left
   pub left_are_bytes : AreBytes left
@@ -43,13 +45,13 @@ many_at read (suc n) bytes = do
   others ← many_at read n first.1
   Some (first.0 ∷ others.0, others.1)
 
--- a number of 4 bytes, and so many things
+-- a number of four bytes, and so many things after it
 unfoldable pub counted_at : {X : Type 0} → (List ℕ → Option (X × List ℕ)) → List ℕ → Option (List X × List ℕ)
 counted_at read bytes = do
   n ← number_at w32 bytes
   many_at read n.0 n.1
 
--- What was read whole, seen by view, is what reading gives.
+-- A reader of all bytes answered what the definition reads. `view` is how its answer is compared.
 abbrev pub ReadsAll : {X Y : Type 0} → (X → Y) → Option X → Option Y → Type 0
 ReadsAll view None read = read ≡ None
 ReadsAll view (Some x) read = read ≡ Some (view x)

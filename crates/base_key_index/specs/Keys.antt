@@ -19,10 +19,11 @@ pub record TakesNumber {K : Type 0} (key : K) (number : ℕ) (old new : List K) 
 unfoldable pub hash_of : List (List ℕ) → ℕ
 hash_of input = folding.finish (fold folding.write folding.initial input)
 
--- its two places in a table of so many
+-- the first of the two places of a hash in a table of so many
 abbrev pub first_of : ℕ → ℕ → ℕ
 first_of places hash = hash % places
 
+-- the second of the two, by the upper half of the hash
 abbrev pub second_of : ℕ → ℕ → ℕ
 second_of places hash = hash / 2 ^ 32 % places
 
@@ -30,10 +31,11 @@ second_of places hash = hash / 2 ^ 32 % places
 abbrev pub slot_of : ℕ → Option ℕ
 slot_of kept = if kept == 0 then None else Some (kept - 1)
 
+-- what the table holds at an index
 abbrev pub slot_at : List ℕ → ℕ → Option ℕ
 slot_at slots at = slot_of (slice_index slots at)
 
--- another key is at a place
+-- a place of the table has another key
 pub record Holds {K : Type 0} (slot : ℕ → Option ℕ) (keys : List K) (key : K) (at : ℕ) : Type 0 where
   pub number : ℕ
   pub other : K

@@ -12,6 +12,7 @@ abbrev pub IsLastWith : List ℕ → ℕ → ℕ → Option ℕ → Type 0
 IsLastWith marks mark bound None = (k : ℕ) → k < bound → slice_index marks k ≢ mark
 IsLastWith marks mark bound (Some n) = (n < bound) × (slice_index marks n ≡ mark) × ((k : ℕ) → n < k → k < bound → slice_index marks k ≢ mark)
 
+-- the mark of each entry
 abbrev pub marks_in : List Marked → List ℕ
 marks_in entries = map (λ entry. entry.mark) entries
 

@@ -5,6 +5,7 @@ use Rattle.std.specs.declared.cmp.Ordering.{Ordering}
 use Rattle.base.specs.declared.file.FileName.{FileName}
 use Rattle.base_name_set.specs.declared.names.Key.{Key}
 
+-- the file name that a key stands for
 abbrev pub name_of_key : Key → FileName
 name_of_key key = record { library = key.library.items; path = key.path.items }
 

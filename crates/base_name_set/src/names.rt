@@ -34,6 +34,7 @@ impl Model for NameSet {
     ghost view = { λ a. map name_of_key a.set.keys };
 }
 
+/// The key of a name, in memory of its own.
 fn key_of(alloc: Global, name: &FileName) -> Result<Key, NoMemory>
     ensures { IfOk result (λ key. name_of_key key ≡ name.now) }
 {

@@ -16,7 +16,7 @@ abbrev pub IsAdded : Bool → ℕ → NumbersBelow → NumbersBelow → Type 0
 IsAdded true number old new = (¬ Contains old.numbers number) × (new ≡ record { size = old.size; numbers = old.numbers ++ number ∷ [] })
 IsAdded false number old new = Contains old.numbers number × (new ≡ old)
 
--- each number has its place noted
+-- the table has the index of each number
 pub record AreFound (places numbers : List ℕ) : Type 0 where
   pub below : All (λ number. number < length places) numbers
   pub noted : (k : ℕ) → k < length numbers → slice_index places (slice_index numbers k) ≡ k

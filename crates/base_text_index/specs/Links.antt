@@ -25,7 +25,7 @@ pub record AreChained (ofs : List ℕ) (firsts nexts : List (Option ℕ)) : Type
   pub first : (n : ℕ) → n < length ofs → IsFirstFrom ofs n (suc n) (slice_index_or firsts n None)
   pub next : (k : ℕ) → 0 < k → k < length ofs → IsFirstFrom ofs (slice_index ofs k) (suc k) (slice_index_or nexts k None)
 
--- and the last one
+-- the first and the last split that leaves each number, and the one after each that leaves the same number
 pub record AreLinked (ofs : List ℕ) (firsts nexts lasts : List (Option ℕ)) : Type 0 where
   pub chained : AreChained ofs firsts nexts
   pub lasts_are : length lasts ≡ length ofs

@@ -2,7 +2,7 @@
 use Rattle.std.specs.Prelude.{◌≡◌, ◌≢◌, ℕ, suc, ◌%◌, ◌/◌, ◌<◌, nat_lt, Bool, not, ◌&&◌, ◌==◌, List, [], ◌∷◌, length, slice_index, slice_index_or, if◌then◌else◌}
 use Rattle.base_text_index.specs.declared.splits.Split.{Split}
 
--- What a text has at a point: half of a byte, the low half first, or 16 past its end.
+-- the half byte of a text at a point, the low half of each byte first, and 16 past its end
 unfoldable pub value_at : List ℕ → ℕ → ℕ
 value_at text point = if nat_lt (point / 2) (length text) then (if point % 2 == 0 then slice_index text (point / 2) % 16 else slice_index text (point / 2) / 16) else 16
 
@@ -19,12 +19,12 @@ reached_from number (split ∷ splits) text now = reached_from (suc number) spli
 abbrev pub reached : List Split → List ℕ → ℕ
 reached splits text = reached_from 0 splits text 0
 
--- Each text comes to its own number.
+-- each text comes to its own number, so that a walk leads to the only text that can be equal
 pub record AreSplit (texts : List (List ℕ)) (splits : List Split) : Type 0 where
   pub as_many : length splits ≡ length texts
   pub each : (n : ℕ) (other : List ℕ) → n < length texts → reached splits (slice_index_or texts n other) ≡ n
 
--- A split leaves a text at a point where another one differs.
+-- a split tells two texts apart: the old one has its value at its point, and the new one hasn't
 pub record Parts (old new : List ℕ) (split : Split) : Type 0 where
   pub old_has : value_at old split.point ≡ split.value
   pub new_lacks : value_at new split.point ≢ split.value

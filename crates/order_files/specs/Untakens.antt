@@ -4,7 +4,7 @@ use Rattle.order_spec.specs.BuildOrder.{deps_in, has_taken}
 use Rattle.order_ready.specs.Waits.{AreWaitingFiles}
 use Rattle.order_ready.specs.declared.files.ReadyFiles.{ReadyFiles}
 
--- of each file whether it wasn't taken
+-- of each file a flag: it wasn't taken
 pub record AreWaiting (waiting : List Bool) (count : ℕ) (taken : List ℕ) : Type 0 where
   pub as_many : length waiting ≡ count
   pub each : (file : ℕ) → file < count → slice_index_or waiting file false ≡ not (has_taken taken file)

@@ -8,7 +8,7 @@ use Rattle.order_ready.specs.declared.files.ReadyFiles.{ReadyFiles}
 unfoldable pub file_count : ReadyFiles → ℕ
 file_count files = length files.waiting.items
 
--- how many of them wait
+-- how many of the files wait
 unfoldable pub wait_count : ReadyFiles → ℕ
 wait_count files = count_by (λ waits. waits) files.waiting.items
 
@@ -16,8 +16,9 @@ wait_count files = count_by (λ waits. waits) files.waiting.items
 unfoldable pub is_listed : ReadyFiles → ℕ → Bool
 is_listed files file = has files.ready file
 
--- Of so many files that depend on these, the lists hold which ones wait, how much of what each of them depends on isn't done,
--- and who uses it.
+-- The lists are those of so many files with these dependencies. They hold which files wait, how many of the
+-- dependencies of each aren't done, and who uses it. Where c depends on a and b, and none is done, a and b are ready,
+-- and of c 2 are undone; after both are done, c is ready.
 pub record AreWaitingFiles (files : ReadyFiles) (count : ℕ) (deps : ℕ → List ℕ) (waits done : ℕ → Bool) : Type 0 where
   pub as_many : file_count files ≡ count
   pub waiting : (file : ℕ) → file < count → slice_index_or files.waiting.items file false ≡ waits file

@@ -74,11 +74,15 @@ reported_cycle edges = repeated (untaken_dep edges (all_taken edges)) (suc (leng
 
 -- ## The order, or the cycle
 
+-- positions of files in compile order, or positions of files that form a cycle
 pub data FileOrder : Type 0 where
   Ordered : List ℕ → FileOrder
   Cyclic : List ℕ → FileOrder
 
--- all files in the order, or the cycle that is reported where some can't be taken
+-- All files in compile order, or a cycle. Again and again the first file in project order is taken all of whose
+-- dependencies were taken. Where some can't be taken, the way goes from the first of them to the first of its
+-- dependencies that wasn't taken, and so on, until a file comes again; the cycle is what was passed since it came
+-- first.
 unfoldable pub file_order : List (List ℕ) → FileOrder
 file_order edges = if length (all_taken edges) == length edges then Ordered (all_taken edges) else Cyclic (reported_cycle edges)
 

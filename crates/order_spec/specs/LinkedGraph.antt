@@ -25,7 +25,7 @@ closure_of edges order file = filter (λ position. reaches edges file (slice_ind
 abbrev pub linked_entry : List (List ℕ) → List ℕ → List (List ℕ) → ℕ → ProjectFile → Entry
 linked_entry edges order texts at file = record { name = file.name; command = file.command; text = slice_index_or texts at []; deps = closure_of edges order at }
 
--- the files of the project in the order
+-- the files of a project in an order, each with its text and the positions of all files that it reaches
 unfoldable pub linked : List ProjectFile → List (List ℕ) → List (List ℕ) → List ℕ → List Entry
 linked files texts edges order = filter_map (λ at. option_map (linked_entry edges order texts at) (slice_get files at)) order
 
@@ -34,7 +34,7 @@ pub record AreSmall (texts : List (List ℕ)) : Type 0 where
   pub short : All (λ text. length text ≤ TEXT_LIMIT) texts
   pub few_bytes : sum_by (λ text. length text) texts ≤ GRAPH_TEXT_LIMIT
 
--- and there is one for each file
+-- one text for each file, of at most 4,194,304 bytes each and 67,108,864 together
 pub record FitTexts (files : List ProjectFile) (texts : List (List ℕ)) : Type 0 where
   pub each : length texts ≡ length files
   pub small : AreSmall texts

@@ -18,24 +18,25 @@ abbrev pub most_committed : (broken : Bool) (acknowledged : ℕ) → ℕ
 most_committed true acknowledged = acknowledged + 1
 most_committed false acknowledged = acknowledged
 
--- one commit counts where it answered that it is there
+-- one more record where a commit answered that it is there
 abbrev pub one_if : Bool → ℕ
 one_if true = 1
 one_if false = 0
 
--- The first so many of more are committed. At any moment an image has the records from before with some first ones of
--- more. In the end each has all that are acknowledged. Once each image has a number of records, none has fewer.
+-- A prefix of new records is committed, of which so many are acknowledged. At any moment an image has the records from
+-- before with a prefix of the new ones. In the end each image has all that are acknowledged. Once each image has a
+-- number of records, none has fewer.
 pub record CommitsFirst (acknowledged : ℕ) (broken : Bool) (before more : List Record) (records_of : Image → List Record) (old new : Moments) : Type 0 where
   pub any_moment : AtAnyMoment old new (λ image. HasFirst 0 (most_committed broken acknowledged) before more (records_of image))
   pub last : EachImage (λ image. HasFirst acknowledged (most_committed broken acknowledged) before more (records_of image)) new.now
   pub loses : (count : ℕ) → NeverLoses old new (λ image. count ≤ length (records_of image))
 
--- the last state of a list, or the one before it
+-- the last state of a list, and `first` where it is empty
 abbrev pub last_state : DiskState → List DiskState → DiskState
 last_state first [] = first
 last_state first (next ∷ later) = last_state next later
 
--- the same of a state and those after it
+-- A prefix of new records is committed from a state of a disk on, through those after it.
 pub record CommitsFirstIn (acknowledged : ℕ) (broken : Bool) (before more : List Record) (records_of : Image → List Record) (first : DiskState) (later : List DiskState) : Type 0 where
   pub any_moment : AllByRecursion (EachImage (λ image. HasFirst 0 (most_committed broken acknowledged) before more (records_of image))) (first ∷ later)
   pub last : EachImage (λ image. HasFirst acknowledged (most_committed broken acknowledged) before more (records_of image)) (last_state first later)

@@ -18,7 +18,7 @@ use Rattle.outside.specs.declared.streams.SinkFault.TheVariants as sink
 abbrev pub Rose : ℕ → ℕ → Type 0
 Rose before now = min (before + 1) (2 ^ 64 - 1) ≤ now
 
--- a fault was counted
+-- the count of faults rose
 pub record Counted (before now : ℕ) : Type 0 where
   pub later : before ≤ now
   pub rose : Rose before now
@@ -29,35 +29,35 @@ TreeCounts (Ok value) before now = now ≡ before
 TreeCounts (Err tree.NoMemory) before now = now ≡ before
 TreeCounts (Err tree.Failed) before now = Counted before now
 
--- the same of failed starts
+-- after a failed start the count of failed starts rose, and after any other answer it is unchanged
 abbrev pub StartCounts : {T : Type 0} → Result T StartFault → ℕ → ℕ → Type 0
 StartCounts (Ok value) before now = now ≡ before
 StartCounts (Err start.NoMemory) before now = now ≡ before
 StartCounts (Err start.Failed) before now = Counted before now
 
--- the same of lost children
+-- after a lost child the count of lost children rose, and after any other answer it is unchanged
 abbrev pub ChildCounts : {T : Type 0} → Result T WaitFault → ℕ → ℕ → Type 0
 ChildCounts (Ok value) before now = now ≡ before
 ChildCounts (Err (wait.NoMemory ticket)) before now = now ≡ before
 ChildCounts (Err (wait.Lost ticket)) before now = Counted before now
 
--- the same of a source
+-- after a fault of the input its count rose, and after any other answer it is unchanged
 abbrev pub SourceCounts : {T : Type 0} → Result T SourceFault → ℕ → ℕ → Type 0
 SourceCounts (Ok value) before now = now ≡ before
 SourceCounts (Err source.NoMemory) before now = now ≡ before
 SourceCounts (Err source.Failed) before now = Counted before now
 
--- the same of a sink
+-- after a fault of the output its count rose, and after any other answer it is unchanged
 abbrev pub SinkCounts : {T : Type 0} → Result T SinkFault → ℕ → ℕ → Type 0
 SinkCounts (Ok value) before now = now ≡ before
 SinkCounts (Err sink.Failed) before now = Counted before now
 
--- the same of a disk
+-- after a fault of a disk its count rose, and after any other answer it is unchanged
 abbrev pub DiskCounts : {T : Type 0} → Result T DiskFailed → ℕ → ℕ → Type 0
 DiskCounts (Ok value) before now = now ≡ before
 DiskCounts (Err fault) before now = Counted before now
 
--- the same of a store on a disk
+-- after a fault of a store's disk its count rose, and after any other answer it is unchanged
 abbrev pub StoreCounts : {T : Type 0} → Result T StoreFault → ℕ → ℕ → Type 0
 StoreCounts (Ok value) before now = now ≡ before
 StoreCounts (Err store.NoMemory) before now = now ≡ before

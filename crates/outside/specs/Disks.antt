@@ -24,6 +24,7 @@ pub record Image : Type 0 where
   pub a : List ℕ
   pub b : List ℕ
 
+-- the state of one side
 abbrev pub side_of : Side → DiskState → SideState
 side_of A disk = disk.a
 side_of B disk = disk.b
@@ -74,7 +75,8 @@ overwritten at bytes old = take at old ++ (bytes ++ drop (at + length bytes) old
 abbrev pub touching : (at count : ℕ) → SideState → SideState
 touching at count side = record { reads = side.reads; synced = side.synced; low = side.low; high = max side.high (at + count); touched = (at, count) ∷ side.touched }
 
--- A side inside a write, and after a write that failed. One that would end at 2^63 or above touches nothing.
+-- A side inside a write, and after a write that failed: each byte that it reaches may be any. A write that would end
+-- at 2^63 or above reaches none.
 abbrev pub writing : (at count : ℕ) → SideState → SideState
 writing at count side = if nat_lt (at + count) (2 ^ 63) then touching at count side else side
 
@@ -82,7 +84,7 @@ writing at count side = if nat_lt (at + count) (2 ^ 63) then touching at count s
 abbrev pub written : (at : ℕ) (bytes : List ℕ) → SideState → SideState
 written at bytes side = record { reads = overwritten at bytes side.reads; synced = side.synced; low = side.low; high = max side.high (at + length bytes); touched = (at, length bytes) ∷ side.touched }
 
--- a side inside a cut, and after a cut that failed
+-- a side inside a cut to a length, and after a cut that failed: any length between both may be left
 abbrev pub cutting : (len : ℕ) → SideState → SideState
 cutting len side = record { reads = side.reads; synced = side.synced; low = min side.low len; high = side.high; touched = side.touched }
 
@@ -94,7 +96,7 @@ shortened len side = record { reads = take len side.reads; synced = side.synced;
 abbrev pub settled : List ℕ → SideState
 settled bytes = record { reads = bytes; synced = bytes; low = length bytes; high = length bytes; touched = [] }
 
--- a disk of these bytes alone
+-- a disk of which a stop leaves exactly these bytes
 abbrev pub settled_disk : Image → DiskState
 settled_disk image = record { a = settled image.a; b = settled image.b }
 
@@ -110,12 +112,12 @@ written_through at bytes side = settled (overwritten at bytes side.reads)
 abbrev pub cut_through : (len : ℕ) → SideState → SideState
 cut_through len side = settled (take len side.reads)
 
--- what reads give is an image, and no image has 2^63 bytes
+-- a stop can leave what reads give of a side, and nothing of 2^63 bytes or more
 pub record IsSoundSide (side : SideState) : Type 0 where
   pub image : IsSideImage side side.reads
   pub short : side.high < 2 ^ 63
 
--- the same of both sides
+-- a stop can leave what reads give of both sides, and nothing of 2^63 bytes or more
 pub record IsSound (disk : DiskState) : Type 0 where
   pub a : IsSoundSide disk.a
   pub b : IsSoundSide disk.b
@@ -129,15 +131,15 @@ pub record Moments : Type 0 where
 abbrev pub all_of : Moments → List DiskState
 all_of moments = moments.past ++ moments.now ∷ []
 
--- each moment so far is sound
+-- at each moment so far a stop can leave what reads give, and nothing of 2^63 bytes or more
 abbrev pub AreSound : Moments → Type 0
 AreSound moments = AllByRecursion IsSound (all_of moments)
 
--- each image of a moment has P
+-- whatever a stop can leave at a moment has P
 abbrev pub EachImage : (Image → Type 0) → DiskState → Type 0
 EachImage P disk = (image : Image) → IsImage disk image → P image
 
--- each image of a moment is one of another
+-- whatever a stop can leave now, it could leave before
 abbrev pub IsWithin : (old new : DiskState) → Type 0
 IsWithin old new = EachImage (IsImage old) new
 
@@ -146,7 +148,7 @@ abbrev pub Shrinks : DiskState → List DiskState → Type 0
 Shrinks during [] = Unit {0}
 Shrinks during (disk ∷ later) = IsWithin during disk × IsImage disk (reads_of disk) × Shrinks disk later
 
--- One call, inside of which images were those of `during` at most. Its moments follow those before it.
+-- One call of a disk: the moments inside it follow those before it, and their images are among those of `during`.
 pub record Goes (during : DiskState) (old new : Moments) : Type 0 where
   pub inside : List DiskState
   pub added : all_of new ≡ all_of old ++ inside
@@ -180,7 +182,7 @@ pub record NeverLoses (old new : Moments) (P : Image → Type 0) : Type 0 where
   pub follows : Follows old new
   pub keeps : StaysTrue P old.now (added_since old new)
 
--- one of two values, as of what an image holds inside a call: what was before it or what is after it
+-- one of two values: what an image held before a call, or what it holds after it
 abbrev pub IsEither : {T : Type 0} → T → T → T → Type 0
 IsEither value one other = (value ≡ one) ⊎ (value ≡ other)
 

@@ -25,7 +25,7 @@ abbrev pub IsBase : (Image → List Record) → (clean : Bool) → DiskState →
 IsBase records_of true first base = base ≡ []
 IsBase records_of false first base = IsAllOrLatest (records_of (reads_of first)) base
 
--- an opening, and then the first so many of more are committed
+-- a disk is opened, and then a prefix of new records is committed, of which so many are acknowledged
 pub record IsCommitting (records_of : Image → List Record) (clean : Bool) (acknowledged : ℕ) (broken : Bool) (more : List Record) (first : DiskState) (later : List DiskState) : Type 0 where
   pub opening : List DiskState
   pub committing : List DiskState
@@ -42,8 +42,8 @@ pub data HasPhases (records_of : Image → List Record) (clean : Bool) (acknowle
   opened : acknowledged ≡ 0 → IsOpening records_of clean first later → HasPhases records_of clean acknowledged more first later
   committed : (broken : Bool) → IsCommitting records_of clean acknowledged broken more first later → HasPhases records_of clean acknowledged more first later
 
--- An image has the records of an image from before the run, all or the latest alone, or none where the store is emptied;
--- and with them a prefix of more.
+-- An image has the records from before a run, with a prefix of new ones. Of those from before it has all or the latest
+-- of each name alone; or none, where the store is emptied.
 pub record HasBaseAndPrefix (records_of : Image → List Record) (clean : Bool) (more : List Record) (first : DiskState) (image : Image) : Type 0 where
   pub base : List Record
   pub from : ((before : Image) × IsImage first before × IsAllOrLatest (records_of before) base) ⊎ ((clean ≡ true) × (base ≡ []))

@@ -13,8 +13,8 @@ use Rattle.base.specs.Jobs.{compile_input}
 use Rattle.base.specs.Names.{is_same_name}
 use Rattle.outside.specs.Disks.{DiskState, Image, IsImage}
 
--- what a compiler is asked: its words, a file with its text, and the files that it depends on as they were built, in
--- graph order
+-- What a compiler is asked: command, file, text and artefacts. It has the files that the file depends on as they were
+-- built, in graph order.
 pub record Asked : Type 0 where
   pub command : List (List ℕ)
   pub name : FileName
@@ -51,7 +51,7 @@ latest name (first ∷ rest) = option_or (latest name rest) (if is_of name first
 abbrev pub is_replaced : List Record → Record → Bool
 is_replaced later kept = list_any (is_of kept.asked.name) later
 
--- the latest record of each name, in their order
+-- the latest record of each name, in the order in which they came
 unfoldable pub latest_alone : List Record → List Record
 latest_alone [] = []
 latest_alone (first ∷ rest) = if is_replaced rest first then latest_alone rest else first ∷ latest_alone rest
@@ -66,10 +66,11 @@ pub record HasRecordsOf (records_of : Image → List Record) (disk : DiskState) 
   pub was : IsImage disk before
   pub kept : IsAllOrLatest (records_of before) (records_of image)
 
--- the positions that the file at a place depends on
+-- the positions that the file at a position depends on, and none past the end
 abbrev pub deps_at : List Entry → ℕ → List ℕ
 deps_at graph at = option_map_or (λ entry. entry.deps) (slice_get graph at) []
 
+-- a built file without name and artefact, for positions past the end
 abbrev pub no_built : BuiltFile
 no_built = record { name = record { library = []; path = [] }; artefact = [] }
 
@@ -84,12 +85,12 @@ pub record HasLatest (latest_of : FileName → Option Record) (graph : List Entr
   pub kept : Record
   pub is : latest_of entry.name ≡ Some kept
 
--- what would be asked now for a file of a graph, over the files that it depends on as their latest records built them
+-- what would be asked now for a file: the artefacts below it are those of the latest records
 abbrev pub asked_now : (FileName → Option Record) → List Entry → Entry → Asked
 asked_now latest_of graph entry = asked_of entry (map (latest_built latest_of graph) entry.deps)
 
--- All files that the file at a place of a graph depends on have a record, and its own latest record has what would be asked for
--- it now, and this artefact.
+-- The latest record of a file has what would be asked for it now, and this artefact; and each file below it has a
+-- record.
 pub record IsRecorded (latest_of : FileName → Option Record) (graph : List Entry) (at : ℕ) : Type 0 where
   pub entry : Entry
   pub is_entry : slice_get graph at ≡ Some entry
@@ -101,7 +102,7 @@ pub record IsRecorded (latest_of : FileName → Option Record) (graph : List Ent
 abbrev pub with_record : Record → (FileName → Option Record) → FileName → Option Record
 with_record new latest_of name = if is_of name new then Some new else latest_of name
 
--- the latest records after a commit that answered
+-- the latest records after a commit: with the new one where it answered Ok, and else unchanged
 abbrev pub after_commit : {T : Type 0} → Result T DiskFailed → Record → (FileName → Option Record) → FileName → Option Record
 after_commit (Ok value) new latest_of = with_record new latest_of
 after_commit (Err fault) new latest_of = latest_of

@@ -4,7 +4,7 @@ use Rattle.outside.specs.declared.streams.TakeEnd.{TakeEnd}
 use Rattle.outside.specs.declared.streams.TakeEnd.TheVariants.{Got, TooLong}
 use Rattle.outside.specs.declared.streams.SinkFault.{SinkFault}
 
--- what is taken of an input, up to a limit
+-- what is taken of an input: all of its bytes, or that they are more than the limit
 abbrev pub take_end : List ℕ → ℕ → TakeEnd
 take_end input limit = if nat_le (length input) limit then Got input else TooLong
 

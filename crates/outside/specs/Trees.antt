@@ -32,7 +32,7 @@ pub record IsName (path : List ℕ) : Type 0 where
   pub short : length path ≤ PATH_LIMIT
   pub text : IsUtf8 path
 
--- the form of a listing, whatever the tree holds
+-- the form of a listing, whatever the tree holds: at most so many paths, rising, each of which may be listed
 abbrev pub IsListing : ℕ → NamesEnd → Type 0
 IsListing limit (names.Got paths) = (length paths ≤ limit) × IsRising paths × AllByRecursion IsName paths
 IsListing limit names.TooMany = Unit {0}
@@ -46,17 +46,17 @@ pub record IsListOf (file : List ℕ → Option (List ℕ)) (paths : List (List 
   pub rising : IsRising paths
   pub each : (path : List ℕ) → Contains paths path ↔ Lists file path
 
--- the answer to a question for so many names at most, by the list of a tree
+-- the answer to a question for names: all paths of the list, or that they are more than the limit
 abbrev pub names_end : List (List ℕ) → ℕ → NamesEnd
 names_end paths limit = if nat_le (length paths) limit then names.Got paths else names.TooMany
 
--- what is read of a file, up to a limit
+-- what is read of a file: its bytes, that it is absent, or that its bytes are more than the limit
 abbrev pub read_end : Option (List ℕ) → ℕ → ReadEnd
 read_end None limit = read.Absent
 read_end (Some bytes) limit = if nat_le (length bytes) limit then read.Got bytes else read.TooLong
 
--- What was asked for of a tree, after a read: after Ok this path comes last. A fault may leave it out, since an object
--- that finds no memory for the path can't hold it.
+-- After a read this path is the last that was asked for. A read that failed may leave it out, since an object that
+-- finds no memory for the path can't hold it.
 abbrev pub Asks : {T : Type 0} → Result T TreeFault → List ℕ → List (List ℕ) → List (List ℕ) → Type 0
 Asks (Ok end) path old new = new ≡ old ++ path ∷ []
 Asks (Err fault) path old new = (new ≡ old) ⊎ (new ≡ old ++ path ∷ [])

@@ -16,6 +16,7 @@ pub struct Ended {
     pub exit: Exit,
 }
 
+/// Why no child was started.
 #[derive(Clone, Copy, Debug, PartialEq, Eq)]
 pub enum StartFault {
     NoMemory,

@@ -4,6 +4,7 @@ ghost use Rattle.outside.specs.Reports.{Reported, ReportCounts};
 
 use base::Text;
 
+/// Why a report was not written.
 #[derive(Clone, Copy, Debug, PartialEq, Eq)]
 pub enum ReportFault {
     Failed,

@@ -13,12 +13,14 @@ pub enum TakeEnd {
     TooLong,
 }
 
+/// Why the input was not taken.
 #[derive(Clone, Copy, Debug, PartialEq, Eq)]
 pub enum SourceFault {
     NoMemory,
     Failed,
 }
 
+/// Why the output was not put whole.
 #[derive(Clone, Copy, Debug, PartialEq, Eq)]
 pub enum SinkFault {
     Failed,

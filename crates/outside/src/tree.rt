@@ -22,6 +22,7 @@ pub enum ReadEnd {
     TooLong,
 }
 
+/// Why a file was not read, or the names were not listed.
 #[derive(Clone, Copy, Debug, PartialEq, Eq)]
 pub enum TreeFault {
     NoMemory,

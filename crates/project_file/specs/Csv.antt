@@ -17,6 +17,7 @@ use Rattle.base.specs.Names.{has_name}
 abbrev pub is_library_byte : ℕ → Bool
 is_library_byte byte = is_ascii_alphabetic byte || is_ascii_digit byte || byte == 95
 
+-- an ASCII letter comes first
 abbrev pub begins_with_letter : List ℕ → Bool
 begins_with_letter [] = false
 begins_with_letter (byte ∷ bytes) = is_ascii_alphabetic byte
@@ -37,7 +38,7 @@ is_path_byte byte = nat_le 32 byte && not (byte == 127)
 abbrev pub has_path_bytes : List ℕ → Bool
 has_path_bytes path = nat_le 1 (length path) && nat_le (length path) PATH_LIMIT && list_all is_path_byte path
 
--- its components, between slashes
+-- no component between the slashes of a path is empty, `.` or `..`
 abbrev pub has_components : List ℕ → Bool
 has_components path = list_all is_component (slice_split (λ byte. byte == 47) path)
 
@@ -58,7 +59,7 @@ without_blanks (byte ∷ bytes) = if is_line_blank byte then without_blanks byte
 abbrev pub trim : List ℕ → List ℕ
 trim bytes = reverse (without_blanks (reverse (without_blanks bytes)))
 
--- one comma, no double quote, a library and a path
+-- a line has one comma and no double quote, a library before the comma and a path after it
 abbrev pub names_file : List ℕ → List ℕ → List ℕ → Bool
 names_file line library path = count_by (λ byte. byte == 44) line == 1 && not (list_any (λ byte. byte == 34) line) && is_library library && is_path path
 
@@ -102,9 +103,11 @@ csv_files bytes = files_after [] 1 (lines bytes)
 abbrev pub listed_command : List (List ℕ)
 listed_command = codes "@self" ∷ codes "child-analyse" ∷ []
 
+-- the command that runs the program as its own simulator
 abbrev pub listed_simulator : List (List ℕ)
 listed_simulator = codes "@self" ∷ codes "child-bench" ∷ []
 
+-- a listed file, which is compiled by the program itself
 abbrev pub listed_file : FileName → ProjectFile
 listed_file name = record { name = name; command = listed_command }
 
@@ -112,6 +115,7 @@ listed_file name = record { name = name; command = listed_command }
 abbrev pub listed_project : List FileName → Project
 listed_project names = record { files = map listed_file names; simulator = listed_simulator; external = []; bodies = false; depends = []; listed = true }
 
--- the project of the bytes, or its first fault
+-- The project that the bytes of a `vunit.csv` list, or its first fault. `lib,a.vhd` and `LIB,a.vhd` on two lines name
+-- the same file twice, since libraries are in lower case.
 abbrev pub csv_project : List ℕ → Result Project ProjectFault
 csv_project bytes = then_read (csv_files bytes) (λ names. Ok (listed_project names))

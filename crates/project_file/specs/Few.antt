@@ -18,7 +18,7 @@ use Rattle.project_file.specs.Libraries.{alone, libraries_of}
 abbrev pub few_of : Project → Option Project
 few_of project = if nat_le (length project.files) FILE_LIMIT then Some project else None
 
--- what is said of a project, or its fault
+-- A project or its fault, with nothing in place of a project of over 4,096 files.
 abbrev pub few_said : Result Project ProjectFault → Result (Option Project) ProjectFault
 few_said said = then_read said (λ project. Ok (few_of project))
 
@@ -26,7 +26,7 @@ few_said said = then_read said (λ project. Ok (few_of project))
 abbrev pub few_files : List ProjectFile → Option (List ProjectFile)
 few_files files = if nat_le (length files) FILE_LIMIT then Some files else None
 
--- the same of more files after those that were kept
+-- more files after those that were kept, or nothing where they are more than may be
 abbrev pub few_with : Option (List ProjectFile) → List ProjectFile → Option (List ProjectFile)
 few_with None more = None
 few_with (Some files) more = few_files (files ++ more)
@@ -77,12 +77,14 @@ pub record IsLookup (names compiler : List (List ℕ)) (tables : List Members) (
 
 -- ## What is said of a project whose files aren't kept: its faults
 
+-- the fault of a library's table whose files are too many to keep, if it has one
 abbrev pub checked_library : List (List ℕ) → Members → Result (Option (List ProjectFile)) ProjectFault
 checked_library names table =
     then_read (required (texts_of Some) (codes "library.") (codes "files") table) (λ patterns.
     then_read (all_match names patterns) (λ matched.
     then_read (optional (words_of 0) [] (codes "library.") (codes "options") table) (λ options. Ok None)))
 
+-- the fault of a dependency's table whose pair isn't kept, if it has one
 abbrev pub checked_pair : List ProjectFile → Members → Result (Unit {0}) ProjectFault
 checked_pair files table =
     then_read (named_file (codes "library") (codes "path") table) (λ user.
@@ -90,5 +92,6 @@ checked_pair files table =
     then_read (faults_of (place_of files user)) (λ known.
     faults_of (place_of files used))))
 
+-- the first fault of the tables of dependencies, whose pairs aren't kept
 abbrev pub checked_links : List ProjectFile → Members → Result (Unit {0}) ProjectFault
 checked_links files table = then_read (optional (array_of as_table) [] [] (codes "depends") table) (λ tables. faults_of (pairs_of files tables))

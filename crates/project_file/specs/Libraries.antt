@@ -15,6 +15,7 @@ use Rattle.project_file.specs.Toml.{is_among, matching_names, files_of}
 abbrev pub alone : List ℕ → FileName
 alone library = record { library = library; path = [] }
 
+-- the library of each key
 abbrev pub libraries_of : List FileName → List (List ℕ)
 libraries_of keys = map (λ key. key.library) keys
 
@@ -24,6 +25,7 @@ AddsLibrary old new said (Ok library) = (said ≡ Ok library) × (new ≡ old ++
 AddsLibrary old new said (Err memory.NoMemory) = Unit {0}
 AddsLibrary old new said (Err (memory.Fault fault)) = said ≡ Err fault
 
+-- the names at these indices
 abbrev pub texts_at : List (List ℕ) → List ℕ → List (List ℕ)
 texts_at names places = map (λ place. slice_index_or names place []) places
 

@@ -3,6 +3,7 @@ use Rattle.std.specs.Prelude.{◌≡◌, ◌≢◌, List, map, AllPairs}
 use Rattle.base.specs.declared.file.FileName.{FileName}
 use Rattle.base.specs.declared.project.ProjectFile.{ProjectFile}
 
+-- the name of each file
 abbrev pub names_of : List ProjectFile → List FileName
 names_of files = map (λ file. file.name) files
 

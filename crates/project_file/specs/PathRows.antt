@@ -8,9 +8,11 @@ use Rattle.test_select.specs.Fits.{ends_of, fits_pieces}
 use Rattle.project_file.specs.declared.paths.Part.{Part}
 use Rattle.project_file.specs.Paths.{is_any_components}
 
+-- the part of a pattern that a text between slashes is: `**`, or a pattern of one component
 abbrev pub part_of : List ℕ → Part
 part_of text = record { any = is_any_components text; pattern = pieces_of text }
 
+-- the texts that borrowed ones have now
 abbrev pub texts_seen : List (Bor (List ℕ)) → List (List ℕ)
 texts_seen texts = map (λ text. text.now) texts
 

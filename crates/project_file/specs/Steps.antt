@@ -12,13 +12,13 @@ TakesLine old number line (Ok done) new = (rest : List (List ℕ)) → files_aft
 TakesLine old number line (Err memory.NoMemory) new = Unit {0}
 TakesLine old number line (Err (memory.Fault fault)) new = (rest : List (List ℕ)) → files_after old number (line ∷ rest) ≡ Err fault
 
--- what is read is what the bytes say, unless memory ran out
+-- a call read what the definition says, or ran out of memory
 abbrev pub ReadsStep : {T : Type 0} → Result T ProjectFault → Result T (OrMemory ProjectFault) → Type 0
 ReadsStep said (Ok read) = said ≡ Ok read
 ReadsStep said (Err memory.NoMemory) = Unit {0}
 ReadsStep said (Err (memory.Fault fault)) = said ≡ Err fault
 
--- the same of what is read as something else
+-- a call read what the definition says, seen by `see`, or ran out of memory
 abbrev pub ReadsAs : {S T : Type 0} → (S → T) → Result T ProjectFault → Result S (OrMemory ProjectFault) → Type 0
 ReadsAs see said (Ok read) = said ≡ Ok (see read)
 ReadsAs see said (Err memory.NoMemory) = Unit {0}

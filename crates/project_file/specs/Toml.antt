@@ -19,6 +19,7 @@ use Rattle.project_file.specs.Paths.{matches_path}
 
 -- ## Values
 
+-- the values of an array, in order
 abbrev pub list_of : Items → List Data
 list_of no_items = []
 list_of (item value more) = value ∷ list_of more
@@ -36,6 +37,7 @@ word_in text = if nat_le 1 (length text) && nat_le (length text) WORD_LIMIT then
 abbrev pub library_in : List ℕ → Option (List ℕ)
 library_in text = if is_library text then Some (map to_ascii_lowercase text) else None
 
+-- a text that is a path
 abbrev pub path_in : List ℕ → Option (List ℕ)
 path_in text = if is_path text then Some text else None
 
@@ -51,10 +53,11 @@ array_of read value = option_and_then (λ items. all_read read (list_of items)) 
 abbrev pub texts_of : (List ℕ → Option (List ℕ)) → Data → Option (List (List ℕ))
 texts_of form value = array_of (text_of form) value
 
--- so many words at least, and 32 at most
+-- words, where they are at least so many and at most 32
 abbrev pub few : ℕ → List (List ℕ) → Option (List (List ℕ))
 few least words = if nat_le least (length words) && nat_le (length words) LISTED_WORD_LIMIT then Some words else None
 
+-- an array of texts that may be words, at least so many and at most 32
 abbrev pub words_of : ℕ → Data → Option (List (List ℕ))
 words_of least value = option_and_then (few least) (texts_of word_in value)
 
@@ -65,14 +68,17 @@ words_of least value = option_and_then (few least) (texts_of word_in value)
 abbrev pub value_or : {T : Type 0} → Result T ProjectFault → (Data → Option T) → List ℕ → List ℕ → Members → Result T ProjectFault
 value_or missing read place key table = option_map_or (λ value. ok_or (read value) (WrongType (place ++ key))) (get_member key table) missing
 
+-- the value of a key, read by `read`; a key that is missing is a fault, which names it after `place`
 abbrev pub required : {T : Type 0} → (Data → Option T) → List ℕ → List ℕ → Members → Result T ProjectFault
 required read place key table = value_or (Err (MissingKey (place ++ key))) read place key table
 
+-- the value of a key, read by `read`; a default where the key is missing
 abbrev pub optional : {T : Type 0} → (Data → Option T) → T → List ℕ → List ℕ → Members → Result T ProjectFault
 optional read default place key table = value_or (Ok default) read place key table
 
 -- ## Libraries
 
+-- whether a text is in a list
 abbrev pub is_among : List (List ℕ) → List ℕ → Bool
 is_among texts text = list_any (bytes_eq text) texts
 
@@ -91,6 +97,7 @@ matching_names names found (pattern ∷ patterns) =
     if list_any (matches_path pattern) names then matching_names names (found ++ filter (λ name. matches_path pattern name && not (is_among found name)) names) patterns
     else Err (NothingMatches pattern)
 
+-- the file of a path in a library, with its compiler's command
 abbrev pub file_in : List ℕ → List (List ℕ) → List ℕ → ProjectFile
 file_in library command path = record { name = record { library = library; path = path }; command = command }
 
@@ -131,6 +138,7 @@ pair_of files table =
     then_read (place_of files user) (λ user.
     then_read (place_of files used) (λ used. Ok (record { user = user; used = used })))))
 
+-- the pairs of files that tables of dependencies name, or the first fault
 unfoldable pub pairs_of : List ProjectFile → List Members → Result (List Pair) ProjectFault
 pairs_of files [] = Ok []
 pairs_of files (table ∷ tables) = then_read (pair_of files table) (λ pair. then_read (pairs_of files tables) (λ pairs. Ok (pair ∷ pairs)))

@@ -27,6 +27,7 @@ pub fn is_same(a: &[u8], b: &[u8]) -> bool
     a == b
 }
 
+/// Whether an ASCII letter comes first.
 fn begins_with_letter(name: &[u8]) -> bool
     ensures { result ≡ begins_with_letter name.now }
 {
@@ -36,42 +37,49 @@ fn begins_with_letter(name: &[u8]) -> bool
     }
 }
 
+/// Whether a byte may stand in the name of a library.
 fn is_library_byte(byte: u8) -> bool
     ensures { result ≡ is_library_byte byte }
 {
     byte.is_ascii_alphabetic() || byte.is_ascii_digit() || byte == b'_'
 }
 
+/// Whether each byte may stand in the name of a library.
 fn all_library_bytes(name: &[u8]) -> bool
     ensures { result ≡ list_all is_library_byte name.now }
 {
     name.iter().all(|byte| is_library_byte(*byte))
 }
 
+/// Whether a text may be the name of a library of a project file.
 pub fn is_library(name: &[u8]) -> bool
     ensures { result ≡ is_library name.now }
 {
     begins_with_letter(name) && all_library_bytes(name) && name.len() <= LIBRARY_LIMIT
 }
 
+/// Whether a byte may stand in a path.
 fn is_path_byte(byte: u8) -> bool
     ensures { result ≡ is_path_byte byte }
 {
     b' ' <= byte && byte != b'\x7f'
 }
 
+/// Whether a text may stand between the slashes of a path.
 fn is_component(part: &[u8]) -> bool
     ensures { result ≡ is_component part.now }
 {
     !is_same(part, b"") && !is_same(part, b".") && !is_same(part, b"..")
 }
 
+/// Whether bytes are UTF-8.
 pub fn is_utf8(bytes: &[u8]) -> bool
     ensures { result ≡ is_utf8 bytes.now }
 {
     str::from_utf8(bytes).is_ok()
 }
 
+/// Whether each part between slashes may stand there.
 fn has_components(path: &[u8]) -> bool
     ensures { result ≡ has_components path.now }
 {
@@ -85,30 +93,35 @@ fn has_components(path: &[u8]) -> bool
     is_component(rest)
 }
 
+/// Whether each byte may stand in a path.
 fn all_path_bytes(path: &[u8]) -> bool
     ensures { result ≡ list_all is_path_byte path.now }
 {
     path.iter().all(|byte| is_path_byte(*byte))
 }
 
+/// Whether a path has 1 to 1,024 bytes that may all stand there.
 fn has_path_bytes(path: &[u8]) -> bool
     ensures { result ≡ has_path_bytes path.now }
 {
     1 <= path.len() && path.len() <= PATH_LIMIT && all_path_bytes(path)
 }
 
+/// Whether a text may be the path of a file of a project.
 pub fn is_path(path: &[u8]) -> bool
     ensures { result ≡ is_path path.now }
 {
     has_path_bytes(path) && has_components(path) && is_utf8(path)
 }
 
+/// Whether a byte is a space or a tab.
 fn is_line_blank(byte: u8) -> bool
     ensures { result ≡ is_line_blank byte }
 {
     byte == b' ' || byte == b'\t'
 }
 
+/// The bytes after the leading spaces and tabs.
 fn without_blanks(bytes: &[u8]) -> &[u8]
     ensures { result.now ≡ without_blanks bytes.now }
 {
@@ -122,6 +135,7 @@ fn without_blanks(bytes: &[u8]) -> &[u8]
     rest
 }
 
+/// The bytes before the spaces and tabs at the end.
 fn without_blanks_after(bytes: &[u8]) -> &[u8]
     ensures { result.now ≡ reverse (without_blanks (reverse bytes.now)) }
 {
@@ -146,18 +160,21 @@ pub fn to_lower_case(alloc: Global, bytes: &[u8]) -> Result<Text, NoMemory>
     Ok(Text::from_vec(lowered))
 }
 
+/// The bytes without spaces and tabs at both ends.
 fn trim(bytes: &[u8]) -> &[u8]
     ensures { result.now ≡ trim bytes.now }
 {
     without_blanks_after(without_blanks(bytes))
 }
 
+/// How often a byte stands in a line.
 fn count_of(bytes: &[u8], mark: u8) -> usize
     ensures { result ≡ count_by (λ byte. byte == mark) bytes.now }
 {
     bytes.iter().filter(|byte| **byte == mark).count()
 }
 
+/// Whether a byte stands in a line.
 fn has_byte(bytes: &[u8], mark: u8) -> bool
     ensures { result ≡ list_any (λ byte. byte == mark) bytes.now }
 {
@@ -287,6 +304,7 @@ fn with_commands(alloc: Global, names: FileList) -> Result<ProjectFileList, NoMe
     Ok(files)
 }
 
+/// The project of the files with these names, compiled and simulated by the program itself.
 fn listed_project(alloc: Global, names: FileList) -> Result<Project, NoMemory>
     ensures { IfOk result (λ project. project ≡ listed_project names) }
 {

@@ -15,6 +15,7 @@ use base::{NoMemory, OrMemory, ProjectFault, Text, TextList};
 use std::alloc::Global;
 use toml::{Table, Value};
 
+/// The value of a key, if the table has it.
 fn value_at<'a>(table: &'a Table, key: &str) -> Option<&'a Value>
     ensures { option_map (λ value. view value.now) result
         ≡ get_member key.now (table_view table.now) }
@@ -48,6 +49,7 @@ fn known<T: Drop>(
     }
 }
 
+/// The fault of a key that a table lacks; `place` says which table.
 fn missing_key(alloc: Global, place: &str, key: &str) -> Result<ProjectFault, NoMemory>
     ensures { IfOk result (λ fault. fault ≡ MissingKey (place.now ++ key.now)) }
 {

@@ -139,6 +139,7 @@ fn joined(alloc: Global, first: &[Text], second: &[Text]) -> Result<TextList, No
     Ok(words)
 }
 
+/// The file of a path in a library, with its compiler's command.
 fn file_in(
     alloc: Global,
     library: &Text,

@@ -21,6 +21,7 @@ pub struct Part {
 
 pub type PartList = Items<Part>;
 
+/// The part of a pattern that a text between slashes is: `**`, or a pattern of one component.
 fn part_of(alloc: Global, text: &[u8]) -> Result<Part, NoMemory>
     ensures { IfOk result (λ part. part ≡ part_of text.now) }
 {
@@ -44,6 +45,7 @@ pub fn parts_of(alloc: Global, pattern: &[u8]) -> Result<PartList, NoMemory>
     Ok(parts)
 }
 
+/// What stands between the slashes of a path, in order.
 fn components(alloc: Global, path: &[u8]) -> Result<Vec<&[u8]>, NoMemory>
     ensures { IfOk result (λ parts. texts_seen parts.items ≡ components path.now) }
 {
@@ -66,6 +68,7 @@ fn first_row(alloc: Global, components: &[&[u8]]) -> Result<Vec<bool>, NoMemory>
     Ok(row)
 }
 
+/// Whether one of both holds; both are known already.
 pub fn either(first: bool, second: bool) -> bool
     ensures { result ≡ (first || second) }
 {

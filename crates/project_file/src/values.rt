@@ -20,6 +20,7 @@ pub enum Form {
     Pattern,
 }
 
+/// A copy of a text that may be a word of a command.
 fn word_in(alloc: Global, text: &[u8]) -> Result<Option<Text>, NoMemory>
     ensures { IfOk result (λ word. word ≡ word_in text.now) }
 {
@@ -29,6 +30,7 @@ fn word_in(alloc: Global, text: &[u8]) -> Result<Option<Text>, NoMemory>
     Ok(None)
 }
 
+/// The name of a library that a text is, in lower case.
 fn library_in(alloc: Global, text: &[u8]) -> Result<Option<Text>, NoMemory>
     ensures { IfOk result (λ library. library ≡ library_in text.now) }
 {
@@ -38,6 +40,7 @@ fn library_in(alloc: Global, text: &[u8]) -> Result<Option<Text>, NoMemory>
     Ok(None)
 }
 
+/// A copy of a text that is a path.
 fn path_in(alloc: Global, text: &[u8]) -> Result<Option<Text>, NoMemory>
     ensures { IfOk result (λ path. path ≡ path_in text.now) }
 {
@@ -47,6 +50,7 @@ fn path_in(alloc: Global, text: &[u8]) -> Result<Option<Text>, NoMemory>
     Ok(None)
 }
 
+/// A copy of any text.
 fn any_text(alloc: Global, text: &[u8]) -> Result<Option<Text>, NoMemory>
     ensures { IfOk result (λ read. read ≡ Some text.now) }
 {
@@ -75,6 +79,7 @@ pub fn text_of(alloc: Global, form: Form, value: &Value) -> Result<Option<Text>,
     }
 }
 
+/// The texts of a form that values are, or none where one value is of another form.
 #[tactic(auto, using(crate::proofs::ReadItems::reads_on, crate::proofs::ReadItems::reads_none, crate::proofs::ReadItems::reads_all))]
 fn texts_in(alloc: Global, form: Form, values: &[Value]) -> Result<Option<TextList>, NoMemory>
     ensures { IfOk result (λ texts.
@@ -101,6 +106,7 @@ pub fn texts_of(alloc: Global, form: Form, value: &Value) -> Result<Option<TextL
     }
 }
 
+/// The words, where they are at least so many and at most 32.
 fn few(least: usize, words: TextList) -> Option<TextList>
     ensures { result ≡ few least words }
 {
@@ -124,6 +130,7 @@ pub fn words_of(alloc: Global, least: usize, value: &Value) -> Result<Option<Tex
 /// Tables in a TOML table.
 pub type Tables<'a> = Vec<&'a Table>;
 
+/// The tables that values are, or none where one value is no table.
 #[tactic(auto, using(crate::proofs::ReadItems::reads_on, crate::proofs::ReadItems::reads_none, crate::proofs::ReadItems::reads_all))]
 fn tables_in(alloc: Global, values: &[Value]) -> Result<Option<Tables<'_>>, NoMemory>
     ensures { IfOk result (λ tables.

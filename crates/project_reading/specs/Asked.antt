@@ -17,6 +17,7 @@ file_paths files = map (λ file. file.name.path) files
 abbrev pub source_paths : Project → List (List ℕ)
 source_paths project = if nat_le (length project.files) FILE_LIMIT then file_paths project.files else []
 
+-- the paths of a project's files, and none where there is no project
 abbrev pub maybe_paths : Result Project SourceReading → List (List ℕ)
 maybe_paths (Ok project) = source_paths project
 maybe_paths (Err reading) = []
@@ -31,8 +32,8 @@ other_paths (read.Got bytes) = []
 abbrev pub project_file_paths : (List ℕ → Option (List ℕ)) → List (List ℕ)
 project_file_paths file = codes "vunit.toml" ∷ other_paths (read_end (file (codes "vunit.toml")) TEXT_LIMIT)
 
--- the paths that are to be read of a tree of these files, which lists these names: the project files that it may have, and
--- then the files of its project
+-- The paths that are to be read of a tree: `vunit.toml`, only where that is absent `vunit.csv`, and then the files of
+-- the project, in its order.
 unfoldable pub project_paths : (List ℕ → Option (List ℕ)) → List (List ℕ) → List (List ℕ)
 project_paths file listed = project_file_paths file ++ maybe_paths (project_in file listed)
 
@@ -43,7 +44,7 @@ pub record AsksFirst (paths old new : List (List ℕ)) : Type 0 where
   pub split : paths ≡ first ++ rest
   pub asked : new ≡ old ++ first
 
--- After each answer: these paths were asked for, in order; and where nothing is to be compiled, the first of them.
+-- Where a project was read, just these paths were asked for, in order; after any other answer the first of them.
 abbrev pub AsksInOrder : {T : Type 0} → Result T ReadStop → List (List ℕ) → List (List ℕ) → List (List ℕ) → Type 0
 AsksInOrder (Ok value) paths old new = new ≡ old ++ paths
 AsksInOrder (Err stop) paths old new = AsksFirst paths old new

@@ -51,12 +51,14 @@ abbrev pub before_others : {T : Type 0} → T → Result (List T) SourceReading 
 before_others one (Ok more) = Ok (one ∷ more)
 before_others one (Err reading) = Err reading
 
+-- one read thing before the others, or the first that stops the reading
 abbrev pub and_others : {T : Type 0} → (T → Result (List T) SourceReading) → Result T SourceReading → Result (List T) SourceReading
 and_others others (Ok one) = before_others one (others one)
 and_others others (Err reading) = Err reading
 
 -- ## The project
 
+-- a project, or a refusal that names the fault of its project file
 abbrev pub project_or : Result Project ProjectFault → Result Project SourceReading
 project_or (Ok project) = Ok project
 project_or (Err fault) = Err (Stops (refusal.Project fault))
@@ -122,6 +124,7 @@ link_refusal (link.MissingUnit file library unit) = refusal.MissingUnit file lib
 link_refusal (link.MissingArchitecture file library entity architecture) = refusal.MissingArchitecture file library entity architecture
 link_refusal link.NoMemory = refusal.Cycle []
 
+-- edges and warnings, or a refusal that names a duplicate or missing unit
 abbrev pub linked_or : Result Linked LinkFault → Result Linked SourceReading
 linked_or (Ok linked) = Ok linked
 linked_or (Err fault) = Err (Stops (link_refusal fault))
@@ -134,6 +137,7 @@ links_of project texts scans = linked_or (link_of project (link_units 0 project.
 unfoldable pub names_at : List ProjectFile → List ℕ → List FileName
 names_at files positions = filter_map (λ at. option_map (λ file. file.name) (slice_get files at)) positions
 
+-- a compile order, or a refusal that names the files of a cycle
 abbrev pub order_or : List ProjectFile → FileOrder → Result (List ℕ) SourceReading
 order_or files (Ordered order) = Ok order
 order_or files (Cyclic cycle) = Err (Stops (refusal.Cycle (names_at files cycle)))
@@ -155,6 +159,7 @@ wanted_tests wanted project texts scans = if wanted then tests_or (tests_of (sou
 abbrev pub linked_needs : Project → List (List ℕ) → List Scan → Linked → NeedSources
 linked_needs project texts scans links = said_of project texts scans (Some links.edges)
 
+-- a listed project as the sources of what tests need
 abbrev pub listed_needs : Project → List (List ℕ) → List Scan → NeedSources
 listed_needs project texts scans = said_of project texts scans None
 
@@ -167,9 +172,11 @@ ordered_reading wish project texts scans links order tests = Found (record {
   tests = tests;
 })
 
+-- the graph of files in compile order and, where they are wanted, the tests
 abbrev pub order_reading : Wish → Project → List (List ℕ) → List Scan → Linked → List ℕ → SourceReading
 order_reading wish project texts scans links order = then_read (ordered_reading wish project texts scans links order) (wanted_tests (wants_tests wish.extent) project texts scans)
 
+-- the reading of files with known edges, which are ordered first
 abbrev pub linked_reading : Wish → Project → List (List ℕ) → List Scan → Linked → SourceReading
 linked_reading wish project texts scans links = then_read (order_reading wish project texts scans links) (order_or project.files (file_order links.edges))
 
@@ -182,6 +189,7 @@ found_reading wish project texts scans tests = Found (record {
   tests = tests;
 })
 
+-- the reading of a listed project with known texts and scans, whose order is that of its list
 abbrev pub listed_reading : Wish → Project → List (List ℕ) → List Scan → SourceReading
 listed_reading wish project texts scans = then_read (found_reading wish project texts scans) (wanted_tests (wants_tests wish.extent) project texts scans)
 
@@ -190,9 +198,11 @@ listed_reading wish project texts scans = then_read (found_reading wish project 
 unfoldable pub scanned_reading : Wish → Project → List (List ℕ) → List Scan → SourceReading
 scanned_reading wish project texts scans = if project.listed then listed_reading wish project texts scans else then_read (linked_reading wish project texts scans) (links_of project texts scans)
 
+-- the reading of files with known texts, which are scanned first
 abbrev pub texts_reading : Wish → (List ℕ → Finding) → Project → List (List ℕ) → SourceReading
 texts_reading wish scan project texts = then_read (scanned_reading wish project texts) (scans_of scan project.files texts)
 
+-- the reading of a known project, whose files are read first from a map of paths to bytes
 abbrev pub files_reading : Wish → (List ℕ → Finding) → (List ℕ → Option (List ℕ)) → Project → SourceReading
 files_reading wish scan file project = then_read (texts_reading wish scan project) (texts_of file 0 project.files)
 
@@ -200,6 +210,8 @@ files_reading wish scan file project = then_read (texts_reading wish scan projec
 abbrev pub sources_reading : Wish → (List ℕ → Finding) → (List ℕ → Option (List ℕ)) → Project → SourceReading
 sources_reading wish scan file project = if nat_le (length project.files) FILE_LIMIT then files_reading wish scan file project else Over limit.Files FILE_LIMIT
 
--- the reading of a tree of these files, which lists these names, over a scanner, with what is wanted of it
+-- What the sources say, a function of a scanner, a map from paths to bytes and the listed names. In order come the
+-- project, the texts of its files, their scans, the graph, the wanted tests, and the part of the graph that these
+-- need; the first thing that is wrong, or over a limit, ends it.
 unfoldable pub project_reading : (List ℕ → Finding) → (List ℕ → Option (List ℕ)) → List (List ℕ) → (wish : Wish) → SourceReading
 project_reading scan file listed wish = then_read (sources_reading wish scan file) (project_in file listed)

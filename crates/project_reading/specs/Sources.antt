@@ -32,7 +32,8 @@ abbrev pub GivesProject : Result Project SourceReading → Result Project ReadSt
 GivesProject whole (Ok project) = whole ≡ Ok project
 GivesProject whole (Err stop) = Gives {T = Project} (few_project whole) (Err stop)
 
--- the reading is what was read: a project, a refusal, or a limit that is passed; after a fault and out of memory nothing is owed
+-- The reading is what was answered: a project, a refusal, or a limit that is passed. After a fault and out of memory
+-- nothing is owed.
 abbrev pub LeadsTo : SourceReading → Result ReadProject ReadStop → Type 0
 LeadsTo whole (Ok read) = whole ≡ Found read
 LeadsTo whole (Err (stop.Refused reason)) = whole ≡ Stops reason
@@ -56,8 +57,8 @@ IsPlain (Err (stop.Over limit number)) = ⊥
 IsPlain (Err stop.Failed) = Unit {0}
 IsPlain (Err stop.NoMemory) = Unit {0}
 
--- What was read is a project, and what is wanted of some text for each of its files and the scans of these texts, whatever
--- the tree tells.
+-- What was read is a project with its graph, warnings and tests, as some texts and their scans give them, whatever the
+-- tree tells.
 pub record IsReadProject (wish : Wish) (read : ReadProject) : Type 0 where
   pub project : IsProject read.project
   pub few : length read.project.files ≤ FILE_LIMIT

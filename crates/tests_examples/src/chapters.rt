@@ -1,4 +1,4 @@
-//! What the chapters of DEFINITIONS.md say of its examples, for those that compute.
+//! The worked examples that compute, subject by subject.
 
 ghost use Rattle.tests_examples.specs.Graphs.{ListedFiles, Orders, Ways, Views};
 ghost use Rattle.tests_examples.specs.Builds.{CompilerRequests, CleanBuilds, CleanRequests};

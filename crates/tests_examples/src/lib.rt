@@ -1,4 +1,4 @@
-//! The worked examples of DEFINITIONS.md that compute: a function with an empty body for each of its chapters.
+//! Worked examples that compute, to which DEFINITIONS.md leads: a function with an empty body for each subject.
 #![tactic(auto)]
 
 mod chapters;

@@ -21,7 +21,7 @@ abbrev pub GivesOrFaults : {T : Type 0} → Option LinkFault → (T → Type 0) 
 GivesOrFaults said right (Ok value) = (said ≡ None) × right value
 GivesOrFaults said right (Err fault) = IsFaultOf said fault
 
--- this fault is given
+-- a call answered this fault, or out of memory
 abbrev pub Refuses : {T : Type 0} → LinkFault → Result T LinkFault → Type 0
 Refuses fault (Ok value) = ⊥
 Refuses fault (Err given) = IsFaultOf (Some fault) given
@@ -56,7 +56,7 @@ pub record IsIndex (files : List ProjectFile) (units : List LinkUnit) (index : E
   pub distinct : AreDistinct units
   pub of : All (IsOfFile files) units
 
--- each place is that of a file
+-- each unit that the index has is of a file of the project
 abbrev pub ArePlacesOfFiles : ℕ → Entries UnitKey Place → Type 0
 ArePlacesOfFiles files index = (key : UnitKey) (place : Place) → get is_same_key index key ≡ Some place → place.file < files
 

@@ -11,16 +11,20 @@ use Rattle.std.specs.Str.{bytes_eq}
 use Rattle.std.specs.declared.cmp.Ordering.{Ordering}
 use Rattle.vhdl_graph.specs.Keys.{UnitKey, is_same_flag, is_same_key}
 
--- by the part that most names differ in, and then by the others: the name, the entity, the library, and what the key is of
+-- the order of keys by what they are of: a body or not, a primary unit or not
 abbrev pub flags_cmp : UnitKey → UnitKey → Ordering
 flags_cmp = then_cmp (on (λ k. k.body) bool_cmp) (on (λ k. k.primary) bool_cmp)
 
+-- the order of keys by library, and then by what they are of
 abbrev pub libraries_cmp : UnitKey → UnitKey → Ordering
 libraries_cmp = then_cmp (on (λ k. k.library) (slice_cmp nat_cmp)) flags_cmp
 
+-- the order of keys by entity, library, and what they are of
 abbrev pub entities_cmp : UnitKey → UnitKey → Ordering
 entities_cmp = then_cmp (on (λ k. k.entity) (slice_cmp nat_cmp)) libraries_cmp
 
+-- The order of keys: by name, entity, library, and what they are of. The name comes first, since most keys differ in
+-- it.
 abbrev pub key_cmp : UnitKey → UnitKey → Ordering
 key_cmp = then_cmp (on (λ k. k.name) (slice_cmp nat_cmp)) entities_cmp
 
@@ -82,6 +86,7 @@ flag_itself : (a : Bool) → is_same_flag a a ≡ true
 flag_itself true = refl
 flag_itself false = refl
 
+-- a key by its parts
 abbrev key : Bool → Bool → List ℕ → List ℕ → List ℕ → UnitKey
 key primary body library entity name = record { primary = primary; body = body; library = library; entity = entity; name = name }
 

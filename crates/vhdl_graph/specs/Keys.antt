@@ -20,15 +20,19 @@ abbrev pub is_same_flag : Bool → Bool → Bool
 is_same_flag true other = other
 is_same_flag false other = not other
 
+-- whether two keys have the same kind, library, entity and name
 abbrev pub is_same_key : UnitKey → UnitKey → Bool
 is_same_key a b = is_same_flag a.primary b.primary && (is_same_flag a.body b.body && (bytes_eq b.library a.library && (bytes_eq b.entity a.entity && bytes_eq b.name a.name)))
 
+-- the primary units of a name in a library
 abbrev pub primary_key : List ℕ → List ℕ → UnitKey
 primary_key library name = record { primary = true; body = false; library = library; entity = []; name = name }
 
+-- the architectures of a name of one entity
 abbrev pub architecture_key : List ℕ → List ℕ → List ℕ → UnitKey
 architecture_key library entity name = record { primary = false; body = false; library = library; entity = entity; name = name }
 
+-- the bodies of a package
 abbrev pub body_key : List ℕ → List ℕ → UnitKey
 body_key library name = record { primary = false; body = true; library = library; entity = []; name = name }
 
@@ -38,5 +42,6 @@ unit_key library unit kinds.Architecture = architecture_key library (owner_name 
 unit_key library unit kinds.PackageBody = body_key library unit.name
 unit_key library unit _ = primary_key library unit.name
 
+-- the key of a unit of a project
 abbrev pub key_of : LinkUnit → UnitKey
 key_of unit = unit_key unit.scope.library unit.scope.unit unit.scope.unit.kind

@@ -12,6 +12,7 @@ use Rattle.vhdl_graph.specs.declared.libraries.Libraries.{Libraries}
 abbrev pub knows : {S : Type 0} → IndexSet (Vec ℕ Global) S → List ℕ → Bool
 knows names name = list_any (λ key. bytes_eq name key.items) names.keys
 
+-- the libraries that are outside of every project that has no files in them
 abbrev pub always_external : List (List ℕ)
 always_external = codes "std" ∷ codes "ieee" ∷ codes "vunit_lib" ∷ []
 

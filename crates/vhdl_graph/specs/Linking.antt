@@ -40,6 +40,7 @@ noted_library has file library = if has then record { file = file; library = lib
 abbrev pub noted_where : Bool → Tables → ℕ → List ℕ → List Warning
 noted_where is_seen tables file library = if is_seen then noted_library (knows tables.libraries.own library) file library else []
 
+-- the warning of a use of a whole library, where the unit sees that library and it has files
 abbrev pub noted : Tables → UnitId → List ℕ → List ℕ → List Warning
 noted tables id own named = noted_where (table_sees tables.sets.now id named) tables id.file (named_library own named)
 

@@ -4,7 +4,7 @@ use Rattle.base.specs.declared.linking.Linked.{Linked}
 use Rattle.base.specs.declared.linking.LinkFault.{LinkFault}
 use Rattle.base.specs.declared.linking.LinkFault.TheVariants.{NoMemory}
 
--- the answer is the one that is said, unless memory ran out
+-- a call answered what the definition says, or out of memory
 abbrev pub GivesLinks : Result Linked LinkFault → Result Linked LinkFault → Type 0
 GivesLinks said (Ok linked) = said ≡ Ok linked
 GivesLinks said (Err NoMemory) = Unit {0}

@@ -58,6 +58,7 @@ fn has_architecture(
     Ok(has_unit(index, other, place_of(index, other)))
 }
 
+/// The fault of a unit that a file refers to and that its library lacks.
 fn missing_unit(
     alloc: Global,
     file: &FileName,
@@ -73,6 +74,7 @@ fn missing_unit(
     })
 }
 
+/// The fault of an architecture that a file names with an entity that lacks it.
 fn missing_architecture(
     alloc: Global,
     file: &FileName,

@@ -85,6 +85,7 @@ fn after(bytes: &[u8], count: usize) -> &[u8]
 }
 
 impl UnitKey {
+    /// Whether it is of a primary unit.
     #[tactic(auto, unfolding(crate::specs::Joined::joined_key))]
     fn is_primary(&self) -> bool
         ensures { result ≡ self.now.primary }
@@ -92,6 +93,7 @@ impl UnitKey {
         self.head.primary
     }
 
+    /// Whether it is of a package's body.
     #[tactic(auto, unfolding(crate::specs::Joined::joined_key))]
     fn is_body(&self) -> bool
         ensures { result ≡ self.now.body }
@@ -99,6 +101,7 @@ impl UnitKey {
         self.head.body
     }
 
+    /// The library of the unit.
     #[tactic(auto, unfolding(crate::specs::Joined::joined_key))]
     fn library(&self) -> &[u8]
         ensures { result.now ≡ self.now.library }
@@ -106,6 +109,7 @@ impl UnitKey {
         &self.letters[..self.head.library]
     }
 
+    /// The entity of an architecture, and else empty.
     #[tactic(auto, unfolding(crate::specs::Joined::joined_key))]
     fn entity(&self) -> &[u8]
         ensures { result.now ≡ self.now.entity }
@@ -113,6 +117,7 @@ impl UnitKey {
         &after(self.letters.as_slice(), self.head.library)[..self.head.entity]
     }
 
+    /// The name of the unit; of a body that of its package.
     #[tactic(auto, unfolding(crate::specs::Joined::joined_key))]
     fn name(&self) -> &[u8]
         ensures { result.now ≡ self.now.name }
@@ -124,6 +129,7 @@ impl UnitKey {
     }
 }
 
+/// The order of two texts by their bytes.
 fn order<'a>(one: &'a [u8], other: &'a [u8]) -> Ordering
     ensures { result ≡ slice_cmp nat_cmp one.now other.now }
 {

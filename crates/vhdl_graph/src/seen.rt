@@ -41,6 +41,7 @@ pub struct Tables<'a> {
     pub sets: &'a VisibleLibraries,
 }
 
+/// Whether a name is `work`.
 fn is_work(name: &[u8]) -> bool
     ensures { result ≡ bytes_eq name.now work }
 {

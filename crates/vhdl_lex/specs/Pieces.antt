@@ -11,9 +11,11 @@ use Rattle.vhdl_lex.specs.declared.piece.Found.TheVariants.{Gap, Comment, Lexeme
 abbrev pub is_plain : ℕ → Bool
 is_plain byte = nat_le 40 byte && nat_le byte 44 || byte == 46 || nat_le 58 byte && nat_le byte 62
 
+-- the last of tokens, if there is one
 abbrev pub last_of : List Token → Option Token
 last_of tokens = slice_get tokens (length tokens - 1)
 
+-- a token has at least one byte, and ends within the text
 abbrev pub LiesIn : List ℕ → Token → Type 0
 LiesIn text here = (here.start < here.end) × (here.end ≤ length text)
 

@@ -11,7 +11,7 @@ abbrev pub GivesTokens : List Piece → Result Tokens (OrMemory LexFault) → Ty
 GivesTokens pieces (Ok tokens) = AreOf pieces tokens
 GivesTokens pieces (Err answer) = answer ≡ NoMemory
 
--- this fault, or out of memory
+-- this lexical fault, or out of memory
 abbrev pub GivesFault : LexFault → Result Tokens (OrMemory LexFault) → Type 0
 GivesFault fault (Ok tokens) = ⊥
 GivesFault fault (Err NoMemory) = Unit {0}

@@ -30,6 +30,7 @@ pub fn is_line_end(byte: u8) -> bool
     CLASS[byte as usize] == LINE_END
 }
 
+/// Whether a byte is an ASCII letter, a digit or `_`.
 #[inline(always)]
 pub fn is_word_byte(byte: u8) -> bool
     ensures { result ≡ is_word_byte byte }
@@ -37,6 +38,7 @@ pub fn is_word_byte(byte: u8) -> bool
     CLASS[byte as usize] >= IN_WORD
 }
 
+/// Whether a byte is an ASCII letter, a digit, `_`, `.` or `#`.
 #[inline(always)]
 pub fn is_number_byte(byte: u8) -> bool
     ensures { result ≡ is_number_byte byte }

@@ -27,6 +27,7 @@ pub fn stop_from(from: usize, base: usize, stops: u64) -> Option<usize>
     Some(from + rest.trailing_zeros() as usize)
 }
 
+/// The bytes among the 64 from `base` on that aren't of a word: a bit each, the first one lowest.
 #[inline(always)]
 fn word_mask(text: &[u8], base: usize) -> u64
     requires { base + LANES ≤ length text.now }
@@ -41,6 +42,7 @@ fn word_mask(text: &[u8], base: usize) -> u64
     is_other.to_bitmask()
 }
 
+/// The bytes among the 64 from `base` on that aren't blank: a bit each, the first one lowest.
 #[inline(always)]
 fn gap_mask(text: &[u8], base: usize) -> u64
     requires { base + LANES ≤ length text.now }

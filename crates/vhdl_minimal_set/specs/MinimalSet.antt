@@ -20,14 +20,15 @@ use Rattle.vhdl_refs.specs.Components.{component_names}
 
 -- ## The units of a project
 
--- the files of a project with their texts and scans, and of each the files that it depends on itself; in a listed project,
--- where each depends on all earlier ones, these aren't said
+-- The files of a project with their texts and scans, and what each depends on itself. Without dependencies the project
+-- is a listed one, where each file depends on all before it.
 pub record NeedSources : Type 0 where
   pub files : List ProjectFile
   pub texts : List (List ℕ)
   pub scans : List Scan
   pub edges : Option (List (List ℕ))
 
+-- the files of a project with their texts, their scans and, where it isn't listed, what each depends on
 abbrev pub said_of : Project → List (List ℕ) → List Scan → Option (List (List ℕ)) → NeedSources
 said_of project texts scans edges = record { files = project.files; texts = texts; scans = scans; edges = edges }
 
@@ -36,9 +37,11 @@ pub record NeedUnit : Type 0 where
   pub scope : ScopeUnit
   pub components : List (List ℕ)
 
+-- a unit with what decides the libraries that it sees, and with the names of its components
 abbrev pub need_unit : List ℕ → List ℕ → Scan → DesignUnit → NeedUnit
 need_unit library text scan unit = record { scope = scope_unit library text scan unit; components = component_names text scan.tokens.list unit }
 
+-- the units of a file, and none where the file, its text or its scan is missing
 abbrev pub units_of : Option ProjectFile → Option (List ℕ) → Option Scan → List NeedUnit
 units_of (Some file) (Some text) (Some scan) = map (need_unit file.name.library text scan) scan.units
 units_of (Some file) (Some text) None = []
@@ -56,6 +59,7 @@ abbrev pub uses : Option (List (List ℕ)) → ℕ → ℕ → Bool
 uses None user used = nat_lt used user
 uses (Some edges) user used = list_any (λ dep. dep == used) (deps_in edges user)
 
+-- an entity
 abbrev pub is_entity_kind : UnitKind → Bool
 is_entity_kind kinds.Entity = true
 is_entity_kind _ = false
@@ -83,6 +87,7 @@ may_bind scopes user names entity = looks_into scopes user entity.library && (is
 abbrev pub wants : List ScopeUnit → NeedUnit → NeedUnit → Bool
 wants scopes unit other = has_architecture unit.scope other.scope || (has_body unit.scope other.scope || may_bind scopes unit.scope unit.components other.scope)
 
+-- all units of the project, with what decides the libraries that they see
 abbrev pub scopes_of : NeedSources → List ScopeUnit
 scopes_of sources = scope_units sources.files sources.texts sources.scans
 
@@ -109,7 +114,9 @@ unfoldable pub needed_after : NeedSources → List Bench → ℕ → ℕ → Boo
 needed_after sources tests zero = is_tested tests
 needed_after sources tests (suc steps) = grown sources (needed_after sources tests steps)
 
--- the tests need a file: as many steps as there are files are enough
+-- A file is in the least set that has the files of some tests and what its own files need. As many steps as there are
+-- files are enough. Where a bench in tb.vhd has a component `leaf`, the entity leaf is in leaf.vhd, and its
+-- architecture in leaf_a.vhd, tb.vhd needs leaf.vhd, and this needs leaf_a.vhd.
 abbrev pub is_needed : NeedSources → List Bench → ℕ → Bool
 is_needed sources tests file = needed_after sources tests (length sources.files) file
 
@@ -117,7 +124,7 @@ is_needed sources tests file = needed_after sources tests (length sources.files)
 abbrev pub needed_places : NeedSources → List Bench → List ℕ → List ℕ
 needed_places sources tests order = filter (λ place. is_needed sources tests (slice_index order place)) (below (length order))
 
--- a set of files has those of tests, and what its own need
+-- a set of files has those of some tests, and of each of its files those that this one needs
 pub record IsNeedy (sources : NeedSources) (tests : List Bench) (set : ℕ → Bool) : Type 0 where
   pub tested : (file : ℕ) → file < length sources.files → is_tested tests file ≡ true → set file ≡ true
   pub grown : (user used : ℕ) → user < length sources.files → used < length sources.files → set user ≡ true → needs sources user used ≡ true → set used ≡ true

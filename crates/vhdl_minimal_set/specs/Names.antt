@@ -11,6 +11,7 @@ use Rattle.std.specs.Str.{bytes_eq}
 use Rattle.std.specs.declared.cmp.Ordering.{Ordering}
 use Rattle.vhdl_minimal_set.specs.declared.names.SupplierName.{SupplierName}
 
+-- whether two units are called the same, in one library
 abbrev pub is_same_name : SupplierName → SupplierName → Bool
 is_same_name a b = bytes_eq a.name b.name && bytes_eq a.library b.library
 

@@ -34,6 +34,7 @@ pub record IsKnown (tables : Tables) (said : NeedSources) : Type 0 where
   pub index : HoldsFiles said (length said.files) tables.index.now
   pub visible : AreVisible said.files said.texts said.scans tables.sets.now
 
+-- an outline without units, for positions past the end
 abbrev pub no_outline : FileOutline
 no_outline = record { units = []; scopes = []; mentions = []; runs = record { units = []; same_sim = false } }
 
@@ -41,6 +42,7 @@ no_outline = record { units = []; scopes = []; mentions = []; runs = record { un
 abbrev pub outline_at : Tables → ℕ → FileOutline
 outline_at tables at = slice_index_or tables.sources.outlines.now at no_outline
 
+-- a file without a name, for positions past the end
 abbrev pub no_file : ProjectFile
 no_file = record { name = record { library = []; path = [] }; command = [] }
 

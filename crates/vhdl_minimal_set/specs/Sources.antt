@@ -14,7 +14,7 @@ pub record AreSources (sources : Sources) : Type 0 where
   pub small : All IsTextSmall sources.texts.now
   pub lie : FilesLieIn sources.texts.now sources.outlines.now
 
--- this is said of the units of the files
+-- the sources that were read are those of a definition's files, texts and scans
 pub record AreNeeds (sources : Sources) (said : NeedSources) : Type 0 where
   pub files : said.files ≡ sources.project.now.files
   pub texts : said.texts ≡ sources.texts.now

@@ -15,6 +15,7 @@ use Rattle.vhdl_minimal_set.specs.declared.index.Index.{Index}
 abbrev pub files_of : Suppliers → SupplierName → List ℕ
 files_of suppliers name = slice_index_or suppliers.files.items (position_or_len (is_same_name name) suppliers.names) []
 
+-- whether a file is in a list of positions
 abbrev pub has_file : List ℕ → ℕ → Bool
 has_file files at = list_any (λ file. file == at) files
 
@@ -32,11 +33,11 @@ pub record HasPut (number file : ℕ) (old new : List (List ℕ)) : Type 0 where
 unfoldable pub supplies : Suppliers → SupplierName → ℕ → Bool
 supplies suppliers name at = has_file (files_of suppliers name) at
 
--- there are files for each name
+-- each name has a list of files
 abbrev pub IsPaired : Suppliers → Type 0
 IsPaired suppliers = length suppliers.files.items ≡ length suppliers.names
 
--- they are of a project of so many
+-- each name has a list of files, which are of a project of so many
 pub record FitFiles (count : ℕ) (suppliers : Suppliers) : Type 0 where
   pub paired : IsPaired suppliers
   pub within : All (λ files. All (λ file. file < count) files) suppliers.files.items
@@ -63,41 +64,49 @@ abbrev pub entity_by : UnitKind → List ℕ → DesignUnit → Option SupplierN
 entity_by kinds.Entity library unit = Some (record { library = []; name = unit.name })
 entity_by _ library unit = None
 
+-- how units of one kind are called where they are needed, by their library; nothing for units of other kinds
 abbrev pub Naming : Type 0
 Naming = List ℕ → DesignUnit → Option SupplierName
 
+-- architectures are called by their entity
 abbrev pub architecture_name : Naming
 architecture_name library unit = architecture_by unit.kind library unit
 
+-- bodies are called by their package
 abbrev pub body_name : Naming
 body_name library unit = body_by unit.kind library unit
 
+-- entities are called by their name alone, whatever their library
 abbrev pub entity_name : Naming
 entity_name library unit = entity_by unit.kind library unit
 
+-- whether a unit is called by this name
 abbrev pub is_called : SupplierName → Option SupplierName → Bool
 is_called name None = false
 is_called name (Some other) = is_same_name name other
 
--- one of some units of a library is called so
+-- whether one of some units of a library is called by this name
 abbrev pub calls_one : Naming → List ℕ → List DesignUnit → SupplierName → Bool
 calls_one naming library units name = list_any (λ unit. is_called name (naming library unit)) units
 
--- the units of a file that are called so were added
+-- the units of a file that a naming calls were added
 pub record Adds (naming : Naming) (library : List ℕ) (units : List DesignUnit) (file count : ℕ) (old new : Suppliers) : Type 0 where
   pub fit : FitFiles count new
   pub all : (name : SupplierName) (at : ℕ) → supplies new name at ≡ (supplies old name at || (file == at && calls_one naming library units name))
 
+-- the architectures, bodies and entities of a file were added
 pub record AddsAll (library : List ℕ) (units : List DesignUnit) (file count : ℕ) (old new : Index) : Type 0 where
   pub architectures : Adds architecture_name library units file count old.architectures new.architectures
   pub bodies : Adds body_name library units file count old.bodies new.bodies
   pub entities : Adds entity_name library units file count old.entities new.entities
 
+-- all positions of files are of a project of so many
 pub record FitAll (count : ℕ) (index : Index) : Type 0 where
   pub architectures : FitFiles count index.architectures
   pub bodies : FitFiles count index.bodies
   pub entities : FitFiles count index.entities
 
+-- no file supplies an architecture, a body or an entity
 pub record AreVoid (index : Index) : Type 0 where
   pub architectures : IsVoid index.architectures
   pub bodies : IsVoid index.bodies
@@ -105,10 +114,11 @@ pub record AreVoid (index : Index) : Type 0 where
 
 -- ## The units of a project
 
--- the units of a file of the project that are called so, where it is before a position
+-- whether a file before a position has a unit that is called by this name
 abbrev pub is_supplied : Naming → NeedSources → ℕ → SupplierName → ℕ → Bool
 is_supplied naming sources end name at = nat_lt at end && list_any (λ unit. is_called name (naming unit.scope.library unit.scope.unit)) (units_at sources at)
 
+-- for each name exactly the files before a position that supply a unit that is called so
 abbrev pub HoldsSuppliers : Naming → NeedSources → ℕ → Suppliers → Type 0
 HoldsSuppliers naming sources end suppliers = (name : SupplierName) (at : ℕ) → supplies suppliers name at ≡ is_supplied naming sources end name at
 

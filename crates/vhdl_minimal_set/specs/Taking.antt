@@ -8,7 +8,7 @@ use Rattle.vhdl_minimal_set.specs.declared.taken.Taken.{Taken}
 abbrev pub is_taken : Taken → ℕ → Bool
 is_taken taken at = has taken.set at
 
--- those that were taken are in a set, and in order in a list; and all before a position are among them
+-- the taken positions, as a set and, in the order in which they were taken, as a list; all below `low` are taken
 pub record AreTaken (count : ℕ) (taken : Taken) : Type 0 where
   pub each : (at : ℕ) → is_taken taken at ≡ list_any (λ other. at == other) taken.list.items
   pub distinct : IsDistinct (λ at other. at == other) taken.list.items
@@ -25,6 +25,6 @@ pub record Grows (count : ℕ) (old new : Taken) : Type 0 where
   pub are : AreTaken count new
   pub goes_on : GoesOn old.list.items new.list.items
 
--- those that pass a test
+-- the positions that pass a test were taken too
 abbrev pub Takes : (ℕ → Bool) → Taken → Taken → Type 0
 Takes test old new = (at : ℕ) → is_taken new at ≡ (is_taken old at || test at)

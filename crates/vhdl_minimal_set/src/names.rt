@@ -47,6 +47,7 @@ impl Hash for SupplierName {
     }
 }
 
+/// The order of two texts by their bytes.
 fn order<'a>(one: &'a [u8], other: &'a [u8]) -> Ordering
     ensures { result ≡ slice_cmp nat_cmp one.now other.now }
 {

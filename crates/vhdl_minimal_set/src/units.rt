@@ -90,6 +90,7 @@ fn library_at<'a>(tables: Tables<'a>, at: u32) -> &'a Text
     &tables.sources.project.files.get(at as u64).name.library
 }
 
+/// Whether two texts have the same bytes.
 fn is_same(one: &[u8], other: &[u8]) -> bool
     ensures { result ≡ bytes_eq one.now other.now }
 {

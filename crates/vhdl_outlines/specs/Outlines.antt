@@ -22,7 +22,7 @@ scopes_of (text ∷ texts) (scan ∷ scans) = map (scope_of text scan) scan.unit
 scopes_of (text ∷ texts) [] = []
 scopes_of [] scans = []
 
--- the same, as their outlines have it
+-- what the units of all files name, as their outlines have it
 abbrev pub file_scopes : List FileOutline → List UnitScope
 file_scopes files = flat_map (λ file. file.scopes) files
 
@@ -52,16 +52,16 @@ pub record FilesAreOf (texts : List (List ℕ)) (scans : List Scan) (files : Lis
   pub each : length files ≡ length texts
   pub are : (i : ℕ) (text : List ℕ) (scan : Scan) (file : FileOutline) → slice_get texts i ≡ Some text → slice_get scans i ≡ Some scan → slice_get files i ≡ Some file → IsOutlineOf text scan file
 
--- each can be read of its text
+-- the tokens that are kept of each file lie in its text
 pub record FilesLieIn (texts : List (List ℕ)) (files : List FileOutline) : Type 0 where
   pub each : length files ≡ length texts
   pub lie : (i : ℕ) (text : List ℕ) (file : FileOutline) → slice_get texts i ≡ Some text → slice_get files i ≡ Some file → OutlineLiesIn text file
 
--- these are the outlines of files of these texts and scans
+-- the outline of each file: its units, what each names and mentions, and what they say of tests
 pub record AreOutlinesOf (texts : List (List ℕ)) (scans : List Scan) (outlines : Outlines) : Type 0 where
   pub files : FilesAreOf texts scans outlines.files
 
--- these are the outlines of the files of these texts, which have scans
+-- these texts have scans, and the outlines are those of texts and scans
 pub record AreOutlined (texts : List (List ℕ)) (outlines : Outlines) : Type 0 where
   pub scans : List Scan
   pub scanned : AreScansOf texts scans

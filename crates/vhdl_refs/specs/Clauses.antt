@@ -8,6 +8,7 @@ use Rattle.vhdl_spec.specs.References.{back_to, clause_start, ends_item, is_cont
 use Rattle.vhdl_refs.specs.declared.clause.Clause.{Clause}
 use Rattle.vhdl_refs.specs.declared.clause.Reached.{Reached}
 
+-- what a walk knows at a token of the clause around it: where it begins, and which words are in it so far
 pub record IsClauseAt (roles : List Role) (at : ℕ) (clause : Clause) : Type 0 where
   pub lists_names : clause.lists_names ≡ is_in_name_list roles at
   pub has_use : clause.has_use ≡ is_in_use_list roles at

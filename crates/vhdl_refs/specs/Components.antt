@@ -8,10 +8,12 @@ use Rattle.base.specs.declared.lexical.Token.{Token}
 use Rattle.vhdl_spec.specs.References.{is_name, places, role_before}
 use Rattle.vhdl_spec.specs.Units.{name_of, role_at, roles_of}
 
+-- `component`
 abbrev pub is_component_word : Role → Bool
 is_component_word Component = true
 is_component_word _ = false
 
+-- `end`
 abbrev pub is_end_word : Role → Bool
 is_end_word End = true
 is_end_word _ = false

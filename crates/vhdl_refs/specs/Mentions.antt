@@ -16,6 +16,7 @@ use Rattle.vhdl_refs.specs.Components.{component_names}
 use Rattle.vhdl_refs.specs.declared.mentions.NamedRef.{NamedRef}
 use Rattle.vhdl_refs.specs.declared.mentions.Mentions.{Mentions}
 
+-- the name of an architecture by a copy of its token, if there is one
 abbrev pub named_architecture : List ℕ → Option Token → MaybeText
 named_architecture text None = Nothing
 named_architecture text (Some token) = Given (token_name text token)
@@ -24,23 +25,27 @@ named_architecture text (Some token) = Given (token_name text token)
 abbrev pub named_ref : List ℕ → NamedRef → Ref
 named_ref text named = record { library = token_name text named.library; name = token_name text named.name; architecture = named_architecture text named.architecture; strict = named.strict; at = named.at }
 
+-- a token, if there is one, ends within the text
 abbrev pub SomeLiesIn : List ℕ → Option Token → Type 0
 SomeLiesIn text None = Unit {0}
 SomeLiesIn text (Some token) = LiesIn text token
 
+-- the tokens that a reference was kept by end within the text
 pub record NamedLiesIn (text : List ℕ) (named : NamedRef) : Type 0 where
   pub library : LiesIn text named.library
   pub name : LiesIn text named.name
   pub architecture : SomeLiesIn text named.architecture
 
--- the reference that a unit has by its structure, or none; a configuration configures this architecture
+-- The reference that a unit has by its structure, or none. A configuration configures this architecture.
 abbrev pub structural_of : MaybeText → DesignUnit → UnitKind → List Ref
 structural_of configured unit kinds.Architecture = structural_ref unit (owner_name unit.owner) Nothing ∷ []
 structural_of configured unit kinds.Configuration = structural_ref unit (owner_name unit.owner) configured ∷ []
 structural_of configured unit kinds.PackageBody = structural_ref unit unit.name Nothing ∷ []
 structural_of configured unit _ = []
 
--- all that a unit refers to, and its components, in order
+-- What was kept of a unit is what its tokens say: references to context declarations, by structure and by name,
+-- libraries that are used whole, and components. Of `context work.ctx; package w is constant k : integer := other.q.c;
+-- end;` the tokens 1 and 3 are kept for the reference to a context declaration, and 1, 3, 14 and 16 for those by name.
 pub record AreMentionsOf (text : List ℕ) (tokens : List Token) (unit : DesignUnit) (mentions : Mentions) : Type 0 where
   pub contexts : map (named_ref text) mentions.contexts ≡ context_refs text tokens unit
   pub structural : structural_of mentions.configured unit unit.kind ≡ structural_by text tokens unit unit.kind
@@ -48,6 +53,7 @@ pub record AreMentionsOf (text : List ℕ) (tokens : List Token) (unit : DesignU
   pub whole : map (token_name text) mentions.whole ≡ map (name_of text tokens) (uses_of_all (roles_of text tokens) unit)
   pub components : map (token_name text) mentions.components ≡ component_names text tokens unit
 
+-- all tokens that were kept of a unit end within the text
 pub record MentionsLieIn (text : List ℕ) (mentions : Mentions) : Type 0 where
   pub contexts : All (NamedLiesIn text) mentions.contexts
   pub refs : All (NamedLiesIn text) mentions.refs

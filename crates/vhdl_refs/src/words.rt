@@ -19,6 +19,7 @@ pub fn role_before(roles: &[Role], at: usize) -> Role
     }
 }
 
+/// Whether a token is a name that isn't a reserved word.
 #[inline(always)]
 pub fn is_name(role: Role) -> bool
     ensures { result ≡ is_name role }
@@ -29,6 +30,7 @@ pub fn is_name(role: Role) -> bool
     }
 }
 
+/// Whether a token is `.`.
 #[inline(always)]
 pub fn is_dot(role: Role) -> bool
     ensures { result ≡ is_dot role }
@@ -39,6 +41,7 @@ pub fn is_dot(role: Role) -> bool
     }
 }
 
+/// Whether a token is `,`.
 #[inline(always)]
 pub fn is_comma(role: Role) -> bool
     ensures { result ≡ is_comma role }
@@ -49,6 +52,7 @@ pub fn is_comma(role: Role) -> bool
     }
 }
 
+/// Whether a token is `;`.
 pub fn is_semicolon(role: Role) -> bool
     ensures { result ≡ is_semicolon role }
 {
@@ -68,6 +72,7 @@ pub fn follows_label(role: Role) -> bool
     }
 }
 
+/// Whether a unit is a configuration declaration.
 pub fn is_configuration(kind: UnitKind) -> bool
     ensures { result ≡ is_configuration kind }
 {
@@ -77,6 +82,7 @@ pub fn is_configuration(kind: UnitKind) -> bool
     }
 }
 
+/// Whether a token is `for`.
 pub fn is_for(role: Role) -> bool
     ensures { result ≡ is_for role }
 {
@@ -86,6 +92,7 @@ pub fn is_for(role: Role) -> bool
     }
 }
 
+/// Whether a token is `entity`.
 pub fn is_entity_word(role: Role) -> bool
     ensures { result ≡ is_entity_word role }
 {
@@ -95,6 +102,7 @@ pub fn is_entity_word(role: Role) -> bool
     }
 }
 
+/// Whether a token is `(`.
 pub fn is_opening(role: Role) -> bool
     ensures { result ≡ is_opening role }
 {
@@ -104,6 +112,7 @@ pub fn is_opening(role: Role) -> bool
     }
 }
 
+/// Whether a token is `)`.
 pub fn is_closing(role: Role) -> bool
     ensures { result ≡ is_closing role }
 {
@@ -123,6 +132,7 @@ pub fn precedes_unit(role: Role) -> bool
     }
 }
 
+/// Whether a token is `context`.
 pub fn is_context_word(role: Role) -> bool
     ensures { result ≡ is_context_word role }
 {
@@ -132,6 +142,7 @@ pub fn is_context_word(role: Role) -> bool
     }
 }
 
+/// Whether a token is `library`.
 pub fn is_library_word(role: Role) -> bool
     ensures { result ≡ is_library_word role }
 {
@@ -141,6 +152,7 @@ pub fn is_library_word(role: Role) -> bool
     }
 }
 
+/// Whether a token is `use`.
 pub fn is_use_word(role: Role) -> bool
     ensures { result ≡ is_use_word role }
 {
@@ -150,6 +162,7 @@ pub fn is_use_word(role: Role) -> bool
     }
 }
 
+/// Whether a token is `all`.
 pub fn is_all_word(role: Role) -> bool
     ensures { result ≡ is_all_word role }
 {
@@ -159,6 +172,7 @@ pub fn is_all_word(role: Role) -> bool
     }
 }
 
+/// Whether a token is `component`.
 #[inline(always)]
 pub fn is_component_word(role: Role) -> bool
     ensures { result ≡ is_component_word role }
@@ -169,6 +183,7 @@ pub fn is_component_word(role: Role) -> bool
     }
 }
 
+/// Whether a token is `end`.
 pub fn is_end_word(role: Role) -> bool
     ensures { result ≡ is_end_word role }
 {

@@ -33,6 +33,7 @@ first_place test start end = find test (tokens_in start end)
 
 -- ## The generic clause of an entity (3.2.2, 6.5.6.2)
 
+-- `generic`
 abbrev pub is_generic_word : Role → Bool
 is_generic_word Generic = true
 is_generic_word _ = false
@@ -53,7 +54,7 @@ closing_of roles opening end = first_place (is_level_after roles opening) openin
 abbrev pub names_runner : List ℕ → List Token → ℕ → ℕ → Bool
 names_runner text tokens opening closing = is_some (first_place (is_word_at (codes "runner_cfg") text tokens) opening closing)
 
--- it is between a `(` and the `)` that matches it, if one does
+-- `runner_cfg` is between a `(` and the `)` that matches it, if one does
 abbrev pub lists_runner : List ℕ → List Token → ℕ → ℕ → Bool
 lists_runner text tokens opening end = option_map_or (λ closing. names_runner text tokens opening closing) (closing_of (roles_of text tokens) opening end) false
 
@@ -63,6 +64,7 @@ has_runner text tokens unit = option_map_or (λ at. lists_runner text tokens (at
 
 -- ## Test cases
 
+-- a string literal
 abbrev pub is_string : TokenKind → Bool
 is_string Word = false
 is_string Extended = false
@@ -99,9 +101,11 @@ called_cases file text tokens unit = map (string_case file text) (run_strings te
 abbrev pub token_case : ℕ → Token → TestCase
 token_case file token = record { name = codes "all"; file = file; at = token.start; length = token.end - token.start }
 
+-- the one case of a bench that calls none, at the token that names its entity
 abbrev pub whole_case : ℕ → List Token → DesignUnit → TestCase
 whole_case file tokens unit = token_case file (token_at tokens (name_token unit.kind unit.first))
 
+-- the cases that a bench calls, or this one where it calls none
 abbrev pub cases_or : TestCase → List TestCase → List TestCase
 cases_or whole [] = whole ∷ []
 cases_or whole (first ∷ others) = first ∷ others
@@ -112,6 +116,7 @@ cases_or whole (first ∷ others) = first ∷ others
 abbrev pub is_pad : ℕ → Bool
 is_pad byte = byte == 32 || byte == 9
 
+-- what comes after the leading spaces and tabs
 abbrev pub after_pads : List ℕ → List ℕ
 after_pads [] = []
 after_pads (byte ∷ bytes) = if is_pad byte then after_pads bytes else byte ∷ bytes
@@ -120,6 +125,7 @@ after_pads (byte ∷ bytes) = if is_pad byte then after_pads bytes else byte ∷
 abbrev pub has_word_first : List ℕ → (List ℕ → Bool) → List ℕ → Bool
 has_word_first word test bytes = starts_with (λ a b. a == b) bytes word && test (after_pads (drop (length word) bytes))
 
+-- no byte is left
 abbrev pub is_nothing : List ℕ → Bool
 is_nothing bytes = length bytes == 0
 

@@ -13,7 +13,7 @@ is_other _ = false
 abbrev pub may_call : List Role → ℕ → Bool
 may_call roles at = is_opening (role_at roles (at + 1)) && is_other (role_at roles (at + 2)) && is_closing (role_at roles (at + 3))
 
--- they follow no token from one up to another
+-- no token from one up to another is followed by `(`, such a token and `)`
 abbrev pub IsUncalled : List Role → ℕ → ℕ → Type 0
 IsUncalled roles from end = (at : ℕ) → from ≤ at → at < end → may_call roles at ≡ false
 

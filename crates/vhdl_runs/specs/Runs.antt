@@ -13,6 +13,7 @@ use Rattle.vhdl_runs.specs.Calls.{asks_same_sim, has_runner, run_strings}
 use Rattle.vhdl_runs.specs.declared.runs.FileRuns.{FileRuns}
 use Rattle.vhdl_runs.specs.declared.runs.UnitRuns.{UnitRuns}
 
+-- an entity
 abbrev pub is_entity_kind : UnitKind → Bool
 is_entity_kind kinds.Entity = true
 is_entity_kind _ = false
@@ -33,7 +34,8 @@ unit_strings text tokens unit = if is_architecture_kind unit.kind then run_strin
 abbrev pub unit_runs : List ℕ → List Token → DesignUnit → UnitRuns
 unit_runs text tokens unit = record { bench = bench_token text tokens unit; strings = unit_strings text tokens unit }
 
--- what a file says of tests
+-- What a file says of tests, kept without its tokens: of each unit the token that names it, where it is a bench, and
+-- the strings that it calls `run` with, where it is an architecture; and whether a comment asks for one simulation.
 abbrev pub file_runs : List ℕ → Scan → FileRuns
 file_runs text scan = record { units = map (unit_runs text scan.tokens.list) scan.units; same_sim = asks_same_sim text scan.tokens.comments }
 
@@ -41,11 +43,12 @@ file_runs text scan = record { units = map (unit_runs text scan.tokens.list) sca
 abbrev pub IsStringIn : List ℕ → Token → Type 0
 IsStringIn text token = (token.start + 2 ≤ token.end) × (token.end ≤ length text)
 
+-- the token that names a bench, if there is one, ends within the text
 abbrev pub BenchLiesIn : List ℕ → Option Token → Type 0
 BenchLiesIn text None = Unit {0}
 BenchLiesIn text (Some token) = LiesIn text token
 
--- what is kept of a unit can be read of a text
+-- the tokens that are kept of a unit lie in its text
 pub record UnitRunsLieIn (text : List ℕ) (runs : UnitRuns) : Type 0 where
   pub bench : BenchLiesIn text runs.bench
   pub strings : All (IsStringIn text) runs.strings

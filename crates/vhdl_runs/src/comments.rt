@@ -6,6 +6,7 @@ ghost use Rattle.vhdl_runs.specs.Calls.{after_pads, asks_same_sim, has_word_firs
 
 use base::{Span, Tokens};
 
+/// Whether a byte is a space or a tab.
 fn is_pad(byte: u8) -> bool
     ensures { result ≡ is_pad byte }
 {

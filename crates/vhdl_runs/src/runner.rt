@@ -34,6 +34,7 @@ fn first_generics(roles: &[Role], start: usize, end: usize) -> Option<usize>
     None
 }
 
+/// 1 where it holds, and else 0.
 #[inline(always)]
 fn one_if(is: bool) -> usize
     ensures value { result ≡ (if is then 1 else 0) }

@@ -30,6 +30,7 @@ pub struct FileRuns {
     pub same_sim: bool,
 }
 
+/// Whether a unit is an entity.
 fn is_entity(kind: UnitKind) -> bool
     ensures { result ≡ is_entity_kind kind }
 {
@@ -39,6 +40,7 @@ fn is_entity(kind: UnitKind) -> bool
     }
 }
 
+/// Whether a unit is an architecture.
 fn is_architecture(kind: UnitKind) -> bool
     ensures { result ≡ is_architecture_kind kind }
 {

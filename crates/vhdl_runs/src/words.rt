@@ -10,6 +10,7 @@ ghost use Rattle.vhdl_runs.specs.Passing.{is_other};
 use base::{Role, TokenKind, Tokens};
 use vhdl_units::{is_named, role_at};
 
+/// Whether a token is a name that isn't a reserved word.
 #[inline(always)]
 pub fn is_name(role: Role) -> bool
     ensures { result ≡ is_name role }
@@ -20,6 +21,7 @@ pub fn is_name(role: Role) -> bool
     }
 }
 
+/// Whether a token is `(`.
 #[inline(always)]
 pub fn is_opening(role: Role) -> bool
     ensures { result ≡ is_opening role }
@@ -30,6 +32,7 @@ pub fn is_opening(role: Role) -> bool
     }
 }
 
+/// Whether a token is `)`.
 #[inline(always)]
 pub fn is_closing(role: Role) -> bool
     ensures { result ≡ is_closing role }
@@ -40,6 +43,7 @@ pub fn is_closing(role: Role) -> bool
     }
 }
 
+/// Whether a token is `generic`.
 #[inline(always)]
 pub fn is_generic_word(role: Role) -> bool
     ensures { result ≡ is_generic_word role }
@@ -50,6 +54,7 @@ pub fn is_generic_word(role: Role) -> bool
     }
 }
 
+/// Whether a token is one that the grammar doesn't name.
 #[inline(always)]
 pub fn is_other(role: Role) -> bool
     ensures { result ≡ is_other role }
@@ -60,6 +65,7 @@ pub fn is_other(role: Role) -> bool
     }
 }
 
+/// Whether a token is a string literal.
 pub fn is_string(kind: TokenKind) -> bool
     ensures { result ≡ is_string kind }
 {

@@ -15,7 +15,7 @@ has rows at number = row_has (slice_index_or rows at []) number
 abbrev pub IsPartOf : (ℕ → Bool) → (ℕ → Bool) → Type 0
 IsPartOf some all = (number : ℕ) → IsTrue (some number) → IsTrue (all number)
 
--- the same of the sets of each place
+-- at each place each number of the one set is in the other
 abbrev pub AreWithin : (ℕ → ℕ → Bool) → (ℕ → ℕ → Bool) → Type 0
 AreWithin some all = (at : ℕ) → IsPartOf (some at) (all at)
 

@@ -12,11 +12,11 @@ use Rattle.std.specs.declared.cmp.Ordering.{Ordering}
 use Rattle.vhdl_scope.specs.declared.want.Group.{Group}
 use Rattle.vhdl_scope.specs.Groups.{is_same_bool, is_same_group}
 
--- by what groups are of
+-- the order of groups by their kind alone
 abbrev pub kind_cmp : Group → Group → Ordering
 kind_cmp = then_cmp (on (λ g. g.context) bool_cmp) (on (λ g. g.architecture) bool_cmp)
 
--- by name, owner and library, and then by what they are of
+-- the order of groups: by name, owner and library, and then by their kind
 abbrev pub group_cmp : Group → Group → Ordering
 group_cmp = then_cmp (on (λ g. g.name) (slice_cmp nat_cmp)) (then_cmp (on (λ g. g.owner) (slice_cmp nat_cmp)) (then_cmp (on (λ g. g.library) (slice_cmp nat_cmp)) kind_cmp))
 
@@ -51,6 +51,7 @@ same_text a b told = (bytes_eq-Decides a b).0 told
 text_itself : (a : List ℕ) → bytes_eq a a ≡ true
 text_itself a = (bytes_eq-Decides a a).1 refl
 
+-- a group by its parts
 abbrev group : Bool → Bool → List ℕ → List ℕ → List ℕ → Group
 group context architecture library owner name = record { context = context; architecture = architecture; library = library; owner = owner; name = name }
 

@@ -68,5 +68,6 @@ pub record AreMembersTo (keeps : Bool) (end : ℕ) (groups : List Group) (users 
   pub joined : (at : ℕ) → at < end → (group : Group) → Contains (groups_at keeps users at) group → Contains groups group → Contains (links_at members (group_number groups group)) (record { gate = gate; source = at })
   pub only : (place : ℕ) (link : Link) → Contains (links_at members place) link → (link.gate ≡ gate) × (link.source < end) × IsOneOf groups (groups_at keeps users link.source) place
 
+-- for each group, by number, the links that lead to exactly the units in it
 abbrev pub AreMembers : Bool → List Group → List ScopeUnit → ℕ → List (List Link) → Type 0
 AreMembers keeps groups users gate members = AreMembersTo keeps (length users) groups users gate members

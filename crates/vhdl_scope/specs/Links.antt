@@ -12,7 +12,7 @@ links_at links at = slice_index_or links at []
 abbrev pub TakesLink : (ℕ → ℕ → Bool) → (ℕ → Bool) → Link → Type 0
 TakesLink sets own link = IsTrue (own link.gate) → IsPartOf (sets link.source) own
 
--- and of each of some links
+-- a set takes what each of some links hands on
 abbrev pub TakesAll : List Link → (ℕ → ℕ → Bool) → (ℕ → Bool) → Type 0
 TakesAll links sets own = (link : Link) → Contains links link → TakesLink sets own link
 
@@ -46,7 +46,7 @@ AreEven words rows = All (λ row. length row ≡ words) rows
 abbrev pub AreBelow : ℕ → List (List Link) → Type 0
 AreBelow places links = All (λ some. All (λ link. link.source < places) some) links
 
--- one place was looked at
+-- the row of one place took what its links hand on, and no other row changed
 pub record HasLookedAt (links : List (List Link)) (at : ℕ) (old new : List (List ℕ)) (grown : Bool) : Type 0 where
   pub each : length new ≡ length old
   pub even : (words : ℕ) → AreEven words old → AreEven words new

@@ -26,6 +26,7 @@ pub record IsOwned (keeps : Bool) (groups : List Group) (library : List ℕ) (un
   pub context : IsNumbered groups (context_group library unit) owned.context
   pub architecture : IsNumbered groups (kept_architectures keeps library unit) owned.architecture
 
+-- the numbers of the groups that a unit of a project is in, of those that are kept
 abbrev pub IsOwnedBy : Bool → List Group → Owned → ScopeUnit → Type 0
 IsOwnedBy keeps groups owned user = IsOwned keeps groups user.library user.unit owned
 

@@ -14,7 +14,7 @@ unfoldable pub values : (ℕ → ℕ) → ℕ → List ℕ
 values f zero = []
 values f (suc count) = values f count ++ f count ∷ []
 
--- so many words, by runs
+-- a row of so many words, spelled by runs
 unfoldable pub row_words : ℕ → List Run → List ℕ
 row_words words runs = values (word_or 0 runs) words
 

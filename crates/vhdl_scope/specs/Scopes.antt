@@ -33,7 +33,7 @@ pub record AreGrouped (keeps : Bool) (units : List ScopeUnit) (groups : List Gro
   pub each : AllZip (IsOwnedBy keeps groups) owned units
   pub enough : NeedNoMore keeps units
 
--- the same, whichever groups are kept
+-- the groups of units are known by number, whether those of architectures are kept or not
 pub record HasGroups (units : List ScopeUnit) (groups : List Group) (owned : List Owned) : Type 0 where
   pub keeps : Bool
   pub grouped : AreGrouped keeps units groups owned

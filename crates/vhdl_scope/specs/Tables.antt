@@ -22,18 +22,19 @@ pub record Table : Type 0 where
 abbrev pub row_names : List (List ℕ) → List ℕ → List (List ℕ)
 row_names names row = filter (λ name. row_has row (number_of names name)) names
 
+-- the table of rows of bits, one row a unit and one bit a name
 unfoldable pub table_of : List ℕ → List (List ℕ) → List (List ℕ) → Table
 table_of starts names rows = record { starts = starts; sets = map (row_names names) rows }
 
--- the names that a unit sees
+-- the names of the libraries that a unit sees, by a table
 abbrev pub set_at : Table → UnitId → List (List ℕ)
 set_at table unit = slice_index_or table.sets (slice_index table.starts unit.file + unit.unit) []
 
--- a unit sees a name
+-- whether a unit sees a library, by a table
 abbrev pub table_sees : Table → UnitId → List ℕ → Bool
 table_sees table unit name = list_any (bytes_eq name) (set_at table unit)
 
--- a unit of a project
+-- the unit that has these positions in a project, of a file with this text and scan
 pub record IsUnitAt (files : List ProjectFile) (texts : List (List ℕ)) (scans : List Scan) (id : UnitId) (user : ScopeUnit) : Type 0 where
   pub file : ProjectFile
   pub text : List ℕ

@@ -10,6 +10,7 @@ use Rattle.vhdl_spec.specs.Visibility.{ScopeUnit, configured_name, is_architectu
 use Rattle.vhdl_scope.specs.declared.want.Group.{Group}
 use Rattle.vhdl_scope.specs.declared.want.Want.{Want}
 
+-- the primary units of a name in a library, or the context declarations
 abbrev pub group_of : Bool → List ℕ → List ℕ → Group
 group_of context library name = record { context = context; architecture = false; library = library; owner = []; name = name }
 
@@ -41,6 +42,7 @@ own_groups library unit = primary_group library unit ++ (context_group library u
 abbrev pub kept_groups : Bool → List ℕ → DesignUnit → List Group
 kept_groups keeps library unit = primary_group library unit ++ (context_group library unit ++ kept_architectures keeps library unit)
 
+-- the groups that are kept of those that a unit of a project is in
 abbrev pub user_groups : Bool → ScopeUnit → List Group
 user_groups keeps user = kept_groups keeps user.library user.unit
 
@@ -75,5 +77,6 @@ gate_of want = if want.own then work else want.group.library
 abbrev pub wants_of : List ℕ → DesignUnit → List Ref → MaybeText → List Want
 wants_of library unit contexts configured = primary_wants library (primary_name unit.kind unit) ++ (configured_wants library unit.owner (configured_name unit.kind configured) ++ map (context_want library) contexts)
 
+-- what a unit of a project wants of others
 abbrev pub unit_wants : ScopeUnit → List Want
 unit_wants unit = wants_of unit.library unit.unit unit.contexts unit.configured

@@ -57,6 +57,7 @@ fn names_in(alloc: Global, names: &Names, row: &Row) -> Result<Vec<Text>, NoMemo
     Ok(found)
 }
 
+/// Puts names into rising order by their bytes.
 fn sort_names(names: &mut Vec<Text>)
     ensures permutation { IsPermutation names.old.items names.new.items }
     ensures sorted { IsSorted (slice_cmp nat_cmp) names.new.items }

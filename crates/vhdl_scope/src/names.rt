@@ -73,6 +73,7 @@ impl Names {
         }
     }
 
+    /// The names, in the order of their numbers.
     fn keys(&self) -> &[Vec<u8>]
         ensures { map (λ key. key.items) result.now ≡ keys_of self.now }
     {

@@ -21,6 +21,7 @@ pub struct Scopes {
     pub owned: Vec<Owned>,
 }
 
+/// Whether a unit is a configuration declaration.
 fn is_configuration(kind: UnitKind) -> bool
     ensures { result ≡ is_configuration kind }
 {

@@ -16,6 +16,7 @@ use vhdl_units::name_of_token;
 /// The library of the unit itself.
 pub static WORK: [u8; 4] = *b"work";
 
+/// Whether a name is `work`.
 fn is_work(name: &[u8]) -> bool
     ensures { result ≡ bytes_eq name.now work }
 {

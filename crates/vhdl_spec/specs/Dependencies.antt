@@ -34,6 +34,7 @@ pub record LinkUnit : Type 0 where
   pub refs : List Ref
   pub whole : List (List ℕ)
 
+-- a unit of a file, by the file's position, text and scan
 abbrev pub link_unit : ℕ → ProjectFile → List ℕ → Scan → DesignUnit → LinkUnit
 link_unit position file text scan unit = record { file = file; position = position; scope = scope_unit file.name.library text scan unit; refs = refs_of text scan.tokens.list unit; whole = map (name_of text scan.tokens.list) (uses_of_all (roles_of text scan.tokens.list) unit) }
 
@@ -46,6 +47,7 @@ link_units position [] texts scans = []
 
 -- ## Units by name
 
+-- whether the file of a unit is in a library
 abbrev pub in_library : List ℕ → LinkUnit → Bool
 in_library library unit = bytes_eq unit.scope.library library
 
@@ -57,6 +59,7 @@ is_primary library name unit = not (is_secondary unit.scope.unit.kind) && in_lib
 abbrev pub is_architecture : List ℕ → List ℕ → List ℕ → LinkUnit → Bool
 is_architecture library entity name unit = is_architecture_kind unit.scope.unit.kind && in_library library unit && bytes_eq (owner_name unit.scope.unit.owner) entity && bytes_eq unit.scope.unit.name name
 
+-- the body of a package
 abbrev pub is_body_kind : UnitKind → Bool
 is_body_kind kinds.PackageBody = true
 is_body_kind _ = false
@@ -65,6 +68,7 @@ is_body_kind _ = false
 abbrev pub is_body : List ℕ → List ℕ → LinkUnit → Bool
 is_body library name unit = is_body_kind unit.scope.unit.kind && in_library library unit && bytes_eq unit.scope.unit.name name
 
+-- a package, not its body
 abbrev pub is_package_kind : UnitKind → Bool
 is_package_kind kinds.Package = true
 is_package_kind _ = false
@@ -84,6 +88,7 @@ spelled_by library unit kinds.Architecture = library ++ (codes "." ++ (owner_nam
 spelled_by library unit kinds.PackageBody = codes "body " ++ (library ++ (codes "." ++ unit.name))
 spelled_by library unit _ = library ++ (codes "." ++ unit.name)
 
+-- the fault of two units of one name, with the files of both
 abbrev pub duplicate_of : LinkUnit → LinkUnit → LinkFault
 duplicate_of first second = DuplicateUnit (spelled_by second.scope.library second.scope.unit second.scope.unit.kind) first.file.name second.file.name
 
@@ -94,6 +99,7 @@ first_duplicate before (unit ∷ rest) = option_or (option_map (λ first. duplic
 
 -- ## Missing units
 
+-- whether a name is in a list
 abbrev pub is_one_of : List (List ℕ) → List ℕ → Bool
 is_one_of names name = list_any (bytes_eq name) names
 
@@ -127,6 +133,7 @@ missing_of project units unit ref =
     else None)
     else None
 
+-- the first fault of a list, if it has one
 abbrev pub first_some : List (Option LinkFault) → Option LinkFault
 first_some [] = None
 first_some (one ∷ rest) = option_or one (first_some rest)
@@ -137,6 +144,7 @@ first_missing project units = first_some (flat_map (λ unit. map (missing_of pro
 
 -- ## Depends
 
+-- whether a unit is the architecture that a reference gives with its entity; none is, where it gives none
 abbrev pub is_given_architecture : List ℕ → List ℕ → MaybeText → LinkUnit → Bool
 is_given_architecture library entity Nothing unit = false
 is_given_architecture library entity (Given name) unit = is_architecture library entity name unit
@@ -157,7 +165,7 @@ refers_to project units user used =
 abbrev pub depends_on : Project → List LinkUnit → ℕ → ℕ → Bool
 depends_on project units user used = not (user == used) && (refers_to project units user used || list_any (λ pair. pair.user == user && pair.used == used) project.depends)
 
--- of each file those that it depends on, rising
+-- of each file of a project those that it depends on, rising
 abbrev pub edges_of : Project → List LinkUnit → List (List ℕ)
 edges_of project units = map (λ user. filter (depends_on project units user) (below (length project.files))) (below (length project.files))
 
@@ -170,7 +178,10 @@ warnings_of project units unit =
 
 -- ## Linking
 
--- the first fault, or edges and warnings in project order, unit order and text order
+-- Which files depend on which and the warnings about it, or the first fault: two units of one name, or else a missing
+-- unit or architecture. All are in project order, unit order and text order. With `use work.p.all; use work.all;
+-- package a is end;` in a.vhd and `package p is end;` in b.vhd the edges are 1 of a.vhd, and the one warning is of
+-- a.vhd.
 abbrev pub link_of : Project → List LinkUnit → Result Linked LinkFault
 link_of project units =
     option_map_or (λ fault. Err fault) (option_or (first_duplicate [] units) (first_missing project units)) (Ok (record { edges = edges_of project units; warnings = flat_map (warnings_of project units) units }))

@@ -22,6 +22,7 @@ abbrev pub role_before : List Role → ℕ → Role
 role_before roles zero = Other
 role_before roles (suc before) = role_at roles before
 
+-- `;`
 abbrev pub is_semicolon : Role → Bool
 is_semicolon Semicolon = true
 is_semicolon _ = false
@@ -32,7 +33,7 @@ ends_item Semicolon = true
 ends_item Is = true
 ends_item _ = false
 
--- the tokens before a place, nearest first, back to the first that passes a test
+-- the roles of the tokens before a place, nearest first, back to the first that passes a test
 abbrev pub back_to : (Role → Bool) → List Role → ℕ → List Role
 back_to ends roles at = take_while (λ role. not (ends role)) (reverse (take at roles))
 
@@ -42,6 +43,7 @@ places test start end = filter test (range_with_len start (end - start))
 
 -- ## References by name
 
+-- `,`
 abbrev pub is_comma : Role → Bool
 is_comma Comma = true
 is_comma _ = false
@@ -61,10 +63,12 @@ precedes_unit Configuration = true
 precedes_unit New = true
 precedes_unit _ = false
 
+-- a name that isn't a reserved word
 abbrev pub is_name : Role → Bool
 is_name Name = true
 is_name _ = false
 
+-- `.`
 abbrev pub is_dot : Role → Bool
 is_dot Dot = true
 is_dot _ = false
@@ -77,9 +81,11 @@ is_reference roles at = is_name (role_at roles at) && is_dot (role_at roles (at 
 abbrev pub is_in_name_list : List Role → ℕ → Bool
 is_in_name_list roles at = list_any lists_names (back_to is_semicolon roles at)
 
+-- whether a reference can't mean anything but a design unit, by what comes before it
 abbrev pub is_strict : List Role → ℕ → Bool
 is_strict roles at = precedes_unit (role_before roles at) || (is_comma (role_before roles at) && is_in_name_list roles at)
 
+-- `entity`
 abbrev pub is_entity_word : Role → Bool
 is_entity_word Entity = true
 is_entity_word _ = false
@@ -88,10 +94,12 @@ is_entity_word _ = false
 abbrev pub has_architecture : List Role → ℕ → Bool
 has_architecture roles at = is_entity_word (role_before roles at) && is_opening (role_at roles (at + 3)) && is_name (role_at roles (at + 4)) && is_closing (role_at roles (at + 5))
 
+-- `use`
 abbrev pub is_use_word : Role → Bool
 is_use_word Use = true
 is_use_word _ = false
 
+-- `for`
 abbrev pub is_for : Role → Bool
 is_for For = true
 is_for _ = false
@@ -107,6 +115,7 @@ follows_label _ = false
 abbrev pub has_block : List Role → ℕ → Bool
 has_block roles at = is_use_word (role_before roles (at - 1)) && is_entity_word (role_before roles at) && is_semicolon (role_at roles (at + 3)) && is_for (role_at roles (at + 4)) && is_name (role_at roles (at + 5)) && not (follows_label (role_at roles (at + 6)))
 
+-- a configuration declaration
 abbrev pub is_configuration : UnitKind → Bool
 is_configuration kinds.Configuration = true
 is_configuration _ = false
@@ -123,15 +132,17 @@ architecture_at text tokens kind at =
 abbrev pub ref_at : List ℕ → List Token → UnitKind → ℕ → Ref
 ref_at text tokens kind at = record { library = name_of text tokens at; name = name_of text tokens (at + 2); architecture = architecture_at text tokens kind at; strict = is_strict (roles_of text tokens) at; at = at }
 
--- those among all tokens of a unit
+-- the references by name among all tokens of a unit, in order
 abbrev pub named_refs : List ℕ → List Token → DesignUnit → List Ref
 named_refs text tokens unit = map (ref_at text tokens unit.kind) (places (is_reference (roles_of text tokens)) unit.lead unit.last)
 
 -- ## References by structure
 
+-- the name by which a unit refers to its own library
 abbrev pub work : List ℕ
 work = codes "work"
 
+-- the name of a unit's owner, empty where it has none
 abbrev pub owner_name : MaybeText → List ℕ
 owner_name Nothing = []
 owner_name (Given name) = name
@@ -140,6 +151,7 @@ owner_name (Given name) = name
 abbrev pub first_for : List Role → ℕ → ℕ → Option ℕ
 first_for roles start end = find (λ at. is_for (role_at roles at)) (range_with_len start (end - start))
 
+-- a name, where the role of its token is that of a name
 abbrev pub name_if : Role → List ℕ → MaybeText
 name_if Name name = Given name
 name_if _ name = Nothing
@@ -162,20 +174,26 @@ structural_by text tokens unit _ = []
 
 -- ## The references of a unit
 
--- first the structural one, if there is one, and then those of its context part and its tokens, in order
+-- The references of a unit: first the one by its structure, if there is one, and then those by name in its context
+-- part and its tokens, in order. In `context work.ctx; package w is constant k : integer := other.q.c; end;` the
+-- package has `work.ctx`, strict, at token 1, and `other.q`, loose, at token 14; `q.c` is none, since a `.` is before
+-- `q`.
 abbrev pub refs_of : List ℕ → List Token → DesignUnit → List Ref
 refs_of text tokens unit = structural_by text tokens unit unit.kind ++ named_refs text tokens unit
 
 -- ## Context items
 
+-- a context declaration
 abbrev pub is_context_kind : UnitKind → Bool
 is_context_kind kinds.Context = true
 is_context_kind _ = false
 
+-- `context`
 abbrev pub is_context_word : Role → Bool
 is_context_word Context = true
 is_context_word _ = false
 
+-- `library`
 abbrev pub is_library_word : Role → Bool
 is_library_word Library = true
 is_library_word _ = false
@@ -201,6 +219,7 @@ clause_start roles at = at - length (back_to is_semicolon roles at)
 abbrev pub is_in_library_clause : List Role → ℕ → ℕ → Bool
 is_in_library_clause roles first at = if nat_lt at first then is_library_word (role_at roles (clause_start roles at)) else list_any is_library_word (back_to is_semicolon roles at)
 
+-- a name in a library clause of a unit whose keyword is the token `first`
 abbrev pub is_library_name : List Role → ℕ → ℕ → Bool
 is_library_name roles first at = is_name (role_at roles at) && is_in_library_clause roles first at
 
@@ -210,6 +229,7 @@ library_names text tokens unit = map (name_of text tokens) (places (is_library_n
 
 -- ## `use L.all`
 
+-- `all`
 abbrev pub is_all_word : Role → Bool
 is_all_word All = true
 is_all_word _ = false
@@ -230,20 +250,20 @@ is_used roles at = is_use_word (role_before roles at) || (is_comma (role_before 
 abbrev pub is_use_of_all : List Role → ℕ → Bool
 is_use_of_all roles at = is_all_of roles at && is_used roles at
 
--- the token numbers of the L of each, in order
+-- the token numbers of the L of each `L.all` that a unit uses, rising
 abbrev pub uses_of_all : List Role → DesignUnit → List ℕ
 uses_of_all roles unit = places (is_use_of_all roles) unit.lead unit.last
 
 -- ## What the way back to a token says
 
--- a token before a place passes a test, and none from it up to the place ends the way
+-- a token before a place passes a test, and no token from it up to the place ends the way back
 pub record IsBackAt (test ends : Role → Bool) (roles : List Role) (at : ℕ) : Type 0 where
   pub place : ℕ
   pub before : place < at
   pub passes : IsTrue (test (role_at roles place))
   pub open_since : (between : ℕ) → place ≤ between → between < at → ends (role_at roles between) ≡ false
 
--- a clause begins at a token: the file does, or a `;` is before it, and none from it up to a place
+-- The clause of a place begins at a token: the file does, or a `;` is before it, and none between both.
 pub record BeginsClauseOf (roles : List Role) (start at : ℕ) : Type 0 where
   pub within : start ≤ at
   pub after : (start ≡ 0) ⊎ ((before : ℕ) × (start ≡ before + 1) × (role_at roles before ≡ Semicolon))

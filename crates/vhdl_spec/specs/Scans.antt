@@ -30,6 +30,6 @@ IsFinding text (Clean scan) = IsScanOf text scan
 IsFinding text (Lexical fault) = HasFault text fault
 IsFinding text (Grammatical fault) = (pieces : List Piece) × IsCut text pieces × HasUnitFault text (tokens_of pieces) fault
 
--- a scanner gives each text its finding
+-- A scanner gives each text its finding. There is exactly one, so a clause for each scanner speaks of that.
 abbrev pub IsScanner : (List ℕ → Finding) → Type 0
 IsScanner scan = (text : List ℕ) → IsFinding text (scan text)

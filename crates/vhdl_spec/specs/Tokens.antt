@@ -20,27 +20,35 @@ use Rattle.vhdl_spec.specs.Words.{is_reserved, lower_case}
 
 -- ## Bytes
 
+-- `"`
 abbrev pub quote : ℕ
 quote = 34
 
+-- `'`
 abbrev pub apostrophe : ℕ
 apostrophe = 39
 
+-- `*`
 abbrev pub star : ℕ
 star = 42
 
+-- `-`
 abbrev pub dash : ℕ
 dash = 45
 
+-- `/`
 abbrev pub slash : ℕ
 slash = 47
 
+-- `\`
 abbrev pub backslash : ℕ
 backslash = 92
 
+-- `_`
 abbrev pub underscore : ℕ
 underscore = 95
 
+-- the grave accent, which begins a tool directive (clause 15.11)
 abbrev pub grave : ℕ
 grave = 96
 
@@ -52,6 +60,7 @@ is_line_end byte = nat_le 10 byte && nat_le byte 13
 abbrev pub is_blank : ℕ → Bool
 is_blank byte = nat_le 9 byte && nat_le byte 13 || byte == 32
 
+-- a letter, a digit or `_`; letters are those of ASCII
 abbrev pub is_word_byte : ℕ → Bool
 is_word_byte byte = is_ascii_alphabetic byte || is_ascii_digit byte || byte == underscore
 
@@ -121,6 +130,7 @@ row_at text last at =
 abbrev pub EachByte : (ℕ → Bool) → List ℕ → ℕ → ℕ → Type 0
 EachByte test text start end = (at : ℕ) → start ≤ at → at < end → test (slice_index text at) ≡ true
 
+-- the two bytes that end a block comment are at an offset
 abbrev pub EndsComment : List ℕ → ℕ → Type 0
 EndsComment text at = (slice_index text at ≡ star) × (slice_index text (at + 1) ≡ slash)
 
@@ -163,12 +173,13 @@ HasForm (token High) text start end = end ≡ start + 1
 
 -- ## The cut
 
+-- a token or a gap: the row of the table that it has the form of, and the offsets of its first byte and past its last
 pub record Piece : Type 0 where
   pub row : Row
   pub start : ℕ
   pub end : ℕ
 
--- of the row's form no longer piece fits
+-- a piece has the form of its row, and no longer one that begins there has
 pub record IsLongest (row : Row) (text : List ℕ) (start end : ℕ) : Type 0 where
   pub some : start < end
   pub within : end ≤ length text
@@ -186,6 +197,7 @@ abbrev pub token_of : Row → ℕ → ℕ → List Token
 token_of (token kind) start end = record { kind = kind; start = start; end = end } ∷ []
 token_of _ start end = []
 
+-- the bytes of a piece, where it is a line comment
 abbrev pub comment_of : Row → ℕ → ℕ → List Span
 comment_of line_comment start end = record { start = start; end = end } ∷ []
 comment_of _ start end = []
@@ -200,9 +212,11 @@ pub record Place : Type 0 where
   pub last : Option Token
   pub at : ℕ
 
+-- offset 0, with no token before it
 abbrev pub text_start : Place
 text_start = record { last = None; at = 0 }
 
+-- the offset after a piece, and the token before that offset
 abbrev pub place_after : Place → Piece → Place
 place_after place piece = record { last = last_after place.last piece.row piece.start piece.end; at = piece.end }
 
@@ -211,7 +225,9 @@ abbrev pub Leads : List ℕ → Place → List Piece → Place → Type 0
 Leads text place [] end = place ≡ end
 Leads text place (piece ∷ pieces) end = IsRight text place.last place.at piece × Leads text (place_after place piece) pieces end
 
--- the pieces are the cut of the text
+-- The pieces are the cut of the text: each is right at its offset, from the start to the end. In `x <= std_logic'('1')
+-- & '(' & "a--b";` there are 13 tokens: the first apostrophe is a tick, since the token before it is a name, and no
+-- comment begins in a string.
 pub record IsCut (text : List ℕ) (pieces : List Piece) : Type 0 where
   pub end : Place
   pub leads : Leads text text_start pieces end
@@ -227,7 +243,8 @@ pub record Opens (row : Row) (text : List ℕ) (at : ℕ) : Type 0 where
   pub first : row_at text place.last at ≡ row
   pub no_end : (end : ℕ) → end ≤ length text → HasForm row text at end → ⊥
 
--- the text has the fault
+-- After pieces that are right a string, an extended identifier or a comment opens that has no end. In a text that ends
+-- in `"abc` it is the string, at its quote.
 abbrev pub HasFault : List ℕ → LexFault → Type 0
 HasFault text (UnclosedString at) = Opens (token Str) text at
 HasFault text (UnclosedExtended at) = Opens (token Extended) text at
@@ -237,6 +254,7 @@ HasFault text (UnclosedComment at) = Opens block_comment text at
 abbrev pub tokens_of : List Piece → List Token
 tokens_of pieces = flat_map (λ piece. token_of piece.row piece.start piece.end) pieces
 
+-- the line comments of pieces, in order
 abbrev pub comments_of : List Piece → List Span
 comments_of pieces = flat_map (λ piece. comment_of piece.row piece.start piece.end) pieces
 
@@ -251,6 +269,6 @@ Scans text (Ok tokens) = (pieces : List Piece) × IsCut text pieces × AreOf pie
 Scans text (Err NoMemory) = Unit {0}
 Scans text (Err (Fault fault)) = HasFault text fault
 
--- the bytes of a piece
+-- the bytes of a piece of a text
 abbrev pub bytes_of : List ℕ → Piece → List ℕ
 bytes_of text piece = slice_range text piece.start piece.end

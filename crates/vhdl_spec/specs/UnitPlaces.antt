@@ -38,7 +38,9 @@ HasOwner text tokens start last owner kinds.Architecture = IsOwnedBy text tokens
 HasOwner text tokens start last owner kinds.Configuration = IsOwnedBy text tokens start last owner
 HasOwner text tokens start last owner _ = owner ≡ Nothing
 
--- a unit is where it says
+-- A unit lies where its token numbers say. From `lead` to `first` are its context items alone, at `first` is its
+-- keyword, at `last` its final `;`, and its name lies between. An architecture or configuration has the last name
+-- before its `is` as owner, and no other unit has one.
 pub record IsPlaced (text : List ℕ) (tokens : List Token) (unit : DesignUnit) : Type 0 where
   -- its context items, its keyword and its last token, in this order
   pub led : unit.lead ≤ unit.first
@@ -55,7 +57,7 @@ pub record IsPlaced (text : List ℕ) (tokens : List Token) (unit : DesignUnit) 
   -- its owner, after the keyword, the name and `of`
   pub owned : HasOwner text tokens (unit.first + 3) unit.last unit.owner unit.kind
 
--- the context part of each unit begins right after the unit before it, the first one's at a given token
+-- The context part of each unit begins right after the unit before it, and that of the first one at a given token.
 abbrev pub FollowOn : ℕ → List DesignUnit → Type 0
 FollowOn lead [] = Unit {0}
 FollowOn lead (unit ∷ units) = (unit.lead ≡ lead) × FollowOn (unit.last + 1) units

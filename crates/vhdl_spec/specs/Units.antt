@@ -60,6 +60,7 @@ word_role word =
     else (if is_reserved word then Other
     else Name))))))))))))))))))))))))))))))
 
+-- the role of a symbol by its byte; `Other` for one that the grammar doesn't name
 abbrev pub symbol_role : ℕ → Role
 symbol_role byte =
     if byte == 40 then Opening
@@ -70,6 +71,7 @@ symbol_role byte =
     else (if byte == 59 then Semicolon
     else Other)))))
 
+-- the role of a token by its kind; literals and ticks have none of their own
 abbrev pub kind_role : List ℕ → Token → TokenKind → Role
 kind_role text token Word = word_role (lower_case (slice_range text token.start token.end))
 kind_role text token Extended = Name
@@ -80,21 +82,26 @@ kind_role text token Char = Other
 kind_role text token Tick = Other
 kind_role text token High = Other
 
+-- what a token is to the grammar
 abbrev pub role_of : List ℕ → Token → Role
 role_of text token = kind_role text token token.kind
 
+-- what the tokens of a text are to the grammar, in order
 abbrev pub roles_of : List ℕ → List Token → List Role
 roles_of text tokens = map (role_of text) tokens
 
+-- the role of the token of a number, and `Other` past the last one
 abbrev pub role_at : List Role → ℕ → Role
 role_at roles at = slice_index_or roles at Other
 
 -- ## Classes of tokens within a unit, whose items start at a token
 
+-- `(`
 abbrev pub is_opening : Role → Bool
 is_opening Opening = true
 is_opening _ = false
 
+-- `)`
 abbrev pub is_closing : Role → Bool
 is_closing Closing = true
 is_closing _ = false
@@ -133,12 +140,13 @@ pub record HasBody (roles : List Role) (start at : ℕ) : Type 0 where
   pub first : (between : ℕ) → at < between → between < is_at → IsLevel roles start between → (role_at roles between ≢ Is) × (role_at roles between ≢ Semicolon)
   pub no_new : role_at roles (is_at + 1) ≢ New
 
--- a subprogram body
+-- the `function` or `procedure` of a subprogram body
 pub record IsSubprogramOpener (roles : List Role) (start at : ℕ) : Type 0 where
   pub word : (role_at roles at ≡ Function) ⊎ (role_at roles at ≡ Procedure)
   pub may : MayOpen roles start at
   pub body : HasBody roles start at
 
+-- a package or a subprogram body begins within a unit, with items and an `end` of its own
 abbrev pub OpensItems : List Role → ℕ → ℕ → Type 0
 OpensItems roles start at = IsPackageOpener roles start at ⊎ IsSubprogramOpener roles start at
 
@@ -151,15 +159,18 @@ next_begins before Elsif = false
 next_begins before Else = false
 next_begins before _ = before
 
+-- a `generate` at this token begins a region: the nearest of the five words before it is `if`, `for` or `case`
 abbrev pub begins_generate : List Role → ℕ → Bool
 begins_generate roles zero = false
 begins_generate roles (suc before) = next_begins (begins_generate roles before) (role_at roles before)
 
+-- the `generate` that begins the region of a generate statement
 pub record IsGenerateOpener (roles : List Role) (at : ℕ) : Type 0 where
   pub word : role_at roles at ≡ Generate
   pub no_end : IsNotAfter End roles at
   pub begins : begins_generate roles at ≡ true
 
+-- the `end` of `end generate`
 pub record IsGenerateEnd (roles : List Role) (at : ℕ) : Type 0 where
   pub word : role_at roles at ≡ End
   pub what : role_at roles (at + 1) ≡ Generate
@@ -174,7 +185,7 @@ ends_inner Inner = true
 ends_inner Generate = true
 ends_inner _ = false
 
--- any other `end`
+-- an `end` that ends the unit or an item with an `end` of its own, and no statement within it
 pub record IsPlainEnd (roles : List Role) (at : ℕ) : Type 0 where
   pub word : role_at roles at ≡ End
   pub what : ends_inner (role_at roles (at + 1)) ≡ false
@@ -234,6 +245,7 @@ beginning_of Package Name Is New = begins.Plain kinds.PackageInstance
 beginning_of Package Name Is _ = begins.Plain kinds.Package
 beginning_of _ _ _ _ = begins.Nothing
 
+-- what begins at file level at a token, by its role and the next three
 abbrev pub beginning_at : List Role → ℕ → Beginning
 beginning_at roles at = beginning_of (role_at roles at) (role_at roles (at + 1)) (role_at roles (at + 2)) (role_at roles (at + 3))
 
@@ -254,6 +266,7 @@ pub data Element : Type 0 where
   plain : UnitKind → ℕ → Element
   owned : UnitKind → ℕ → ℕ → Element
 
+-- the number of an element's last token
 abbrev pub last_of : Element → ℕ
 last_of (item last) = last
 last_of (plain kind last) = last
@@ -272,6 +285,7 @@ BeginsAs roles at begins.Item = Unit {0}
 BeginsAs roles at (begins.Plain kind) = Unit {0}
 BeginsAs roles at (begins.Owned kind) = (before : ℕ) × IsOwner roles (at + 3) before
 
+-- a context item or a unit begins at a token, by the roles there
 abbrev pub Begins : List Role → ℕ → Type 0
 Begins roles at = BeginsAs roles at (beginning_at roles at)
 
@@ -282,7 +296,7 @@ abbrev pub Follow : List Role → ℕ → List Element → ℕ → Type 0
 Follow roles at [] end = at ≡ end
 Follow roles at (element ∷ elements) end = IsElement roles at element × Follow roles (last_of element + 1) elements end
 
--- the elements are the file
+-- the elements, one after the other, are the whole file
 abbrev pub IsOutline : List Role → List Element → Type 0
 IsOutline roles elements = Follow roles 0 elements (length roles)
 
@@ -303,6 +317,7 @@ pub record IsUnended (roles : List Role) (at : ℕ) : Type 0 where
 
 -- ## Units and faults of a text
 
+-- the token of a number, and an empty one past the last
 abbrev pub token_at : List Token → ℕ → Token
 token_at tokens at = slice_index_or tokens at (record { kind = High; start = 0; end = 0 })
 
@@ -311,6 +326,7 @@ abbrev pub name_by_kind : List ℕ → Token → TokenKind → List ℕ
 name_by_kind text token Extended = slice_range text token.start token.end
 name_by_kind text token _ = lower_case (slice_range text token.start token.end)
 
+-- the name that the token of a number is
 abbrev pub name_of : List ℕ → List Token → ℕ → List ℕ
 name_of text tokens at = name_by_kind text (token_at tokens at) (token_at tokens at).kind
 
@@ -320,19 +336,24 @@ unit_of text tokens lead at (item last) = []
 unit_of text tokens lead at (plain kind last) = record { kind = kind; name = name_of text tokens (name_token kind at); owner = Nothing; lead = lead; first = at; last = last } ∷ []
 unit_of text tokens lead at (owned kind before last) = record { kind = kind; name = name_of text tokens (name_token kind at); owner = Given (name_of text tokens (at + 3 + 2 * before)); lead = lead; first = at; last = last } ∷ []
 
+-- where the context part of the next unit begins: after a unit, and where it was after a context item
 abbrev pub lead_after : ℕ → Element → ℕ
 lead_after lead (item last) = lead
 lead_after lead (plain kind last) = last + 1
 lead_after lead (owned kind before last) = last + 1
 
+-- the units among elements that begin at a token, where the context part of the first unit begins at `lead`
 abbrev pub units_from : List ℕ → List Token → ℕ → ℕ → List Element → List DesignUnit
 units_from text tokens lead at [] = []
 units_from text tokens lead at (element ∷ elements) = unit_of text tokens lead at element ++ units_from text tokens (lead_after lead element) (last_of element + 1) elements
 
+-- the design units of a file, with kind, name, owner and token numbers
 abbrev pub units_of : List ℕ → List Token → List Element → List DesignUnit
 units_of text tokens elements = units_from text tokens 0 0 elements
 
--- the tokens have the fault
+-- After some elements nothing begins that is one, or one begins that has no end; the fault is at its first byte. `foo`
+-- alone begins nothing, and `entity e is` alone has no end: both faults are at byte 0. In `entity e is end;`, a line
+-- feed and `end;` nothing begins at byte 17.
 abbrev pub HasUnitFault : List ℕ → List Token → UnitFault → Type 0
 HasUnitFault text tokens (NotUnit place) = (at : ℕ) × IsNoUnit (roles_of text tokens) at × (place ≡ (token_at tokens at).start)
 HasUnitFault text tokens (NotEnded place) = (at : ℕ) × IsUnended (roles_of text tokens) at × (place ≡ (token_at tokens at).start)

@@ -18,8 +18,8 @@ use Rattle.vhdl_spec.specs.References.{work, configured, context_refs, is_contex
 
 -- ## Design units of a project
 
--- a unit with the library of its file, the names of its library clauses, its references to context declarations, and
--- the architecture that it configures, if it is a configuration
+-- What decides the libraries that a unit sees. It has the library of its file, the names of its library clauses, its
+-- references to context declarations, and the architecture that it configures, if it is a configuration.
 pub record ScopeUnit : Type 0 where
   pub library : List ℕ
   pub unit : DesignUnit
@@ -27,6 +27,7 @@ pub record ScopeUnit : Type 0 where
   pub contexts : List Ref
   pub configured : MaybeText
 
+-- what decides the libraries that a unit sees, read from the tokens of its file
 abbrev pub scope_unit : List ℕ → List ℕ → Scan → DesignUnit → ScopeUnit
 scope_unit library text scan unit = record { library = library; unit = unit; names = library_names text scan.tokens.list unit; contexts = context_refs text scan.tokens.list unit; configured = configured text scan.tokens.list unit }
 
@@ -47,15 +48,18 @@ primary_name kinds.Configuration unit = unit.owner
 primary_name kinds.PackageBody unit = Given unit.name
 primary_name _ unit = Nothing
 
+-- an architecture or a package body
 abbrev pub is_secondary : UnitKind → Bool
 is_secondary kinds.Architecture = true
 is_secondary kinds.PackageBody = true
 is_secondary _ = false
 
+-- an architecture
 abbrev pub is_architecture_kind : UnitKind → Bool
 is_architecture_kind kinds.Architecture = true
 is_architecture_kind _ = false
 
+-- whether there is a name, and it is this one
 abbrev pub is_given : MaybeText → List ℕ → Bool
 is_given Nothing name = false
 is_given (Given other) name = bytes_eq other name
@@ -93,11 +97,11 @@ is_implicit name = bytes_eq name work || bytes_eq name (codes "std")
 
 -- ## The sets of each step
 
--- whether a name is in the set of a unit
+-- for each unit a set of library names, as a test
 abbrev pub Sets : Type 0
 Sets = ScopeUnit → List ℕ → Bool
 
--- by its own clauses (13.2)
+-- `work`, `std` and the names of a unit's own library clauses (13.2)
 abbrev pub is_own : Sets
 is_own user name = is_implicit name || list_any (bytes_eq name) user.names
 
@@ -109,11 +113,14 @@ has_by_owner units sets user name = list_any (λ owner. belongs_to user owner &&
 abbrev pub has_by_context : List ScopeUnit → Sets → Sets
 has_by_context units sets user name = not (is_implicit name) && list_any (λ ref. sets user ref.library && list_any (λ context. is_context_of user ref context && sets context name) units) user.contexts
 
--- one step more
+-- the sets after one step more
 abbrev pub grown : List ScopeUnit → Sets → Sets
 grown units sets user name = sets user name || has_by_owner units sets user name || has_by_context units sets user name
 
--- the sets after so many steps
+-- The sets after so many steps. First a unit has `work`, `std` and the names of its own clauses; each step adds what
+-- the units that it belongs to have, and what the context declarations that it refers to hand on. An architecture of
+-- an entity with `library other;` before it has `other` after one step. Two contexts that refer to each other, one
+-- with `library l;` inside and one with `library m;`, both have `l` and `m` after one step.
 unfoldable pub seen_after : List ScopeUnit → ℕ → Sets
 seen_after units zero = is_own
 seen_after units (suc steps) = grown units (seen_after units steps)
@@ -122,13 +129,13 @@ seen_after units (suc steps) = grown units (seen_after units steps)
 abbrev pub enough_steps : List ScopeUnit → ℕ
 enough_steps units = length units * length (flat_map (λ unit. unit.names) units)
 
--- the library is visible in the unit
+-- a library is visible in a unit: it is in the sets after which none grows any more
 abbrev pub sees : List ScopeUnit → Sets
 sees units = seen_after units (enough_steps units)
 
 -- ## Closed sets
 
--- each unit of the list has what its own clauses, the units that it belongs to and its context declarations give
+-- no unit of a list lacks what its own clauses, the units that it belongs to and its context declarations give it
 pub record AreClosed (units : List ScopeUnit) (sets : Sets) : Type 0 where
   pub own : (user : ScopeUnit) (name : List ℕ) → Contains units user → IsTrue (is_own user name) → IsTrue (sets user name)
   pub grown : (user : ScopeUnit) (name : List ℕ) → Contains units user → IsTrue (grown units sets user name) → IsTrue (sets user name)

@@ -29,5 +29,6 @@ reserved_words =
 abbrev pub lower_case : List ℕ → List ℕ
 lower_case word = map to_ascii_lowercase word
 
+-- whether a word is reserved, in letters of any case
 abbrev pub is_reserved : List ℕ → Bool
 is_reserved word = list_any (bytes_eq (lower_case word)) reserved_words

@@ -9,12 +9,15 @@ use Rattle.vhdl_spec.specs.Units.{role_at, is_opening, is_closing}
 abbrev pub level_at : List Role → ℕ → ℕ
 level_at roles at = count_by is_opening (take at roles) + count_by is_closing (drop at roles)
 
+-- `is` or `;`
 abbrev pub IsMark : Role → Type 0
 IsMark role = (role ≡ Is) ⊎ (role ≡ Semicolon)
 
+-- `function` or `procedure`
 abbrev pub IsSubprogramWord : Role → Type 0
 IsSubprogramWord role = (role ≡ Function) ⊎ (role ≡ Procedure)
 
+-- whether a role is that of `function` or `procedure`
 abbrev pub is_subprogram_word : Role → Bool
 is_subprogram_word Function = true
 is_subprogram_word Procedure = true

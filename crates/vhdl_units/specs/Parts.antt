@@ -36,6 +36,7 @@ pub record IsUnitClose (roles : List Role) (start close : ℕ) : Type 0 where
   pub inside : Items roles start false start close
   pub ends : IsPlainEnd roles close
 
+-- the token that ends the items of a unit, or none where nothing ends them
 abbrev pub IsCloseFrom : List Role → ℕ → Option ℕ → Type 0
 IsCloseFrom roles start None = (close : ℕ) → IsUnitClose roles start close → ⊥
 IsCloseFrom roles start (Some close) = IsUnitClose roles start close

@@ -40,7 +40,7 @@ abbrev pub GivesUnits : List DesignUnit → Result (List DesignUnit) (OrMemory U
 GivesUnits units (Ok given) = given ≡ units
 GivesUnits units (Err answer) = answer ≡ NoMemory
 
--- this fault, or out of memory
+-- this fault of the unit grammar, or out of memory
 abbrev pub GivesUnitFault : UnitFault → Result (List DesignUnit) (OrMemory UnitFault) → Type 0
 GivesUnitFault fault (Ok units) = ⊥
 GivesUnitFault fault (Err NoMemory) = Unit {0}

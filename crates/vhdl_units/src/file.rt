@@ -105,6 +105,7 @@ fn add_unit(
     }
 }
 
+/// The units of a file, by the roles of its tokens, or its first fault.
 fn read(
     alloc: Global,
     text: &[u8],

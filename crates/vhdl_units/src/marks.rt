@@ -43,6 +43,7 @@ fn fill(roles: &[Role], nearest: &mut [u32], marks: &mut [u32])
     }
 }
 
+/// Whether a token is `function` or `procedure`.
 #[inline(always)]
 fn is_subprogram_word(role: Role) -> bool
     ensures { result ≡ is_subprogram_word role }
