@@ -1,11 +1,11 @@
--- What holds at each turn of the loop of `build_seated`: the build is under way.
+-- What holds at each turn of the loop of `build_marks`: the build is under way.
 use Rattle.std.proofs.Common.{◌≡◌, length}
 use Rattle.std.specs.Bool.{OnFalse}
 use Rattle.build_slots.specs.Machines.{tickets_of, files_of, to_come}
 use Rattle.build_loop.specs.Faults.{CountsBy}
 use Rattle.build_loop.specs.Requests.{IsGathered}
 use Rattle.build_loop.specs.UnderWay.{Goes}
-use Rattle.build_loop.proofs.builds.build_seated.Given as goal
+use Rattle.build_loop.proofs.builds.build_marks.Given as goal
 
 abbrev pub invariant-loop-at : goal.invariant-loop-at
 invariant-loop-at g l = record {
