@@ -3,30 +3,26 @@ use Rattle.std.proofs.Common.{◌≡◌, ℕ, ◌<◌, Bool, true, false, List, 
 use Rattle.std.specs.Prelude.{slice_get, is_some}
 use Rattle.std.specs.Bool.{OnTrue, OnFalse}
 use Rattle.std.specs.Option.{option_map}
-use Rattle.std.specs.List.{filter_map, list_all}
 use Rattle.std.proofs.lemmas.Bool.{cases_Bool, cond-true, cond-false, false≢true, OnTrue_from}
 use Rattle.std.proofs.lemmas.List.{append-nil, length-map}
-use Rattle.std.proofs.lemmas.Option.{same_Some, slice_get_within, slice_get-get_or, slice_get-map, get_or_from_slice_get}
+use Rattle.std.proofs.lemmas.Option.{same_Some, slice_get_within, slice_get-get_or, slice_get-map}
 use Rattle.std.proofs.lemmas.List.Elements.{All-nil}
-use Rattle.base.specs.declared.file.FileName.{FileName}
 use Rattle.base.specs.declared.graph.Entry.{Entry}
 use Rattle.base.specs.declared.child.Request.{Request}
 use Rattle.base.specs.declared.child.Exit.{Exit}
 use Rattle.base.specs.declared.child.Event.{Event}
 use Rattle.run_spec.specs.declared.marks.Mark.{Mark}
-use Rattle.base.specs.declared.graph.BuiltFile.{BuiltFile}
 use Rattle.base.specs.Graphs.{IsGraph}
 use Rattle.base.specs.PresentGraph.{below}
 use Rattle.base.proofs.Below.{length-below, get_or-below}
 use Rattle.outside.specs.Records.{IsRecorded}
-use Rattle.run_laws.proofs.CleanPlaces.{filter_map-same}
 use Rattle.outside.specs.Records.{Record}
 use Rattle.outside.specs.Children.{started_with}
 use Rattle.outside.specs.Disks.{Image, Moments, IsDurable, reads_of}
 use Rattle.outside.specs.Commits.{CommitsFirst}
 use Rattle.outside.proofs.CommitLaws.{commits_nothing}
 use Rattle.run_spec.specs.Moves.{Core, empty_core, is_taken, is_made_so_far, LawfulMoves, GreedyMoves, IsFinished}
-use Rattle.run_spec.specs.ChildJournal.{Work, Run, End, artefact_so_far, job_of, core_of, after_all, book_of, moves_after, AreRequested, EachAfter, Lawful, exit_at, artefact_after, files_below, built_file}
+use Rattle.run_spec.specs.ChildJournal.{Work, Run, End, artefact_so_far, job_of, core_of, after_all, book_of, moves_after, AreRequested, EachAfter, Lawful, exit_at, artefact_after, files_below}
 use Rattle.run_spec.specs.Marks.{mark_of, mark_at, marks_of}
 use Rattle.run_spec.specs.Commits.{record_at, commits}
 use Rattle.run_spec.proofs.Waiting.{waits_none}
@@ -39,11 +35,10 @@ use Rattle.build_loop.specs.Commits.{Acknowledges, HoldsFirst}
 use Rattle.build_loop.specs.Faults.{is_all_committed, FaultCounts, CountsBy}
 use Rattle.build_loop.specs.UnderWay.{Origin, BuildState, with_machine, Told, work_from, IsUnderWay, IsJournalled, GoesOn, Goes}
 use Rattle.run_steps.specs.Steps.{halted_if}
-use Rattle.build_loop.specs.Requests.{lent_at}
-use Rattle.build_loop.specs.Ran.{BuildObjects, BuildRan, is_made, built_by, whole_of}
+use Rattle.build_loop.specs.Ran.{BuildObjects, BuildRan, is_made}
 use Rattle.build_loop.proofs.Acknowledging.{knows_all}
 use Rattle.run_steps.proofs.Halting.{halted_not}
-use Rattle.build_loop.proofs.Lent.{some_there, item_at, All-from_test, knows_made, made_recorded, lent_same}
+use Rattle.build_loop.proofs.Lent.{knows_made, made_recorded}
 use Rattle.build_loop.proofs.RecordsThen.{records_at_first}
 use Rattle.build_loop.proofs.UnderWayThen.{all_while, marks_over}
 
@@ -221,12 +216,6 @@ mark_of_list marks count position mark at =
     slice_get-get_or (below count) position 0 (subst (λ (n : ℕ). position < n) (sym (length-below count)) inside) ∙ ap (λ (p : ℕ). Some p) (get_or-below count position 0 inside) in
     (inside, same_Some (marks position) mark (sym (slice_get-map marks (below count) position ∙ ap (option_map marks) here) ∙ at))
 
--- the mark of a file, and its artefact where it is made
-mark_is : (s : Work) (events : List Event) (position : ℕ) (mark : Mark) → slice_get (marks_of s events) position ≡ Some mark → is_made mark ≡ true → (position < length s.graph) × (is_some (artefact_after s events position) ≡ true)
-mark_is s events position mark at made =
-    let there = mark_of_list (mark_at s (book_of s events).ends) (length s.graph) position mark at in
-    (there.0, marked_has s.keep_going (exit_at (book_of s events).ends position) (artefact_after s events position) (ap is_made there.1 ∙ made))
-
 waits_unmade : (keep_going : Bool) → is_made (waiting_mark keep_going) ≡ false
 waits_unmade true = refl
 waits_unmade false = refl
@@ -252,77 +241,6 @@ marks_recorded graph from events acknowledged state is none position mark at mad
     let there = mark_of_list (known_mark s ends state.machine) (length graph) position mark (ap (λ (l : List Mark). slice_get l position) (sym is.marked) ∙ at) in
     made_recorded graph from.latest_of from.slots from.keep_going (book_of s events) state.latest_of is.is_graph is.recorded (knows_all s events (is_all_committed state.noted state.broken) from.latest_of state.latest_of acknowledged is.committed on) position there.0
     (known_has s ends state.machine position (ap is_made there.1 ∙ made))
-
-module _ (tells told : Type 0) (answer : Request → Exit) (records_of : Image → List Record) (s : Work) (old new : BuildObjects) where
-  -- what a build says is of what it did, where it has ended by itself
-  pub ran_says : (fault : Option BuildFault) (broken : Bool) (Says Other : List Event → Type 0) → (ran : BuildRan tells told answer records_of s old new (record { ended = true; fault = fault; broken = broken }) Says) → Other ran.events →
-      BuildRan tells told answer records_of s old new (record { ended = true; fault = fault; broken = broken }) Other
-  ran_says fault broken Says Other ran says = record {
-    events = ran.events;
-    journal = ran.journal;
-    moves = ran.moves;
-    requests = ran.requests;
-    greedy = ran.greedy;
-    finished = ran.finished;
-    none_lost = ran.none_lost;
-    lawful = ran.lawful;
-    answered = ran.answered;
-    whole = ran.whole;
-    says = says;
-    acknowledged = ran.acknowledged;
-    committed = ran.committed;
-    comes_first = ran.comes_first;
-    recorded = ran.recorded;
-    images = ran.images;
-  }
-
-  -- it has ended by itself, but then something was out of memory
-  pub ran_in_vain : (fault : Option BuildFault) (broken : Bool) (Says Other : List Event → Type 0) → BuildRan tells told answer records_of s old new (record { ended = true; fault = fault; broken = broken }) Says →
-      BuildRan tells told answer records_of s old new (record { ended = false; fault = Some NoMemory; broken = broken }) Other
-  ran_in_vain fault broken Says Other ran = record {
-    events = ran.events;
-    journal = ran.journal;
-    moves = ran.moves;
-    requests = ran.requests;
-    greedy = tt;
-    finished = tt;
-    none_lost = tt;
-    lawful = ran.lawful;
-    answered = ran.answered;
-    whole = λ t. tt;
-    says = tt;
-    acknowledged = ran.acknowledged;
-    committed = record { few = ran.committed.few; whole = tt; waits = ran.committed.waits; latest = ran.committed.latest };
-    comes_first = tt;
-    recorded = tt;
-    images = ran.images;
-  }
-
--- all files with their artefacts are what the store lends
-pub whole_is : (s : Work) (events : List Event) (latest_of : FileName → Option Record) (marks : List Mark) (whole : Option (List BuiltFile)) → marks ≡ marks_of s events →
-    ((position : ℕ) (entry : Entry) (artefact : List ℕ) → slice_get s.graph position ≡ Some entry → artefact_after s events position ≡ Some artefact → latest_of entry.name ≡ Some (record_at s.graph position (files_below s (book_of s events).ends position) artefact)) →
-    (list_all is_made marks ≡ true → whole ≡ Some (filter_map (lent_at latest_of s.graph) (below (length s.graph)))) → (list_all is_made marks ≡ false → whole ≡ None) → whole ≡ whole_of s events
-whole_is s events latest_of marks whole marked knows all none =
-    elim (cases_Bool (list_all is_made marks)) [
-      | inl made ↦
-          let made_all : list_all is_made (marks_of s events) ≡ true = ap (list_all is_made) (sym marked) ∙ made in
-          all made
-          ∙ ap (λ (files : List BuiltFile). Some files)
-          (filter_map-same (lent_at latest_of s.graph) (λ position. built_file (slice_get s.graph position) (artefact_after s events position)) (below (length s.graph)) 0 (λ k lt. each made_all k (subst (λ (n : ℕ). k < n) (length-below (length s.graph)) lt)))
-          ∙ sym (cond-true (list_all is_made (marks_of s events)) (Some (built_by s events)) None made_all)
-      | inr left ↦ none left ∙ sym (cond-false (list_all is_made (marks_of s events)) (Some (built_by s events)) None (ap (list_all is_made) (sym marked) ∙ left))
-    ] where
-      each : list_all is_made (marks_of s events) ≡ true → (k : ℕ) → k < length s.graph → lent_at latest_of s.graph (get_or (below (length s.graph)) k 0) ≡ built_file (slice_get s.graph (get_or (below (length s.graph)) k 0)) (artefact_after s events (get_or (below (length s.graph)) k 0))
-      each made_all k lt =
-          let position : get_or (below (length s.graph)) k 0 ≡ k = get_or-below (length s.graph) k 0 lt in
-          let count : length (marks_of s events) ≡ length s.graph = length-map (below (length s.graph)) (mark_at s (book_of s events).ends) ∙ length-below (length s.graph) in
-          let mark = item_at (marks_of s events) k (omega (arith, lt, count)) in
-          let is : is_made mark.0 ≡ true = ap is_made (sym (get_or_from_slice_get (marks_of s events) k mark.0 mark.0 mark.1)) ∙ All-from_test is_made (marks_of s events) made_all k mark.0 (omega (arith, lt, count)) in
-          let there = mark_is s events k mark.0 mark.1 is in
-          let entry = item_at s.graph k lt in
-          let artefact = some_there (artefact_after s events k) there.1 in
-          subst (λ (p : ℕ). lent_at latest_of s.graph p ≡ built_file (slice_get s.graph p) (artefact_after s events p)) (sym position)
-          (sym (lent_same s.graph latest_of (artefact_after s events) k entry.0 artefact.0 (files_below s (book_of s events).ends k) entry.1 artefact.1 (knows k entry.0 artefact.0 entry.1 artefact.1)))
 
 -- after a start, or where it failed
 pub goes_on : (tells told : Type 0) (answer answers : Request → Exit) (records_of : Image → List Record) (graph : List Entry) (from : Origin) (state : BuildState) (now : Told) (machine : Slots) (noted : Option BuildFault) (journal : List Event) → answers ≡ answer →

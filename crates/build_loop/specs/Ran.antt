@@ -1,7 +1,7 @@
 -- What a build did, as its caller sees it.
-use Rattle.std.specs.Prelude.{◌≡◌, ℕ, Bool, true, false, if◌then◌else◌, List, ◌++◌, length, slice_get, Option, Some, None}
+use Rattle.std.specs.Prelude.{◌≡◌, ℕ, Bool, true, false, List, ◌++◌, length, slice_get, Option, Some}
 use Rattle.std.specs.Bool.{OnTrue}
-use Rattle.std.specs.List.{list_all, filter_map, list_any}
+use Rattle.std.specs.List.{filter_map, list_any}
 use Rattle.base.specs.declared.file.FileName.{FileName}
 use Rattle.base.specs.declared.graph.BuiltFile.{BuiltFile}
 use Rattle.base.specs.declared.graph.Entry.{Entry}
@@ -15,7 +15,6 @@ use Rattle.outside.specs.Records.{Record}
 use Rattle.outside.specs.Disks.{Image, Moments}
 use Rattle.run_spec.specs.Moves.{empty_core, LawfulMoves, IsFinished}
 use Rattle.run_spec.specs.ChildJournal.{Work, Lawful, Answered, Greedy, core_of, book_of, empty_book, job_of, moves_of, AreRequested, IsWhole, artefact_after, files_below, built_file, is_gone}
-use Rattle.run_spec.specs.Marks.{marks_of}
 use Rattle.run_spec.specs.Commits.{commits, record_at}
 use Rattle.build_loop.specs.Commits.{Acknowledges, HoldsFirst}
 use Rattle.build_loop.specs.declared.faults.BuildFault.{BuildFault}
@@ -32,15 +31,6 @@ is_made mark.Left = false
 -- each file that is made, with its artefact
 abbrev pub built_by : Work → List Event → List BuiltFile
 built_by setting events = filter_map (λ position. built_file (slice_get setting.graph position) (artefact_after setting events position)) (below (length setting.graph))
-
--- all files with their artefacts, where each one is made
-abbrev pub whole_of : Work → List Event → Option (List BuiltFile)
-whole_of setting events = if list_all is_made (marks_of setting events) then Some (built_by setting events) else None
-
--- what a build says in the end: its marks are those of what happened, and where each file is made it has them all
-pub record SaysEnd (setting : Work) (events : List Event) (marks : List Mark) (whole : Option (List BuiltFile)) : Type 0 where
-  pub marked : marks ≡ marks_of setting events
-  pub built : whole ≡ whole_of setting events
 
 -- what the objects of a build have at one moment: the latest records of its store, the events of the journal, and the
 -- moments of the disk

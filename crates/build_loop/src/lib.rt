@@ -12,5 +12,5 @@ mod notes;
 mod requests;
 mod starts;
 
-pub use builds::{BuildEnd, build, build_marks, build_seated};
+pub use builds::build_marks;
 pub use faults::BuildFault;

@@ -1,9 +1,7 @@
 //! The marks of files before any child has ended.
 
 ghost use Rattle.std.specs.Prelude.{◌≡◌, map, not, count_by, length, IfOk};
-ghost use Rattle.std.specs.List.{list_all};
 ghost use Rattle.build_slots.specs.Plans.{is_fresh};
-ghost use Rattle.build_loop.specs.Ran.{is_made};
 ghost use Rattle.build_loop.specs.Marks.{waiting_mark, first_mark};
 
 use base::NoMemory;
@@ -67,20 +65,4 @@ pub(crate) fn due_files(needs: &[Need]) -> u64
         }
     }
     due
-}
-
-fn is_made(mark: &Mark) -> bool
-    ensures { result ≡ is_made mark.now }
-{
-    match mark {
-        Mark::Fresh | Mark::Compiled => true,
-        Mark::Refused { code: _, output: _ } | Mark::Skipped | Mark::Left => false,
-    }
-}
-
-/// Whether each file is fresh or compiled.
-pub(crate) fn are_made(marks: &[Mark]) -> bool
-    ensures { result ≡ list_all is_made marks.now }
-{
-    marks.iter().all(|mark| is_made(mark))
 }

@@ -1,4 +1,4 @@
-//! What is asked of a compiler, and what all files gave, by the artefacts that the store lends.
+//! What is asked of a compiler, by the artefacts that the store lends.
 
 ghost use Rattle.std.specs.Prelude.{ℕ, ◌≡◌, ◌<◌, ◌≤◌, ◌++◌, ◌∷◌, [], List, Option, length, All, IsTrue, Some, IfOk, OnOk};
 ghost use Rattle.std.specs.List.{filter_map, flat_map};
@@ -9,7 +9,7 @@ ghost use Rattle.base.specs.Jobs.{built_bytes};
 ghost use Rattle.outside.specs.Records.{Record, IsRecorded, deps_at};
 ghost use Rattle.build_loop.specs.Requests.{lent_at, lent_request, AreRecorded, IsGathered};
 
-use base::{Built, BuiltFile, FILE_LIMIT, Graph, NoMemory, Request, Text};
+use base::{FILE_LIMIT, Graph, NoMemory, Request};
 use child_job_codec::{BuiltBytes, RequestWriter};
 use outside::Records;
 use std::alloc::Global;
@@ -206,49 +206,4 @@ pub(crate) fn request_of<K: Records>(
         gathered,
     )?;
     Ok(writer.finish())
-}
-
-/// Adds the file at a position with a copy of the artefact that the store lends.
-fn add_built<K: Records>(
-    alloc: Global,
-    built: &mut Built,
-    graph: &Graph,
-    at: u32,
-    store: &K,
-) -> Result<(), NoMemory>
-    requires position { at < length graph.now }
-    requires room { length built.old < FILE_LIMIT }
-    requires recorded { IsRecorded (K.latest_of store.now) graph.now at }
-    ensures { OnOk result
-        (built.new
-        ≡ built.old ++ filter_map (lent_at (K.latest_of store.now) graph.now) (at ∷ [])) }
-{
-    let entry = graph.get(at as u64);
-    match store.artefact(&entry.name) {
-        Some(artefact) => built.push(BuiltFile {
-            name: entry.name.copy(alloc)?,
-            artefact: Text::from_slice(alloc, artefact)?,
-        }),
-        None => unreachable!(),
-    }
-}
-
-/// All files with their artefacts, in order.
-pub(crate) fn built_files<K: Records>(
-    alloc: Global,
-    graph: &Graph,
-    store: &K,
-) -> Result<Built, NoMemory>
-    requires { (position : ℕ) → position < length graph.now →
-        IsRecorded (K.latest_of store.now) graph.now position }
-    ensures { IfOk result (λ built.
-        built ≡ filter_map (lent_at (K.latest_of store.now) graph.now) (below (length graph.now))) }
-{
-    prove!(graph.len() <= FILE_LIMIT as u64);
-    let count = graph.len() as u32;
-    let mut built = Built::new(alloc);
-    for at in 0..count {
-        add_built(alloc, &mut built, graph, at, store)?;
-    }
-    Ok(built)
 }

@@ -6,8 +6,6 @@ mod lists;
 mod plans;
 mod slots;
 mod step;
-#[cfg(test)]
-mod tests;
 
 pub use plans::{Need, Needs, plan};
 pub use slots::Slots;

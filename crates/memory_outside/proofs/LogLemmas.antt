@@ -33,8 +33,8 @@ write_within false at bytes side image is = is
 -- after a call there are images from inside of it
 side_within : (done : Bool) (call : Act) (side : SideState) (image : List ℕ) → IsSoundSide side → IsSideImage (side_after done call side) image → IsSideImage (side_inside call side) image
 side_within done (act.Write at bytes) side image sound is = write_within done at bytes side image is
-side_within true (act.Cut len) side image sound is = within_shortened len side image is
-side_within false (act.Cut len) side image sound is = is
+side_within true act.Cut side image sound is = within_shortened side image is
+side_within false act.Cut side image sound is = is
 side_within true act.Sync side image sound is = within_synced side image sound is
 side_within false act.Sync side image sound is = is
 
@@ -94,7 +94,7 @@ either_is_unchanged false more side image within is = is
 -- an image before a call is one inside it
 side_is_unchanged : (call : Act) (side : SideState) (image : List ℕ) → IsSideImage side image → IsSideImage (side_inside call side) image
 side_is_unchanged (act.Write at bytes) side image is = either_is_unchanged (is_allowed at (length bytes) side.reads) _ side image (within_touching at (length bytes) side image) is
-side_is_unchanged (act.Cut len) side image is = within_cutting len side image is
+side_is_unchanged act.Cut side image is = within_cutting side image is
 side_is_unchanged act.Sync side image is = is
 
 on_side_is_unchanged : (side : Side) (more : SideState → SideState) (disk : DiskState) → ((s : SideState) (image : List ℕ) → IsSideImage s image → IsSideImage (more s) image) → IsWithin (on_side side more disk) disk

@@ -20,8 +20,8 @@ same_reads false at count side = refl
 pub side_reads_after : (done : Bool) (call : Act) (side : SideState) → (side_after done call side).reads ≡ reads_after done call side.reads
 side_reads_after true (act.Write at bytes) side = either_reads (is_allowed at (length bytes) side.reads) (written at bytes side) side
 side_reads_after false (act.Write at bytes) side = same_reads (is_allowed at (length bytes) side.reads) at (length bytes) side
-side_reads_after true (act.Cut len) side = refl
-side_reads_after false (act.Cut len) side = refl
+side_reads_after true act.Cut side = refl
+side_reads_after false act.Cut side = refl
 side_reads_after true act.Sync side = refl
 side_reads_after false act.Sync side = refl
 

@@ -38,14 +38,14 @@ synced_sound side sound = settled_sound side.reads (omega (arith, sound.image.no
 -- a sound side is sound inside each call, too
 pub side_inside_sound : (call : Act) (side : SideState) → IsSoundSide side → IsSoundSide (side_inside call side)
 side_inside_sound (act.Write at bytes) side sound = write_inside_sound at bytes side sound
-side_inside_sound (act.Cut len) side sound = cutting_sound len side sound
+side_inside_sound act.Cut side sound = cutting_sound side sound
 side_inside_sound act.Sync side sound = sound
 
 -- a sound side is sound after each call, done or failed
 pub side_after_sound : (done : Bool) (call : Act) (side : SideState) → IsSoundSide side → IsSoundSide (side_after done call side)
 side_after_sound done (act.Write at bytes) side sound = write_after_sound done at bytes side sound
-side_after_sound true (act.Cut len) side sound = shortened_sound len side sound
-side_after_sound false (act.Cut len) side sound = cutting_sound len side sound
+side_after_sound true act.Cut side sound = shortened_sound side sound
+side_after_sound false act.Cut side sound = cutting_sound side sound
 side_after_sound true act.Sync side sound = synced_sound side sound
 side_after_sound false act.Sync side sound = sound
 

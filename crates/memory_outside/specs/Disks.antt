@@ -1,5 +1,5 @@
 -- What a disk over memory holds: the bytes that it began with, and the calls since then that may have changed it.
-use Rattle.std.specs.Prelude.{◌≡◌, ◌⊎◌, ℕ, ◌+◌, ◌^◌, ◌<◌, nat_le, nat_lt, ◌==◌, min, max, Bool, true, false, not, ◌&&◌, List, [], ◌∷◌, ◌++◌, length, take, slice_index, Result, Ok, Err, if◌then◌else◌}
+use Rattle.std.specs.Prelude.{◌≡◌, ◌⊎◌, ℕ, ◌+◌, ◌^◌, ◌<◌, nat_le, nat_lt, ◌==◌, min, max, Bool, true, false, not, ◌&&◌, List, [], ◌∷◌, ◌++◌, length, slice_index, Result, Ok, Err, if◌then◌else◌}
 use Rattle.outside.specs.declared.disk.Side.{Side}
 use Rattle.outside.specs.declared.disk.Side.TheVariants.{A, B}
 use Rattle.outside.specs.Disks.{SideState, DiskState, Image, Moments, on_side, is_touched, overwritten, touching, written, cutting, shortened, settled, synced}
@@ -26,20 +26,20 @@ write_after false at bytes side = write_inside at bytes side
 -- a side inside a call
 abbrev pub side_inside : Act → SideState → SideState
 side_inside (act.Write at bytes) side = write_inside at bytes side
-side_inside (act.Cut len) side = cutting len side
+side_inside act.Cut side = cutting side
 side_inside act.Sync side = side
 
 -- a side after a call that was done, or that failed
 abbrev pub side_after : Bool → Act → SideState → SideState
 side_after done (act.Write at bytes) side = write_after done at bytes side
-side_after done (act.Cut len) side = if done then shortened len side else cutting len side
+side_after done act.Cut side = if done then shortened side else cutting side
 side_after done act.Sync side = if done then synced side else side
 
 -- what reads give after a call that was done, or that failed
 abbrev pub reads_after : Bool → Act → List ℕ → List ℕ
 reads_after false call reads = reads
 reads_after true (act.Write at bytes) reads = if is_allowed at (length bytes) reads then overwritten at bytes reads else reads
-reads_after true (act.Cut len) reads = take len reads
+reads_after true act.Cut reads = []
 reads_after true act.Sync reads = reads
 
 -- the bytes of both sides with those of one changed

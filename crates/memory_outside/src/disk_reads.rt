@@ -65,8 +65,8 @@ fn apply_to(bytes: &mut Vec<u8>, act: &Act, done: bool) -> Result<(), NoMemory>
     }
     match act {
         Act::Write { at, bytes: new } => go_through_write(bytes, *at, new.bytes()),
-        Act::Cut { len } => {
-            bytes.truncate(*len as usize);
+        Act::Cut => {
+            bytes.clear();
             Ok(())
         }
         Act::Sync => Ok(()),

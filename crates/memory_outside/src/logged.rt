@@ -7,7 +7,7 @@ use outside::Side;
 #[derive(Drop)]
 pub enum Act {
     Write { at: u64, bytes: Text },
-    Cut { len: u64 },
+    Cut,
     Sync,
 }
 

@@ -190,12 +190,12 @@ impl Disk for MemDisk {
         })
     }
 
-    fn cut(&mut self, side: Side, len: u64) -> Result<(), DiskFailed>
+    fn cut(&mut self, side: Side) -> Result<(), DiskFailed>
         ensures shortened { let before = (moments_of self.old.log).now in
-            OnOk result ((moments_of self.new.log).now ≡ on_side side (shortened len) before) }
+            OnOk result ((moments_of self.new.log).now ≡ on_side side shortened before) }
         ensures moments { let before = moments_of self.old.log in
-            Goes (on_side side (cutting len) before.now) before (moments_of self.new.log) }
-        ensures log { let call = next_kept self.old side (act.Cut len) in
+            Goes (on_side side cutting before.now) before (moments_of self.new.log) }
+        ensures log { let call = next_kept self.old side act.Cut in
             LogsCall result call self.old.log self.new.log }
         ensures cause { DiskCounts result self.old.calls.failed self.new.calls.failed }
         ensures fails { DiskFails result self.old.calls }
@@ -206,7 +206,7 @@ impl Disk for MemDisk {
         self.go_through(LoggedCall {
             number,
             side,
-            act: Act::Cut { len },
+            act: Act::Cut,
             done,
         })
     }

@@ -68,8 +68,8 @@ impl SideBook {
     {
         match act {
             Act::Write { at, bytes } => self.go_through_write(*at, bytes.bytes(), done),
-            Act::Cut { len } => {
-                self.cut(*len, done);
+            Act::Cut => {
+                self.cut(done);
                 Ok(())
             }
             Act::Sync => { if done { self.sync(alloc) } else { Ok(()) } }
@@ -118,12 +118,12 @@ impl SideBook {
         Ok(())
     }
 
-    fn cut(&mut self, len: u64, done: bool)
-        ensures { self.new ≡ (if done then shortened len self.old else cutting len self.old) }
+    fn cut(&mut self, done: bool)
+        ensures { self.new ≡ (if done then shortened self.old else cutting self.old) }
     {
-        self.low = self.low.min(len);
+        self.low = 0;
         if done {
-            self.reads.truncate(len as usize);
+            self.reads.clear();
         }
     }
 

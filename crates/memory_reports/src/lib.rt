@@ -4,6 +4,3 @@
 mod reports;
 
 pub use reports::MemReports;
-
-#[cfg(test)]
-mod tests;

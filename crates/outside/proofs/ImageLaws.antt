@@ -58,8 +58,8 @@ written_sound at bytes side within fits sound =
       short = omega (arith, sound.short);
     }
 
-pub cutting_sound : (len : ℕ) (side : SideState) → IsSoundSide side → IsSoundSide (cutting len side)
-cutting_sound len side sound = record {
+pub cutting_sound : (side : SideState) → IsSoundSide side → IsSoundSide (cutting side)
+cutting_sound side sound = record {
   image = record {
     no_shorter = omega (arith, sound.image.no_shorter);
     no_longer = sound.image.no_longer;
@@ -69,19 +69,15 @@ cutting_sound len side sound = record {
 }
 
 -- after a cut what reads give is an image
-pub shortened_sound : (len : ℕ) (side : SideState) → IsSoundSide side → IsSoundSide (shortened len side)
-shortened_sound len side sound =
-    let size = length-take len side.reads in
-    record {
-      image = record {
-        no_shorter = omega (arith, size, sound.image.no_shorter);
-        no_longer = omega (arith, size, sound.image.no_longer);
-        kept = λ k below there out.
-            let early : k < len = omega (arith, size) in
-            get_or-take len side.reads k 0 early ∙ sound.image.kept k (omega (arith, size)) there out;
-      };
-      short = sound.short;
-    }
+pub shortened_sound : (side : SideState) → IsSoundSide side → IsSoundSide (shortened side)
+shortened_sound side sound = record {
+  image = record {
+    no_shorter = omega arith;
+    no_longer = omega arith;
+    kept = λ k below there out. omega (arith, below);
+  };
+  short = sound.short;
+}
 
 -- bytes alone are an image
 pub settled_sound : (bytes : List ℕ) → length bytes < 2 ^ 63 → IsSoundSide (settled bytes)
@@ -107,12 +103,12 @@ pub within_written : (at : ℕ) (bytes : List ℕ) (side : SideState) (image : L
 within_written at bytes side image is = record { no_shorter = is.no_shorter; no_longer = is.no_longer; kept = is.kept }
 
 -- an image before a cut is one inside it
-pub within_cutting : (len : ℕ) (side : SideState) (bytes : List ℕ) → IsSideImage side bytes → IsSideImage (cutting len side) bytes
-within_cutting len side bytes image = record { no_shorter = omega (arith, image.no_shorter); no_longer = image.no_longer; kept = image.kept }
+pub within_cutting : (side : SideState) (bytes : List ℕ) → IsSideImage side bytes → IsSideImage (cutting side) bytes
+within_cutting side bytes image = record { no_shorter = omega (arith, image.no_shorter); no_longer = image.no_longer; kept = image.kept }
 
 -- inside a cut there are the images from after it
-pub within_shortened : (len : ℕ) (side : SideState) (image : List ℕ) → IsSideImage (shortened len side) image → IsSideImage (cutting len side) image
-within_shortened len side image is = record { no_shorter = is.no_shorter; no_longer = is.no_longer; kept = is.kept }
+pub within_shortened : (side : SideState) (image : List ℕ) → IsSideImage (shortened side) image → IsSideImage (cutting side) image
+within_shortened side image is = record { no_shorter = is.no_shorter; no_longer = is.no_longer; kept = is.kept }
 
 -- a side of bytes alone has no other image
 pub settled_only : (bytes image : List ℕ) → IsSideImage (settled bytes) image → image ≡ bytes

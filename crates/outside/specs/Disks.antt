@@ -1,5 +1,5 @@
 -- What a stop can leave of the two sides of a disk, and the moments of a run of calls.
-use Rattle.std.specs.Prelude.{◌≡◌, ◌⊎◌, ℕ, ◌+◌, ◌^◌, ◌<◌, ◌≤◌, nat_le, nat_lt, min, max, Bool, false, ◌&&◌, ◌||◌, List, [], ◌∷◌, ◌++◌, length, take, drop, slice_index, if◌then◌else◌}
+use Rattle.std.specs.Prelude.{◌≡◌, ◌⊎◌, ℕ, ◌+◌, ◌^◌, ◌<◌, ◌≤◌, nat_le, nat_lt, max, Bool, false, ◌&&◌, ◌||◌, List, [], ◌∷◌, ◌++◌, length, take, drop, slice_index, if◌then◌else◌}
 use Rattle.std.specs.List.{AllByRecursion}
 use Rattle.outside.specs.declared.disk.Side.{Side}
 use Rattle.outside.specs.declared.disk.Side.TheVariants.{A, B}
@@ -84,13 +84,13 @@ writing at count side = if nat_lt (at + count) (2 ^ 63) then touching at count s
 abbrev pub written : (at : ℕ) (bytes : List ℕ) → SideState → SideState
 written at bytes side = record { reads = overwritten at bytes side.reads; synced = side.synced; low = side.low; high = max side.high (at + length bytes); touched = (at, length bytes) ∷ side.touched }
 
--- a side inside a cut to a length, and after a cut that failed: any length between both may be left
-abbrev pub cutting : (len : ℕ) → SideState → SideState
-cutting len side = record { reads = side.reads; synced = side.synced; low = min side.low len; high = side.high; touched = side.touched }
+-- a side inside a cut to no bytes, and after a cut that failed
+abbrev pub cutting : SideState → SideState
+cutting side = record { reads = side.reads; synced = side.synced; low = 0; high = side.high; touched = side.touched }
 
 -- a side after a cut that answered Ok
-abbrev pub shortened : (len : ℕ) → SideState → SideState
-shortened len side = record { reads = take len side.reads; synced = side.synced; low = min side.low len; high = side.high; touched = side.touched }
+abbrev pub shortened : SideState → SideState
+shortened side = record { reads = []; synced = side.synced; low = 0; high = side.high; touched = side.touched }
 
 -- a side of these bytes alone
 abbrev pub settled : List ℕ → SideState
@@ -109,8 +109,8 @@ abbrev pub written_through : (at : ℕ) (bytes : List ℕ) → SideState → Sid
 written_through at bytes side = settled (overwritten at bytes side.reads)
 
 -- a side after a cut and a sync that both answered Ok
-abbrev pub cut_through : (len : ℕ) → SideState → SideState
-cut_through len side = settled (take len side.reads)
+abbrev pub cut_through : SideState → SideState
+cut_through side = settled []
 
 -- a stop can leave what reads give of a side, and nothing of 2^63 bytes or more
 pub record IsSoundSide (side : SideState) : Type 0 where

@@ -62,14 +62,13 @@ pub trait Disk {
         ensures cause { DiskCounts result (failed_disk_calls self.old)
             (failed_disk_calls self.new) };
 
-    /// Cuts a side to at most its length. Until a sync, it may have either length, or one between.
-    fn cut(&mut self, side: Side, len: u64) -> Result<(), DiskFailed>
-        requires { tells → (len ≤ length (side_of side (moments self.old).now).reads) }
+    /// Cuts a side to no bytes. Until a sync, it may have its earlier length, none, or one between.
+    fn cut(&mut self, side: Side) -> Result<(), DiskFailed>
         ensures shortened { tells →
             let before = (moments self.old).now in
-            OnOk result ((moments self.new).now ≡ on_side side (shortened len) before) }
+            OnOk result ((moments self.new).now ≡ on_side side shortened before) }
         ensures moments { tells →
-            let during = on_side side (cutting len) (moments self.old).now in
+            let during = on_side side cutting (moments self.old).now in
             Goes during (moments self.old) (moments self.new) }
         ensures cause { DiskCounts result (failed_disk_calls self.old)
             (failed_disk_calls self.new) };

@@ -29,18 +29,17 @@ pub fn write_durably<D: Disk>(
     disk.sync(side)
 }
 
-/// Cuts and syncs. Its moments are those of a cut; after Ok a stop can leave of the side what reads give.
-pub fn cut_durably<D: Disk>(disk: &mut D, side: Side, len: u64) -> Result<(), DiskFailed>
-    requires { D.tells → (len ≤ length (side_of side (D.moments disk.old).now).reads) }
+/// Cuts to no bytes, and syncs. Its moments are those of a cut; after Ok a stop can leave of the side what reads give.
+pub fn cut_durably<D: Disk>(disk: &mut D, side: Side) -> Result<(), DiskFailed>
     ensures shortened { D.tells →
         let before = (D.moments disk.old).now in
-        OnOk result ((D.moments disk.new).now ≡ on_side side (cut_through len) before) }
+        OnOk result ((D.moments disk.new).now ≡ on_side side cut_through before) }
     ensures moments { D.tells →
-        let during = on_side side (cutting len) (D.moments disk.old).now in
+        let during = on_side side cutting (D.moments disk.old).now in
         Goes during (D.moments disk.old) (D.moments disk.new) }
     ensures cause { DiskCounts result (D.failed_disk_calls disk.old)
         (D.failed_disk_calls disk.new) }
 {
-    disk.cut(side, len)?;
+    disk.cut(side)?;
     disk.sync(side)
 }

@@ -6,7 +6,7 @@ use base::{
 };
 use std::alloc::Global;
 use std::test::Fail;
-use store_record_codec::{Record, read_record};
+use tests_graphs::{Record, read_record};
 use vhdl_benches::{Bench, CaseList, TestCase, Tests};
 
 fn name(alloc: Global, library: &[u8], path: &[u8]) -> Result<FileName, NoMemory> {

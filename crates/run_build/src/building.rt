@@ -17,7 +17,7 @@ ghost use Rattle.run_build.specs.Orders.{order_by};
 
 use crate::opener::{Opener, SeatedStore, seated};
 use base::{FILE_LIMIT, Graph, SLOT_LIMIT};
-use build_loop::{BuildFault, build_seated};
+use build_loop::{BuildFault, build_marks};
 use outside::{Disk, Procs, Records, StoreFault};
 use run_spec::MarkList;
 use std::alloc::Global;
@@ -128,7 +128,7 @@ pub fn build_kept<'g, K: Records + Drop, O: Opener<'g, K>, D: Disk, P: Procs>(
                 mut store,
                 mut seats,
             },
-        ) => match build_seated(
+        ) => match build_marks(
             alloc,
             graph,
             &mut store,

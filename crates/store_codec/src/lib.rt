@@ -18,6 +18,3 @@ pub use words::{has_word_sizes, has_words};
 pub use writing::{
     ProductParts, RequestParts, TextPart, product_payload, request_payload, spelled_words,
 };
-
-#[cfg(test)]
-mod tests;

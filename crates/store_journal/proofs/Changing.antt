@@ -34,7 +34,7 @@ by_first P side bytes other dead made byte =
 pub making_each : (P : Image → Type 0) (side : Side) (bytes one other : List ℕ) → ((k : ℕ) → P (paired side (take k one) other)) → ((left : List ℕ) → IsDead left → P (paired side left other)) → P (paired side (1 ∷ bytes) other) → AllByRecursion (λ (step : Step). EachImage P step.during) (made_steps side bytes one other)
 making_each P side bytes one other prefix dead made =
     let shown : List ℕ → Type 0 = λ left. P (paired side left other) in (
-      each_of_one P side (cutting 0 (settled one)) other (λ left is. subst shown (sym (cut_image one left is)) (prefix (length left))),
+      each_of_one P side (cutting (settled one)) other (λ left is. subst shown (sym (cut_image one left is)) (prefix (length left))),
       (
         each_of_one P side (writing 0 1 (settled [])) other (λ left is. dead left (λ form. short_dead form left (byte_image left is))),
         (

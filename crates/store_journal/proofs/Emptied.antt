@@ -113,34 +113,34 @@ abbrev HasNot : (form : ℕ) → Image → Type 0
 HasNot form image = has_form form image ≡ false
 
 -- B is cut where a form isn't live: it isn't live then,
-cut_moments : (form : ℕ) (old new : Moments) → old.now ≡ settled_disk (reads_of old.now) → has_form form (reads_of old.now) ≡ false → Goes (on_side B (cutting 0) old.now) old new → AtAnyMoment old new (HasNot form)
+cut_moments : (form : ℕ) (old new : Moments) → old.now ≡ settled_disk (reads_of old.now) → has_form form (reads_of old.now) ≡ false → Goes (on_side B cutting old.now) old new → AtAnyMoment old new (HasNot form)
 cut_moments form old new is none goes =
     let image = reads_of old.now in
     let P = HasNot form in
     let dead = counting_none form B image.b image.a (no_form_counts form image none) in
-    let inside : EachImage P (on_side B (cutting 0) (settled_disk image)) = each_of_one P B (cutting 0 (settled image.b)) image.a (λ left cut.
+    let inside : EachImage P (on_side B cutting (settled_disk image)) = each_of_one P B (cutting (settled image.b)) image.a (λ left cut.
     subst (λ (l : List ℕ). P (paired B l image.a)) (sym (cut_image image.b left cut)) (no_form_paired form B (take (length left) image.b) image.a (dead_prefix form (length left) image.b dead.0) dead.1)) in
-    call_moments (on_side B (cutting 0) old.now) old new P goes
+    call_moments (on_side B cutting old.now) old new P goes
     (subst (EachImage P) (sym is) (settled_each P image none))
-    (subst (λ (disk : DiskState). EachImage P (on_side B (cutting 0) disk)) (sym is) inside)
+    (subst (λ (disk : DiskState). EachImage P (on_side B cutting disk)) (sym is) inside)
 
 -- what it leaves is settled,
-pub cut_settles : (old new : DiskState) → old ≡ settled_disk (reads_of old) → new ≡ on_side B (cut_through 0) old → new ≡ settled_disk (reads_of new)
+pub cut_settles : (old new : DiskState) → old ≡ settled_disk (reads_of old) → new ≡ on_side B cut_through old → new ≡ settled_disk (reads_of new)
 cut_settles old new is cut =
-    let left : new ≡ settled_disk (record { a = (reads_of old).a; b = [] }) = cut ∙ ap (on_side B (cut_through 0)) is in
+    let left : new ≡ settled_disk (record { a = (reads_of old).a; b = [] }) = cut ∙ ap (on_side B cut_through) is in
     left ∙ ap settled_disk (sym (ap reads_of left))
 
 -- and the form isn't live in it
-cut_has_not : (form : ℕ) (old new : Moments) → old.now ≡ settled_disk (reads_of old.now) → has_form form (reads_of old.now) ≡ false → Goes (on_side B (cutting 0) old.now) old new → new.now ≡ on_side B (cut_through 0) old.now → has_form form (reads_of new.now) ≡ false
+cut_has_not : (form : ℕ) (old new : Moments) → old.now ≡ settled_disk (reads_of old.now) → has_form form (reads_of old.now) ≡ false → Goes (on_side B cutting old.now) old new → new.now ≡ on_side B cut_through old.now → has_form form (reads_of new.now) ≡ false
 cut_has_not form old new is none goes cut =
     at_present old new (HasNot form) (cut_moments form old new is none goes) (reads_of new.now)
     (subst (λ (disk : DiskState). IsImage disk (reads_of new.now)) (sym (cut_settles old.now new.now is cut)) (settled_image (reads_of new.now)))
 
-pub cut_counts : (form : ℕ) (old new : Moments) → old.now ≡ settled_disk (reads_of old.now) → has_form form (reads_of old.now) ≡ false → Goes (on_side B (cutting 0) old.now) old new → new.now ≡ on_side B (cut_through 0) old.now → counting form (reads_of new.now) ≡ None
+pub cut_counts : (form : ℕ) (old new : Moments) → old.now ≡ settled_disk (reads_of old.now) → has_form form (reads_of old.now) ≡ false → Goes (on_side B cutting old.now) old new → new.now ≡ on_side B cut_through old.now → counting form (reads_of new.now) ≡ None
 cut_counts form old new is none goes cut = no_form_counts form (reads_of new.now) (cut_has_not form old new is none goes cut)
 
 -- where neither form is live, nothing counts
-cut_none : (newer older : ℕ) (old new : Moments) → old.now ≡ settled_disk (reads_of old.now) → has_form newer (reads_of old.now) ≡ false → has_form older (reads_of old.now) ≡ false → Goes (on_side B (cutting 0) old.now) old new → AtAnyMoment old new (CountsNone newer older)
+cut_none : (newer older : ℕ) (old new : Moments) → old.now ≡ settled_disk (reads_of old.now) → has_form newer (reads_of old.now) ≡ false → has_form older (reads_of old.now) ≡ false → Goes (on_side B cutting old.now) old new → AtAnyMoment old new (CountsNone newer older)
 cut_none newer older old new is none gone goes =
     weaker_moments old new (λ image. HasNot newer image × HasNot older image) (CountsNone newer older)
     (λ image neither. none_where_apart newer older image (no_form_payloads newer image neither.0) (inr neither.1))
@@ -150,14 +150,14 @@ or_none : (newer older : ℕ) (old new : Moments) → AtAnyMoment old new (Count
 or_none newer older old new moments = weaker_moments old new (CountsNone newer older) (CountsSameOrNone newer older (reads_of old.now)) (λ image none. inr none) moments
 
 -- the cut failed
-pub dead_fails : {E : Type 0} (newer older : ℕ) (why : E) (old new : Moments) → old.now ≡ settled_disk (reads_of old.now) → has_form newer (reads_of old.now) ≡ false → has_form older (reads_of old.now) ≡ false → Goes (on_side B (cutting 0) old.now) old new → EmptiesSides newer older (Err why) old new
+pub dead_fails : {E : Type 0} (newer older : ℕ) (why : E) (old new : Moments) → old.now ≡ settled_disk (reads_of old.now) → has_form newer (reads_of old.now) ≡ false → has_form older (reads_of old.now) ≡ false → Goes (on_side B cutting old.now) old new → EmptiesSides newer older (Err why) old new
 dead_fails newer older why old new is none gone goes =
     let moments = cut_none newer older old new is none gone goes in
     record { any_moment = or_none newer older old new moments; loses = none_lost (CountsNone newer older) old new moments; emptied = tt; live = tt; in_step = tt }
 
 -- or A was made after it, or being made
 module _ (newer older : ℕ) (old middle new : Moments) (is : old.now ≡ settled_disk (reads_of old.now)) (none : has_form newer (reads_of old.now) ≡ false) (gone : has_form older (reads_of old.now) ≡ false)
-    (goes : Goes (on_side B (cutting 0) old.now) old middle) (cut : middle.now ≡ on_side B (cut_through 0) old.now)
+    (goes : Goes (on_side B cutting old.now) old middle) (cut : middle.now ≡ on_side B cut_through old.now)
     (begun : AtAnyMoment middle new (λ image. payloads newer image ≡ payloads newer (reads_of middle.now)))
     (apart : (other : ℕ) → other ≢ newer → has_form other (reads_of middle.now) ≡ false → AtAnyMoment middle new (λ image. has_form other image ≡ false)) where
   held : payloads newer (reads_of middle.now) ≡ []

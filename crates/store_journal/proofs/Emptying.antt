@@ -39,7 +39,7 @@ emptied_by live other bytes disk emptied dead new first second made =
 
 abbrev emptying_by : Side → (one rest : List ℕ) → List Step → List Step
 emptying_by side one rest steps =
-    record { during = states side (cutting 0 (settled one)) (settled (1 ∷ rest)); after = states side (settled []) (settled (1 ∷ rest)) }
+    record { during = states side (cutting (settled one)) (settled (1 ∷ rest)); after = states side (settled []) (settled (1 ∷ rest)) }
     ∷ record { during = states side (settled []) (writing 0 1 (settled (1 ∷ rest))); after = states side (settled []) (settled (0 ∷ rest)) }
     ∷ steps
 
@@ -78,7 +78,7 @@ dying P side rest lives dead byte = elim (cases_eq byte 1) [
 -- one side alone that is dead, or made.
 emptying_each : (P : Image → Type 0) (side : Side) (bytes one rest : List ℕ) → ((k : ℕ) → P (paired side (take k one) (1 ∷ rest))) → ((left : List ℕ) → IsDead left → P (paired side [] left)) → P (paired side [] (1 ∷ bytes)) → AllByRecursion (λ (step : Step). EachImage P step.during) (emptying_steps side bytes one rest)
 emptying_each P side bytes one rest prefix dead made = (
-  each_of_one P side (cutting 0 (settled one)) (1 ∷ rest) (λ left is. subst (λ (l : List ℕ). P (paired side l (1 ∷ rest))) (sym (cut_image one left is)) (prefix (length left))),
+  each_of_one P side (cutting (settled one)) (1 ∷ rest) (λ left is. subst (λ (l : List ℕ). P (paired side l (1 ∷ rest))) (sym (cut_image one left is)) (prefix (length left))),
   (
     each_of_other P side [] (writing 0 1 (settled (1 ∷ rest))) (λ left is.
         let parts = first_image 1 rest left is in

@@ -42,7 +42,7 @@ made_by side bytes disk emptied dead full new first second third fourth = rw (fo
 -- the steps of making a side, by what it is once all but the first byte are written
 abbrev steps_by : Side → (bytes one other full : List ℕ) → List Step
 steps_by side bytes one other full =
-    record { during = states side (cutting 0 (settled one)) (settled other); after = states side (settled []) (settled other) }
+    record { during = states side (cutting (settled one)) (settled other); after = states side (settled []) (settled other) }
     ∷ record { during = states side (writing 0 1 (settled [])) (settled other); after = states side (settled (0 ∷ [])) (settled other) }
     ∷ record { during = states side (writing 1 (length bytes) (settled (0 ∷ []))) (settled other); after = states side (settled full) (settled other) }
     ∷ record { during = states side (writing 0 1 (settled full)) (settled other); after = states side (settled (overwritten 0 (1 ∷ []) full)) (settled other) }
@@ -86,7 +86,7 @@ pub making_either : (form : ℕ) (side : Side) (bytes one other : List ℕ) (old
 making_either form side bytes one other old new leaves made =
     let P = HasEither form old new in
     let shown : List ℕ → List (List ℕ) = λ left. payloads form (paired side left other) in (
-      each_of_one P side (cutting 0 (settled one)) other (λ left is. inl (ap shown (cut_image one left is) ∙ leaves.prefix (length left))),
+      each_of_one P side (cutting (settled one)) other (λ left is. inl (ap shown (cut_image one left is) ∙ leaves.prefix (length left))),
       (
         each_of_one P side (writing 0 1 (settled [])) other (λ left is. inl (leaves.dead left (short_dead form left (byte_image left is)))),
         (

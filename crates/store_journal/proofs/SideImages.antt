@@ -39,7 +39,7 @@ pub paired_image : (side : Side) (one other : List ℕ) → IsImage (states side
 paired_image side one other = subst (λ (disk : DiskState). IsImage disk (paired side one other)) (sym (states_settled side one other)) (settled_image (paired side one other))
 
 -- a cut leaves a prefix
-pub cut_image : (one bytes : List ℕ) → IsSideImage (cutting 0 (settled one)) bytes → bytes ≡ take (length bytes) one
+pub cut_image : (one bytes : List ℕ) → IsSideImage (cutting (settled one)) bytes → bytes ≡ take (length bytes) one
 cut_image one bytes is =
     let size : length bytes ≤ length one = omega (arith, is.no_longer) in
     same_number_lists bytes (take (length bytes) one) (omega (arith, size, length-take (length bytes) one))

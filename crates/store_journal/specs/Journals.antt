@@ -1,5 +1,5 @@
 -- What a journal knows of its disk.
-use Rattle.std.specs.Prelude.{◌≡◌, ◌≢◌, ◌⊎◌, ℕ, ◌+◌, ◌<◌, ◌^◌, Bool, List, [], ◌∷◌, ◌++◌, ◌-◌, length, take, drop, All, Option, Some, None, Result, OnOk}
+use Rattle.std.specs.Prelude.{◌≡◌, ◌≢◌, ℕ, ◌+◌, ◌<◌, ◌^◌, Bool, List, [], ◌∷◌, ◌++◌, ◌-◌, length, take, drop, All, Option, Some, None, Result, OnOk}
 use Rattle.std.specs.List.{flat_map}
 use Rattle.base.specs.Bytes.{text_bytes}
 use Rattle.outside.specs.declared.disk.Side.{Side}
@@ -101,7 +101,3 @@ pub record IsReady (bytes : List ℕ) : Type 0 where
 pub record IsReadySide (form generation : ℕ) (bytes : List ℕ) : Type 0 where
   pub parts : 1 ∷ bytes ≡ side_bytes form generation (payloads_in (1 ∷ bytes))
   pub small : All (λ payload. length payload < 2 ^ 32) (payloads_in (1 ∷ bytes))
-
--- the payloads from before, with one more, with two more, or with none
-abbrev pub IsWithTwo : List (List ℕ) → List (List ℕ) → List ℕ → List ℕ → Type 0
-IsWithTwo payloads before first second = (payloads ≡ before) ⊎ ((payloads ≡ before ++ first ∷ []) ⊎ (payloads ≡ before ++ (first ∷ second ∷ [])))

@@ -19,7 +19,7 @@ write_step side at bytes disk = record { during = on_side side (writing at (leng
 
 -- a cut of a side to no bytes, with the sync that makes it last
 abbrev pub cut_step : Side → DiskState → Step
-cut_step side disk = record { during = on_side side (cutting 0) disk; after = on_side side (cut_through 0) disk }
+cut_step side disk = record { during = on_side side cutting disk; after = on_side side cut_through disk }
 
 -- what the disk is after a step, and the steps from there on
 abbrev pub then_steps : Step → (DiskState → List Step) → List Step

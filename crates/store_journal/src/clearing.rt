@@ -66,7 +66,7 @@ fn empty_dead<D: Disk>(alloc: Global, disk: &mut D, newer: u8) -> Result<Journal
     ensures cause { StoreCounts result (D.failed_disk_calls disk.old)
         (D.failed_disk_calls disk.new) }
 {
-    cut_durably(disk, Side::B, 0)?;
+    cut_durably(disk, Side::B)?;
     let Opened {
         journal,
         payloads: _none,
@@ -110,7 +110,7 @@ fn clear_sides<D: Disk>(
     ensures cause { DiskCounts result (D.failed_disk_calls disk.old)
         (D.failed_disk_calls disk.new) }
 {
-    cut_durably(disk, other, 0)?;
+    cut_durably(disk, other)?;
     write_durably(disk, live, 0, &[0])?;
     make_side(disk, live, bytes)
 }

@@ -16,13 +16,13 @@ ghost use Rattle.outside.specs.Counts.{DiskCounts};
 ghost use Rattle.outside.specs.Disks.{reads_of, IsEither, AtAnyMoment, NeverLoses};
 ghost use Rattle.store_journal.specs.Forms.{ChangesForm, has_form};
 ghost use Rattle.store_journal.specs.Payloads.{payloads};
-ghost use Rattle.store_journal.specs.Journals.{IsInStep, CountsAs, IsWithTwo, other_side};
+ghost use Rattle.store_journal.specs.Journals.{IsInStep, CountsAs, other_side};
 ghost use Rattle.store_journal.specs.Steps.{Went, last_moment, committing};
 
 use crate::making::make_side;
 use crate::{Payloads, Ready, ReadySide};
 use base::{DiskFailed, NoMemory};
-use outside::{Disk, Side, cut_durably, write_durably};
+use outside::{Disk, Side, write_durably};
 use std::alloc::Global;
 use std::marker::Model;
 
@@ -310,34 +310,4 @@ pub(crate) fn other(side: Side) -> Side
         Side::A => Side::B,
         Side::B => Side::A,
     }
-}
-
-/// Commits two payloads, one after the other. At any moment a stop can leave the payloads from before, with the first
-/// one, with both, or with none.
-pub fn commit_both<D: Disk>(
-    journal: &mut Journal,
-    disk: &mut D,
-    first: Ready,
-    second: Ready,
-) -> Result<(), DiskFailed>
-    requires usable { journal.old.broken ≡ false }
-    requires in_step { D.tells → IsInStep journal.old (D.moments disk.old).now }
-    ensures in_step { D.tells → OnOk result (IsInStep journal.new (D.moments disk.new).now) }
-    ensures added { D.tells →
-        OnOk result
-        (payloads journal.old.form (reads_of (D.moments disk.new).now)
-        ≡ payloads journal.old.form (reads_of (D.moments disk.old).now)
-        ++ (first ∷ second ∷ [])) }
-    ensures any_moment { D.tells →
-        AtAnyMoment (D.moments disk.old) (D.moments disk.new)
-        (λ image.
-        IsWithTwo (payloads journal.old.form image)
-        (payloads journal.old.form (reads_of (D.moments disk.old).now)) first second) }
-    ensures form { journal.new.form ≡ journal.old.form }
-    ensures broken { journal.new.broken ≡ is_err result }
-    ensures cause { DiskCounts result (D.failed_disk_calls disk.old)
-        (D.failed_disk_calls disk.new) }
-{
-    journal.commit(disk, &first)?;
-    journal.commit(disk, &second)
 }

@@ -16,7 +16,7 @@ mod taker;
 mod windows;
 
 pub use finding::FoundForm;
-pub use journal::{Journal, commit_both};
+pub use journal::Journal;
 pub use opening::Opened;
 pub use payloads::Payloads;
 pub use ready::{Ready, ReadySide};

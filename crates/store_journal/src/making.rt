@@ -20,7 +20,7 @@ pub fn make_side<D: Disk>(disk: &mut D, side: Side, bytes: &[u8]) -> Result<(), 
     ensures cause { DiskCounts result (D.failed_disk_calls disk.old)
         (D.failed_disk_calls disk.new) }
 {
-    cut_durably(disk, side, 0)?;
+    cut_durably(disk, side)?;
     write_durably(disk, side, 0, &[0])?;
     write_durably(disk, side, 1, bytes)?;
     write_durably(disk, side, 0, &[1])

@@ -8,6 +8,3 @@ mod reading;
 pub use copying::{bytes_of, name_of, numbers_of, words_of};
 pub use laws::{laws_of_new_nodes, laws_of_nodes};
 pub use reading::{DraftSpans, PayloadSpans, SourceSpan, Span, read_payload};
-
-#[cfg(test)]
-mod tests;

@@ -5,8 +5,6 @@
 
 mod commands;
 mod drafts;
-#[cfg(test)]
-mod fits_tests;
 mod listing;
 mod names;
 mod pieces;
@@ -15,12 +13,8 @@ mod rows;
 mod shelf;
 mod sums;
 mod table;
-#[cfg(test)]
-mod table_tests;
 mod taking;
 mod test;
-#[cfg(test)]
-mod tests;
 mod texts;
 
 pub use commands::Command;

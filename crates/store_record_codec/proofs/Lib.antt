@@ -1,9 +1,3 @@
 -- The lemmas.
-pub mod Spelled
-pub mod Records
-pub mod Marks
-pub mod Closings
-pub mod Distinct
 pub mod Standing
 pub mod Deciding
-pub mod FoundRecords

@@ -1,13 +1,11 @@
--- The record that is found in some bytes: small tests tell whether the files that were read are a view.
-use Rattle.std.specs.Prelude.{ℕ, ◌-◌, Bool, true, not, ◌&&◌, ◌==◌, nat_le, nat_lt, if◌then◌else◌, List, [], ◌∷◌, length, slice_get, Option, Some, None}
+-- Small tests that tell whether files are a view.
+use Rattle.std.specs.Prelude.{ℕ, ◌-◌, Bool, true, not, ◌&&◌, ◌==◌, nat_le, nat_lt, List, [], ◌∷◌, length, slice_get}
 use Rattle.std.specs.List.{list_all, list_any, enumerate_from, range_with_len, sum_by}
 use Rattle.std.specs.Option.{option_map_or}
 use Rattle.base.specs.declared.file.FileName.{FileName}
 use Rattle.base.specs.declared.graph.Entry.{Entry}
 use Rattle.base.specs.Names.{is_same_name}
-use Rattle.base_bytes.specs.Reading.{◌>>=◌}
-use Rattle.store_record_codec.specs.Reading.{record_read_at}
-use Rattle.base.specs.declared.limits.TheConstants.{ARTEFACT_LIMIT, COMMAND_LIMIT, FILE_LIMIT, GRAPH_TEXT_LIMIT, LIBRARY_LIMIT, PATH_LIMIT, TEXT_LIMIT, WORD_LIMIT}
+use Rattle.base.specs.declared.limits.TheConstants.{COMMAND_LIMIT, FILE_LIMIT, GRAPH_TEXT_LIMIT, LIBRARY_LIMIT, PATH_LIMIT, TEXT_LIMIT, WORD_LIMIT}
 
 -- each item passes the test with each later one
 unfoldable pub all_pairs : {X : Type 0} → (X → X → Bool) → List X → Bool
@@ -54,9 +52,3 @@ is_whole files = nat_lt 0 (length files) && holds_all (found_deps files (length 
 -- a graph whose last file depends on all others
 abbrev pub is_view : List Entry → Bool
 is_view files = is_graph files && is_whole files
-
--- the record whose bytes these are
-unfoldable pub record_in : List ℕ → Option (List Entry × List ℕ)
-record_in bytes = do
-  found ← record_read_at bytes
-  if is_view found.0 && nat_le (length found.1) ARTEFACT_LIMIT then Some found else None

@@ -1,5 +1,3 @@
 -- The definitions.
-pub mod Spelling
-pub mod Reading
 pub mod Validity
 pub mod Found

@@ -1,16 +1,10 @@
-//! The bytes of a record of a view, and what its files are checked for.
+//! The words of a command in the earlier form, and what makes files a view.
 #![tactic(auto)]
 
-mod closed;
 mod kept_view;
-mod names;
 mod reading;
 mod sizes;
-mod views;
 
 pub use kept_view::Record;
-pub use reading::{read_record, read_words};
+pub use reading::read_words;
 pub use sizes::fits_command;
-
-#[cfg(test)]
-mod tests;

@@ -151,8 +151,3 @@ abbrev pub OnNoMemory : {T : Type 0} → Result T StoreFault → Type 0 → Type
 OnNoMemory (Ok value) one other = Unit {0}
 OnNoMemory (Err fault.NoMemory) one other = one × other
 OnNoMemory (Err fault.DiskFailed) one other = Unit {0}
-
--- a call answered Ok, and left a store and a disk as they were
-abbrev pub LeavesAll : {T S D : Type 0} → Result T StoreFault → S → S → D → D → Type 0
-LeavesAll (Ok value) old new disk after = (new ≡ old) × (after ≡ disk)
-LeavesAll (Err fault) old new disk after = ⊥

@@ -13,7 +13,7 @@ ghost use Rattle.store_codec.specs.Carrying.{compacted_requests};
 ghost use Rattle.outside.specs.Records.{latest_alone as latest_requests};
 ghost use Rattle.store_codec.specs.Shelves.{requests_among};
 ghost use Rattle.store_holdings.specs.Held.{AreLentBy, latest_held};
-ghost use Rattle.store_requests.specs.Stored.{AreAllOrLatest, AsksAt, AsksCarrying, HasCarriedOver, HasManyDead, IsRequestStoreInStep, IsResting, LeavesAll, OnNoMemory, capped_length, has_disk_failed, own_requests, store_of};
+ghost use Rattle.store_requests.specs.Stored.{AreAllOrLatest, AsksAt, AsksCarrying, HasCarriedOver, HasManyDead, IsRequestStoreInStep, IsResting, OnNoMemory, capped_length, has_disk_failed, own_requests, store_of};
 
 use crate::reading::FORM;
 use base::NoMemory;
@@ -32,58 +32,6 @@ const DEAD_LIMIT: u64 = 1_048_576;
 struct Compacted<'g> {
     held: RequestHoldings<'g>,
     side: ReadySide,
-}
-
-/// Compacts where there is a next generation.
-pub fn compact_all<'g, D: Disk>(
-    journal: &mut Journal,
-    held: &mut RequestHoldings<'g>,
-    alloc: Global,
-    disk: &mut D,
-) -> Result<(), StoreFault>
-    requires usable { journal.old.broken ≡ false }
-    requires form { journal.old.form ≡ 3 }
-    requires in_step { D.tells →
-        IsRequestStoreInStep (store_of journal.old held.old) (D.moments disk.old).now }
-    ensures latest { (name : FileName) →
-        latest_held held.new.payloads name ≡ latest_held held.old.payloads name }
-    ensures in_step { D.tells →
-        OnOk result
-        (IsRequestStoreInStep (store_of journal.new held.new) (D.moments disk.new).now) }
-    ensures compacts { D.tells → journal.old.generation + 1 < 2 ^ 64 →
-        OnOk result
-        (HasCarriedOver (own_requests (reads_of (D.moments disk.old).now))
-        (reads_of (D.moments disk.new).now)) }
-    ensures counts { journal.old.generation + 1 < 2 ^ 64 →
-        OnOk result
-        (CountsAs (other_side journal.old.live) (journal.old.generation + 1) journal.new) }
-    ensures last { journal.old.generation + 1 ≡ 2 ^ 64 →
-        LeavesAll result (store_of journal.old held.old) (store_of journal.new held.new) disk.old
-        disk.new }
-    ensures any_moment { D.tells →
-        let before = own_requests (reads_of (D.moments disk.old).now) in
-        AtAnyMoment (D.moments disk.old) (D.moments disk.new)
-        (λ image. AreAllOrLatest before (own_requests image)) }
-    ensures live { D.tells →
-        AtAnyMoment (D.moments disk.old) (D.moments disk.new) (λ image. has_form 3 image ≡ true) }
-    ensures loses { D.tells →
-        let before = own_requests (reads_of (D.moments disk.old).now) in
-        NeverLoses (D.moments disk.old) (D.moments disk.new)
-        (λ image. payloads 3 image ≡ compacted_requests before) }
-    ensures memory { OnNoMemory result
-        (store_of journal.new held.new ≡ store_of journal.old held.old)
-        (disk.new ≡ disk.old) }
-    ensures form { journal.new.form ≡ 3 }
-    ensures broken { journal.new.broken ≡ has_disk_failed result }
-    ensures cause { StoreCounts result (D.failed_disk_calls disk.old)
-        (D.failed_disk_calls disk.new) }
-{
-    if journal.generation() == u64::MAX {
-        return Ok(());
-    }
-    let plan = held.latest_plan(alloc)?;
-    replace_by(journal, held, alloc, disk, &plan)?;
-    Ok(())
 }
 
 /// Puts the side that keeps the latest records in the place of the one that counts.

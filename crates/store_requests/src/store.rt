@@ -1,6 +1,6 @@
 //! The store of requests over a journal.
 
-ghost use Rattle.std.specs.Prelude.{◌≡◌, ◌↔◌, ◌+◌, ◌^◌, ◌<◌, ◌≤◌, ◌++◌, ◌∷◌, [], List, None, Some, option_map, length, slice_get, false, All, IfOk, IfSome, IsTrue, OnOk, is_err};
+ghost use Rattle.std.specs.Prelude.{◌≡◌, ◌↔◌, ◌+◌, ◌<◌, ◌≤◌, ◌++◌, ◌∷◌, [], List, None, Some, option_map, length, slice_get, false, All, IfOk, IfSome, IsTrue, OnOk, is_err};
 ghost use Rattle.base.specs.Graphs.{IsGraph};
 ghost use Rattle.base.specs.declared.file.FileName.{FileName};
 ghost use Rattle.base.specs.declared.graph.Entry.{Entry};
@@ -8,17 +8,15 @@ ghost use Rattle.base.specs.declared.limits.TheConstants.{ARTEFACT_LIMIT};
 ghost use Rattle.outside.specs.Counts.{DiskCounts, StoreCounts};
 ghost use Rattle.outside.specs.Disks.{AtAnyMoment, DiskState, IsEither, NeverLoses, OpensWith, reads_of};
 ghost use Rattle.outside.specs.Records.{deps_at};
-ghost use Rattle.store_journal.specs.Journals.{CountsAs, Rests, other_side};
-ghost use Rattle.store_journal.specs.Payloads.{payloads};
-ghost use Rattle.store_codec.specs.Carrying.{compacted_requests};
+ghost use Rattle.store_journal.specs.Journals.{Rests};
 ghost use Rattle.store_codec.specs.Shelves.{request_shelf_of};
 ghost use Rattle.store_holdings.specs.Additions.{AddsAsked};
 ghost use Rattle.store_holdings.specs.Held.{AreLentBy, latest_held};
 ghost use Rattle.outside.specs.Records.{IsRecorded as FitsLatest, HasLatest};
 ghost use Rattle.store_holdings.specs.Seated.{AreSeats};
-ghost use Rattle.store_requests.specs.Stored.{AreAllOrLatest, HasCarriedOver, HasRequestsOf, ImageAsksCarrying, IsPreparedAt, IsRequestReady, IsRequestStoreInStep, IsResting, LeavesAll, OnNoMemory, after_committing, has_disk_failed, kept_payloads, prepared_record, requests_in};
+ghost use Rattle.store_requests.specs.Stored.{AreAllOrLatest, HasCarriedOver, HasRequestsOf, ImageAsksCarrying, IsPreparedAt, IsRequestReady, IsRequestStoreInStep, IsResting, after_committing, kept_payloads, prepared_record, requests_in};
 
-use crate::compacting::{compact_all, compact_where_asked};
+use crate::compacting::compact_where_asked;
 use crate::reading::{EARLIER_FORM, FORM, Parts, read};
 use base::{DiskFailed, Entry, FileName, Graph, NoMemory, Text};
 use outside::{Disk, StoreFault};
@@ -272,45 +270,6 @@ impl<'g> RequestStore<'g> {
         self.journal.commit(disk, &ready)?;
         self.held.put(addition, ready, seats);
         Ok(())
-    }
-
-    /// Keeps the latest record of each name and the products and texts that these reach, and nothing else, on the other side
-    /// with the next generation. Where there is no next generation it changes nothing. It takes all its memory before it
-    /// writes; after `NoMemory` the store and the disk are unchanged. Seats that were made before are those of other records
-    /// afterwards: make them again.
-    pub fn compact<D: Disk>(&mut self, alloc: Global, disk: &mut D) -> Result<(), StoreFault>
-        requires usable { self.old.journal.broken ≡ false }
-        requires in_step { D.tells → IsRequestStoreInStep self.old (D.moments disk.old).now }
-        ensures latest { (name : FileName) →
-            latest_held self.new.held.payloads name ≡ latest_held self.old.held.payloads name }
-        ensures in_step { D.tells →
-            OnOk result (IsRequestStoreInStep self.new (D.moments disk.new).now) }
-        ensures compacts { D.tells → self.old.journal.generation + 1 < 2 ^ 64 →
-            OnOk result
-            (HasCarriedOver (requests_in (reads_of (D.moments disk.old).now))
-            (reads_of (D.moments disk.new).now)) }
-        ensures counts { self.old.journal.generation + 1 < 2 ^ 64 →
-            OnOk result
-            (CountsAs (other_side self.old.journal.live) (self.old.journal.generation + 1)
-            self.new.journal) }
-        ensures last { self.old.journal.generation + 1 ≡ 2 ^ 64 →
-            LeavesAll result self.old self.new disk.old disk.new }
-        // At any moment, after a fault too, a stop can leave the records from before, or the latest of these.
-        ensures any_moment { D.tells →
-            let before = requests_in (reads_of (D.moments disk.old).now) in
-            AtAnyMoment (D.moments disk.old) (D.moments disk.new)
-            (λ image. AreAllOrLatest before (requests_in image)) }
-        // Once each image has the compacted side, each image has it.
-        ensures loses { D.tells →
-            let before = requests_in (reads_of (D.moments disk.old).now) in
-            NeverLoses (D.moments disk.old) (D.moments disk.new)
-            (λ image. payloads 3 image ≡ compacted_requests before) }
-        ensures memory { OnNoMemory result (self.new ≡ self.old) (disk.new ≡ disk.old) }
-        ensures broken { self.new.journal.broken ≡ has_disk_failed result }
-        ensures cause { StoreCounts result (D.failed_disk_calls disk.old)
-            (D.failed_disk_calls disk.new) }
-    {
-        compact_all(&mut self.journal, &mut self.held, alloc, disk)
     }
 
     /// Whether a call of this store has answered `DiskFailed`.

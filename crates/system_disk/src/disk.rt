@@ -150,8 +150,8 @@ fn write(state: &mut State, side: Side, at: u64, bytes: &[u8]) -> io::Result<()>
     storage(state, side)?.write(at, bytes)
 }
 
-fn cut(state: &mut State, side: Side, len: u64) -> io::Result<()> {
-    storage(state, side)?.cut(len)
+fn cut(state: &mut State, side: Side) -> io::Result<()> {
+    storage(state, side)?.cut()
 }
 
 fn sync(state: &mut State, side: Side) -> io::Result<()> {
@@ -185,9 +185,9 @@ impl Disk for FileDisk {
         self.answered(side, "write", answer)
     }
 
-    fn cut(&mut self, side: Side, len: u64) -> Result<(), DiskFailed> {
+    fn cut(&mut self, side: Side) -> Result<(), DiskFailed> {
         self.open();
-        let answer = cut(&mut self.state, side, len);
+        let answer = cut(&mut self.state, side);
         self.answered(side, "cut", answer)
     }
 

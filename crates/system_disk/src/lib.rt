@@ -4,8 +4,6 @@
 mod disk;
 mod opening;
 mod storage;
-#[cfg(test)]
-mod tests;
 
 pub use disk::FileDisk;
 pub use opening::STORE_NAMES;

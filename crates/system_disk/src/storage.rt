@@ -60,13 +60,10 @@ impl Storage {
         self.file.write_all_at(bytes, at)
     }
 
-    /// Cuts the file to at most its length. A longer one fails.
-    pub fn cut(&mut self, len: u64) -> io::Result<()> {
-        if len > self.len()? {
-            return Err(ErrorKind::InvalidInput.into());
-        }
+    /// Cuts the file to no bytes.
+    pub fn cut(&mut self) -> io::Result<()> {
         self.is_cut = true;
-        self.file.set_len(len)
+        self.file.set_len(0)
     }
 
     /// After it the file is on the device. The first one asks the system to drop its copies of the file's pages, too,

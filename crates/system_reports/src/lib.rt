@@ -5,8 +5,6 @@ mod beside;
 mod kind;
 mod reports;
 mod spared;
-#[cfg(test)]
-mod tests;
 mod writing;
 
 pub use reports::FileReports;

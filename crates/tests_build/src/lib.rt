@@ -1,4 +1,4 @@
-//! Tests of builds over a disk and children in memory.
+//! Tests of builds over a disk and children in memory, and of the slots of a build alone.
 #![tactic(auto)]
 
 #[cfg(test)]
@@ -19,5 +19,7 @@ mod seeded;
 mod sets;
 #[cfg(test)]
 mod shapes;
+#[cfg(test)]
+mod slots;
 #[cfg(test)]
 mod stops;

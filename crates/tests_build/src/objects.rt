@@ -1,18 +1,18 @@
 //! Builds over a disk and children in memory, and what they tell.
 
-ghost use Rattle.std.specs.Prelude.{◌≡◌, [], IsTrue};
+ghost use Rattle.std.specs.Prelude.{◌≡◌, ◌≤◌, [], IsTrue, false};
+ghost use Rattle.base.specs.declared.limits.TheConstants.{SLOT_LIMIT};
 
 use crate::plain::{NEVER, Way, pick_of};
 use crate::sets::has;
 use crate::shapes::{Project, file_at, file_of, given, graph_of, input_of, letter, word};
 use base::{
-    Built, Event, Exit, Graph, Items, MaybeText, NoMemory, Numbers, Positions, Request, Text,
-    TextList,
+    Event, Exit, Graph, Items, MaybeText, NoMemory, Numbers, Positions, Request, Text, TextList,
 };
-use build_loop::{BuildEnd, BuildFault, build, build_marks};
+use build_loop::{BuildFault, build_marks};
 use build_slots::{Need, plan};
 use memory_outside::{Answer, AnswerList, MemDisk, ScriptProcs, can_answer};
-use outside::{Records, StoreFault};
+use outside::{Disk, Procs, Records, StoreFault};
 use report_run::build_text;
 use run_spec::{Mark, MarkList};
 use std::alloc::Global;
@@ -27,7 +27,7 @@ pub(super) struct Told {
     pub events: Vec<u8>,
     /// One letter a mark: fresh, compiled, refused, skipped or left.
     pub marks: Vec<u8>,
-    /// The letter and the text of each artefact of the whole, where there is one.
+    /// The letter and the text of the artefact of each file, where all are made.
     pub whole: Vec<u8>,
     /// What is printed of the build.
     pub text: Vec<u8>,
@@ -118,6 +118,71 @@ fn is_idle(procs: &ScriptProcs) -> bool
     procs.running().is_empty()
 }
 
+/// The marks of a build, and what the store lends of each file in the end where all are made.
+#[derive(Drop)]
+struct BuildEnd {
+    marks: MarkList,
+    whole: Vec<u8>,
+}
+
+/// Whether each file is fresh or compiled.
+fn are_made(marks: &MarkList) -> bool {
+    for mark in marks.as_slice() {
+        match mark {
+            Mark::Fresh | Mark::Compiled => {}
+            Mark::Refused { code: _, output: _ } | Mark::Skipped | Mark::Left => return false,
+        }
+    }
+    true
+}
+
+/// The artefacts of all files that a store lends, one after the other; a file that has none gives `?`.
+fn lent_whole<K: Records>(
+    alloc: Global,
+    graph: &Graph,
+    store: &K,
+    marks: &MarkList,
+) -> Result<Vec<u8>, NoMemory> {
+    let mut whole = Vec::new(alloc);
+    if !are_made(marks) {
+        return Ok(whole);
+    }
+    for entry in graph.as_slice() {
+        match store.artefact(&entry.name) {
+            Some(artefact) => whole.extend_from_slice(artefact)?,
+            None => whole.push(b'?')?,
+        }
+    }
+    Ok(whole)
+}
+
+/// Builds over a store, by where it has the files.
+fn build_in<K: Records, D: Disk, P: Procs>(
+    alloc: Global,
+    graph: &Graph,
+    store: &mut K,
+    disk: &mut D,
+    procs: &mut P,
+    limit: u32,
+    keep_going: bool,
+) -> Result<BuildEnd, BuildFault>
+    requires limit { (1 ≤ limit) × (limit ≤ SLOT_LIMIT) }
+    requires idle { P.running procs.old ≡ [] }
+    requires usable { K.broken store.old ≡ false }
+    requires in_step { D.tells → K.in_step store.old (D.moments disk.old).now }
+{
+    let Ok(mut seats) = store.seats(alloc, graph) else {
+        return Err(BuildFault::NoMemory);
+    };
+    let marks = build_marks(
+        alloc, graph, store, disk, procs, &mut seats, limit, keep_going,
+    )?;
+    match lent_whole(alloc, graph, store, &marks) {
+        Ok(whole) => Ok(BuildEnd { marks, whole }),
+        Err(NoMemory) => Err(BuildFault::NoMemory),
+    }
+}
+
 /// Builds over a store that is opened over the disk. A store that can't be opened is the fault of a build.
 fn build_over(
     rt: &impl Abort,
@@ -136,7 +201,7 @@ fn build_over(
     assert!(rt; is_idle(procs));
     assert!(rt; limit >= 1);
     assert!(rt; limit <= 64);
-    build(alloc, graph, &mut store, disk, procs, limit, keep_going)
+    build_in(alloc, graph, &mut store, disk, procs, limit, keep_going)
 }
 
 /// The file that a ticket was started for; 8 where it is none.
@@ -197,16 +262,6 @@ fn tell_marks(alloc: Global, marks: &MarkList) -> Result<Vec<u8>, NoMemory> {
     Ok(told)
 }
 
-fn tell_whole(alloc: Global, whole: &Option<Built>) -> Result<Vec<u8>, NoMemory> {
-    let mut told = Vec::new(alloc);
-    if let Some(built) = whole {
-        for file in built.as_slice() {
-            told.extend_from_slice(file.artefact.bytes())?;
-        }
-    }
-    Ok(told)
-}
-
 /// What is printed of a build with these marks; nothing where they aren't those of the graph.
 fn tell_text(alloc: Global, graph: &Graph, marks: &MarkList) -> Result<Vec<u8>, NoMemory> {
     if marks.len() != graph.len() {
@@ -227,7 +282,7 @@ fn tell(
         Ok(end) => Ok(Told {
             events,
             marks: tell_marks(alloc, &end.marks)?,
-            whole: tell_whole(alloc, &end.whole)?,
+            whole: Vec::from_slice(alloc, end.whole.as_slice())?,
             text: tell_text(alloc, graph, &end.marks)?,
             fault: None,
         }),
@@ -266,50 +321,6 @@ pub(super) fn told_build(
     let graph = graph_of(alloc, project)?;
     let mut procs = script(rt, alloc, project, made, way)?;
     Ok(told_over(rt, alloc, &graph, disk, &mut procs, way)?)
-}
-
-/// Builds over a store that is opened over the disk, for the marks alone.
-fn build_marks_over(
-    rt: &impl Abort,
-    alloc: Global,
-    graph: &Graph,
-    disk: &mut MemDisk,
-    procs: &mut ScriptProcs,
-    limit: u32,
-    keep_going: bool,
-) -> Result<MarkList, Fail> {
-    let mut store = RequestStore::from_disk(alloc, disk)?;
-    assert!(rt; is_idle(procs));
-    assert!(rt; limit >= 1);
-    assert!(rt; limit <= 64);
-    Ok(build_marks(alloc, graph, &mut store, disk, procs, limit, keep_going)?)
-}
-
-/// The marks of such a build as letters.
-fn marks_over(
-    rt: &impl Abort,
-    alloc: Global,
-    graph: &Graph,
-    disk: &mut MemDisk,
-    procs: &mut ScriptProcs,
-    way: &Way,
-) -> Result<Vec<u8>, Fail> {
-    let marks = build_marks_over(rt, alloc, graph, disk, procs, way.limit, way.keep_going)?;
-    Ok(tell_marks(alloc, &marks)?)
-}
-
-/// The marks of a build of a project over a disk, by the call that gives marks alone.
-pub(super) fn told_marks(
-    rt: &impl Abort,
-    alloc: Global,
-    project: &Project,
-    made: &[u8; 8],
-    way: &Way,
-    disk: &mut MemDisk,
-) -> Result<Vec<u8>, Fail> {
-    let graph = graph_of(alloc, project)?;
-    let mut procs = script(rt, alloc, project, made, way)?;
-    marks_over(rt, alloc, &graph, disk, &mut procs, way)
 }
 
 /// The plan over a store as letters: fresh, stale, or to be checked later.

@@ -2,7 +2,7 @@
 
 use crate::compare::agree;
 use crate::kept::{AllKept, none_kept};
-use crate::objects::{Told, empty_disk, told_build, told_marks, told_plan};
+use crate::objects::{Told, empty_disk, told_build, told_plan};
 use crate::parts::shape_of;
 use crate::plain::{NEVER, Plain, Way, plain_build, steady_way};
 use crate::sets::with;
@@ -62,7 +62,6 @@ a refusal skips what depends on it|C k ra p64 > +0+2!0-2 rscss .
 a refusal ends a build that does not keep going|C ra > +0!0 rllll .
 a refusal ends a build that does not keep going|C ra p2 > +0+2!0-2 rlcll .
 a refusal ends a build that does not keep going|C ra p64 > +0+2!0-2 rlcll .
-marks alone are those of the build|C p2 k ra = rscss
 what waits for a refused package is not fresh|U = cccccc|U ta f2 > +0-0 start .|U ra p3 > +0!0 rlflll .|U ra k > +0!0 rsfsss .|U > +0-0 cfffff a1b1c1d1e1f1
 what waits for a file that was made is fresh after a refusal|O = cccc|O ta cb ra p2 > +0+1!0-1 rcfl .
 what waits for a file that was not started is left|O = cccc|O ta cb ra > +0!0 rlll .
@@ -203,8 +202,8 @@ fn marks(
     wanted: &str,
     disk: &mut MemDisk,
 ) -> Result<bool, Fail> {
-    let told = told_marks(rt, alloc, project, &plain.made, way, disk)?;
-    Ok(are(told.as_slice(), wanted))
+    let told = told_build(rt, alloc, project, &plain.made, way, disk)?;
+    Ok(are(told.marks.as_slice(), wanted))
 }
 
 /// Whether the plan is as wanted.

@@ -4,7 +4,7 @@ use crate::sets::{has, upto};
 use base::{Graph, NoMemory};
 use std::alloc::Global;
 use std::test::Fail;
-use store_record_codec::{Record, read_record};
+use tests_graphs::{Record, read_record};
 
 /// The shape of a graph: how many files it has, and which ones each depends on.
 #[derive(Clone, Copy)]

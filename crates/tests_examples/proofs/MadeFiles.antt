@@ -10,7 +10,7 @@ use Rattle.tests_examples.specs.MadeFiles.{AnsweredFaults, CountedFaults, FirstO
 
 pub made_in_the_end : MadeInTheEnd
 unfolding text_bytes all_built_bytes built_bytes compile_input name_bytes below after after_all artefact_by built_at has_all upto exit_at output_at first_from is_startable next_start
-made_in_the_end = record { first_alone = refl; both = refl; not_both = refl }
+made_in_the_end = record { first_alone = refl; both = refl }
 
 pub answered_faults : AnsweredFaults
 unfolding text_bytes all_built_bytes built_bytes compile_input name_bytes after after_all artefact_by built_at has_all upto output_at first_from is_startable next_start

@@ -1,11 +1,11 @@
 -- The examples of "A build over any store".
-use Rattle.std.specs.Prelude.{◌≡◌, ℕ, ◌++◌, ◌∷◌, true, false, List, [], Some, None, map, take}
+use Rattle.std.specs.Prelude.{◌≡◌, ℕ, ◌++◌, ◌∷◌, true, false, List, [], Some, map, take}
 use Rattle.base.specs.declared.child.Event.{Event}
 use Rattle.base.specs.declared.child.Event.TheVariants.{Ended, Gone, Started}
 use Rattle.run_spec.specs.ChildJournal.{Work}
 use Rattle.run_spec.specs.Settled.{none_current}
 use Rattle.build_loop.specs.Faults.{CountsBy, FaultCounts, IsDiskFirst, IsLossFirst, before_loss, given_before_loss, is_all_committed}
-use Rattle.build_loop.specs.Ran.{built_by, whole_of}
+use Rattle.build_loop.specs.Ran.{built_by}
 use Rattle.build_loop.specs.declared.faults.BuildFault.TheVariants.{ChildLost, DiskFailed, StartFailed}
 use Rattle.tests_examples.specs.Example.{a_built, a_request, b_built, b_request, events, exit, file, name, one_slot, with_end_of_b}
 use Rattle.build_loop.specs.declared.faults.BuildFault.TheVariants as fault
@@ -17,8 +17,7 @@ b_refused = with_end_of_b (exit 1 [])
 -- which files have an artefact in the end
 pub record MadeInTheEnd : Type 0 where
   pub first_alone : built_by one_slot b_refused ≡ a_built ∷ []
-  pub both : whole_of one_slot events ≡ Some (a_built ∷ b_built ∷ [])
-  pub not_both : whole_of one_slot b_refused ≡ None
+  pub both : built_by one_slot events ≡ a_built ∷ b_built ∷ []
 
 -- which fault is answered, and what was given before a loss
 pub record AnsweredFaults : Type 0 where

@@ -46,9 +46,9 @@ pub record SidesOfDisks : Type 0 where
   pub same_images : record after_write { reads = codes "abcd" } ≡ inside_write
   pub synced_side : synced after_write ≡ settled (codes "abXYZ")
   pub through : written_through 2 (codes "XYZ") abcd ≡ settled (codes "abXYZ")
-  pub inside_cut_low : (cutting 1 abcd).low ≡ 1
-  pub inside_cut_high : (cutting 1 abcd).high ≡ 4
-  pub cut : cut_through 1 abcd ≡ settled (codes "a")
+  pub inside_cut_low : (cutting abcd).low ≡ 0
+  pub inside_cut_high : (cutting abcd).high ≡ 4
+  pub cut : cut_through abcd ≡ settled []
   pub two_bytes : bytes_at 1 2 (codes "abcd") ≡ codes "bc"
 
 -- the latest records after a commit

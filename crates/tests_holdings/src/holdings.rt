@@ -5,7 +5,7 @@ use base::{Graph, NoMemory, Text};
 use std::alloc::Global;
 use std::test::Fail;
 use store_holdings::RequestHoldings;
-use store_record_codec::{Record, read_record};
+use tests_graphs::{Record, read_record};
 
 /// The graph of `a.vhd` and of `b.vhd` over it, both of `lib`, with the words `cc` and the text `x`, as a record of a view;
 /// and where the texts and the words of the second file are.

@@ -7,8 +7,8 @@ use std::test::Fail;
 
 const LONG: u64 = (1 << 63) - 1;
 
-/// What is done to side A, one step a line: `w` writes bytes at an offset, `c` cuts to a length, `s` syncs; then the offset
-/// or the length, `!` where the step fails, and the bytes. Here a write of `abcd` and a sync, which are the calls 0 and 1;
+/// What is done to side A, one step a line: `w` writes bytes at an offset, `c` cuts to no bytes, `s` syncs; then the offset,
+/// 0 for the others; `!` where the step fails, and the bytes. Here a write of `abcd` and a sync, which are the calls 0 and 1;
 /// then a write of `XYZ` over the third byte, and a sync.
 static TORN: &str = "w0 abcd\ns0 \nw2 XYZ\ns0 \n";
 
@@ -18,17 +18,17 @@ static TORN: &str = "w0 abcd\ns0 \nw2 XYZ\ns0 \n";
 static TORN_IMAGES: &str =
     "0L7 ....\n200 ab..\n2L0 ab...\n251 ab...\n2LF ab...\n301 ab..\n401 abXYZ\n4L1 abXYZ\n";
 
-/// After the same two calls a cut to one byte, a write of one byte after it, and a sync.
-static CUT: &str = "w0 abcd\ns0 \nc1 \nw1 Z\ns0 \n";
+/// After the same two calls a cut, a write of one byte after it, and a sync.
+static CUT: &str = "w0 abcd\ns0 \nc0 \nw0 Z\ns0 \n";
 
 /// Inside of the cut, inside of the sync after the write, and after that: what was cut may be there until then.
-static CUT_IMAGES: &str = "201 a\n231 abc\n2L1 abcd\n4LF a.cd\n5LF aZ\n";
+static CUT_IMAGES: &str = "200 \n231 abc\n2L1 abcd\n401 \n4LF .bcd\n5LF Z\n";
 
 /// After the same two calls a write, a cut and a sync that fail, and a sync that doesn't.
-static FAILED: &str = "w0 abcd\ns0 \nw3!XY\nc2!\ns0!\ns0 \n";
+static FAILED: &str = "w0 abcd\ns0 \nw3!XY\nc0!\ns0!\ns0 \n";
 
 /// Inside of the last sync, where each failed call counts, and after it.
-static FAILED_IMAGES: &str = "500 ab\n5L0 abc..\n6L0 abcd\n";
+static FAILED_IMAGES: &str = "500 \n520 ab\n5L0 abc..\n6L0 abcd\n";
 
 /// The number that a letter of a table is.
 fn number(letter: u8) -> u64 {
@@ -43,7 +43,7 @@ fn number(letter: u8) -> u64 {
 fn fails(disk: &mut MemDisk, kind: u8, at: u64, bytes: &[u8]) -> bool {
     match kind {
         b'w' => write_at(disk, at, bytes).is_err(),
-        b'c' => disk.cut(Side::A, at).is_err(),
+        b'c' => disk.cut(Side::A).is_err(),
         _ => disk.sync(Side::A).is_err(),
     }
 }

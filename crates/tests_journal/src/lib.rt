@@ -10,6 +10,8 @@ mod journals;
 #[cfg(test)]
 mod objects;
 #[cfg(test)]
+mod reports;
+#[cfg(test)]
 mod takers;
 #[cfg(test)]
 mod windows;

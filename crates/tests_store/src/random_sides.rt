@@ -3,7 +3,7 @@
 
 ghost use Rattle.store_shelf.specs.Placed.{AreTextsPlaced};
 
-use crate::changes::{Change, both, disk_of, mark, seen_on};
+use crate::changes::{Change, both, disk_of, full_disk, mark, seen_on};
 use base::NoMemory;
 use memory_outside::MemDisk;
 use outside::{Disk, Side, StoreFault};
@@ -14,7 +14,8 @@ use store_journal::{Journal, Opened, Payloads};
 use store_shelf::{HeldPayloads, PlacedShelf, RecordRow, taken_up, text_at};
 
 /// A line for each: the bytes of side A; the texts, products and records that it stands for; what is seen of two files as in the
-/// other tests; and the bytes of side B after a compaction. A text is its one byte, or a dot where it has none; a product is the first
+/// other tests; and the bytes of side B once so many dead bytes are put before
+/// its payloads that it is compacted. A text is its one byte, or a dot where it has none; a product is the first
 /// letter of its path and its artefact; a record is that letter, how many words it has, its text, the number of the product of each
 /// dependency, a colon and its product.
 static RANDOM_SIDES: &str =
@@ -258,7 +259,7 @@ fn has_letters(alloc: Global, side: &str, letters: &str) -> Result<bool, StoreFa
 
 /// Whether side B has these bytes after a compaction, after which as much is seen as before.
 fn has_kept(alloc: Global, side: &str, letters: &str, kept: &str) -> Result<bool, StoreFault> {
-    let mut disk = side_disk(alloc, side)?;
+    let mut disk = full_disk(alloc, &[], &bytes_of(alloc, side.as_bytes())?)?;
     let seen = seen_of(alloc, &mut disk, Change::Compacts)?;
     let wanted = bytes_of(alloc, kept.as_bytes())?;
     Ok(seen.as_slice() == letters.as_bytes() && disk.reads(Side::B) == wanted.as_slice())

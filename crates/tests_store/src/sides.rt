@@ -2,7 +2,7 @@
 
 ghost use Rattle.std.specs.Prelude.{◌<◌, length};
 
-use crate::changes::{Change, both, disk_of, empty_disk, fitting_on, run, seen_on};
+use crate::changes::{Change, both, disk_of, empty_disk, fitting_on, full_disk, run, seen_on};
 use base::{Graph, NoMemory};
 use memory_outside::MemDisk;
 use outside::{Side, StoreFault};
@@ -181,10 +181,10 @@ fn recorded_anew(alloc: Global) -> Result<Vec<u8>, NoMemory> {
 
 fn anew_disk(alloc: Global) -> Result<MemDisk, StoreFault> {
     let side = recorded_anew(alloc)?;
-    disk_of(alloc, &[], &side)
+    full_disk(alloc, &[], &side)
 }
 
-/// What is seen of such a disk after a compaction, where side B has these bytes then.
+/// What is seen of such a disk once it is opened, and so compacted, where side B has these bytes then.
 fn seen_compacted(alloc: Global, wanted: &[u8], graph: &Graph) -> Result<[u8; 4], StoreFault>
     requires { 1 < length graph.now }
 {

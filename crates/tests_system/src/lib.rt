@@ -1,5 +1,9 @@
-//! Tests of the tree, the children and the reading below them, over real files and real programs.
+//! Tests of the disk, the tree, the children and the reading below them, and of reports, over real files and real programs.
 #![tactic(auto)]
 
+#[cfg(test)]
+mod disks;
+#[cfg(test)]
+mod reports;
 #[cfg(test)]
 mod tests;

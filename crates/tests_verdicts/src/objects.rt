@@ -13,7 +13,7 @@ use std::alloc::Global;
 use std::process::Abort;
 use std::test::Fail;
 use store_holdings::Seats;
-use store_record_codec::{Record, read_record};
+use tests_graphs::{Record, read_record};
 use store_requests::RequestStore;
 use test_loop::{TestRunFault, run_tests};
 use test_spec::{RunEnd, TestEnd, TestRunList, Verdict};

@@ -1,36 +1,151 @@
--- Answers to the goals of `build_marks`: the seats change nothing of the records.
-use Rattle.std.proofs.Common.{◌≡◌, List, Option, Some, false, sym, subst, ◌∙◌}
-use Rattle.std.proofs.Math.Path.{fun_ext}
-use Rattle.std.specs.Prelude.{IfOk}
-use Rattle.std.specs.Result.{is_ok}
-use Rattle.base.specs.declared.file.FileName.{FileName}
-use Rattle.base.specs.declared.child.Event.{Event}
+-- Answers to the goals of `build_marks`.
+use Rattle.std.proofs.Common.{ℕ, List, None, [], length, refl, sym, ap, subst, subst₂, ◌∙◌, arith}
+use Rattle.std.specs.Prelude.{is_some, slice_get}
 use Rattle.run_spec.specs.declared.marks.Mark.{Mark}
-use Rattle.outside.specs.Records.{Record}
-use Rattle.run_spec.specs.Marks.{marks_of}
-use Rattle.run_spec.specs.Commits.{work_of}
-use Rattle.build_loop.specs.declared.faults.BuildFault.TheVariants.{NoMemory}
-use Rattle.build_loop.specs.Faults.{fault_of}
-use Rattle.build_loop.specs.Ran.{BuildRan}
-use Rattle.build_loop.proofs.WholeBuilds.{ran_nothing}
+use Rattle.run_steps.specs.declared.step.Step.{Step}
+use Rattle.build_slots.specs.declared.step.BuildStep.TheVariants.{Run}
+use Rattle.build_loop.specs.Faults.{CountsBy}
+use Rattle.build_loop.specs.UnderWay.{IsJournalled}
+use Rattle.build_loop.proofs.Gathering.{gathered_still}
+use Rattle.build_loop.proofs.UnderWayThen.{marks_count, none_noted, started_at, nothing_noted, start_recorded, check_recorded}
+use Rattle.build_loop.proofs.WholeBuilds.{first_under_way, first_journal, holds_nothing, on_false, counts_at_first, ran_nothing, ran_done, ran_fault, marks_recorded, goes_by, goes_on}
 use Rattle.build_loop.proofs.builds.build_marks.Goals as goal
 
-pub returns-in-Ok-clause-ran : goal.returns-in-Ok-clause-ran
-returns-in-Ok-clause-ran g c =
-    let same : g.K.Records.latest_of c.seats.new.self ≡ g.K.Records.latest_of c.args.store.now = fun_ext c.seats.ensures.latest in
-    subst
-    (λ (latest_of : FileName → Option Record). BuildRan g.P.Procs.tells g.D.Disk.tells (g.P.Procs.answer c.args.procs.now) g.K.Records.records_of (work_of latest_of c.args.graph.now c.args.limit c.args.keep_going)
-    (record { latest_of = latest_of; journal = g.P.Procs.journal c.args.procs.now; moments = g.D.Disk.moments c.args.disk.now })
-    (record { latest_of = g.K.Records.latest_of c.build_seated.new.store; journal = g.P.Procs.journal c.build_seated.new.procs; moments = g.D.Disk.moments c.build_seated.new.disk })
-    (record { ended = is_ok c.build_seated.result; fault = fault_of c.build_seated.result; broken = g.K.Records.broken c.build_seated.new.store })
-    (λ (events : List Event). IfOk c.build_seated.result (λ (marks : List Mark). marks ≡ marks_of (work_of latest_of c.args.graph.now c.args.limit c.args.keep_going) events))) same c.build_seated.ensures.ran
+pub returns-in_default-clause-ran : goal.returns-in_default-clause-ran
+returns-in_default-clause-ran g c = ran_nothing _ _ _ _ _ _ _ _ c.requires.usable (λ tells. g.met.K.Records.durable c.args.store.now _ (c.requires.in_step tells))
 
-pub returns-in-Err-clause-ran : goal.returns-in-Err-clause-ran
-returns-in-Err-clause-ran g c =
-    let same : g.K.Records.latest_of c.args.store.now ≡ g.K.Records.latest_of c.seats.new.self = sym (fun_ext c.seats.ensures.latest) in
-    subst
-    (λ (latest_of : FileName → Option Record). BuildRan g.P.Procs.tells g.D.Disk.tells (g.P.Procs.answer c.args.procs.now) g.K.Records.records_of (work_of (g.K.Records.latest_of c.args.store.now) c.args.graph.now c.args.limit c.args.keep_going)
-    (record { latest_of = g.K.Records.latest_of c.args.store.now; journal = g.P.Procs.journal c.args.procs.now; moments = g.D.Disk.moments c.args.disk.now })
-    (record { latest_of = latest_of; journal = g.P.Procs.journal c.args.procs.now; moments = g.D.Disk.moments c.args.disk.now })
-    (record { ended = false; fault = Some NoMemory; broken = g.K.Records.broken c.seats.new.self }) (λ (events : List Event). Unit {0})) same
-    (ran_nothing _ _ _ _ _ _ _ _ (c.in-Err.ensures.broken ∙ c.requires.usable) (λ tells. g.met.K.Records.durable c.args.store.now _ (c.requires.in_step tells)))
+pub loop-at-init : goal.loop-at-init
+loop-at-init g c = record {
+  going = record {
+    events = [];
+    acknowledged = 0;
+    under_way = first_under_way c.args.graph.now _ _ _ _ c.in-Ok.ensures.graph c.in-Ok.ensures.in_step c.in-Ok.ensures.stopped c.in-Ok.ensures.marked c.requires.usable;
+    journal = λ tells. subst (IsJournalled _ _ [] (g.P.Procs.journal c.args.procs.now)) (sym c.expects.ensures.journal) (first_journal _ _ _);
+    images = λ tells. holds_nothing _ _ _ _ c.requires.usable (g.met.K.Records.durable c.args.store.now _ (c.requires.in_step tells));
+  };
+  running = c.expects.ensures.running ∙ c.requires.idle ∙ sym c.in-Ok.ensures.tickets;
+  same = c.expects.ensures.same;
+  files = c.in-Ok.ensures.files;
+  in_step = λ tells. on_false (g.K.Records.broken c.args.store.now) (c.requires.in_step tells);
+  seated = c.requires.seated;
+  gathered = c.new-gathered.ensures (g.K.Records.latest_of c.args.store.now) c.args.graph.now;
+  counts = subst₂ (λ (starts losses : ℕ). CountsBy None (g.K.Records.broken c.args.store.now)
+      (record { starts = g.P.Procs.failed_starts c.args.procs.now; losses = g.P.Procs.lost_children c.args.procs.now; disks = g.D.Disk.failed_disk_calls c.args.disk.now })
+      (record { starts = starts; losses = losses; disks = g.D.Disk.failed_disk_calls c.args.disk.now }))
+      (sym c.expects.ensures.starts) (sym c.expects.ensures.children) (counts_at_first (g.K.Records.broken c.args.store.now) _ c.requires.usable);
+}
+
+pub start_one-requires-clause-recorded : goal.start_one-requires-clause-recorded
+start_one-requires-clause-recorded g c =
+    let under = c.loop-at.invariant.going.under_way in
+    start_recorded _ _ _ _ _ under c.in-Run-Start.at (started_at _ _ c.in-Run-Start.at (sym c.in-Run-Start.field-0-is ∙ c.in-Run-Start.ensures.in_step _ _ under.in_step c.in-Run-Start.field-0 refl))
+
+pub start_one-requires-clause-unnoted : goal.start_one-requires-clause-unnoted
+start_one-requires-clause-unnoted g c =
+    let under = c.loop-at.invariant.going.under_way in
+    nothing_noted _ _ _ _ _ under c.in-Run-Start.at (started_at _ _ c.in-Run-Start.at (sym c.in-Run-Start.field-0-is ∙ c.in-Run-Start.ensures.in_step _ _ under.in_step c.in-Run-Start.field-0 refl))
+
+pub loop-at-preserved-in-Run-Start : goal.loop-at-preserved-in-Run-Start
+loop-at-preserved-in-Run-Start g c =
+    let before = c.loop-at.invariant in
+    record {
+      going = goes_on _ _ _ _ _ _ _ _ _ _ _ _ before.same before.going
+          (λ journal. c.start_one.ensures.goes _ before.going.events before.going.acknowledged _ _ before.going.under_way journal);
+      running = c.start_one.ensures.running;
+      same = c.start_one.ensures.same ∙ before.same;
+      files = c.start_one.ensures.files ∙ before.files;
+      in_step = before.in_step;
+      seated = before.seated;
+      gathered = c.start_one.ensures.gathered;
+      counts = c.start_one.ensures.counts _ _ _ before.counts;
+    }
+
+pub loop-at-preserved : goal.loop-at-preserved
+loop-at-preserved g c =
+    let before = c.loop-at.invariant in
+    record {
+      going = goes_by _ _ _ _ _ _ _ _ _ _ _ before.same before.going (c.end_one.ensures.goes _);
+      running = c.end_one.ensures.running;
+      same = c.end_one.ensures.same ∙ before.same;
+      files = c.end_one.ensures.files ∙ before.files;
+      in_step = c.end_one.ensures.in_step;
+      seated = c.end_one.ensures.seated;
+      gathered = gathered_still c.args.graph.now before.going.under_way.is_graph _ _ c.loop-at.gathered
+          (c.end_one.ensures.keeps c.loop-at.gathered.count before.gathered.recorded) before.gathered;
+      counts = c.end_one.ensures.counts _ before.counts;
+    }
+
+pub returns-in-None-clause-count : goal.returns-in-None-clause-count
+returns-in-None-clause-count g c = ap length c.from_vec.ensures ∙ marks_count _ _ _ _ _ c.loop-at.invariant.going.under_way
+
+pub returns-in-None-clause-ran : goal.returns-in-None-clause-ran
+returns-in-None-clause-ran g c =
+    let before = c.loop-at.invariant in
+    ran_done _ _ _ _ _ _ _ _ before.going c.in-None.is (c.in-Run-Finished.ensures.finished (ap (λ (step : Step). Run step) c.in-Run-Finished.field-0-is) _ _ before.going.under_way.in_step)
+    (λ at lt new. c.in-Run-Finished.ensures.unchecked _ _ before.going.under_way.in_step (before.going.under_way.halts ∙ ap is_some c.in-None.is) c.in-Run-Finished.field-0 refl at (omega (arith, lt, before.files)) new) c.from_vec.result c.from_vec.ensures
+
+pub returns-in-None-clause-recorded : goal.returns-in-None-clause-recorded
+returns-in-None-clause-recorded g c = λ position mark at made.
+    marks_recorded c.args.graph.now _ _ _ _ c.loop-at.invariant.going.under_way c.in-None.is position mark (ap (λ (l : List Mark). slice_get l position) (sym c.from_vec.ensures) ∙ at) made
+
+pub returns-clause-ran : goal.returns-clause-ran
+returns-clause-ran g c = ran_fault _ _ _ _ _ _ _ _ c.loop-at.invariant.going c.in-Some.fault c.in-Some.is _
+
+pub check_one-fresh-requires-clause-position : goal.check_one-fresh-requires-clause-position
+check_one-fresh-requires-clause-position g c =
+    let before = c.loop-at.invariant in
+    omega (arith, c.in-Check.ensures.checks c.in-Check.at refl, before.files, marks_count _ _ _ _ _ before.going.under_way)
+
+pub check_one-fresh-requires-clause-count : goal.check_one-fresh-requires-clause-count
+check_one-fresh-requires-clause-count g c = marks_count _ _ _ _ _ c.loop-at.invariant.going.under_way
+
+pub check_one-fresh-requires-clause-recorded : goal.check_one-fresh-requires-clause-recorded
+check_one-fresh-requires-clause-recorded g c =
+    let before = c.loop-at.invariant in
+    let under = before.going.under_way in
+    let free = c.in-Check.ensures.free _ _ under.in_step c.in-Check.at refl in
+    check_recorded _ _ _ _ _ under (none_noted _ (sym under.halts ∙ c.in-Check.ensures.goes_on c.in-Check.at refl)) c.in-Check.at
+    (omega (arith, c.in-Check.ensures.checks c.in-Check.at refl, before.files)) (free.1)
+
+pub loop-at-preserved-else-fresh : goal.loop-at-preserved-else-fresh
+loop-at-preserved-else-fresh g c =
+    let before = c.loop-at.invariant in
+    record {
+      going = record {
+        events = before.going.events;
+        acknowledged = before.going.acknowledged;
+        under_way = c.check_one-fresh.ensures.goes _ before.going.events before.going.acknowledged _ _ before.going.under_way;
+        journal = before.going.journal;
+        images = before.going.images;
+      };
+      running = before.running ∙ sym c.check_one-fresh.ensures.tickets;
+      same = before.same;
+      files = c.check_one-fresh.ensures.files ∙ before.files;
+      in_step = before.in_step;
+      seated = before.seated;
+      gathered = before.gathered;
+      counts = before.counts;
+    }
+
+pub loop-at-preserved-then-fresh : goal.loop-at-preserved-then-fresh
+loop-at-preserved-then-fresh g c =
+    let before = c.loop-at.invariant in
+    record {
+      going = record {
+        events = before.going.events;
+        acknowledged = before.going.acknowledged;
+        under_way = c.check_one-fresh.ensures.goes _ before.going.events before.going.acknowledged _ _ before.going.under_way;
+        journal = λ tells. subst (IsJournalled _ _ before.going.events _) (sym c.spares.ensures.journal) (before.going.journal tells);
+        images = before.going.images;
+      };
+      running = c.spares.ensures.running ∙ before.running ∙ sym c.check_one-fresh.ensures.tickets;
+      same = c.spares.ensures.same ∙ before.same;
+      files = c.check_one-fresh.ensures.files ∙ before.files;
+      in_step = before.in_step;
+      seated = before.seated;
+      gathered = before.gathered;
+      counts = subst₂ (λ (starts losses : ℕ). CountsBy c.loop-at.noted (g.K.Records.broken c.loop-at.store)
+          (record { starts = g.P.Procs.failed_starts c.args.procs.now; losses = g.P.Procs.lost_children c.args.procs.now; disks = g.D.Disk.failed_disk_calls c.args.disk.now })
+          (record { starts = starts; losses = losses; disks = g.D.Disk.failed_disk_calls c.loop-at.disk }))
+          (sym c.spares.ensures.starts) (sym c.spares.ensures.children) before.counts;
+    }

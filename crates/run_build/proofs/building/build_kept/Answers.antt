@@ -3,36 +3,36 @@ use Rattle.std.proofs.Common.{Ok, Err, false, not, ap}
 use Rattle.run_build.proofs.OverStore.{since_itself, no_test_since, not_opened, opened_over, opened_lent, none_tested, knows_if, usable_if}
 use Rattle.run_build.proofs.building.build_kept.Goals as goal
 
-pub returns-in-Ok-build_seated-clause-told : goal.returns-in-Ok-build_seated-clause-told
-returns-in-Ok-build_seated-clause-told g c = λ tells runs.
-    let made = c.in-Ok-build_seated.ensures in
+pub returns-in-Ok-build_marks-clause-told : goal.returns-in-Ok-build_marks-clause-told
+returns-in-Ok-build_marks-clause-told g c = λ tells runs.
+    let made = c.in-Ok-build_marks.ensures in
     let opened = c.in-Ok.ensures.opens tells in
     let opening = c.in-Ok.ensures.in_step tells in
     let failures = g.D.Disk.failed_disk_calls in
-    opened_over g.K.Records.records_of (g.P.Procs.answer c.args.procs.now) _ c.len.ensures.graph (g.D.Disk.moments c.args.disk.now) (g.D.Disk.moments c.open_store.new.disk) (g.D.Disk.moments c.build_seated.new.disk)
-    (g.met.D.Disk.sound c.build_seated.new.disk) opened.follows opened.opening opened.base
-    (g.K.Records.latest_of c.in-Ok.field-0.store) (g.K.Records.latest_of c.build_seated.new.store) (record { durable = g.met.K.Records.durable _ _ opening; held = λ name. g.met.K.Records.held _ _ name opening })
-    _ _ runs tells (Ok c.in-Ok-build_seated.marks) (g.P.Procs.journal c.args.procs.now) (g.P.Procs.journal c.build_seated.new.procs) _ _
+    opened_over g.K.Records.records_of (g.P.Procs.answer c.args.procs.now) _ c.len.ensures.graph (g.D.Disk.moments c.args.disk.now) (g.D.Disk.moments c.open_store.new.disk) (g.D.Disk.moments c.build_marks.new.disk)
+    (g.met.D.Disk.sound c.build_marks.new.disk) opened.follows opened.opening opened.base
+    (g.K.Records.latest_of c.in-Ok.field-0.store) (g.K.Records.latest_of c.build_marks.new.store) (record { durable = g.met.K.Records.durable _ _ opening; held = λ name. g.met.K.Records.held _ _ name opening })
+    _ _ runs tells (Ok c.in-Ok-build_marks.marks) (g.P.Procs.journal c.args.procs.now) (g.P.Procs.journal c.build_marks.new.procs) _ _
     made.ran made.recorded
-    (knows_if _ _ (Ok c.in-Ok-build_seated.marks) _ made.usable (made.in_step tells) (λ in_step. record { durable = g.met.K.Records.durable _ _ in_step; held = λ name. g.met.K.Records.held _ _ name in_step }))
+    (knows_if _ _ (Ok c.in-Ok-build_marks.marks) _ made.usable (made.in_step tells) (λ in_step. record { durable = g.met.K.Records.durable _ _ in_step; held = λ name. g.met.K.Records.held _ _ name in_step }))
     made.usable
-    (usable_if _ (failures c.args.disk.now) (failures c.open_store.new.disk) (failures c.build_seated.new.disk) c.in-Ok.ensures.cause made.counts.breaks)
+    (usable_if _ (failures c.args.disk.now) (failures c.open_store.new.disk) (failures c.build_marks.new.disk) c.in-Ok.ensures.cause made.counts.breaks)
 
-pub returns-in-Ok-build_seated-clause-no_tests : goal.returns-in-Ok-build_seated-clause-no_tests
-returns-in-Ok-build_seated-clause-no_tests g c = λ runs.
-    let ran = c.in-Ok-build_seated.ensures.ran in
-    none_tested (g.P.Procs.journal c.args.procs.now) (g.P.Procs.journal c.build_seated.new.procs) ran.events (ran.journal runs) (ran.lawful runs)
+pub returns-in-Ok-build_marks-clause-no_tests : goal.returns-in-Ok-build_marks-clause-no_tests
+returns-in-Ok-build_marks-clause-no_tests g c = λ runs.
+    let ran = c.in-Ok-build_marks.ensures.ran in
+    none_tested (g.P.Procs.journal c.args.procs.now) (g.P.Procs.journal c.build_marks.new.procs) ran.events (ran.journal runs) (ran.lawful runs)
 
-pub returns-in-Ok-build_seated-clause-lent : goal.returns-in-Ok-build_seated-clause-lent
-returns-in-Ok-build_seated-clause-lent g c = λ tells runs made_all.
-    let made = c.in-Ok-build_seated.ensures in
+pub returns-in-Ok-build_marks-clause-lent : goal.returns-in-Ok-build_marks-clause-lent
+returns-in-Ok-build_marks-clause-lent g c = λ tells runs made_all.
+    let made = c.in-Ok-build_marks.ensures in
     let opened = c.in-Ok.ensures.opens tells in
     let opening = c.in-Ok.ensures.in_step tells in
-    opened_lent g.K.Records.records_of (g.P.Procs.answer c.args.procs.now) _ c.len.ensures.graph (g.D.Disk.moments c.args.disk.now) (g.D.Disk.moments c.open_store.new.disk) (g.D.Disk.moments c.build_seated.new.disk)
-    (g.met.D.Disk.sound c.build_seated.new.disk) opened.follows opened.opening opened.base
-    (g.K.Records.latest_of c.in-Ok.field-0.store) (g.K.Records.latest_of c.build_seated.new.store) (record { durable = g.met.K.Records.durable _ _ opening; held = λ name. g.met.K.Records.held _ _ name opening })
-    _ _ runs tells (Ok c.in-Ok-build_seated.marks) (g.P.Procs.journal c.args.procs.now) (g.P.Procs.journal c.build_seated.new.procs) _ false
-    made.ran (ap not made.usable) c.in-Ok-build_seated.marks made.ran.says made_all
+    opened_lent g.K.Records.records_of (g.P.Procs.answer c.args.procs.now) _ c.len.ensures.graph (g.D.Disk.moments c.args.disk.now) (g.D.Disk.moments c.open_store.new.disk) (g.D.Disk.moments c.build_marks.new.disk)
+    (g.met.D.Disk.sound c.build_marks.new.disk) opened.follows opened.opening opened.base
+    (g.K.Records.latest_of c.in-Ok.field-0.store) (g.K.Records.latest_of c.build_marks.new.store) (record { durable = g.met.K.Records.durable _ _ opening; held = λ name. g.met.K.Records.held _ _ name opening })
+    _ _ runs tells (Ok c.in-Ok-build_marks.marks) (g.P.Procs.journal c.args.procs.now) (g.P.Procs.journal c.build_marks.new.procs) _ false
+    made.ran (ap not made.usable) c.in-Ok-build_marks.marks made.ran.says made_all
 
 pub returns-in-Err-clause-told : goal.returns-in-Err-clause-told
 returns-in-Err-clause-told g c = λ tells runs.
@@ -40,19 +40,19 @@ returns-in-Err-clause-told g c = λ tells runs.
     let opened = c.in-Ok.ensures.opens tells in
     let opening = c.in-Ok.ensures.in_step tells in
     let failures = g.D.Disk.failed_disk_calls in
-    opened_over g.K.Records.records_of (g.P.Procs.answer c.args.procs.now) _ c.len.ensures.graph (g.D.Disk.moments c.args.disk.now) (g.D.Disk.moments c.open_store.new.disk) (g.D.Disk.moments c.build_seated.new.disk)
-    (g.met.D.Disk.sound c.build_seated.new.disk) opened.follows opened.opening opened.base
-    (g.K.Records.latest_of c.in-Ok.field-0.store) (g.K.Records.latest_of c.build_seated.new.store) (record { durable = g.met.K.Records.durable _ _ opening; held = λ name. g.met.K.Records.held _ _ name opening })
-    _ _ runs tells (Err c.in-Err.fault) (g.P.Procs.journal c.args.procs.now) (g.P.Procs.journal c.build_seated.new.procs) _ _
+    opened_over g.K.Records.records_of (g.P.Procs.answer c.args.procs.now) _ c.len.ensures.graph (g.D.Disk.moments c.args.disk.now) (g.D.Disk.moments c.open_store.new.disk) (g.D.Disk.moments c.build_marks.new.disk)
+    (g.met.D.Disk.sound c.build_marks.new.disk) opened.follows opened.opening opened.base
+    (g.K.Records.latest_of c.in-Ok.field-0.store) (g.K.Records.latest_of c.build_marks.new.store) (record { durable = g.met.K.Records.durable _ _ opening; held = λ name. g.met.K.Records.held _ _ name opening })
+    _ _ runs tells (Err c.in-Err.fault) (g.P.Procs.journal c.args.procs.now) (g.P.Procs.journal c.build_marks.new.procs) _ _
     made.ran made.recorded
     tt
     made.usable
-    (usable_if _ (failures c.args.disk.now) (failures c.open_store.new.disk) (failures c.build_seated.new.disk) c.in-Ok.ensures.cause made.counts.breaks)
+    (usable_if _ (failures c.args.disk.now) (failures c.open_store.new.disk) (failures c.build_marks.new.disk) c.in-Ok.ensures.cause made.counts.breaks)
 
 pub returns-in-Err-clause-no_tests : goal.returns-in-Err-clause-no_tests
 returns-in-Err-clause-no_tests g c = λ runs.
     let ran = c.in-Err.ensures.ran in
-    none_tested (g.P.Procs.journal c.args.procs.now) (g.P.Procs.journal c.build_seated.new.procs) ran.events (ran.journal runs) (ran.lawful runs)
+    none_tested (g.P.Procs.journal c.args.procs.now) (g.P.Procs.journal c.build_marks.new.procs) ran.events (ran.journal runs) (ran.lawful runs)
 
 pub returns-in-Err-NoMemory-clause-told : goal.returns-in-Err-NoMemory-clause-told
 returns-in-Err-NoMemory-clause-told g c = λ tells runs.

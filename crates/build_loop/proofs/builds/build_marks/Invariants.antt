@@ -1,0 +1,28 @@
+-- What holds at each turn of the loop of `build_marks`: the build is under way.
+use Rattle.std.proofs.Common.{◌≡◌, length}
+use Rattle.std.specs.Bool.{OnFalse}
+use Rattle.build_slots.specs.Machines.{tickets_of, files_of, to_come}
+use Rattle.build_loop.specs.Faults.{CountsBy}
+use Rattle.build_loop.specs.Requests.{IsGathered}
+use Rattle.build_loop.specs.UnderWay.{Goes}
+use Rattle.build_loop.proofs.builds.build_marks.Given as goal
+
+abbrev pub invariant-loop-at : goal.invariant-loop-at
+invariant-loop-at g l = record {
+  going : Goes g.P.Procs.tells g.D.Disk.tells (g.P.Procs.answer l.fn.procs) g.K.Records.records_of l.graph
+      (record { latest_of = g.K.Records.latest_of l.fn.store; slots = l.fn.limit; keep_going = l.fn.keep_going; journal = g.P.Procs.journal l.fn.procs; moments = g.D.Disk.moments l.fn.disk })
+      (record { machine = l.slots; marks = l.marks.items; noted = l.noted; latest_of = g.K.Records.latest_of l.store; broken = g.K.Records.broken l.store })
+      (record { journal = g.P.Procs.journal l.procs; moments = g.D.Disk.moments l.disk });
+  running : g.P.Procs.running l.procs ≡ tickets_of l.slots;
+  same : g.P.Procs.answer l.procs ≡ g.P.Procs.answer l.fn.procs;
+  files : files_of l.slots ≡ length l.graph;
+  in_step : g.D.Disk.tells → OnFalse (g.K.Records.broken l.store) (g.K.Records.in_step l.store (g.D.Disk.moments l.disk).now);
+  seated : g.K.Records.is_seated l.store l.graph l.seats;
+  gathered : IsGathered (g.K.Records.latest_of l.store) l.graph l.gathered;
+  counts : CountsBy l.noted (g.K.Records.broken l.store)
+      (record { starts = g.P.Procs.failed_starts l.fn.procs; losses = g.P.Procs.lost_children l.fn.procs; disks = g.D.Disk.failed_disk_calls l.fn.disk })
+      (record { starts = g.P.Procs.failed_starts l.procs; losses = g.P.Procs.lost_children l.procs; disks = g.D.Disk.failed_disk_calls l.disk });
+}
+
+abbrev pub decreases-loop-at : goal.decreases-loop-at
+decreases-loop-at g l = to_come l.slots

@@ -1,8 +1,0 @@
-use Rattle.store_record_codec.proofs.Closings.{Goes}
-use Rattle.store_record_codec.proofs.closed.all_cover.Given as goal
-
-abbrev pub invariant-loop-k : goal.invariant-loop-k
-invariant-loop-k l = Goes l.entries l.deps l.fn.state l.state l.k
-
-abbrev pub decreases-loop-k : goal.decreases-loop-k
-decreases-loop-k l = l.k

@@ -1,5 +1,0 @@
-use Rattle.store_record_codec.specs.Validity.{StandBelow}
-use Rattle.store_record_codec.proofs.views.all_stand.Given as goal
-
-abbrev pub invariant-loop-place : goal.invariant-loop-place
-invariant-loop-place l = StandBelow l.entries l.place

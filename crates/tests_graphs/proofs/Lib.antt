@@ -1,0 +1,8 @@
+-- The lemmas.
+pub mod Spelled
+pub mod Records
+pub mod Marks
+pub mod Closings
+pub mod Distinct
+pub mod Standing
+pub mod FoundRecords

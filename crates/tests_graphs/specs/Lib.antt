@@ -1,0 +1,4 @@
+-- The definitions.
+pub mod Spelling
+pub mod Reading
+pub mod Validity

@@ -1,0 +1,10 @@
+//! Graphs for tests, each made of the bytes of a record of a view.
+#![tactic(auto)]
+
+mod closed;
+mod names;
+mod reading;
+mod sizes;
+mod views;
+
+pub use reading::{Record, read_record};

@@ -1,0 +1,32 @@
+//! Tests of what no clause says: that a node is tested.
+
+use base::{FileName, Items, NoMemory, Text, TextList};
+use std::alloc::Global;
+use std::test::Fail;
+use store_node_shelf::{NodeTable, NodeTest, Row};
+
+/// Whether a node without dependencies fits that has a text of so many bytes and a path of this one byte.
+fn fits(alloc: Global, path: u8, own: usize) -> Result<bool, NoMemory> {
+    let mut table = NodeTable::new(alloc);
+    let name = table.add_name(FileName {
+        library: Text::from_slice(alloc, b"lib")?,
+        path: Text::from_slice(alloc, &[path])?,
+    })?;
+    let mut words = TextList::new(alloc);
+    words.push(Text::from_slice(alloc, b"cc")?)?;
+    let command = table.add_command(words)?;
+    let row = Row {
+        name,
+        command,
+        text: 0,
+        deps: Items::new(alloc),
+    };
+    NodeTest::new(alloc).fits(&table, &row, own)
+}
+
+#[test]
+fn a_node_fits_by_the_size_of_its_text(rt: HostRuntime) -> Result<(), Fail> {
+    assert!(rt; fits(rt.alloc(), b'a', 4_194_304)?);
+    assert!(rt; !fits(rt.alloc(), b'a', 4_194_305)?);
+    Ok(())
+}
