@@ -158,10 +158,10 @@ def cited(text, said, top, crates):
             names |= {item.split()[-1]: (of, module, item.split()[0]) for item in braces.split(",") if item.strip()}
     for word in re.findall(r"[\w.]+", said):
         first, _, rest = word.partition(".")
-        if first in modules and rest:
-            yield *modules[first], rest.split(".")[0]
-        elif first in names:
-            yield names[first]
+        of, module, name = (*modules[first], rest.split(".")[0]) if first in modules and rest else names.get(first, (None, "", ""))
+        if of:
+            # (a case may be imported by its data type)
+            yield (of, *module.split(".")) if "." in module else (of, module, name)
 
 
 def examples_of(top):
