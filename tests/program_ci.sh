@@ -43,6 +43,19 @@ for kinds, text, words in (("not-analysed, not-simulated", ONE, ()), ("not-analy
     project("project", {"vunit.toml": text, "t.vhd": BENCH})
     run(kinds, 1, *words, said=f"vunit_ci: failed for warnings: {kinds}")
     run(f"{kinds}, allowed", 0, *[f"--allow={each}" for each in kinds.split(", ")], *words)
+# (a payload of one byte is no record)
+damaged = b"\1VUNITREC\3" + b"\1" + bytes(7) + b"\1" + b"\1\0\0\0" + b"x" + b"\0"
+kinds = "unread-records"
+project("project", {"vunit.toml": TOOLS + ONE, "t.vhd": BENCH, "vunit_out/store_a": damaged})
+unknown = "vunit_ci: compiling all anew, the tools differ from those of the last run: not known"
+run("damaged records of unknown tools are emptied", 0, "--compile", said=unknown)
+with open("project/vunit_out/tools") as file:
+    kept = file.read()
+project("project", {"vunit.toml": TOOLS + ONE, "t.vhd": BENCH, "vunit_out/store_a": damaged, "vunit_out/tools": kept})
+run(kinds, 1, said=f"vunit_ci: failed for warnings: {kinds}")
+run(f"{kinds}, allowed", 0, f"--allow={kinds}")
+run(f"{kinds}, mended", 0, "--clean", said="")
+run(f"{kinds}, after it", 0, said="")
 project("project", {"vunit.toml": TOOLS + toml({"lib": ["*/*.vhd"]}), "src/t.vhd": BENCH, "behind/a.vhd": package("a")})
 os.symlink("behind", "project/there")
 os.rename("project/behind", "project/.behind")

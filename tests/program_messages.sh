@@ -6,6 +6,7 @@ needs python3
 PYTHONPATH=$TOP/tests/support exec python3 -B - <<'END'
 import json, os, re, signal, subprocess, sys, threading, time
 
+from store_reader import FORM, side_of, spelled
 from trial import PROGRAM, end, fail, package, project, toml, write
 
 SIMULATOR = [sys.executable, "-B", os.path.join(os.environ["TOP"], "tests", "support", "simulator.py")]
@@ -99,6 +100,14 @@ for script, cause in ("kill -9 $$", ": ended by signal 9"), ("exit 127", ": coul
     project("files", {"vunit.toml": f"compiler = {compiler}\n" + toml({"lib": ["a.vhd"]}), "a.vhd": package("a")})
     told(f"a compiler, {script}", "files", f"vunit_run: fail lib, a.vhd (T){cause}\n", "--compile", status=1,
          out="Compiling into lib: a.vhd failed\nCompile failed\n")
+
+# A simulator that ends before its first test leaves all of them skipped: that is a failure of the bench.
+together = "-- vunit: run_all_in_same_sim\n" + bench("a", "b")
+project("skipped", {"vunit.toml": tools() + one_library, "t.vhd": together})
+for ended, cause in ({"code": 1}, ""), ({"signal": 6}, ": ended by signal 6"):
+    told(f"all are skipped, {ended}", "skipped", f"vunit_run: fail lib.t (T): vunit_out/tests/lib.t{cause}\n", status=1, env=planned({"lib.t": dict(results="", **ended)}))
+project("skipped", {"vunit.toml": tools() + one_library, "t.vhd": bench("a", "b")})
+told("one of two is skipped", "skipped", "vunit_run: fail lib.t.b (T): vunit_out/tests/lib.t.b\n", status=1, env=planned({"lib.t.b": {"results": "", "code": 1}}))
 
 # A fault: the case that it is of, and what had become of the others.
 plan = planned({"lib.t.a": FAILED, "lib.t.b": {"code": 75}})
@@ -200,6 +209,26 @@ for text, key, line in (('compiler = 5 # x\n[[library]]\nname = "l"\nfiles = ["a
     project("bad", {"vunit.toml": text, "a.vhd": package("a")})
     told(f"a wrong value of {key}", "bad", f"vunit.toml:{line}\n", status=1, out=f"vunit_run: vunit.toml: wrong value of {key}\n")
 
+# Of a key of several tables the value is shown that is wrong, not the first one.
+libraries = '[[library]]\nname = "l"\nfiles = ["a.vhd"]\n\n[[library]]\nname = "m"\nfiles = ["a.vhd"]\noptions = ["x"]\n'
+for text, key, line in ((libraries.replace('"m"', '"1m"'), "library.name", '6:8: wrong value of library.name: "1m"'),
+                        (libraries.replace('["x"]', '["x", 7]'), "library.options", '8:11: wrong value of library.options: ["x", 7]'),
+                        (libraries[:-1].replace('"m"\nfiles = ["a.vhd"]', '"m"\nfiles = 5') + "\n", "library.files", "7:9: wrong value of library.files: 5"),
+                        ('library = [{ name = "l", files = ["a.vhd"] }, { name = "m", files = true }]\n', "library.files", "1:69: wrong value of library.files: true }]"),
+                        (libraries + '[[depends]]\nlibrary = "l"\npath = "a.vhd"\non_library = "m"\non_path = "a.vhd"\n'
+                         '[[depends]]\nlibrary = "l"\npath = "a.vhd"\non_library = "m"\non_path = "../a.vhd"\n', "depends.on_path",
+                         '18:11: wrong value of depends.on_path: "../a.vhd"')):
+    project("bad", {"vunit.toml": text, "a.vhd": package("a")})
+    told(f"a wrong value of {key} in a second table", "bad", f"vunit.toml:{line}\n", status=1, out=f"vunit_run: vunit.toml: wrong value of {key}\n")
+
+# A line of a place has at most 4,096 bytes, with its end, and is cut between two letters.
+for letters in 1_000, 4_000, 5_000:
+    name = "x" * letters
+    project("wide", {"vunit.toml": tools() + toml({"lib": ["a.vhd"]}), "a.vhd": f"use work.{name}.all;\npackage a is end;\n"})
+    line = f"a.vhd:1:5: no unit lib.{name}"
+    line = line[:4092] + " .." if len(line) > 4095 else line
+    told(f"a unit of {letters} letters", "wide", line + "\n", status=1)
+
 # Places in sources: of each missing unit, of both declarations, and of each use of a cycle.
 sources = {"vunit.toml": tools() + toml({"lib": ["*.vhd"]}), "a.vhd": "use work.p1.all;\npackage a is\nend;\nuse work.p2.all;\npackage a2 is end;\n",
            "b.vhd": "library lib;\nuse lib.p3.all, lib.a.all;\nentity b is end;\narchitecture x of b is begin\n  u : entity work.Nothere;\n  v : entity Work.b;\nend;\n"}
@@ -224,6 +253,89 @@ for words, line in ((["--compil"], "wrong word --compil (did you mean --compile?
 ran = subprocess.run([PROGRAM, "--help"], cwd="own", stdin=subprocess.DEVNULL, capture_output=True, timeout=60)
 if ran.returncode != 2 or b"--fail-fast" not in ran.stderr or not ran.stdout.startswith(b"usage: "):
     fail("help", f"it is {ran}")
+
+# Records that can't be read. Of four records, all texts are new, so that none needs another one.
+def record(at):
+    """A payload of form 3 with the record of a file."""
+    text = lambda words: b"\1" + spelled(words)
+    name = spelled(b"lib") + spelled(b"%c.vhd" % b"abcde"[at])
+    return b"\1" + name + b"\1\0\0\0" + spelled(b"cc") + text(b"package p%d is end;" % at) + b"\0\0\0\0" + text(b"made of %d" % at)
+
+
+def changed(side, *changes):
+    """A side with some bytes in the place of others."""
+    side = bytearray(side)
+    for at, value in changes:
+        side[at] = value
+    return bytes(side)
+
+
+def with_store(name, counts, a, b, *words, out=None, status=0):
+    """Runs over a store of these sides, of which so many records can't be read."""
+    write("records", {"vunit_out/store_a": a, "vunit_out/store_b": b})
+    sides = ", ".join(f"{count} of vunit_out/store_{side}" for count, side in zip(counts, "ab") if count)
+    line = f"vunit_run: warning: records that cannot be read: {sides}; --clean builds anew\n" if sides else ""
+    told(name, "records", line, *(words or ("--compile",)), status=status, out=out)
+
+
+project("records", {"vunit.toml": tools() + toml({"lib": ["a.vhd"]}), "a.vhd": package("a")})
+four = [record(at) for at in range(4)]
+side, newer = side_of(FORM, 1, four), side_of(FORM, 2, four)
+gates = [18 + sum(5 + len(payload) for payload in four[:at]) for at in range(5)]
+for place, store in ("a", lambda bytes: (bytes, b"")), ("b", lambda bytes: (side_of(FORM, 1, four[:2]), bytes)):
+    whole = side if place == "a" else newer
+    count = lambda number: (number, 0) if place == "a" else (0, number)
+    about = f"side {place}: "
+    with_store(about + "a whole store", count(0), *store(whole))
+    with_store(about + "an empty store", count(0), *store(side_of(FORM, 2, [])))
+    # (the second record is none any more, and the others are found behind it)
+    with_store(about + "another kind of payload", count(1), *store(changed(whole, (gates[1] + 5, 3))))
+    with_store(about + "no path", count(1), *store(changed(whole, (gates[1] + 13, 0))))
+    with_store(about + "a text by a number that there isn't", count(1), *store(changed(whole, (gates[1] + 32, 0))))
+    with_store(about + "two damaged ones", count(2), *store(changed(whole, (gates[1] + 5, 9), (gates[2] + 5, 9))))
+    with_store(about + "the last one", count(1), *store(changed(whole, (gates[3] + 5, 7))))
+    # (nobody comes to the third and the fourth)
+    with_store(about + "one byte longer", count(3), *store(changed(whole, (gates[1] + 1, len(four[1]) + 1))))
+    with_store(about + "longer than the side", count(3), *store(changed(whole, (gates[1] + 4, 16))))
+    for gate in 0, 37:
+        with_store(about + f"a gate of {gate} in the middle", count(2), *store(changed(whole, (gates[2], gate))))
+        with_store(about + f"the last gate is {gate}, as a stop in a commit leaves it", count(0), *store(changed(whole, (gates[3], gate))))
+    with_store(about + "cut inside the third", count(1), *store(whole[:gates[2] + 20]))
+    with_store(about + "cut after a gate", count(1), *store(whole[:gates[2] + 1]))
+    with_store(about + "cut before the last gate", count(1), *store(whole[:-1]))
+    with_store(about + "a letter of the mark", count(4), *store(changed(whole, (3, 0x57))))
+    with_store(about + "another form", count(4), *store(changed(whole, (9, 7))))
+    # (the bytes of a text say another text, and that is one)
+    with_store(about + "a letter of a text", count(0), *store(changed(whole, (gates[1] + 45, 0x41))))
+    with_store(about + "not live", count(0), *store(changed(whole, (0, 0))))
+    # What a stop in the commit of a fifth record may leave, and one in a compaction.
+    fifth = record(4)
+    ended = whole[:-1] + b"\0" + len(fifth).to_bytes(4, "little") + fifth + b"\0"
+    for left in [*range(len(whole), len(ended), 7), len(ended)]:
+        with_store(about + f"a commit that stopped after {left} bytes", count(0), *store(ended[:left]))
+        with_store(about + f"a commit of which {left} bytes came", count(0), *store(ended[:left] + b"\1" * (len(ended) - left - 1) + b"\0"))
+    short = b"\1\2\0\0\0" + b"\0\0"
+    with_store(about + "a payload that is no record before the rest of a longer one", count(1), *store(whole[:-1] + short + b"\0" + fifth[3:] + b"\0"))
+for left in 1, 18, 19, 40, len(newer):
+    with_store(f"a compaction that stopped after {left} bytes", (0, 0), side, b"\0" + newer[1:left])
+with_store("a damaged side that is older than the one that counts", (0, 0), changed(side, (gates[1] + 5, 3)), newer)
+with_store("a damaged mark of the older side", (0, 0), changed(side, (3, 0x57)), newer)
+with_store("both sides", (1, 4), changed(side, (gates[1] + 5, 3)), changed(newer, (3, 0x57)))
+with_store("a form of before", (0, 0), side_of(1, 1, [b"x", b"y"]), b"")
+with_store("no store of the program", (0, 0), b"any text that somebody keeps here", b"\1\1\1")
+
+# The line isn't written where no record is wanted, nor by a run that empties the store, nor after it. It is the last of all.
+damaged = changed(side, (gates[1] + 5, 3))
+for words in ("-l",), ("-f",), ("--clean", "--compile"):
+    with_store(f"a damaged store, {words}", (0, 0), damaged, b"", *words)
+told("after it was emptied", "records", "", "--compile", status=0, out="Re-compile not needed\n")
+unread = "vunit_run: warning: records that cannot be read: 1 of vunit_out/store_a; --clean builds anew\n"
+project("records", {"vunit.toml": "x = 1\n" + toml({"lib": ["t.vhd"]}), "t.vhd": bench("a"), "vunit_out/store_a": damaged})
+told("the last line", "records", "vunit_run: warning: vunit.toml:1:1: unknown key x\n" + ANALYSED + SIMULATED + unread, status=0)
+told("again, as long as it is damaged", "records", "vunit_run: warning: vunit.toml:1:1: unknown key x\n" + ANALYSED + SIMULATED + unread, status=0)
+project("records", {"vunit.toml": tools() + one_library, "t.vhd": bench("a"), "vunit_out/store_a": damaged})
+told("the last line of a run that ends at a fault", "records", "vunit_run: fault of child\nvunit_run: lib.t.a: end: its code, 75, says that it has no answer\n"
+     "vunit_run: tests passed: 0, failed: 0, never started: 0\n" + unread, status=3, env=planned({"lib.t.a": {"code": 75}}))
 many = subprocess.run([PROGRAM, *["x"] * 100_000, "--nothing"], cwd="own", stdin=subprocess.DEVNULL, capture_output=True, timeout=120)
 if many.returncode != 2 or many.stderr != b"vunit_run: wrong word --nothing\n" + HELP.encode():
     fail("many words", f"it is {many.returncode, many.stderr[:200]}")

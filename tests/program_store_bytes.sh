@@ -33,7 +33,8 @@ def build_over(graph, records):
 def run_here():
     """Status and output of a build in the present folder."""
     # (so it takes half the time that it takes by `run`)
-    files = [(os.POSIX_SPAWN_OPEN, 0, os.devnull, os.O_RDONLY, 0), (os.POSIX_SPAWN_OPEN, 1, "../said", os.O_CREAT | os.O_TRUNC | os.O_WRONLY, 0o666)]
+    files = [(os.POSIX_SPAWN_OPEN, 0, os.devnull, os.O_RDONLY, 0), (os.POSIX_SPAWN_OPEN, 1, "../said", os.O_CREAT | os.O_TRUNC | os.O_WRONLY, 0o666),
+             (os.POSIX_SPAWN_OPEN, 2, os.devnull, os.O_WRONLY, 0)]
     _, status = os.waitpid(os.posix_spawn(PROGRAM, [PROGRAM, "--compile"], os.environ, file_actions=files), 0)
     with open("../said", "rb") as file:
         return os.waitstatus_to_exitcode(status), file.read()

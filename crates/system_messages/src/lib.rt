@@ -4,5 +4,5 @@
 mod line;
 mod messages;
 
-pub use line::{LINE_LIMIT, end_line};
+pub use line::{LINE_LIMIT, end_line, shorten_line};
 pub use messages::Messages;

@@ -19,6 +19,15 @@ pub fn end_line(line: &mut Vec<u8>) -> Result<(), NoMemory> {
     Ok(())
 }
 
+/// Cuts a line with its end that is too long, as `end_line` does.
+pub fn shorten_line(line: &mut Vec<u8>) -> Result<(), NoMemory> {
+    if line.len() > LINE_LIMIT {
+        line.truncate(LINE_LIMIT);
+        end_line(line)?;
+    }
+    Ok(())
+}
+
 /// Where the letter begins that the byte at an offset is part of, in UTF-8. Other bytes count as letters of their own.
 fn letter_start(bytes: &[u8], at: usize) -> usize {
     let mut start = at;

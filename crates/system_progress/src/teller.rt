@@ -228,16 +228,24 @@ impl<R: Clock + Drop> Teller<R> {
             &exit.results,
         )?;
         let mut has_passed = true;
+        let mut has_started = found.is_empty();
         for i in 0..found.len() {
             let name = case_at(tests, i);
             match found.get(i) {
-                Verdict::Passed => add(&mut self.counts.tests_passed, 1),
+                Verdict::Passed => {
+                    has_started = true;
+                    add(&mut self.counts.tests_passed, 1);
+                }
                 Verdict::Failed => {
+                    has_started = true;
                     has_passed = false;
                     self.tell_test(alloc, asked, tests, name, millis, cause)?;
                 }
                 Verdict::Skipped => has_passed = false,
             }
+        }
+        if !has_started {
+            self.tell_unstarted(alloc, asked, tests, millis, cause)?;
         }
         Ok(has_passed)
     }
@@ -263,6 +271,25 @@ impl<R: Clock + Drop> Teller<R> {
         self.tell_failure(alloc, &failure)?;
         self.failed.push(name)?;
         Ok(())
+    }
+
+    /// Tells of a simulator that ended before it had started any of its tests, which are then skipped.
+    fn tell_unstarted(
+        &mut self,
+        alloc: Global,
+        asked: &Asked,
+        tests: &AskedTests,
+        millis: u64,
+        cause: &[u8],
+    ) -> Result<(), NoMemory> {
+        let title = asked.title(alloc)?;
+        let failure = Failure {
+            name: title.as_slice(),
+            millis,
+            folder: tests.folder.as_slice(),
+            cause,
+        };
+        self.tell_failure(alloc, &failure)
     }
 
     /// Writes the line of a failure, on a terminal in the place of the line that is written over.

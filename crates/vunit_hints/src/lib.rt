@@ -7,6 +7,7 @@ mod patterns;
 mod project;
 mod tests_of;
 mod texts;
+mod wrong;
 
 pub use links::push_linked_folders;
 pub use matching::{Pattern, is_matched, patterns_of};

@@ -4,23 +4,44 @@ ghost use Rattle.std.specs.Prelude.{◌≤◌, length};
 ghost use Rattle.base.specs.declared.limits.TheConstants.{PATH_LIMIT};
 
 use crate::project::ProjectText;
-use base::{NoMemory, OrMemory, PATH_LIMIT, Text, TextList};
+use base::{NoMemory, OrMemory, PATH_LIMIT, ProjectFault, Text, TextList};
 use project_file::read_toml_project;
 use std::alloc::Global;
 use toml::{Table, Value};
 
-/// A project of one library with one pattern.
-fn project_of(alloc: Global, pattern: &str) -> Result<Option<Vec<u8>>, NoMemory> {
+/// A table of a library with one pattern.
+pub fn library_of(alloc: Global, pattern: &str) -> Result<Table, NoMemory> {
     let mut files = Vec::new(alloc);
     files.push(Value::string(alloc, pattern)?)?;
     let mut library = Table::new(alloc);
     library.insert(String::from_str(alloc, "name")?, Value::string(alloc, "l")?)?;
     library.insert(String::from_str(alloc, "files")?, Value::Array(files))?;
-    let mut libraries = Vec::new(alloc);
-    libraries.push(Value::Table(library))?;
+    Ok(library)
+}
+
+/// Adds a table that stands alone among those of its name.
+pub fn put_table(
+    alloc: Global,
+    root: &mut Table,
+    name: &str,
+    table: Table,
+) -> Result<(), NoMemory> {
+    let mut tables = Vec::new(alloc);
+    tables.push(Value::Table(table))?;
+    root.insert(String::from_str(alloc, name)?, Value::Array(tables))?;
+    Ok(())
+}
+
+/// A project of one library with one pattern.
+fn project_of(alloc: Global, pattern: &str) -> Result<Option<Vec<u8>>, NoMemory> {
     let mut root = Table::new(alloc);
-    root.insert(String::from_str(alloc, "library")?, Value::Array(libraries))?;
-    match toml::table_to_string(alloc, &root) {
+    put_table(alloc, &mut root, "library", library_of(alloc, pattern)?)?;
+    project_text_of(alloc, &root)
+}
+
+/// The text of a project.
+pub fn project_text_of(alloc: Global, root: &Table) -> Result<Option<Vec<u8>>, NoMemory> {
+    match toml::table_to_string(alloc, root) {
         Ok(text) => Ok(Some(text.into_bytes())),
         Err(_) => Ok(None),
     }
@@ -31,19 +52,24 @@ pub fn is_matched(alloc: Global, project: &[u8], path: &[u8]) -> Result<bool, No
     if path.is_empty() || path.len() > PATH_LIMIT {
         return Ok(false);
     }
-    is_matched_by(alloc, project, path)
+    Ok(fault_over(alloc, project, path)?.is_none())
 }
 
-fn is_matched_by(alloc: Global, project: &[u8], path: &[u8]) -> Result<bool, NoMemory>
+/// The fault of a project over the name of one file, if it has one.
+pub fn fault_over(
+    alloc: Global,
+    project: &[u8],
+    path: &[u8],
+) -> Result<Option<ProjectFault>, NoMemory>
     requires some { 1 ≤ length path.now }
     requires short { length path.now ≤ PATH_LIMIT }
 {
     let mut names = TextList::new(alloc);
     names.push(Text::from_slice(alloc, path)?)?;
     match read_toml_project(alloc, project, &names) {
-        Ok(_) => Ok(true),
+        Ok(_) => Ok(None),
         Err(OrMemory::NoMemory) => Err(NoMemory),
-        Err(OrMemory::Fault(_)) => Ok(false),
+        Err(OrMemory::Fault(fault)) => Ok(Some(fault)),
     }
 }
 

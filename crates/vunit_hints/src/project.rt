@@ -1,6 +1,7 @@
 //! The project file, as it is now.
 
 use crate::texts::text_of;
+use crate::wrong::wrong_table;
 use base::NoMemory;
 use project_hints::{
     FoundKey, KeyList, TableKind, UnknownKey, key_of, keys_of, shown_value, toml_fault,
@@ -113,7 +114,8 @@ impl ProjectText {
             return Ok(None);
         };
         let keys = keys_of(alloc, text)?;
-        let Some(key) = key_of(keys.as_slice(), name, 0) else {
+        let number = wrong_table(alloc, self.text.as_slice(), name)?;
+        let Some(key) = key_of(keys.as_slice(), name, number) else {
             return Ok(None);
         };
         let mut words = Vec::from_slice(alloc, b"wrong value of ")?;

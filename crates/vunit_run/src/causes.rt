@@ -7,17 +7,21 @@ use system_children::ChildProcs;
 use system_disk::FileDisk;
 use system_files::{FileTree, StdSink, StdSource};
 use system_progress::ToldProcs;
+use system_records::WatchedDisk;
 use system_reports::FileReports;
 
 /// Children of the system, of which standard error is told.
 pub type Children = ToldProcs<ChildProcs<HostRuntime>, HostRuntime>;
+
+/// A disk of the system, whose records are looked at.
+pub type Watched = WatchedDisk<FileDisk>;
 
 /// What a run goes over.
 #[derive(Clone, Copy)]
 pub struct Outside<'a> {
     pub input: &'a StdSource<HostRuntime>,
     pub tree: &'a FileTree<HostRuntime>,
-    pub disk: &'a FileDisk,
+    pub disk: &'a Watched,
     pub children: &'a Children,
     pub out: &'a StdSink<HostRuntime>,
     pub reports: &'a FileReports,
@@ -35,7 +39,7 @@ pub fn fault_cause(alloc: Global, which: Which, outside: &Outside) -> Option<Vec
 fn cause_of<'a>(which: Which, outside: &Outside<'a>) -> Option<(&'a [u8], Cause)> {
     match which {
         Which::Tree => outside.tree.cause(),
-        Which::Disk => outside.disk.cause(),
+        Which::Disk => outside.disk.disk.cause(),
         Which::Start => outside.children.procs.start_cause(),
         Which::Child => lost_child(outside.children),
         Which::Out => of("standard output", outside.out.cause()),

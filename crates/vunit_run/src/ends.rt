@@ -1,13 +1,13 @@
 //! The lines that standard error gets once a run has ended.
 
-use crate::causes::Children;
+use crate::causes::{Children, Watched};
 use crate::modes::{Mode, is_child};
 use base::{NoMemory, ProjectFault, TextList};
 use base_outcomes::{Outcome, Refusal, Which};
 use run_command_line::{Setting, read_words};
 use run_hints::{
     push_child_said, push_counts, push_failed, push_line, push_no_test, push_own_compiler,
-    push_own_simulator, push_words,
+    push_own_simulator, push_unread, push_words,
 };
 use system_locks::lock_holder;
 use system_progress::Counts;
@@ -20,20 +20,38 @@ use vunit_sources::push_source_places;
 /// The file of the store that a run locks.
 const LOCKED_FILE: &str = "vunit_out/store_a";
 
-/// The lines, after that of a fault. Where there is no memory for one, it and those after it are left out.
+/// The lines, after that of a fault. Where there is no memory for one, it and those after it are left out, but for the last.
 pub fn end_lines(
     rt: &HostRuntime,
     words: &TextList,
     outcome: &Outcome,
     cause: Option<Vec<u8>>,
     children: &Children,
+    disk: &Watched,
 ) -> Vec<Vec<u8>> {
     let mut lines = Vec::new(rt.alloc());
     if let Some(line) = cause {
         let _ = lines.push(line);
     }
     let _ = push_all(rt, &mut lines, words, outcome, children);
+    let _ = push_records(rt, &mut lines, words, disk);
     lines
+}
+
+/// Adds which records of the store couldn't be read as the run began, unless it was to empty the store.
+fn push_records(
+    rt: &HostRuntime,
+    lines: &mut Vec<Vec<u8>>,
+    words: &TextList,
+    disk: &Watched,
+) -> Result<(), NoMemory> {
+    let Some(unread) = disk.unread() else {
+        return Ok(());
+    };
+    match read_words(rt.alloc(), words) {
+        Ok(setting) if setting.clean => Ok(()),
+        _ => push_unread(rt.alloc(), lines, &unread),
+    }
 }
 
 fn push_all(

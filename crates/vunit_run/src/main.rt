@@ -7,7 +7,7 @@ mod modes;
 mod places;
 mod words;
 
-use crate::causes::{Outside, fault_cause};
+use crate::causes::{Outside, Watched, fault_cause};
 use crate::ends::end_lines;
 use crate::places::refusal_place;
 use crate::words::words;
@@ -21,8 +21,9 @@ use std::process::ExitCode;
 use system_children::ChildProcs;
 use system_disk::{FileDisk, STORE_NAMES};
 use system_files::{FileTree, OUTPUT_FOLDER, StdSink, StdSource};
-use system_messages::Messages;
+use system_messages::{Messages, shorten_line};
 use system_progress::{Manner, Teller, ToldProcs};
+use system_records::WatchedDisk;
 use system_reports::{FileReports, Spared};
 use vunit_top::run_vunit;
 
@@ -31,6 +32,9 @@ static STORE: Spared = Spared {
     folder: OUTPUT_FOLDER,
     names: STORE_NAMES,
 };
+
+/// The paths of its files.
+const STORE_PATHS: [&str; 2] = ["vunit_out/store_a", "vunit_out/store_b"];
 
 /// How a run ended, the lines that say more of it on standard error, and what these are written to.
 #[derive(Drop)]
@@ -62,7 +66,8 @@ fn main(rt: HostRuntime) -> ExitCode {
         Outcome::NoMemory => messages.say_at_end(b"vunit_run: out of memory\n"),
         _ => {}
     }
-    for line in &lines {
+    for mut line in lines {
+        let _ = shorten_line(&mut line);
         messages.say_at_end(line.as_slice());
     }
     messages.finish();
@@ -119,7 +124,11 @@ fn run_in(
     tree: &mut FileTree<HostRuntime>,
 ) -> Ran {
     match FileDisk::new(rt.alloc(), rt, OUTPUT_FOLDER) {
-        Ok(mut disk) => run_over(rt, messages, words, input, tree, &mut disk),
+        Ok(disk) => {
+            let [a, b] = STORE_PATHS;
+            let mut watched = WatchedDisk::new(disk, rt, a, b);
+            run_over(rt, messages, words, input, tree, &mut watched)
+        }
         Err(NoMemory) => Ran::without_memory(&rt, messages),
     }
 }
@@ -131,7 +140,7 @@ fn run_over(
     words: &TextList,
     input: &mut StdSource<HostRuntime>,
     tree: &mut FileTree<HostRuntime>,
-    disk: &mut FileDisk,
+    disk: &mut Watched,
 ) -> Ran {
     let Ok(procs) = ChildProcs::new(rt.alloc(), rt) else {
         return Ran::without_memory(&rt, messages);
@@ -163,7 +172,7 @@ fn run_over(
         Outcome::Refused(refusal) => refusal_place(&rt, refusal),
         _ => None,
     };
-    let lines = end_lines(&rt, words, &outcome, cause, &children);
+    let lines = end_lines(&rt, words, &outcome, cause, &children, disk);
     Ran {
         outcome,
         lines,

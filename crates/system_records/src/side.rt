@@ -1,0 +1,66 @@
+//! The bytes of a side, of which a part is held at a time.
+
+use std::alloc::Global;
+use std::fs::{File, OpenOptions};
+use std::os::unix::fs::FileExt;
+
+/// How many bytes are read at once at least, where so many are left: more than the numbers of the products of a record take.
+pub const WINDOW: usize = 32_768;
+
+/// An open file of a store, and some of its bytes.
+#[derive(Drop)]
+pub struct SideBytes {
+    file: File,
+    len: u64,
+    start: u64,
+    held: Vec<u8>,
+}
+
+impl SideBytes {
+    /// The file of a path, if it can be read.
+    pub fn open(rt: &HostRuntime, path: &str) -> Option<SideBytes> {
+        let file = OpenOptions::new().read(true).open(rt, path).ok()?;
+        let len = file.metadata().ok()?.len();
+        Some(SideBytes {
+            file,
+            len,
+            start: 0,
+            held: Vec::new(rt.alloc()),
+        })
+    }
+
+    /// How many bytes there were when it was opened.
+    pub fn len(&self) -> u64 {
+        self.len
+    }
+
+    /// So many bytes from an offset on, at most a window, if they are there.
+    pub fn bytes(&mut self, at: u64, count: usize) -> Option<&[u8]> {
+        if at < self.start || at.saturating_add(count as u64) > self.end_of_held() {
+            self.refill(at)?;
+        }
+        let first = usize::try_from(at.saturating_sub(self.start)).ok()?;
+        self.held.as_slice().get(first..first.saturating_add(count))
+    }
+
+    fn end_of_held(&self) -> u64 {
+        self.start.saturating_add(self.held.len() as u64)
+    }
+
+    /// Reads a window from an offset on, or what is left.
+    fn refill(&mut self, at: u64) -> Option<()> {
+        let left = self.len.saturating_sub(at).min(WINDOW as u64);
+        let count = usize::try_from(left).ok()?;
+        self.held.resize(count, 0).ok()?;
+        self.start = at;
+        if self
+            .file
+            .read_exact_at(self.held.as_mut_slice(), at)
+            .is_err()
+        {
+            self.held.clear();
+            return None;
+        }
+        Some(())
+    }
+}
