@@ -1,0 +1,325 @@
+"""Runs vunit_run at each change of a source or project file. docs/user/EDITORS.md has a session.
+
+usage: vunit_watch [WORD ..]
+
+The words are those of vunit_run, and `--changed` is added where the program has it. The program is what VUNIT_RUN names; else vunit_run in
+PATH; else the launcher of this checkout. It works in the folder of the project: the first run begins at once, each later one 0.15 seconds
+after the last change. A change during a run ends that as Ctrl-C does. Where another run has the folder, it waits. Behind a run it prints
+a line `PATH:LINE:COLUMN: fail NAME` for each case that failed. It ends at Ctrl-C, with the program and its children; with 1
+where the folder has no project file when it starts; and with 2 where the program refuses the words.
+"""
+
+import fcntl, gc, json, os, select, signal, subprocess, sys, time
+
+import folder_changes
+from runner_words import RunnerWords, WrongWords
+from tool_folder import ToolFolder
+from vunit_lsp import find_program
+from vunit_report import end_with_parent, read_xunit, split_name
+
+QUIET, PATIENCE, LOOK_AGAIN = 0.15, 5.0, 0.2
+NO_PROJECT, WRONG, OUTSIDE = 1, 2, 3
+STORE = "vunit_out/store_a"
+CHANGED = "--changed"
+STOPS = (signal.SIGINT, signal.SIGTERM, signal.SIGHUP)
+
+
+def shown(text):
+    """A text in one line: what isn't visible is `?`."""
+    return "".join(letter if letter.isprintable() else "?" for letter in text)
+
+
+def tell(text, end="\n"):
+    sys.stderr.write(f"vunit_watch: {shown(text)}{end}")
+    sys.stderr.flush()
+
+
+def is_locked():
+    """Whether a run has the store of the present folder. (It is only looked at: a lock that is tried for would end another run.)"""
+    try:
+        status = os.stat(STORE)
+        with open("/proc/locks") as file:
+            wanted = f"{os.major(status.st_dev):02x}:{os.minor(status.st_dev):02x}:{status.st_ino}"
+            return any(wanted in line.split() and "FLOCK" in line for line in file)
+    except OSError:
+        return False
+
+
+def is_taken():
+    """Whether the lock of the store can't be had, where the system doesn't show whose it is."""
+    try:
+        with open(STORE, "rb") as file:
+            fcntl.flock(file, fcntl.LOCK_SH | fcntl.LOCK_NB)
+    except BlockingIOError:
+        return True
+    except OSError:
+        pass
+    return False
+
+
+def is_beginning(program, own):
+    """Whether another run of the program has begun in the present folder, and may be about to lock its store."""
+    name, folder = os.path.basename(program)[:15], os.stat(".")
+    for pid in filter(str.isdigit, os.listdir("/proc")):
+        try:
+            with open(f"/proc/{pid}/comm") as file:
+                found = file.read().rstrip("\n")
+            if found in (name, "vunit_run") and int(pid) != own and os.path.samestat(os.stat(f"/proc/{pid}/cwd"), folder):
+                return True
+        except OSError:
+            pass
+    return False
+
+
+class Program:
+    """The program, and a run of it in a process group of its own."""
+
+    def __init__(self, command):
+        self.command, self.child = command, None
+
+    def start(self, words):
+        self.child = subprocess.Popen([self.command, *words], stdin=subprocess.DEVNULL, start_new_session=True,
+                                      preexec_fn=end_with_parent())
+
+    def status(self):
+        """What the run ended with, once it has."""
+        if self.child is None or self.child.poll() is None:
+            return None
+        return self.child.returncode
+
+    def signal(self, number):
+        try:
+            os.killpg(self.child.pid, number)
+            return True
+        except ProcessLookupError:
+            return False
+
+    def stop(self, number):
+        """Ends the run and its children: by a signal, and after a while for good."""
+        if self.child is None:
+            return
+        until, self_killed = time.monotonic() + PATIENCE, False
+        self.signal(number)
+        # (those that it has left in its group too)
+        while self.child.poll() is None or self.signal(0):
+            if time.monotonic() > until and not self_killed:
+                self_killed = self.signal(signal.SIGKILL)
+            time.sleep(0.01)
+        self.child = None
+
+    def ask(self, word, errors=subprocess.PIPE):
+        """Status and output of a run whose output isn't shown."""
+        ran = subprocess.run([self.command, word], stdin=subprocess.DEVNULL, stdout=subprocess.PIPE, stderr=errors,
+                             start_new_session=True, preexec_fn=end_with_parent(), check=False)
+        return ran.returncode, ran.stdout + (ran.stderr or b"")
+
+
+class Known:
+    """What is known of the project: its files, and where its tests are named."""
+
+    def __init__(self, program, folder):
+        self.program, self.path = program, os.path.join(folder, "export.json")
+        self.said, self.files, self.tests = None, None, {}
+
+    def look(self):
+        """Looks at the project. Tells whether it is another one than before: other files, or another refusal."""
+        status, text = self.program.ask(f"--export-json={self.path}")
+        before, self.said = (self.said, self.files), (status, text)
+        if status == 0:
+            with open(self.path, encoding="utf-8") as file:
+                exported = json.load(file)
+            self.files = {file["file_name"] for file in exported["files"]}
+            self.tests = {test["name"]: test["location"] for test in exported["tests"]}
+        return before != (self.said, self.files)
+
+    def counts(self, change):
+        """Whether a change is one of the project; None where only a look at the project tells."""
+        return folder_changes.concerns(change, ".", self.files or (), self.said is not None and self.said[0] != 0)
+
+    def place(self, name):
+        """The path, the line and the column of a test, the latter two from 1 on, in bytes."""
+        location = self.tests.get(name)
+        if location is None:
+            return None
+        try:
+            with open(location["file_name"], "rb") as file:
+                before = file.read()[: location["offset"]]
+        except OSError:
+            return None
+        return f'{location["file_name"]}:{before.count(10) + 1}:{len(before) - before.rfind(10)}'
+
+
+class Words:
+    """The words of each run: those that are given, and what the watch adds to a run of tests."""
+
+    def __init__(self, program, given, folder):
+        self.words, self.results = list(given), None
+        try:
+            read = RunnerWords([word for word in given if word != CHANGED])
+        except WrongWords:
+            # (the program says so itself)
+            return
+        if read.mode() != "run":
+            return
+        self.results = read.values.get("xunit-xml") or os.path.join(folder, "results.xml")
+        more = [] if "xunit-xml" in read.values else [f"--xunit-xml={self.results}"]
+        # (the usage text has all options; a launcher that builds the program says so)
+        if CHANGED not in given and CHANGED.encode() in program.ask("--no-word-of-the-program", None)[1]:
+            more.append(CHANGED)
+        self.words = [*more, *given]
+
+    def forget(self):
+        if self.results and os.path.exists(self.results):
+            os.unlink(self.results)
+
+
+class Watch:
+    def __init__(self, words, folder):
+        self.program = Program(find_program())
+        self.words, self.known = Words(self.program, words, folder), Known(self.program, folder)
+        self.changes, self.changed, self.ending, self.line = folder_changes.follow("."), {}, None, False
+        self.told, self.tells = os.pipe()
+        for end in (self.told, self.tells):
+            os.set_blocking(end, False)
+        signal.set_wakeup_fd(self.tells, warn_on_full_buffer=False)
+        signal.signal(signal.SIGCHLD, lambda number, frame: None)
+        for number in STOPS:
+            signal.signal(number, self.end_soon)
+
+    def end_soon(self, number, _):
+        self.ending = number
+
+    def wait(self, seconds=None):
+        """Waits for a signal, for a change, or for so long."""
+        files = [self.told] if self.changes.file is None else [self.told, self.changes.file]
+        limits = [limit for limit in (seconds, self.changes.seconds) if limit is not None]
+        ready, _, _ = select.select(files, [], [], min(limits, default=None))
+        if self.told in ready:
+            os.read(self.told, 4096)
+
+    def take_changes(self):
+        """Whether something of the project has changed since the last call. The names stay until the next run begins."""
+        found = False
+        for change in self.changes.changes():
+            if (counts := self.known.counts(change)) is not False:
+                self.changed[change.path] = self.changed.get(change.path) or counts
+                found = True
+        return found
+
+    def next_change(self):
+        """Waits until the project has changed, and has been quiet for a while."""
+        while not self.ending:
+            self.wait()
+            if not self.take_changes():
+                continue
+            self.be_quiet()
+            sure = [path for path, counts in self.changed.items() if counts]
+            # (a new file may be one of the project, and a removed one have been one)
+            if sure or self.known.look():
+                self.say(f"{sure[0] if sure else 'the project'} changed")
+                break
+            self.changed.clear()
+
+    def be_quiet(self):
+        until = time.monotonic() + QUIET
+        while not self.ending and (left := until - time.monotonic()) > 0:
+            self.wait(left)
+            if self.take_changes():
+                until = time.monotonic() + QUIET
+
+    def say(self, text):
+        """Says something on a line of its own, in the place of the last line if that is the watch's."""
+        if self.line:
+            sys.stderr.write("\r\x1b[K")
+            self.line = False
+        if text:
+            tell(text)
+
+    def say_for_now(self, text):
+        """Says something that the next words replace, on a terminal."""
+        self.line = sys.stderr.isatty()
+        tell(text, "" if self.line else "\n")
+
+    def wait_for_others(self):
+        """Waits until no other run has the folder."""
+        is_told = False
+        while not self.ending and (is_locked() or is_beginning(self.program.command, os.getpid())):
+            if not is_told:
+                self.say_for_now("waits for another run")
+                is_told = True
+            self.wait(LOOK_AGAIN)
+        self.say("")
+
+    def run(self):
+        """A run to its end. Gives its status, or None where a change or a signal ended it."""
+        self.wait_for_others()
+        if self.ending:
+            return None
+        self.words.forget()
+        self.program.start(self.words.words)
+        while (status := self.program.status()) is None:
+            self.wait()
+            if self.ending:
+                return None
+            if self.take_changes() and any(self.changed.values()):
+                self.say("a change ends the run")
+                self.program.stop(signal.SIGINT)
+                return None
+        self.program.child = None
+        return status
+
+    def show_failures(self):
+        verdicts = read_xunit(self.words.results) if self.words.results else None
+        failed = {case for case, verdict in (verdicts or {}).items() if verdict == "fail"}
+        for name in self.known.tests if failed else ():
+            if split_name(name) in failed:
+                place = self.known.place(name)
+                sys.stderr.write(shown(f"{place}: fail {name}" if place else f"fail {name}") + "\n")
+        sys.stderr.flush()
+
+    def work(self):
+        """Runs until a signal ends it. Gives the status to end with."""
+        self.known.look()
+        while not self.ending:
+            status = self.run()
+            if status == WRONG:
+                return WRONG
+            if status is not None:
+                if status == OUTSIDE and is_taken():
+                    self.wait(LOOK_AGAIN)
+                    continue
+                is_new = self.known.look()
+                self.show_failures()
+                # (names that came or went during the run)
+                if not (self.changed and is_new):
+                    self.say_for_now(f"status {status if status >= 0 else 128 - status}, waits for a change")
+                    self.next_change()
+                self.changed.clear()
+            elif not self.ending:
+                self.be_quiet()
+                self.changed.clear()
+        self.say("")
+        self.program.stop(self.ending)
+        return 0
+
+
+def main():
+    words = sys.argv[1:]
+    if words in (["--help"], ["-h"]):
+        sys.stdout.write(__doc__)
+        sys.exit(0)
+    if not any(map(os.path.exists, folder_changes.PROJECT_FILES)):
+        tell("no vunit.toml and no vunit.csv")
+        sys.exit(NO_PROJECT)
+    gc.enable()
+    with ToolFolder("vunit_watch") as folder:
+        try:
+            watch = Watch(words, os.fspath(folder))
+            status = watch.work()
+        except OSError as fault:
+            tell(f"{fault.filename or find_program()}: {fault.strerror}")
+            sys.exit(OUTSIDE)
+    if watch.ending:
+        signal.signal(watch.ending, signal.SIG_DFL)
+        os.kill(os.getpid(), watch.ending)
+    sys.exit(status)
