@@ -4,7 +4,8 @@ usage: vunit_watch [WORD ..]
 
 The words are those of vunit_run, and `--changed` is added where the program has it. The program is what VUNIT_RUN names; else vunit_run in
 PATH; else the launcher of this checkout. It works in the folder of the project: the first run begins at once, each later one 0.15 seconds
-after the last change. A change during a run ends that as Ctrl-C does. Where another run has the folder, it waits. Behind a run it prints
+after the last change. A change during a run ends that as Ctrl-C does. Where another run has the folder, it waits, and runs that the
+launcher starts wait for one of the watch. Behind a run it prints
 a line `PATH:LINE:COLUMN: fail NAME` for each case that failed. It ends at Ctrl-C, with the program and its children; with 1
 where the folder has no project file when it starts; and with 2 where the program refuses the words.
 """
@@ -19,8 +20,10 @@ from vunit_report import end_with_parent, read_xunit, split_name
 
 QUIET, PATIENCE, LOOK_AGAIN = 0.15, 5.0, 0.2
 NO_PROJECT, WRONG, OUTSIDE = 1, 2, 3
-STORE = "vunit_out/store_a"
+OUT, STORE, TURN = "vunit_out", "vunit_out/store_a", "vunit_out/watch"
 CHANGED = "--changed"
+# (a start by the watch, and each one below its run, waits for no watch)
+VARIABLES = {**os.environ, "VUNIT_RUN_WATCHED": "1"}
 STOPS = (signal.SIGINT, signal.SIGTERM, signal.SIGHUP)
 
 
@@ -71,15 +74,48 @@ def is_beginning(program, own):
     return False
 
 
+class Turn:
+    """The lock that a run of the watch has alone. Runs that the launcher starts share it, so neither meets the other at the store's lock.
+    A launcher that found no such lock is a process that `is_beginning` sees."""
+
+    def __init__(self):
+        self.file = None
+
+    def take(self):
+        """Whether the lock could be had. Where there can be none, it counts as had."""
+        try:
+            os.makedirs(OUT, exist_ok=True)
+            self.file = os.open(TURN, os.O_RDWR | os.O_CREAT | os.O_NONBLOCK, 0o666)
+            fcntl.flock(self.file, fcntl.LOCK_EX | fcntl.LOCK_NB)
+        except BlockingIOError:
+            self.close()
+            return False
+        except OSError:
+            self.close()
+        return True
+
+    def leave(self):
+        if self.file is not None:
+            # (a process that the run left may have the file too)
+            fcntl.flock(self.file, fcntl.LOCK_UN)
+        self.close()
+
+    def close(self):
+        if self.file is not None:
+            os.close(self.file)
+            self.file = None
+
+
 class Program:
     """The program, and a run of it in a process group of its own."""
 
     def __init__(self, command):
         self.command, self.child = command, None
 
-    def start(self, words):
-        self.child = subprocess.Popen([self.command, *words], stdin=subprocess.DEVNULL, start_new_session=True,
-                                      preexec_fn=end_with_parent())
+    def start(self, words, turn):
+        """Starts a run, which has the lock of the watch until its end, also where the watch is killed."""
+        self.child = subprocess.Popen([self.command, *words], stdin=subprocess.DEVNULL, start_new_session=True, env=VARIABLES,
+                                      pass_fds=[] if turn.file is None else [turn.file], preexec_fn=end_with_parent())
 
     def status(self):
         """What the run ended with, once it has."""
@@ -109,7 +145,7 @@ class Program:
 
     def ask(self, word, errors=subprocess.PIPE):
         """Status and output of a run whose output isn't shown."""
-        ran = subprocess.run([self.command, word], stdin=subprocess.DEVNULL, stdout=subprocess.PIPE, stderr=errors,
+        ran = subprocess.run([self.command, word], stdin=subprocess.DEVNULL, stdout=subprocess.PIPE, stderr=errors, env=VARIABLES,
                              start_new_session=True, preexec_fn=end_with_parent(), check=False)
         return ran.returncode, ran.stdout + (ran.stderr or b"")
 
@@ -153,12 +189,13 @@ class Words:
     """The words of each run: those that are given, and what the watch adds to a run of tests."""
 
     def __init__(self, program, given, folder):
-        self.words, self.results = list(given), None
+        self.words, self.results, self.opens_store = list(given), None, True
         try:
             read = RunnerWords([word for word in given if word != CHANGED])
         except WrongWords:
             # (the program says so itself)
             return
+        self.opens_store = read.mode() in ("run", "compile")
         if read.mode() != "run":
             return
         self.results = read.values.get("xunit-xml") or os.path.join(folder, "results.xml")
@@ -176,7 +213,7 @@ class Words:
 class Watch:
     def __init__(self, words, folder):
         self.program = Program(find_program())
-        self.words, self.known = Words(self.program, words, folder), Known(self.program, folder)
+        self.words, self.known, self.turn = Words(self.program, words, folder), Known(self.program, folder), Turn()
         self.changes, self.changed, self.ending, self.line = folder_changes.follow("."), {}, None, False
         self.told, self.tells = os.pipe()
         for end in (self.told, self.tells):
@@ -240,23 +277,36 @@ class Watch:
         self.line = sys.stderr.isatty()
         tell(text, "" if self.line else "\n")
 
+    def take_turn(self):
+        """Whether no other run has the folder, and none can begin there by the launcher."""
+        if self.words.opens_store and not self.turn.take():
+            return False
+        # (one that began before there was a lock is seen now; one that waits for the lock goes first)
+        if is_locked() or is_beginning(self.program.command, os.getpid()):
+            self.turn.leave()
+            return False
+        return True
+
     def wait_for_others(self):
-        """Waits until no other run has the folder."""
+        """Waits until no other run has the folder, which is then the watch's."""
         is_told = False
-        while not self.ending and (is_locked() or is_beginning(self.program.command, os.getpid())):
+        while not self.ending and not self.take_turn():
             if not is_told:
                 self.say_for_now("waits for another run")
                 is_told = True
             self.wait(LOOK_AGAIN)
+            self.take_changes()
+        # (the run goes by what is there now)
+        self.changed.clear()
         self.say("")
 
     def run(self):
-        """A run to its end. Gives its status, or None where a change or a signal ended it."""
+        """A run to its end. Gives its status, or None where a change, a signal or another run ended it."""
         self.wait_for_others()
         if self.ending:
             return None
         self.words.forget()
-        self.program.start(self.words.words)
+        self.program.start(self.words.words, self.turn)
         while (status := self.program.status()) is None:
             self.wait()
             if self.ending:
@@ -264,8 +314,14 @@ class Watch:
             if self.take_changes() and any(self.changed.values()):
                 self.say("a change ends the run")
                 self.program.stop(signal.SIGINT)
-                return None
+                break
         self.program.child = None
+        # (a program that was started without the launcher may have had the store)
+        is_refused = status == OUTSIDE and is_taken()
+        self.turn.leave()
+        if is_refused:
+            self.wait(LOOK_AGAIN)
+            return None
         return status
 
     def show_failures(self):
@@ -285,9 +341,6 @@ class Watch:
             if status == WRONG:
                 return WRONG
             if status is not None:
-                if status == OUTSIDE and is_taken():
-                    self.wait(LOOK_AGAIN)
-                    continue
                 is_new = self.known.look()
                 self.show_failures()
                 # (names that came or went during the run)

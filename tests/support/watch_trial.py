@@ -1,8 +1,9 @@
 """wrappers/vunit_watch over projects that are edited: which edits cause a run, what is printed, and what is left of it."""
 
-import os, shutil, signal, subprocess, sys, threading, time
+import fcntl, os, shutil, signal, subprocess, sys, threading, time
 
 from lsp_client import Client
+from told import without_told
 from trial import PROGRAM, end, fail, package, project, toml
 
 WATCH = os.path.join(os.environ["TOP"], "wrappers", "vunit_watch")
@@ -34,6 +35,26 @@ def write(path, text):
     with open(path + ".part", "w") as file:
         file.write(text)
     os.rename(path + ".part", path)
+
+
+def launcher(text):
+    """The launcher of a package whose program is a script."""
+    for folder in ("packed/bin", "packed/lib"):
+        os.makedirs(folder, exist_ok=True)
+    for part in ("packed_launcher", "run.sh", "wait.sh"):
+        shutil.copy(os.path.join(os.environ["TOP"], "bin", part), "packed/bin/vunit_run" if part == "packed_launcher" else "packed/bin")
+    script("packed/lib/vunit_run", text)
+    return os.path.abspath("packed/bin/vunit_run")
+
+
+def until(name, what):
+    """Waits until this is so."""
+    end_of_time = time.monotonic() + PATIENCE
+    while not what():
+        if time.monotonic() > end_of_time:
+            fail(name, "it takes too long")
+            return
+        time.sleep(0.02)
 
 
 class Watch:
@@ -210,7 +231,7 @@ def at_once():
     """A server, a watch and a run in a terminal at each save: no run finds the folder locked."""
     project("project", {"vunit.toml": toml({"lib": ["*.vhd"]}), "a.vhd": package("a"), "b.vhd": package("b", "work.a")})
     statuses = os.path.abspath("statuses")
-    noted = script("noted", f'{PROGRAM} "$@"\nstatus=$?\necho $status >>{statuses}\nexit $status\n')
+    noted = launcher(f'{PROGRAM} "$@"\nstatus=$?\necho $status >>{statuses}\nexit $status\n')
     server = os.path.join(os.environ["TOP"], "wrappers", "vunit_lsp")
     client = Client([server], "project", env={**os.environ, "VUNIT_RUN": noted, "TMPDIR": ROOM})
     client.open("a.vhd", package("a"))
@@ -231,6 +252,86 @@ def at_once():
         found = file.read().split()
     same("statuses", {*found} - {"0", "-2", "130"}, set())
     print(f"tried: 100 saves with a server, a watch and a run in a terminal: {len(found)} runs, {found.count('3')} of them with status 3")
+
+
+def turns():
+    """A run of the watch and one by the launcher keep apart, also where one has been started and hasn't locked the store yet."""
+    hold, held, name = os.path.abspath("hold"), os.path.abspath("held"), os.path.abspath("name")
+    # (the second script isn't seen as a process of the program)
+    waits = script("held_program", f'while [ -e {hold} ]; do sleep 0.05; done\nexec {PROGRAM} "$@"\n')
+    started = launcher(f"""case $1 in --compile) ;; *) exec {PROGRAM} "$@";; esac
+[ ! -e {hold} ] || echo >>{held}
+[ ! -e {name} ] || exec sh {waits} "$@"
+. {waits}
+""")
+    project("project", {"vunit.toml": toml({"lib": ["*.vhd"]}), "a.vhd": package("a")})
+    given = {key: value for key, value in os.environ.items() if key != "VUNIT_RUN_WAIT"}
+
+    def begin(*words, **more):
+        return subprocess.Popen([started, *words], cwd="project", env={**given, **more}, stdin=subprocess.DEVNULL,
+                                stdout=subprocess.PIPE, stderr=subprocess.PIPE, bufsize=0)
+
+    def ends(case, run, wanted):
+        said, told = run.communicate(timeout=PATIENCE)
+        same(case, (run.returncode, said, without_told(told)), wanted)
+
+    def starts_held(count):
+        until("a start that is held", lambda: os.path.exists(held) and len(open(held).readlines()) == count)
+
+    def save(text):
+        write("project/a.vhd", package("a") + f"-- {text}\n")
+
+    passed, nothing = b"Compiling into lib: a.vhd passed\nCompile passed\n", b"Re-compile not needed\n"
+    waiting = b"vunit_run: waiting for a run of vunit_watch in this folder%s\n"
+    open(hold, "w").close()
+    first = begin("--compile")
+    starts_held(1)
+    watch = Watch("--compile", program=started)
+    until("a first watch", lambda: b"waits for another run" in watch.said)
+    same("runs beside a run that found no watch", (watch.runs(), first.poll()), (0, None))
+    os.unlink(hold)
+    ends("a run that found no watch", first, (0, passed, b""))
+    watch.expect("after a run that found no watch", 1)
+
+    open(name, "w").close()
+    open(hold, "w").close()
+    second = begin("--compile")
+    starts_held(2)
+    save("second")
+    until("a save beside a run", lambda: watch.said.count(b"waits for another run") == 2)
+    same("runs beside a run", (watch.runs(), second.poll()), (1, None))
+    os.unlink(hold)
+    ends("a run that was there first", second, (0, passed, b""))
+    watch.expect("after a run", 2)
+
+    for number, wait in ((3, ""), (4, "1000")):
+        open(hold, "w").close()
+        save(number)
+        starts_held(number)
+        run = begin("--compile", VUNIT_RUN_WAIT=wait)
+        told = run.stderr.readline()
+        same("what a start beside the watch says", told, waiting % (b", at most 1000 seconds" if wait else b""))
+        ends("a list beside a run of the watch", begin("-f"), (0, b"lib, a.vhd\nListed 1 files\n", b""))
+        same("a start beside a run of the watch", run.poll(), None)
+        os.unlink(hold)
+        ends("a start that waited for the watch", run, (0, nothing, b""))
+        watch.expect("a run that was waited for", number)
+
+    # A program that was started by no launcher may have the store.
+    open(hold, "w").close()
+    save("refused")
+    starts_held(5)
+    store = open("project/vunit_out/store_a", "rb")
+    fcntl.flock(store, fcntl.LOCK_EX)
+    os.unlink(hold)
+    until("a run that is refused", lambda: watch.said.count(b"waits for another run") == 3)
+    same("a run that is refused", (watch.runs(), watch.waits()), (5, 4))
+    store.close()
+    until("after a refusal", lambda: watch.waits() == 5)
+    same("runs after a refusal", watch.runs(), 6)
+    if b"status 3" in watch.said:
+        fail("what a watch says", watch.said.decode())
+    watch.end()
 
 
 def other_runs():
@@ -257,6 +358,7 @@ for part in sys.argv[1:]:
         edits(["strace", "-D", "-f", "--quiet=all", "-o", "/dev/null", "-e", "trace=inotify_init1", "-e",
                "inject=inotify_init1:error=ENOSYS"], EDITS[:5])
     else:
-        parts = {"edits": edits, "failures": failures, "endings": endings, "words": words, "at_once": at_once, "other_runs": other_runs}
+        parts = {"edits": edits, "failures": failures, "endings": endings, "words": words, "at_once": at_once,
+                 "other_runs": other_runs, "turns": turns}
         parts[part]()
 end()
