@@ -5,9 +5,9 @@ usage: vunit_watch [WORD ..]
 The words are those of vunit_run, and `--changed` is added where the program has it. The program is what VUNIT_RUN names; else vunit_run in
 PATH; else the launcher of this checkout. It works in the folder of the project: the first run begins at once, each later one 0.15 seconds
 after the last change. A change during a run ends that as Ctrl-C does. Where another run has the folder, it waits, and runs that the
-launcher starts wait for one of the watch. Behind a run it prints
-a line `PATH:LINE:COLUMN: fail NAME` for each case that failed. It ends at Ctrl-C, with the program and its children; with 1
-where the folder has no project file when it starts; and with 2 where the program refuses the words.
+launcher starts wait for one of the watch. Behind a run it prints a line `PATH:LINE:COLUMN: fail NAME` for each case that failed. It ends
+at Ctrl-C, with the program and its children; with 1 where the folder has no project file when it starts; with 2 where the program refuses
+the words; and with 3 where the program can't be started.
 """
 
 import fcntl, gc, json, os, select, signal, subprocess, sys, time
