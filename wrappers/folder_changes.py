@@ -66,20 +66,23 @@ class Inotify:
 
     seconds = None
 
-    def __init__(self, folder):
-        self.folder, self.file = folder, LIBC.inotify_init1(FLAGS)
+    def __init__(self, folder, is_deep):
+        self.folder, self.is_deep, self.file = folder, is_deep, LIBC.inotify_init1(FLAGS)
         self.folders = {}
         if self.file < 0:
             raise OSError(ctypes.get_errno(), "inotify_init1")
         try:
             self.add("")
         except OSError:
-            os.close(self.file)
+            self.close()
             raise
+
+    def close(self):
+        os.close(self.file)
 
     def add(self, before):
         """Watches the folders from one on; a file that was put there before counts as a change of its name."""
-        for path in folders_below(self.folder, before):
+        for path in folders_below(self.folder, before) if self.is_deep else [""]:
             number = LIBC.inotify_add_watch(self.file, os.fsencode(os.path.join(self.folder, path)), WATCHED)
             if number >= 0:
                 self.folders[number] = path
@@ -103,6 +106,8 @@ class Inotify:
 
     def change(self, number, mask, name):
         if mask & FLOODED:
+            # (a folder may have come)
+            self.add_if_there("")
             return [Change(None, True)]
         if mask & LEFT:
             self.folders.pop(number, None)
@@ -110,13 +115,17 @@ class Inotify:
         if before is None or not name or not is_seen(before, name):
             return []
         if mask & IS_FOLDER:
-            if mask & (CREATED | MOVED_TO):
-                try:
-                    self.add(before + name + "/")
-                except OSError:
-                    pass
+            if mask & (CREATED | MOVED_TO) and self.is_deep:
+                self.add_if_there(before + name + "/")
             return [Change(None, True)] if mask & NAMES else []
         return [Change(before + name, bool(mask & NAMES))]
+
+
+    def add_if_there(self, before):
+        try:
+            self.add(before)
+        except OSError:
+            pass
 
 
 class Scan:
@@ -124,13 +133,16 @@ class Scan:
 
     file = None
 
-    def __init__(self, folder, seconds=SCAN_SECONDS):
-        self.folder, self.seconds, self.known = folder, seconds, None
+    def __init__(self, folder, is_deep, seconds=SCAN_SECONDS):
+        self.folder, self.is_deep, self.seconds, self.known = folder, is_deep, seconds, None
         self.changes()
+
+    def close(self):
+        pass
 
     def stamps(self):
         found = {}
-        for before in folders_below(self.folder):
+        for before in folders_below(self.folder) if self.is_deep else [""]:
             try:
                 with os.scandir(os.path.join(self.folder, before)) as entries:
                     for entry in entries:
@@ -156,11 +168,16 @@ class Scan:
                                                                    if before[path] != self.known[path])]]
 
 
-def follow(folder):
-    """What tells of changes: an object with `changes`, a `file` that can be read when there are some, or `seconds` after which to look."""
+def has_project(folder):
+    return any(os.path.lexists(os.path.join(folder, name)) for name in PROJECT_FILES)
+
+
+def follow(folder, is_deep=True):
+    """What tells of changes in a folder, and with `is_deep` in those below: an object with `changes`, a `file` that can be read when there
+    are some, or `seconds` after which to look."""
     try:
         if LIBC:
-            return Inotify(folder)
+            return Inotify(folder, is_deep)
     except OSError:
         pass
-    return Scan(folder)
+    return Scan(folder, is_deep)

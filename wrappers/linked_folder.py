@@ -42,9 +42,12 @@ class LinkedFolder:
         except OSError:
             return []
 
-    def follow(self, buffers, has_new_names):
-        """Makes the folder as it is to be. `buffers` are the paths and the bytes of the buffers that aren't as they are on the disk."""
-        if has_new_names or self.listing is None:
+    def follow(self, buffers, has_new_names, is_project=True):
+        """Makes the folder as it is to be. `buffers` are the paths and the bytes of the buffers that aren't as they are on the disk. Of a
+        folder that has no project nothing else is there."""
+        if not is_project:
+            self.listing = {}
+        elif has_new_names or self.listing is None:
             self.listing = self.list_project()
         wanted = dict(self.listing) if buffers else self.listing
         for path, data in buffers.items():

@@ -45,6 +45,10 @@ class Builds:
 
     def begin(self, names):
         """Begins with a compilation, where `names` is None, or with tests; or has it begin later."""
+        self.project.follow_folder()
+        if not self.project.is_project:
+            self.project.client.show(ERROR, "no vunit.toml and no vunit.csv")
+            return
         if self.run is None:
             self.start(names)
             return

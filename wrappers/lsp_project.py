@@ -30,9 +30,8 @@ class Project:
         self.shown = Shown(client, folder, self.text, self.versions.get)
         self.builds = Builds(self, os.path.join(folder, OUT))
         self.check, self.is_first, self.pause, self.progress = None, True, 0, None
-        self.has_new_names, self.changes = True, folder_changes.follow(folder)
-        if self.changes.file is not None:
-            loop.read(self.changes.file, self.take_changes)
+        self.has_new_names, self.is_project, self.changes = True, None, None
+        self.follow_folder()
         self.changed()
 
     # Files and buffers.
@@ -72,7 +71,8 @@ class Project:
                 self.changed()
 
     def saved(self):
-        if self.settings.compiles_on_save:
+        self.follow_folder()
+        if self.settings.compiles_on_save and self.is_project:
             self.builds.compile()
 
     def on_disk(self, path):
@@ -99,10 +99,24 @@ class Project:
         elif None in concerns:
             self.check_soon()
 
+    def follow_folder(self):
+        """Follows the files of the folder. One without a project file may be any folder of the disk: only that file is waited for."""
+        is_project = folder_changes.has_project(self.folder) or any(name in self.buffers for name in folder_changes.PROJECT_FILES)
+        if is_project == self.is_project:
+            return
+        if self.changes is not None:
+            if self.changes.file is not None:
+                self.loop.forget(self.changes.file)
+            self.changes.close()
+        self.is_project, self.has_new_names, self.changes = is_project, True, folder_changes.follow(self.folder, is_project)
+        if self.changes.file is not None:
+            self.loop.read(self.changes.file, self.take_changes)
+
     def follow(self):
         """Makes the folder of links as the project is now."""
+        self.follow_folder()
         unsaved = {path: text.data() for path, text in self.buffers.items() if self.is_unsaved(path)}
-        self.linked.follow(unsaved, self.has_new_names or self.changes.file is None)
+        self.linked.follow(unsaved, self.has_new_names or self.changes.file is None, self.is_project)
         self.has_new_names = False
 
     # What is wrong, while somebody types.

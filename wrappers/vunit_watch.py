@@ -16,7 +16,7 @@ import folder_changes
 from runner_words import RunnerWords, WrongWords
 from tool_folder import ToolFolder
 from vunit_lsp import find_program
-from vunit_report import end_with_parent, read_xunit, split_name
+from vunit_report import end_with_parent, read_xunit, split_name, stamp_of
 
 QUIET, PATIENCE, LOOK_AGAIN = 0.15, 5.0, 0.2
 NO_PROJECT, WRONG, OUTSIDE = 1, 2, 3
@@ -189,7 +189,7 @@ class Words:
     """The words of each run: those that are given, and what the watch adds to a run of tests."""
 
     def __init__(self, program, given, folder):
-        self.words, self.results, self.opens_store = list(given), None, True
+        self.words, self.results, self.before, self.opens_store = list(given), None, None, True
         try:
             read = RunnerWords([word for word in given if word != CHANGED])
         except WrongWords:
@@ -200,19 +200,27 @@ class Words:
             return
         self.results = read.values.get("xunit-xml") or os.path.join(folder, "results.xml")
         more = [] if "xunit-xml" in read.values else [f"--xunit-xml={self.results}"]
-        # (the usage text has all options; a launcher that builds the program says so)
-        if CHANGED not in given and CHANGED.encode() in program.ask("--no-word-of-the-program", None)[1]:
+        # (a program without its launcher answers by its usage text, which has all options too)
+        if CHANGED not in given and CHANGED.encode() in program.ask("--help")[1]:
             more.append(CHANGED)
         self.words = [*more, *given]
 
-    def forget(self):
-        if self.results and os.path.exists(self.results):
-            os.unlink(self.results)
+    def remember(self):
+        """Notes which report is there before a run."""
+        self.before = stamp_of(self.results) if self.results else None
+
+    def verdicts(self):
+        """The verdicts of the run that has ended, by class and case, where it wrote a report."""
+        if not self.results or stamp_of(self.results) in (None, self.before):
+            return {}
+        return read_xunit(self.results) or {}
 
 
 class Watch:
     def __init__(self, words, folder):
         self.program = Program(find_program())
+        # (a request that is none is answered at once; a launcher that builds the program first says so)
+        self.program.ask("child-bench", None)
         self.words, self.known, self.turn = Words(self.program, words, folder), Known(self.program, folder), Turn()
         self.changes, self.changed, self.ending, self.line = folder_changes.follow("."), {}, None, False
         self.told, self.tells = os.pipe()
@@ -305,7 +313,7 @@ class Watch:
         self.wait_for_others()
         if self.ending:
             return None
-        self.words.forget()
+        self.words.remember()
         self.program.start(self.words.words, self.turn)
         while (status := self.program.status()) is None:
             self.wait()
@@ -325,8 +333,7 @@ class Watch:
         return status
 
     def show_failures(self):
-        verdicts = read_xunit(self.words.results) if self.words.results else None
-        failed = {case for case, verdict in (verdicts or {}).items() if verdict == "fail"}
+        failed = {case for case, verdict in self.words.verdicts().items() if verdict == "fail"}
         for name in self.known.tests if failed else ():
             if split_name(name) in failed:
                 place = self.known.place(name)
@@ -361,7 +368,7 @@ def main():
     if words in (["--help"], ["-h"]):
         sys.stdout.write(__doc__)
         sys.exit(0)
-    if not any(map(os.path.exists, folder_changes.PROJECT_FILES)):
+    if not folder_changes.has_project("."):
         tell("no vunit.toml and no vunit.csv")
         sys.exit(NO_PROJECT)
     gc.enable()

@@ -110,6 +110,31 @@ def hidden_files():
     leave("hidden files", client)
 
 
+def no_project():
+    """A folder without a project file may be any folder: nothing of it is linked and nothing is made there, until there is such a file."""
+    project("project", {"a.vhd": "package a is\nend;\n", "deep/er/b.vhd": "package b is\nend;\n"})
+    client = server("project")
+    refused = {"vunit.toml": [(0, 0, 0, "no vunit.toml and no vunit.csv")]}
+    expect_shown("no project", client, refused)
+    folder = linked_folder()
+    client.open("a.vhd", "package a is\nend;\n")
+    client.save("a.vhd")
+    client.request("workspace/executeCommand", {"command": "vunit_run.compile"})
+    same("what is told", client.texts[-1], ("window/showMessage", "no vunit.toml and no vunit.csv"))
+    same("files of no project", (files_below(folder), sorted(os.listdir("project"))), ([], ["a.vhd", "deep"]))
+    with open("project/vunit.toml", "w") as file:
+        file.write(LIBRARY.replace("*.vhd", "**/*.vhd"))
+    expect_shown("a project", client, {})
+    same("files of a project", files_below(folder), ["a.vhd", "deep/er/b.vhd", "vunit.toml"])
+    with open("project/deep/er/b.vhd", "w") as file:
+        file.write("foo")
+    expect_shown("a file of it", client, {"deep/er/b.vhd": [(0, 0, 3, "lib, deep/er/b.vhd: no design unit at 0")]})
+    os.unlink("project/vunit.toml")
+    expect_shown("no project any more", client, refused)
+    same("files of no project any more", files_below(folder), [])
+    leave("no project", client)
+
+
 def latin_1():
     """A file in Latin-1: an editor shows its letters, and the buffer is the file."""
     project("project", {"vunit.toml": LIBRARY, "a.vhd": b"-- \xe9\npackage a is\nend;\n"})
@@ -209,6 +234,6 @@ def two_editors():
 
 changes("utf-16", None)
 changes("utf-8", UTF_8)
-for rows in (buffers_and_files, hidden_files, latin_1, saves, tests, two_editors):
+for rows in (buffers_and_files, hidden_files, no_project, latin_1, saves, tests, two_editors):
     rows()
 end()

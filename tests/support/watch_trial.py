@@ -65,7 +65,7 @@ class Watch:
         self.count = os.path.abspath("count")
         if os.path.exists(self.count):
             os.unlink(self.count)
-        counted = script("counted", f"""case $1 in --export-json=* | --no-word*) ;; *) {more} echo "$*" >>{self.count};; esac
+        counted = script("counted", f"""case $1 in --export-json=* | --help | child-bench) ;; *) {more} echo "$*" >>{self.count};; esac
 exec {program} "$@"
 """)
         given = {**os.environ, "VUNIT_RUN": counted, "TMPDIR": ROOM}
@@ -171,6 +171,11 @@ def failures():
     same("the report", os.path.exists("project/own.xml"), True)
     time.sleep(1)
     same("runs that a report causes", watch.runs(), 1)
+    write("project/tb.vhd", "foo")
+    watch.expect("a refused run", 2)
+    same("the report of the run before", os.path.exists("project/own.xml"), True)
+    same("cases that failed in the run before", watch.said.count(b": fail lib.tb.one\n"), 1)
+    same("what is said of words", b"word" in watch.said, False)
     watch.end(signal.SIGHUP)
 
 
@@ -215,7 +220,7 @@ def words():
     same("wrong words", run("project", "--frob")[:2], (2, b"usage: vunit_run"))
     same("no program", run("project", program="/no/such"), (3, b"", b"vunit_watch: /no/such: No such file or directory\n"))
     same("no project", run("empty"), (1, b"", b"vunit_watch: no vunit.toml and no vunit.csv\n"))
-    newer = script("newer", f"""case $1 in --no-word*) echo "usage: vunit_run [--changed]"; exit 2;; esac
+    newer = script("newer", f"""case $1 in --help) echo "usage: vunit_run [--changed]"; exit 2;; child-bench) echo builds >&2;; esac
 for word do shift; [ "$word" = --changed ] || set -- "$@" "$word"; done
 exec {PROGRAM} "$@"
 """)
@@ -223,6 +228,7 @@ exec {PROGRAM} "$@"
     watch.expect("a program with --changed", 1)
     with open("count") as file:
         said = file.read().split()
+    same("what a launcher says that builds", watch.said.count(b"builds\n"), 1)
     same("its words", (said[0].split("=")[0], said[1:]), ("--xunit-xml", ["--changed"]))
     watch.end()
 
@@ -231,7 +237,7 @@ def at_once():
     """A server, a watch and a run in a terminal at each save: no run finds the folder locked."""
     project("project", {"vunit.toml": toml({"lib": ["*.vhd"]}), "a.vhd": package("a"), "b.vhd": package("b", "work.a")})
     statuses = os.path.abspath("statuses")
-    noted = launcher(f'{PROGRAM} "$@"\nstatus=$?\necho $status >>{statuses}\nexit $status\n')
+    noted = launcher(f'{PROGRAM} "$@"\nstatus=$?\n[ "$1" = child-bench ] || echo $status >>{statuses}\nexit $status\n')
     server = os.path.join(os.environ["TOP"], "wrappers", "vunit_lsp")
     client = Client([server], "project", env={**os.environ, "VUNIT_RUN": noted, "TMPDIR": ROOM})
     client.open("a.vhd", package("a"))
