@@ -125,13 +125,13 @@ class Client:
     def save(self, path):
         self.notify("textDocument/didSave", {"textDocument": {"uri": self.uri(path)}})
 
-    def leave(self, seconds=20):
+    def leave(self, seconds=60):
         """Ends the server by the protocol. Gives its status."""
         self.request("shutdown", None)
         self.notify("exit", None)
         return self.end(seconds)
 
-    def end(self, seconds=20):
+    def end(self, seconds=60):
         """Closes what the server reads, and waits for its end."""
         try:
             self.process.stdin.close()

@@ -25,14 +25,14 @@ def words_of(path):
 
 def left():
     """What is left of a server within a while."""
-    until = time.monotonic() + 20
+    until = time.monotonic() + 60
     while os.listdir(ROOM) and time.monotonic() < until:
         time.sleep(0.05)
     return os.listdir(ROOM)
 
 
 def ends(name, client, status):
-    same(f"{name}: its status", client.process.wait(30), status)
+    same(f"{name}: its status", client.process.wait(60), status)
     same(f"{name}: its folder", left(), [])
     if b"Traceback" in client.errors:
         fail(name, client.errors)
@@ -128,11 +128,13 @@ def floods():
     for number in range(200):
         client.change("a.vhd", "x" * (number % 7 + 1), number + 2)
         time.sleep(max(0, began + number / 200 - time.monotonic()))
+    took = time.monotonic() - began
     client.change("a.vhd", "entity e is", 999)
     expect_shown("after a flood", client, {"a.vhd": [(0, 0, 6, "lib, a.vhd: design unit not ended at 0")]})
     runs = len(words_of("count"))
-    if runs > 8:
-        fail("200 changes", f"they made {runs} runs")
+    # (a machine with much to do makes more than a second of it)
+    if runs > 8 * max(1, took):
+        fail("200 changes", f"they made {runs} runs in {took:.2f} s")
     leave("a flood", client)
     silent = subprocess.Popen([SERVER], stdin=subprocess.PIPE, stdout=subprocess.PIPE, cwd="project", env=environment())
     request = client.frame({"id": 1, "method": "initialize", "params": {"capabilities": {}}})
@@ -148,7 +150,7 @@ def floods():
         fail("a client that reads nothing", "all that it sends is taken")
     silent.stdin.close()
     silent.stdout.close()
-    same("its status", silent.wait(30), 1)
+    same("its status", silent.wait(60), 1)
     same("what is left of it", left(), [])
 
 
@@ -168,7 +170,7 @@ def gone():
         # (of a server that is killed the system ends the program, which takes its children along in its own way)
         if number == signal.SIGKILL:
             os.kill(running.pop(), signal.SIGTERM)
-        until = time.monotonic() + 20
+        until = time.monotonic() + 60
         while any(map(is_running, running)) and time.monotonic() < until:
             time.sleep(0.05)
         same(f"{name}: processes", list(filter(is_running, running)), [])
@@ -228,8 +230,9 @@ echo 'building ..' >&2; sleep 1.5; echo 'building: 50 of 100' >&2; sleep 1.5; : 
             time.sleep(0.2)
         expect_shown("a program that is built", client, {"a.vhd": [(0, 0, 12, "lib, a.vhd: no design unit at 0")]})
         said = [one["params"] for one in client.messages if one.get("method") == wanted]
-        same("its progress", [one.get("message", one.get("value", {}).get("message")) for one in said][:1],
-             ["building: 50 of 100" if offers else "vunit_run: building: 50 of 100"])
+        words = [one.get("message", one.get("value", {}).get("message")) for one in said]
+        if ("building: 50 of 100" if offers else "vunit_run: building: 50 of 100") not in words:
+            fail("its progress", words)
         kinds = [one["value"]["kind"] for one in said if offers]
         same("its beginning and its end", kinds[:1] + kinds[-1:], ["begin", "end"] if offers else [])
         leave("a program that is built", client)

@@ -48,7 +48,7 @@ def all_shown(client):
     return {path: shown for path, shown in found.items() if shown}
 
 
-def expect_shown(name, client, wanted, seconds=float(os.environ.get("PATIENCE", "40"))):
+def expect_shown(name, client, wanted, seconds=float(os.environ.get("PATIENCE", "60"))):
     """Waits until exactly these diagnostics are shown: a dictionary from paths to lists as `ranges` gives them."""
     wanted = {path: sorted(shown, key=str) for path, shown in wanted.items()}
     if not client.wait_until(lambda: all_shown(client) == wanted, seconds):
@@ -60,7 +60,7 @@ def expect_shown(name, client, wanted, seconds=float(os.environ.get("PATIENCE", 
 def leave(name, client):
     """Ends a server by the protocol: it leaves no folder and says nothing on standard error."""
     status = client.leave()
-    until = time.monotonic() + 20
+    until = time.monotonic() + 60
     while os.listdir(ROOM) and time.monotonic() < until:
         time.sleep(0.05)
     if status != 0 or os.listdir(ROOM) or client.errors:

@@ -98,10 +98,10 @@ exec {program} "$@"
 
     def end(self, number=signal.SIGINT):
         self.process.send_signal(number)
-        status = self.process.wait(30)
-        self.reader.join(30)
+        status = self.process.wait(PATIENCE)
+        self.reader.join(PATIENCE)
         self.process.stdout.close()
-        until = time.monotonic() + 20
+        until = time.monotonic() + PATIENCE
         while os.listdir(ROOM) and time.monotonic() < until:
             time.sleep(0.05)
         same("its end", (status, os.listdir(ROOM)), (-number, []))
@@ -118,7 +118,7 @@ EDITS = [
     ("a source that is removed", lambda: os.unlink("project/sub/d.vhd"), True),
     ("a file below vunit_out", lambda: write("project/vunit_out/e.vhd", package("e")), False),
     ("a hidden file", lambda: write("project/.f.vhd", package("f")), False),
-    ("a folder with a source", lambda: shutil.copytree("moved", "project/new"), True),
+    ("a folder with a source", lambda: os.rename("moved", "project/new"), True),
     ("the project file", lambda: open("project/vunit.toml", "a").write("# x\n"), True),
     ("a list, where there is a vunit.toml", lambda: open("project/vunit.csv", "a").write("lib,a.vhd\n"), False),
     ("a source that is refused", lambda: write("project/a.vhd", "foo"), True),
