@@ -10,7 +10,7 @@ at Ctrl-C, with the program and its children; with 1 where the folder has no pro
 the words; and with 3 where the program can't be started.
 """
 
-import fcntl, gc, json, os, select, signal, subprocess, sys, time
+import fcntl, gc, json, os, select, signal, subprocess, sys, tempfile, time
 
 import folder_changes
 from runner_words import RunnerWords, WrongWords
@@ -112,10 +112,11 @@ class Program:
     def __init__(self, command):
         self.command, self.child = command, None
 
-    def start(self, words, turn):
-        """Starts a run, which has the lock of the watch until its end, also where the watch is killed."""
+    def start(self, words, turn=None, **streams):
+        """Starts a run. It has the lock of the watch until its end, also where the watch is killed."""
+        files = [turn.file] if turn and turn.file is not None else []
         self.child = subprocess.Popen([self.command, *words], stdin=subprocess.DEVNULL, start_new_session=True, env=VARIABLES,
-                                      pass_fds=[] if turn.file is None else [turn.file], preexec_fn=end_with_parent())
+                                      pass_fds=files, preexec_fn=end_with_parent(), **streams)
 
     def status(self):
         """What the run ended with, once it has."""
@@ -134,32 +135,30 @@ class Program:
         """Ends the run and its children: by a signal, and after a while for good."""
         if self.child is None:
             return
-        until, self_killed = time.monotonic() + PATIENCE, False
+        until, is_killed = time.monotonic() + PATIENCE, False
         self.signal(number)
-        # (those that it has left in its group too)
+        # (those that it has left in its group too; where nobody takes up the ended ones, these stay)
         while self.child.poll() is None or self.signal(0):
-            if time.monotonic() > until and not self_killed:
-                self_killed = self.signal(signal.SIGKILL)
+            if time.monotonic() > until:
+                if is_killed and self.child.poll() is not None:
+                    break
+                is_killed, until = self.signal(signal.SIGKILL), until + PATIENCE
             time.sleep(0.01)
         self.child = None
-
-    def ask(self, word, errors=subprocess.PIPE):
-        """Status and output of a run whose output isn't shown."""
-        ran = subprocess.run([self.command, word], stdin=subprocess.DEVNULL, stdout=subprocess.PIPE, stderr=errors, env=VARIABLES,
-                             start_new_session=True, preexec_fn=end_with_parent(), check=False)
-        return ran.returncode, ran.stdout + (ran.stderr or b"")
 
 
 class Known:
     """What is known of the project: its files, and where its tests are named."""
 
-    def __init__(self, program, folder):
-        self.program, self.path = program, os.path.join(folder, "export.json")
+    def __init__(self, watch, folder):
+        self.watch, self.path = watch, os.path.join(folder, "export.json")
         self.said, self.files, self.tests = None, None, {}
 
     def look(self):
         """Looks at the project. Tells whether it is another one than before: other files, or another refusal."""
-        status, text = self.program.ask(f"--export-json={self.path}")
+        status, text = self.watch.ask(f"--export-json={self.path}")
+        if status is None:
+            return False
         before, self.said = (self.said, self.files), (status, text)
         if status == 0:
             with open(self.path, encoding="utf-8") as file:
@@ -188,7 +187,7 @@ class Known:
 class Words:
     """The words of each run: those that are given, and what the watch adds to a run of tests."""
 
-    def __init__(self, program, given, folder):
+    def __init__(self, watch, given, folder):
         self.words, self.results, self.before, self.opens_store = list(given), None, None, True
         try:
             read = RunnerWords([word for word in given if word != CHANGED])
@@ -201,7 +200,7 @@ class Words:
         self.results = read.values.get("xunit-xml") or os.path.join(folder, "results.xml")
         more = [] if "xunit-xml" in read.values else [f"--xunit-xml={self.results}"]
         # (a program without its launcher answers by its usage text, which has all options too)
-        if CHANGED not in given and CHANGED.encode() in program.ask("--help")[1]:
+        if CHANGED not in given and CHANGED.encode() in watch.ask("--help")[1]:
             more.append(CHANGED)
         self.words = [*more, *given]
 
@@ -218,11 +217,7 @@ class Words:
 
 class Watch:
     def __init__(self, words, folder):
-        self.program = Program(find_program())
-        # (a request that is none is answered at once; a launcher that builds the program first says so)
-        self.program.ask("child-bench", None)
-        self.words, self.known, self.turn = Words(self.program, words, folder), Known(self.program, folder), Turn()
-        self.changes, self.changed, self.ending, self.line = folder_changes.follow("."), {}, None, False
+        self.program, self.ending, self.line = Program(find_program()), False, False
         self.told, self.tells = os.pipe()
         for end in (self.told, self.tells):
             os.set_blocking(end, False)
@@ -230,9 +225,17 @@ class Watch:
         signal.signal(signal.SIGCHLD, lambda number, frame: None)
         for number in STOPS:
             signal.signal(number, self.end_soon)
+        self.changes, self.changed = folder_changes.follow("."), {}
+        # (a request that is none is answered at once; a launcher that builds the program first says so)
+        self.ask("child-bench", None)
+        self.words, self.known, self.turn = Words(self, words, folder), Known(self, folder), Turn()
 
     def end_soon(self, number, _):
         self.ending = number
+
+    def wait_for_signal(self):
+        select.select([self.told], [], [])
+        os.read(self.told, 4096)
 
     def wait(self, seconds=None):
         """Waits for a signal, for a change, or for so long."""
@@ -241,6 +244,21 @@ class Watch:
         ready, _, _ = select.select(files, [], [], min(limits, default=None))
         if self.told in ready:
             os.read(self.told, 4096)
+
+    def ask(self, word, errors=subprocess.STDOUT):
+        """Status and output of a run that isn't shown; nothing of one that a signal to the watch ends."""
+        if self.ending:
+            return None, b""
+        with tempfile.TemporaryFile() as said:
+            self.program.start([word], stdout=said, stderr=errors)
+            while (status := self.program.status()) is None and not self.ending:
+                self.wait_for_signal()
+            if status is None:
+                self.program.stop(self.ending)
+                return None, b""
+            self.program.child = None
+            said.seek(0)
+            return status, said.read()
 
     def take_changes(self):
         """Whether something of the project has changed since the last call. The names stay until the next run begins."""

@@ -203,6 +203,12 @@ def endings():
     same("the first compiler", os.path.exists(f"/proc/{started()[0]}"), False)
     watch.end()
     same("the second compiler", os.path.exists(f"/proc/{started()[1]}"), False)
+    # (a launcher that builds the program first)
+    watch = Watch("--compile", program=script("builds", 'sleep 300 & echo $! $$ >>"$PIDS"; wait\n'))
+    wait_for(4)
+    watch.end()
+    same("what builds", [pid for pid in started()[2:] if os.path.exists(f"/proc/{pid}")], [])
+    same("what is said of an end", watch.said, b"")
 
 
 def words():
