@@ -23,7 +23,7 @@ find_rest() {
 }
 
 # Waits until wrappers/vunit_watch has no run in the present folder. It locks vunit_out/watch for each of its runs. Other starts share
-# this lock until their program and the children of that have ended, and the watch starts no run until then.
+# this lock until their program has ended, and the watch starts no run until then.
 wait_for_watch() {
     # (a start by the watch has the lock already, and one below its run would wait for itself)
     [ -z "${VUNIT_RUN_WATCHED-}" ] && opens_store "$@" && [ -f vunit_out/watch ] && [ -r vunit_out/watch ] || return 0
@@ -51,7 +51,7 @@ opens_store() {
 }
 
 # Waits until no other run has the present folder's store. Starts that wait come one after the other: each keeps vunit_out/wait locked
-# until its program and the children of that have ended.
+# until its program has ended.
 wait_for_run() {
     [ -f vunit_out/store_a ] && [ -w vunit_out ] || return 0
     if [ -e vunit_out/wait ]; then [ -f vunit_out/wait ] && [ -w vunit_out/wait ] || return 0; fi
