@@ -1,4 +1,4 @@
-# Two starts at once build once, and so do two proofs; one that is stopped leaves the next to build. A start waits for no proof.
+# Two starts at once build once, and so do two proofs; one that is stopped leaves the next to build. A start waits for no proof, but for a watch.
 . "$TOP/tests/support/launcher.sh"
 . "$TOP/tests/support/needs.sh"
 needs flock
@@ -94,3 +94,17 @@ rmdir notes/wait
 await flock -n repo/out/prove.lock true
 try repo/bin/prove
 same "the next proof" "$status" 0
+
+# A start waits for a run of a watch in its folder.
+mkdir -p folder/vunit_out
+: >folder/vunit_out/watch
+(flock 9; exec sleep 300) 9<folder/vunit_out/watch &
+holder=$!
+await sh -c '! flock -s -n folder/vunit_out/watch true'
+(cd folder && exec "$launcher" -c "$show; exit 6") >one 2>&1 &
+one=$!
+await grep -q '^vunit_run: waiting for a run of vunit_watch in this folder$' one
+kill "$holder"
+status=0
+wait "$one" || status=$?
+same "a start beside a watch" "$status $(tail -n 1 one)" "6 // fourth"

@@ -1,6 +1,6 @@
 #!/bin/sh
 # VUNIT_RUN_WAIT: a start waits for another run in its folder, and starts that wait come one after the other. Without it the refusal
-# names the process that has the store.
+# names the process that has the store. A run of a watch is waited for with it and without.
 . "$TOP/tests/support/needs.sh"
 needs python3 flock
 mkdir -p packed/bin packed/lib
@@ -9,7 +9,7 @@ cp "$TOP/bin/run.sh" "$TOP/bin/wait.sh" packed/bin
 printf '#!/bin/sh\nexec "%s" "$@"\n' "$VUNIT_RUN" >packed/lib/vunit_run
 chmod 755 packed/bin/vunit_run packed/lib/vunit_run
 PYTHONPATH=$TOP/tests/support exec python3 -B - <<'END_OF_SCRIPT'
-import atexit, os, re, subprocess, time
+import atexit, fcntl, os, re, subprocess, time
 
 from trial import end, fail, package, project, toml
 
@@ -28,8 +28,8 @@ def leave():
             each.terminate()
 
 
-def start(*words, wait=None):
-    env = dict(os.environ)
+def start(*words, wait=None, **more):
+    env = {**os.environ, **more}
     env.pop("VUNIT_RUN_WAIT", None)
     if wait is not None:
         env["VUNIT_RUN_WAIT"] = wait
@@ -89,10 +89,76 @@ free = start("--compile", wait="100")
 said, told = free.communicate(timeout=60)
 if (free.returncode, said, told) != (0, b"Re-compile not needed\n", b""):
     fail("a free folder", f"it is {free.returncode, said, told}")
-for wait in "x", "-1", "12345678":
+for wait in "x", "-1", "12345678", "1x":
     bad = start("--compile", wait=wait)
     said, told = bad.communicate(timeout=60)
     if (bad.returncode, said) != (126, b"") or b"VUNIT_RUN_WAIT isn't a number of seconds" not in told:
         fail(f"VUNIT_RUN_WAIT={wait}", f"it is {bad.returncode, said, told}")
+
+# The lock that a watch has while it runs. A start that opens the store waits for it; other starts, and those below the watch, don't.
+WATCHING = "vunit_run: waiting for a run of vunit_watch in this folder"
+NOTHING = (0, b"Re-compile not needed\n")
+watch = open("project/vunit_out/watch", "w")
+fcntl.flock(watch, fcntl.LOCK_EX)
+for words, wanted in [
+    (["-f"], (0, b"lib, a.vhd\nListed 1 files\n")), (["--files"], (0, b"lib, a.vhd\nListed 1 files\n")),
+    (["-vqf"], (0, b"lib, a.vhd\nListed 1 files\n")), (["--export-json=x.json"], None), (["--export-json", "x.json"], None),
+    (["-l"], None), (["--list", "*"], None), (["child-analyse"], None), (["child-bench"], None),
+]:
+    other = start(*words)
+    said, told = other.communicate(timeout=60)
+    if b"waiting" in told or wanted and (other.returncode, said) != wanted:
+        fail(f"{words} beside a watch", f"it is {other.returncode, said, told}")
+for given, wait, seconds in ({"VUNIT_RUN_WATCHED": "1"}, None, 0), ({}, "2", 2), ({}, "02", 2), ({}, "0", 0):
+    began = time.monotonic()
+    other = start("--compile", wait=wait, **given)
+    said, told = other.communicate(timeout=60)
+    wanted = "" if given else f"{WATCHING}, at most {int(wait)} seconds\n"
+    if (other.returncode, said) != NOTHING or told.decode() != wanted or time.monotonic() - began < seconds - 0.1:
+        fail(f"a start beside a watch, with {given} and {wait}", f"it is {other.returncode, said, told}")
+waiting = [start(*words, wait=wait) for words, wait in ((["--compile"], None), (["--compile", "-p", "2", "--", "-f"], None), ([], "100"))]
+for each, more in zip(waiting, ("", "", ", at most 100 seconds")):
+    # (a first line without a buffer that takes more)
+    told = b""
+    while not told.endswith(b"\n") and (letter := os.read(each.stderr.fileno(), 1)):
+        told += letter
+    if told.decode() != f"{WATCHING}{more}\n" or each.poll() is not None:
+        fail("a start that waits for a watch", f"it is {each.poll(), told}")
+# (runs of a terminal share the lock, so one of these might be refused)
+for each in waiting[1:]:
+    each.terminate()
+    each.wait(60)
+fcntl.flock(watch, fcntl.LOCK_UN)
+for each in waiting[1:]:
+    each.communicate(timeout=60)
+said, told = waiting[0].communicate(timeout=60)
+if (waiting[0].returncode, said, told) != (*NOTHING, b""):
+    fail("a start that waited for a watch", f"it is {waiting[0].returncode, said, told}")
+
+
+def is_shared():
+    """Whether a run has the lock, so that no watch can start one."""
+    try:
+        fcntl.flock(watch, fcntl.LOCK_EX | fcntl.LOCK_NB)
+    except BlockingIOError:
+        return True
+    fcntl.flock(watch, fcntl.LOCK_UN)
+    return False
+
+
+# A run of a terminal has the lock until it ends, and a second one is refused at once.
+os.unlink("project/go")
+os.unlink("project/started")
+with open("project/a.vhd", "a") as file:
+    file.write("-- x\n")
+first = start("--compile")
+until(lambda: lines_of("started") == 1, "a run beside a watch")
+refused = start("--compile")
+said, told = refused.communicate(timeout=60)
+if refused.returncode != 3 or said or b"waiting" in told or not is_shared():
+    fail("two runs beside a watch", f"it is {refused.returncode, said, told}")
+open("project/go", "w").close()
+if first.communicate(timeout=60)[0] != b"Compiling into lib: a.vhd passed\nCompile passed\n" or first.returncode != 0 or is_shared():
+    fail("a run beside a watch", f"the status is {first.returncode}")
 end()
 END_OF_SCRIPT

@@ -16,6 +16,9 @@ session docs/user/MANUAL.md "Lists and reports"
 session docs/user/MANUAL.md "What is compiled again"
 session docs/user/COMPILERS.md "A session"
 session docs/user/CLUSTER.md "A session"
+session docs/user/EDITORS.md "Extensions that call run.py"
+session docs/user/EDITORS.md "Project files of other servers"
+session docs/user/EDITORS.md "The watch"
 echo "$number sessions"
 
 # Each session of these pages is among them, or needs GHDL.

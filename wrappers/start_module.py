@@ -4,7 +4,7 @@ import gc, sys
 
 sys.path.insert(0, sys.argv[0].rpartition("/")[0])
 module = sys.argv[1]
-oldest = (3, 9)
+oldest = {"vunit_lsp": (3, 11)}.get(module, (3, 9))
 if sys.version_info < oldest:
     __import__("old_python").hand_over(oldest, *sys.argv[1:])
 del sys.argv[1:3]
