@@ -1,0 +1,48 @@
+# What documents say that the program calls is reached from `main`, and what they say that tests alone call isn't: by phrases, by the
+# steps in MAP and by the rows of crates in PROMISES, as tests/support/document_calls.py says. Then wrong sentences and rows are planted
+# in copies of the pages, over sources with a function that nothing calls; each must be named. Prints what isn't so. Ends with 0, with
+# 1 where something isn't, and with 77 where python3 is missing.
+room=$PWD
+cd -- "${TOP:-$(dirname -- "$0")/..}" || exit 1
+. tests/support/needs.sh
+needs python3
+PYTHONDONTWRITEBYTECODE=1
+export PYTHONDONTWRITEBYTECODE
+[ "$room" != "$PWD" ] || room=$(mktemp -d)
+
+python3 tests/support/document_calls.py || exit 1
+
+mkdir -p "$room/crates/order_files" && cp crates.txt "$room" || exit 1
+for crate in crates/*; do
+    [ "$crate" = crates/order_files ] || ln -s "$PWD/$crate" "$room/crates" || exit 1
+done
+cp -R crates/order_files/src "$room/crates/order_files" || exit 1
+printf '%s\n' 'fn never_called() -> u64 {' '    0' '}' >>"$room/crates/order_files/src/ordering.rt"
+
+# plant WANTED PAGE EDIT: where sed has edited a page, WANTED is all that is printed
+cases=0
+plant() {
+    cases=$((cases + 1))
+    rm -rf "$room/docs" && cp -R docs README.md "$room" || exit 1
+    sed "$3" "$2" >"$room/$2" || exit 1
+    said=$(python3 tests/support/document_calls.py "$room" 2>/dev/null)
+    [ $? -ne 1 ] || [ "$said" != "$1" ] || return 0
+    echo "with '$3' in $2: expected '$1', found '$said'"
+    exit 1
+}
+
+notes=docs/NOTES.md
+plant "$notes: nothing on the way from main calls never_called" $notes '$a - `order` and `never_called`, which the program calls.'
+plant "$notes: nothing on the way from main calls never_called" $notes '$a - Of these the program calls `never_called`.'
+plant "$notes: never_written is no function of the program" $notes '$a - `never_written`, which the program calls.'
+plant "$notes: minimal_graph is called on the way from main" $notes '$a - `minimal_graph`, which tests alone call.'
+plant "docs/MAP.md, graph: nothing on the way from main calls never_called" docs/MAP.md 's/ordering.rt`: `order`/ordering.rt`: `never_called`/'
+plant "docs/MAP.md, graph: order_graph is no function of the program" docs/MAP.md 's/ordering.rt`: `order`/ordering.rt`: `order_graph`/'
+plant "docs/MAP.md, graph: graph_of is no function of the program" docs/MAP.md 's/ordering.rt`: `order`/ordering.rt`: `graph_of`/'
+plant "docs/MAP.md, graph: there is no file order_files/src/orders.rt" docs/MAP.md 's/ordering.rt`: `order`/orders.rt`: `order`/'
+plant "docs/proof/PROMISES.md, order_files: nothing on the way from main calls never_called" docs/proof/PROMISES.md '$a \
+\
+| Crate | Promise | State | By |\
+|---|---|---|---|\
+| `order_files` | `never_called`: exactly the order. | proved | |'
+echo "$cases planted cases are named"
