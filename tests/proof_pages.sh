@@ -9,7 +9,7 @@ needs python3
 room=$(mktemp -d) || exit 1
 trap 'rm -rf "$room"' EXIT
 MOST=15000
-BARE=486
+BARE=0
 wrong=0
 
 # Makes both pages of a checkout in the folder of a name.
@@ -52,4 +52,6 @@ plant CALLS order_files/src/ordering.rt 's,^/// ,/// Perhaps: ,'
 plant DEFINITIONS order_files/src/ordering.rt 's/GivesOrder/GivesAnyOrder/'
 plant DEFINITIONS base/specs/Names.antt '/^-- a number is no less/d'
 [ "$(count_bare "$room/copy")" -gt "$bare" ] || { echo "a comment that is gone isn't seen"; wrong=1; }
+python3 "$top/tests/support/proof_pages.py" --bare "$room/copy" 2>"$room/complaint" | :
+[ ! -s "$room/complaint" ] || { echo "--bare doesn't end quietly where its reader closes the pipe"; wrong=1; }
 exit "$wrong"

@@ -8,6 +8,7 @@ and the beginning of its comment.
 usage: proof_pages.py TOP OUT    writes the pages of the checkout TOP into the folder OUT
        proof_pages.py --bare TOP prints each definition and each public call that has no comment
 """
+import os
 import pathlib
 import re
 import sys
@@ -269,10 +270,20 @@ def bare(top):
         yield from (f"{path.relative_to(top / 'crates')}: fn {name}" for path, _, name, comment, _ in calls_of(top, crate) if not comment)
 
 
+def print_lines(lines):
+    """Prints lines, until a reader closes the pipe."""
+    try:
+        for line in lines:
+            print(line)
+        sys.stdout.flush()
+    except BrokenPipeError:
+        # (python flushes once more at its end)
+        os.dup2(os.open(os.devnull, os.O_WRONLY), sys.stdout.fileno())
+
+
 def main():
     if sys.argv[1] == "--bare":
-        for line in bare(pathlib.Path(sys.argv[2])):
-            print(line)
+        print_lines(bare(pathlib.Path(sys.argv[2])))
         return
     top, out = map(pathlib.Path, sys.argv[1:3])
     crates = crates_of(top)

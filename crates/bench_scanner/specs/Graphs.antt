@@ -25,6 +25,7 @@ pub record HasGraph (files : List ProjectFile) (texts edges : List (List ℕ)) (
   pub counted : count ≡ length (linked files texts edges order)
   pub last : deps ≡ last_deps (linked files texts edges order)
 
+-- some files depend on each other in a circle, so no order of all files exists
 pub record HasCycle (edges : List (List ℕ)) : Type 0 where
   pub files : List ℕ
   pub cyclic : file_order edges ≡ Cyclic files

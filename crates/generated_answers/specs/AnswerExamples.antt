@@ -12,9 +12,11 @@ use Rattle.memory_children.specs.Answers.{loop_answer}
 abbrev pub lib_file : List ℕ → FileName
 lib_file path = record { library = codes "lib"; path = path }
 
+-- a file of the library `lib` with a path and a text, that the program compiles itself and that depends on no other
 abbrev pub loop_entry : (path text : List ℕ) → Entry
 loop_entry path text = record { name = lib_file path; command = codes "@self" ∷ (codes "child-analyse" ∷ []); text = text; deps = [] }
 
+-- a built file of the library `lib`, by its path and its artefact
 abbrev made_of : (path artefact : List ℕ) → BuiltFile
 made_of path artefact = record { name = lib_file path; artefact = artefact }
 

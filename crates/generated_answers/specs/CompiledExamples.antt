@@ -2,6 +2,7 @@
 use Rattle.std.specs.Prelude.{◌≡◌, codes, true, false}
 use Rattle.generated_answers.specs.CompiledTexts.{bench_artefact, package_artefact}
 
+-- the packages 1 and 12, each plain and edited, and the bench
 pub record CompiledExamples : Type 0 where
   pub first : package_artefact 1 false ≡ codes "unit package p1\n"
   pub first_noted : package_artefact 1 true ≡ codes "unit package p1\nscript note 1\n"

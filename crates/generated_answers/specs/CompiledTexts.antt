@@ -11,6 +11,7 @@ package_line_words = codes "unit package "
 unfoldable pub script_words : List ℕ
 script_words = codes "script note 1" ++ 10 ∷ []
 
+-- the script line of an edited file, and no byte for a plain one
 abbrev pub script_lines : (noted : Bool) → List ℕ
 script_lines noted = if noted then script_words else []
 

@@ -13,9 +13,11 @@ three_packages = 1 ∷ 2 ∷ 3 ∷ 0 ∷ []
 abbrev pub bench_first : List ℕ
 bench_first = 0 ∷ 2 ∷ 1 ∷ []
 
+-- of each file of a graph the positions of all files that it depends on
 abbrev pub deps_of_all : List Entry → List (List ℕ)
 deps_of_all graph = map (λ entry. entry.deps) graph
 
+-- orders and dependencies of two small projects, and how many files an edit touches
 pub record NumberedExamples : Type 0 where
   pub three_edges : numbered_edges three_packages ≡ [] ∷ (0 ∷ []) ∷ (0 ∷ []) ∷ (0 ∷ []) ∷ []
   pub three_order : file_order (numbered_edges three_packages) ≡ Ordered (0 ∷ 1 ∷ 2 ∷ 3 ∷ [])

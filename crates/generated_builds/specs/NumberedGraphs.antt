@@ -21,6 +21,7 @@ pub record AreInOrder (count : ℕ) (command : List (List ℕ)) (numbers order :
 abbrev pub ordered_number : (numbers order : List ℕ) → (position : ℕ) → ℕ
 ordered_number numbers order position = slice_index numbers (slice_index order position)
 
+-- the library `lib`, and the path of the bench or of a package
 abbrev pub numbered_name : ℕ → FileName
 numbered_name number = record { library = used_library; path = numbered_path number }
 

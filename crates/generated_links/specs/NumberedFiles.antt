@@ -13,13 +13,16 @@ use Rattle.generated_texts.specs.PackageScans.{package_scan}
 
 -- ## Files
 
+-- 0 names the bench, and each other number a package
 abbrev pub is_bench_number : ℕ → Bool
 is_bench_number zero = true
 is_bench_number (suc before) = false
 
+-- the bytes of the path of the bench or of a package
 abbrev pub numbered_path : ℕ → List ℕ
 numbered_path number = if is_bench_number number then bench_path else package_path number
 
+-- a file of the library `lib`, by its number, with the words of its compiler
 abbrev pub numbered_file : (command : List (List ℕ)) → ℕ → ProjectFile
 numbered_file command number = record { name = record { library = used_library; path = numbered_path number }; command = command }
 
@@ -27,6 +30,7 @@ numbered_file command number = record { name = record { library = used_library; 
 abbrev pub numbered_bytes : (edited : ℕ) → ℕ → List ℕ
 numbered_bytes edited number = if is_bench_number number then bench_head ++ bench_body else package_text number (number == edited)
 
+-- what a scanner finds in a file, where the package of one number is edited
 abbrev pub numbered_scan : (edited : ℕ) → ℕ → Scan
 numbered_scan edited number = if is_bench_number number then bench_scan else package_scan number (number == edited)
 

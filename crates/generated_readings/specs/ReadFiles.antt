@@ -12,10 +12,11 @@ use Rattle.generated_listing.specs.ListedNumbers.{listed_numbers}
 abbrev pub read_project : (count : ℕ) → Project
 read_project count = numbered_project listed_command listed_simulator [] (listed_numbers count)
 
--- the texts and the scans of its files, in project order
+-- the bytes of each file of the generated project, in project order
 abbrev pub read_texts : (count edited : ℕ) → List (List ℕ)
 read_texts count edited = map (numbered_bytes edited) (listed_numbers count)
 
+-- what a scanner finds in each file of the generated project, in project order
 abbrev pub read_scans : (count edited : ℕ) → List Scan
 read_scans count edited = map (numbered_scan edited) (listed_numbers count)
 

@@ -4,6 +4,7 @@ use Rattle.test_spec.specs.Runs.{case_names, results_path, run_name}
 use Rattle.generated_tests.specs.TestedBench.{case_run, first_case, passing_results, second_case, lets_pass}
 use Rattle.generated_answers.specs.CompiledTexts.{bench_artefact, package_artefact}
 
+-- three artefacts, which test case a line of one makes fail, and what a passing case writes and where
 pub record TestExamples : Type 0 where
   pub bench : bench_artefact ≡ codes "unit entity tb\nunit architecture a of tb\n"
   pub edited : package_artefact 2 true ≡ codes "unit package p2\nscript note 1\n"

@@ -16,9 +16,11 @@ use Rattle.generated_texts.specs.PackageLinks.{used_library}
 
 -- ## Runs
 
+-- the bytes `one`, which name a test case of the bench
 unfoldable pub first_case : List ℕ
 first_case = codes "one"
 
+-- the bytes `two`, which name a test case of the bench
 unfoldable pub second_case : List ℕ
 second_case = codes "two"
 

@@ -18,12 +18,15 @@ use Rattle.generated_texts.specs.PackageLinks.{used_library, used_ref}
 
 -- ## Tokens
 
+-- a word token over the bytes from `start` up to before `end`
 abbrev word : ℕ → ℕ → Token
 word start end = record { kind = Word; start = start; end = end }
 
+-- a token of a string literal with its quotes, over the bytes from `start` up to before `end`
 abbrev string : ℕ → ℕ → Token
 string start end = record { kind = Str; start = start; end = end }
 
+-- a token of one byte that is a delimiter, at an offset
 abbrev symbol : ℕ → Token
 symbol start = record { kind = Symbol; start = start; end = start + 1 }
 
@@ -37,6 +40,7 @@ bench_file_tokens =
     string 119 124 ∷ symbol 124 ∷ symbol 125 ∷ word 129 130 ∷ symbol 131 ∷ symbol 132 ∷ word 134 137 ∷ symbol 137 ∷
     string 138 143 ∷ symbol 143 ∷ symbol 144 ∷ word 146 149 ∷ symbol 149 ∷ []
 
+-- the role of each token of the bench file, in order
 abbrev pub bench_roles : List Role
 bench_roles =
     Library ∷ Name ∷ Semicolon ∷ Use ∷ Name ∷ Dot ∷ Name ∷ Dot ∷ All ∷ Semicolon ∷ roles.Entity ∷ Name ∷ Is ∷
@@ -46,6 +50,7 @@ bench_roles =
 
 -- ## Units
 
+-- the bytes `tb`, which name the entity of the generated bench
 unfoldable pub bench_entity_name : List ℕ
 bench_entity_name = codes "tb"
 
@@ -53,12 +58,15 @@ bench_entity_name = codes "tb"
 abbrev pub bench_elements : List Element
 bench_elements = item 2 ∷ item 9 ∷ plain Entity 21 ∷ owned Architecture 0 45 ∷ []
 
+-- the entity `tb` as a design unit: its context starts at token 0, its keyword is token 10, and it ends with token 21
 abbrev pub bench_entity : DesignUnit
 bench_entity = record { kind = Entity; name = bench_entity_name; owner = Nothing; lead = 0; first = 10; last = 21 }
 
+-- the architecture `a` of `tb` as a design unit: tokens 22 to 45, without a context of its own
 abbrev pub bench_architecture : DesignUnit
 bench_architecture = record { kind = Architecture; name = 97 ∷ []; owner = Given bench_entity_name; lead = 22; first = 22; last = 45 }
 
+-- what a scanner finds in the bench file: tokens, no comment, an entity and its architecture
 abbrev pub bench_scan : Scan
 bench_scan = record { tokens = record { list = bench_file_tokens; comments = [] }; units = bench_entity ∷ bench_architecture ∷ [] }
 
@@ -78,6 +86,7 @@ entity_link position file = record {
 abbrev pub entity_ref : Ref
 entity_ref = record { library = work; name = bench_entity_name; architecture = Nothing; strict = true; at = 22 }
 
+-- the architecture `a` in the file at a position of a project: it refers to its entity alone
 abbrev pub architecture_link : (position : ℕ) → ProjectFile → LinkUnit
 architecture_link position file = record {
   file = file;

@@ -8,9 +8,11 @@ use Rattle.generated_project.specs.Files.{package_text}
 use Rattle.generated_texts.specs.PackageLinks.{package_refs}
 use Rattle.generated_texts.specs.PackageScans.{package_comments, package_tokens, package_unit}
 
+-- a word token over the bytes from `start` up to before `end`
 abbrev word : ℕ → ℕ → Token
 word start end = record { kind = Word; start = start; end = end }
 
+-- a token of one byte that is a delimiter, at an offset
 abbrev symbol : ℕ → Token
 symbol start = record { kind = Symbol; start = start; end = start + 1 }
 

@@ -15,9 +15,11 @@ used_library = codes "lib"
 abbrev pub used_ref : List ℕ → Ref
 used_ref name = record { library = used_library; name = name; architecture = Nothing; strict = true; at = 4 }
 
+-- what the package of a file refers to: nothing, or one package of `lib` by its name
 abbrev pub file_refs : (alone : Bool) → (used : List ℕ) → List Ref
 file_refs alone used = if alone then [] else used_ref used ∷ []
 
+-- the library names in the library clauses of a package's file: none, or `lib` alone
 abbrev pub file_libraries : (alone : Bool) → List (List ℕ)
 file_libraries alone = if alone then [] else used_library ∷ []
 

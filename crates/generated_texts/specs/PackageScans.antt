@@ -38,12 +38,15 @@ pub record AreDigits (bytes : List ℕ) : Type 0 where
 
 -- ## Tokens
 
+-- a token of a kind over the bytes from `start` up to before `end`
 abbrev token : TokenKind → ℕ → ℕ → Token
 token kind start end = record { kind = kind; start = start; end = end }
 
+-- a word token over the bytes from `start` up to before `end`
 abbrev word : ℕ → ℕ → Token
 word start end = token Word start end
 
+-- a token of one byte that is a delimiter, at an offset
 abbrev symbol : ℕ → Token
 symbol start = token Symbol start (start + 1)
 
@@ -67,6 +70,7 @@ lines_tokens start digits =
     word (start + digits + 42) (start + digits + 45) ∷ word (start + digits + 46) (start + digits + 53) ∷
     word (start + digits + 54) (start + 2 * digits + 55) ∷ symbol (start + 2 * digits + 55) ∷ []
 
+-- the offset after the line feed of `end package pN;`, where `package pN is` starts at an offset and N has so many digits
 abbrev pub lines_end : (start digits : ℕ) → ℕ
 lines_end start digits = start + 2 * digits + 57
 
@@ -87,22 +91,26 @@ file_comments alone used digits noted =
 abbrev pub is_alone : ℕ → Bool
 is_alone number = number == 1
 
+-- the tokens of the file of the package of a number, with or without an edit
 abbrev pub package_tokens : (number : ℕ) → List Token
 package_tokens number = file_tokens (is_alone number) (digit_count (number / 2)) (digit_count number)
 
+-- the comments of the file of the package of a number: one where the file is edited, and else none
 abbrev pub package_comments : (number : ℕ) → (noted : Bool) → List Span
 package_comments number noted = file_comments (is_alone number) (digit_count (number / 2)) (digit_count number) noted
 
 -- ## The package
 
--- the roles of the tokens of the lines that make a package visible, and of those of a package
+-- the role of each token of `library lib;` and `use lib.pN.all;`, in order
 abbrev pub use_roles : List Role
 use_roles = Library ∷ Name ∷ Semicolon ∷ Use ∷ Name ∷ Dot ∷ Name ∷ Dot ∷ All ∷ Semicolon ∷ []
 
+-- the role of each token from `package pN is` to `end package pN;`, in order
 abbrev pub lines_roles : List Role
 lines_roles =
     roles.Package ∷ Name ∷ Is ∷ Other ∷ Name ∷ Colon ∷ Name ∷ Colon ∷ Other ∷ Other ∷ Semicolon ∷ End ∷ roles.Package ∷ Name ∷ Semicolon ∷ []
 
+-- the role of each token of a package's file, in order, by whether it uses no other package
 abbrev pub file_roles : (alone : Bool) → List Role
 file_roles alone = (if alone then [] else use_roles) ++ lines_roles
 
@@ -120,6 +128,7 @@ package_unit number = file_unit (is_alone number) (package_name number)
 
 -- ## The scan
 
+-- what a scanner finds in the file of the package of a number: tokens, comments and one unit
 abbrev pub package_scan : (number : ℕ) → (noted : Bool) → Scan
 package_scan number noted = record {
   tokens = record { list = package_tokens number; comments = package_comments number noted };

@@ -20,6 +20,7 @@ IsLoopAnswer answer = ((scan : List ℕ → Finding) → IsScanner scan → answ
 abbrev pub HasLoopAnswer : Type 0
 HasLoopAnswer = (answer : Request → Exit) × IsLoopAnswer answer
 
+-- how children exit on a request, without the evidence that every scanner gives the same
 unfoldable pub answer_in : HasLoopAnswer → Request → Exit
 answer_in known = known.0
 

@@ -4,6 +4,7 @@ use Rattle.base.specs.declared.child.MaybeText.TheVariants.{Given}
 use Rattle.test_spec.specs.Verdicts.{verdicts}
 use Rattle.test_spec.specs.declared.ends.Verdict.TheVariants.{Failed, Passed, Skipped}
 
+-- the names of two test cases, each of one letter
 abbrev a_and_b : List (List ℕ)
 a_and_b = codes "a" ∷ codes "b" ∷ []
 

@@ -6,6 +6,7 @@ use Rattle.outside.specs.Records.{Record}
 use Rattle.run_histories.specs.Histories.{Order, empty_image, latest_over, work_over}
 use Rattle.tests_examples.specs.Example.{Ra, a_built, a_name, files}
 
+-- to build a.vhd and b.vhd with one slot until a refusal, over what is recorded or, if clean, over nothing
 abbrev order : Bool → Order
 order clean = record { graph = files; slots = 1; keep_going = false; clean = clean }
 
@@ -13,6 +14,7 @@ order clean = record { graph = files; slots = 1; keep_going = false; clean = cle
 abbrev has_a : Image → List Record
 has_a image = Ra ∷ []
 
+-- a disk without pending writes, whose two sides have no byte
 abbrev empty_disk : DiskState
 empty_disk = settled_disk empty_image
 

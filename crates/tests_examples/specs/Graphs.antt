@@ -21,9 +21,11 @@ five = (2 ∷ []) ∷ (2 ∷ []) ∷ (3 ∷ []) ∷ (4 ∷ []) ∷ (2 ∷ []) �
 abbrev chain : List (List ℕ)
 chain = (2 ∷ []) ∷ (0 ∷ []) ∷ [] ∷ []
 
+-- a file of a project by its name, compiled by `cc`
 abbrev project_file_of : FileName → ProjectFile
 project_file_of it = record { name = it; command = command }
 
+-- a file of a graph whose path and text are a letter, with the positions of its dependencies
 abbrev letter_file : ℕ → List ℕ → Entry
 letter_file letter deps = file (name letter) (letter ∷ []) deps
 

@@ -4,16 +4,19 @@ use Rattle.outside.specs.declared.disk.Side.TheVariants.{A, B}
 use Rattle.store_journal.specs.Journals.{other_side}
 use Rattle.store_journal.specs.Payloads.{counting, payloads, side_bytes}
 
--- a side of form 1 and generation 1 without payloads, and after the commit of ab
+-- the 19 bytes of a side of form 1 and generation 1 without payloads
 abbrev empty_side : List ℕ
 empty_side = 1 ∷ 86 ∷ 85 ∷ 78 ∷ 73 ∷ 84 ∷ 82 ∷ 69 ∷ 67 ∷ 1 ∷ 1 ∷ 0 ∷ 0 ∷ 0 ∷ 0 ∷ 0 ∷ 0 ∷ 0 ∷ 0 ∷ []
 
+-- the bytes of a side of form 1, by the first byte, the generation (below 256), and all bytes after the generation
 abbrev side : ℕ → ℕ → List ℕ → List ℕ
 side first generation rest = first ∷ (86 ∷ 85 ∷ 78 ∷ 73 ∷ 84 ∷ 82 ∷ 69 ∷ 67 ∷ 1 ∷ generation ∷ 0 ∷ 0 ∷ 0 ∷ 0 ∷ 0 ∷ 0 ∷ 0 ∷ rest)
 
+-- the bytes of a live side of generation 1, whose one payload is `ab`
 abbrev ab_side : List ℕ
 ab_side = side 1 1 (1 ∷ 2 ∷ 0 ∷ 0 ∷ 0 ∷ 97 ∷ 98 ∷ 0 ∷ [])
 
+-- the bytes of a live side of generation 2, whose one payload is `cd`
 abbrev cd_side : List ℕ
 cd_side = side 1 2 (1 ∷ 2 ∷ 0 ∷ 0 ∷ 0 ∷ 99 ∷ 100 ∷ 0 ∷ [])
 

@@ -8,6 +8,7 @@ use Rattle.vhdl_spec.specs.Dependencies.{LinkUnit, edges_of, link_of, link_units
 use Rattle.tests_examples.specs.Example.{command, name}
 use Rattle.tests_examples.specs.Samples.{body_text, body_tokens, body_unit, p_text, p_tokens, p_unit, scan_with, user_text, user_tokens, user_unit}
 
+-- a file of a project that `cc` compiles, whose path is a letter and `.vhd`
 abbrev project_file_of : ℕ → ProjectFile
 project_file_of letter = record { name = name letter; command = command }
 
@@ -15,12 +16,15 @@ project_file_of letter = record { name = name letter; command = command }
 abbrev project : Bool → List ProjectFile → Project
 project bodies listed = record { files = listed; simulator = command; external = []; bodies = bodies; depends = []; listed = false }
 
+-- what a scanner finds in the text of package a, which uses package p
 abbrev user_scan : Scan
 user_scan = scan_with user_tokens (user_unit ∷ [])
 
+-- what a scanner finds in the text of package p
 abbrev p_scan : Scan
 p_scan = scan_with p_tokens (p_unit ∷ [])
 
+-- what a scanner finds in the text of the body of package p
 abbrev body_scan : Scan
 body_scan = scan_with body_tokens (body_unit ∷ [])
 
@@ -28,6 +32,7 @@ body_scan = scan_with body_tokens (body_unit ∷ [])
 abbrev all_three : Bool → Project
 all_three bodies = project bodies (map project_file_of (97 ∷ 98 ∷ 99 ∷ []))
 
+-- the units of a.vhd, b.vhd and c.vhd: package a, which uses p, then package p, then the body of p
 abbrev three_units : List LinkUnit
 three_units = link_units 0 (all_three false).files (user_text ∷ p_text ∷ body_text ∷ []) (user_scan ∷ p_scan ∷ body_scan ∷ [])
 

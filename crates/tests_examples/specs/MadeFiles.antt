@@ -30,6 +30,7 @@ pub record AnsweredFaults : Type 0 where
 abbrev apart : Work
 apart = record { graph = map (λ letter. file (name letter) [] []) (97 ∷ 98 ∷ 99 ∷ []); current = none_current; slots = 3; keep_going = false }
 
+-- the first three events of a build: children 1, 2 and 3 are started
 abbrev all_start : List Event
 all_start = Started 1 a_request ∷ Started 2 a_request ∷ Started 3 a_request ∷ []
 
@@ -43,6 +44,7 @@ pub record FirstOfTwoFaults : Type 0 where
   pub loss : IsLossFirst apart (all_start ++ (Gone 2 ∷ Ended 1 (exit 0 []) ∷ [])) 0
   pub disk : IsDiskFirst apart (all_start ++ (Ended 1 (exit 0 []) ∷ Gone 2 ∷ Ended 3 (exit 0 []) ∷ [])) 0 true
 
+-- how often starts failed, children were lost, and the disk failed, in this order
 abbrev counts : ℕ → ℕ → ℕ → FaultCounts
 counts starts losses disks = record { starts = starts; losses = losses; disks = disks }
 

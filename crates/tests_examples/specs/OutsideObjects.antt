@@ -18,13 +18,15 @@ use Rattle.outside.specs.declared.streams.SinkFault.TheVariants as sink
 use Rattle.outside.specs.declared.tree.NamesEnd.TheVariants as names
 use Rattle.outside.specs.declared.streams.TakeEnd.TheVariants as take
 
--- the side abcd, synced; inside a write of XYZ at 2; and after it
+-- a side of a disk with the four bytes abcd, all of them synced
 abbrev abcd : SideState
 abcd = settled (codes "abcd")
 
+-- the side abcd during a write of three bytes at offset 2
 abbrev inside_write : SideState
 inside_write = writing 2 3 abcd
 
+-- the side abcd after a write of XYZ at offset 2, which isn't synced yet
 abbrev after_write : SideState
 after_write = written 2 (codes "XYZ") abcd
 

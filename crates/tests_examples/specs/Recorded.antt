@@ -13,10 +13,11 @@ use Rattle.tests_examples.specs.Example.{Ra, Rb, Rw, a_built, a_name, accepting,
 abbrev three : List Record
 three = Ra ∷ Rb ∷ Rw ∷ []
 
--- a with the text w, as in Rw, and as it was built so
+-- a.vhd with the text w, which depends on no file
 abbrev other_a : Entry
 other_a = file a_name (codes "w") []
 
+-- a.vhd with the artefact 8
 abbrev other_built : BuiltFile
 other_built = built a_name (codes "8")
 
@@ -24,6 +25,7 @@ other_built = built a_name (codes "8")
 abbrev same_artefact : Record
 same_artefact = recorded other_a [] (codes "1")
 
+-- the latest of these records that is of a file, if one is
 abbrev over : List Record → FileName → Option Record
 over records it = latest it records
 

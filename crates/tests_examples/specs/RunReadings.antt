@@ -11,6 +11,7 @@ use Rattle.base_outcomes.specs.declared.outcome.Refusal.TheVariants as refusal
 use Rattle.base_outcomes.specs.declared.outcome.Limit.TheVariants as limit
 use Rattle.base_outcomes.specs.declared.outcome.Which.TheVariants as which
 
+-- to build a.vhd and b.vhd with three slots until a refusal, over no records
 abbrev order : Order
 order = record { graph = files; slots = 3; keep_going = false; clean = true }
 
@@ -37,13 +38,15 @@ pub record EndedRuns : Type 0 where
   pub tree_failed : HasEnded (outcome.OutsideFault which.Tree) → ⊥
   pub no_memory : HasEnded outcome.NoMemory → ⊥
 
--- what is put after faults, and their causes
+-- what a run answers and prints where all files compiled
 abbrev passed_said : Said
 passed_said = record { outcome = outcome.Done; text = codes "Compile passed\n" }
 
+-- so many faults of the tree, and none of any other object
 abbrev tree_counts : ℕ → Counts
 tree_counts count = fault_counts count 0 0 0 0 0 0
 
+-- how much is printed before a fault, and which risen count is the cause of an answer
 pub record FaultsAnswered : Type 0 where
   pub prefix_put : Says (outcome.OutsideFault which.Out) passed_said [] (codes "Comp")
   pub nothing_put : Says (outcome.OutsideFault which.Disk) passed_said (codes "x") (codes "x")

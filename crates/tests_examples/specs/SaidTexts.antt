@@ -10,6 +10,7 @@ use Rattle.run_spec.specs.Marks.{NoRefusalHalts, is_refused, marks_of, steady_ma
 use Rattle.run_spec.specs.declared.marks.Mark.TheVariants.{Compiled, Fresh, Left, Refused}
 use Rattle.tests_examples.specs.Example.{Ra, a_request, accepting, b_request, exit, files, one_slot}
 
+-- the compiler of a.vhd starts as child 7, and ends with code 1 and the output no
 abbrev refused_a : List Event
 refused_a = Started 7 a_request ∷ Ended 7 (exit 1 (codes "no")) ∷ []
 
@@ -24,5 +25,6 @@ pub record FileMarks : Type 0 where
   pub steady : steady_marks accepting files a_recorded.current ≡ Fresh ∷ Compiled ∷ []
   pub some_refused : list_any is_refused (marks_of one_slot refused_a) ≡ true
 
+-- a refusal halts a build that doesn't keep going
 pub record HaltedBuilds : Type 0 where
   pub halts : NoRefusalHalts one_slot refused_a → ⊥

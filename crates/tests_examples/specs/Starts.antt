@@ -18,18 +18,23 @@ two keep_going = job_of (work_with 1 keep_going)
 abbrev three : Job
 three = record { count = 3; deps = λ position. []; is_made = λ ended position. is_some (output_at ended position); slots = 3; keep_going = false }
 
+-- the file at position 0 starts as child 7, and hasn't ended
 abbrev runs_a : List Move
 runs_a = Starts 0 7 ∷ []
 
+-- the file at position 0 starts as child 7, which accepts it with the artefact 1
 abbrev made_a : List Move
 made_a = Starts 0 7 ∷ Ends 7 true (codes "1") ∷ []
 
+-- the files at positions 0 and 1 start one after the other, and are accepted with the artefacts 1 and 2
 abbrev both : List Move
 both = Starts 0 7 ∷ Ends 7 true (codes "1") ∷ Starts 1 8 ∷ Ends 8 true (codes "2") ∷ []
 
+-- the file at position 0 starts as child 7, which refuses it with the output no
 abbrev a_refused : List Move
 a_refused = Starts 0 7 ∷ Ends 7 false (codes "no") ∷ []
 
+-- what is started and ended after these moves, the first of which finds nothing started
 abbrev so_far : Job → List Move → Core
 so_far job moves = after_moves job empty_core moves
 
@@ -94,5 +99,6 @@ abbrev with_test : List Event
 with_test = Started 1 a_request ∷ Started 2 (record { command = command; input = []; results = Given (codes "r") }) ∷ Ended 2 (exit 0 []) ∷
     Gone 1 ∷ []
 
+-- the events of compilers are left where those of simulators are taken out
 pub record CompileParts : Type 0 where
   pub compilers : compile_part with_test ≡ Started 1 a_request ∷ Gone 1 ∷ []

@@ -5,10 +5,11 @@ use Rattle.store_journal.specs.Payloads.{side_bytes}
 use Rattle.store_requests.specs.Stored.{kept_payloads, requests_in}
 use Rattle.tests_examples.specs.StoredRequests.{first, head, second, two_records}
 
--- the two payloads of form 2 of the example in FORMATS.md
+-- a payload of form 2 in FORMATS.md: a.vhd with the text x, which depends on no file, and the artefact y
 abbrev first_node : List ℕ
 first_node = 1 ∷ head 97 ++ (1 ∷ 1 ∷ 0 ∷ 0 ∷ 0 ∷ 120 ∷ 0 ∷ 0 ∷ 0 ∷ 0 ∷ 1 ∷ 0 ∷ 0 ∷ 0 ∷ 121 ∷ [])
 
+-- a payload of form 2 in FORMATS.md: b.vhd with text 0, over node 0, and the new artefact z
 abbrev second_node : List ℕ
 second_node = 1 ∷ head 98 ++ (0 ∷ 0 ∷ 0 ∷ 0 ∷ 0 ∷ 0 ∷ 0 ∷ 0 ∷ 0 ∷ 1 ∷ 0 ∷ 0 ∷ 0 ∷ 0 ∷ 0 ∷ 0 ∷ 0 ∷ 0 ∷ 0 ∷ 0 ∷ 0 ∷ 1 ∷ 0 ∷ 0 ∷ 0 ∷ 122 ∷ [])
 
@@ -20,6 +21,7 @@ holding form payloads = record { a = side_bytes form 1 payloads; b = [] }
 abbrev beside : Image
 beside = record { a = side_bytes 2 9 (first_node ∷ second_node ∷ []); b = side_bytes 3 1 [] }
 
+-- the records and payloads that images of the forms 1, 2 and 3 hold
 pub record StoredRecords : Type 0 where
   pub empty : requests_in (record { a = []; b = [] }) ≡ []
   pub both : requests_in (holding 3 (first ∷ second ∷ [])) ≡ two_records

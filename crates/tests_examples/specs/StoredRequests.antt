@@ -14,10 +14,11 @@ use Rattle.tests_examples.specs.Example.{a_file, a_name, b_name, built, command,
 abbrev pub head : ℕ → List ℕ
 head letter = 3 ∷ 0 ∷ 0 ∷ 0 ∷ 108 ∷ 105 ∷ 98 ∷ 5 ∷ 0 ∷ 0 ∷ 0 ∷ letter ∷ 46 ∷ 118 ∷ 104 ∷ 100 ∷ 1 ∷ 0 ∷ 0 ∷ 0 ∷ 2 ∷ 0 ∷ 0 ∷ 0 ∷ 99 ∷ 99 ∷ []
 
--- the two payloads of the example in FORMATS.md, of a.vhd with the artefact y, and of b.vhd over it with the artefact z
+-- a payload of form 3 in FORMATS.md: a.vhd with the text x, which depends on no file, and the artefact y
 abbrev pub first : List ℕ
 first = 1 ∷ head 97 ++ (1 ∷ 1 ∷ 0 ∷ 0 ∷ 0 ∷ 120 ∷ 0 ∷ 0 ∷ 0 ∷ 0 ∷ 1 ∷ 1 ∷ 0 ∷ 0 ∷ 0 ∷ 121 ∷ [])
 
+-- a payload of form 3 in FORMATS.md: b.vhd with text 0, over product 0, and the new artefact z
 abbrev pub second : List ℕ
 second = 1 ∷ head 98 ++ (0 ∷ 0 ∷ 0 ∷ 0 ∷ 0 ∷ 0 ∷ 0 ∷ 0 ∷ 0 ∷ 1 ∷ 0 ∷ 0 ∷ 0 ∷ 0 ∷ 0 ∷ 0 ∷ 0 ∷ 0 ∷ 0 ∷ 0 ∷ 0 ∷ 1 ∷ 1 ∷ 0 ∷ 0 ∷ 0 ∷ 122 ∷ [])
 
@@ -33,6 +34,7 @@ over_product = 1 ∷ head 98 ++ (1 ∷ 1 ∷ 0 ∷ 0 ∷ 0 ∷ 120 ∷ 1 ∷ 0 �
 abbrev newer : List ℕ
 newer = 1 ∷ head 97 ++ (1 ∷ 1 ∷ 0 ∷ 0 ∷ 0 ∷ 119 ∷ 0 ∷ 0 ∷ 0 ∷ 0 ∷ 1 ∷ 1 ∷ 0 ∷ 0 ∷ 0 ∷ 118 ∷ [])
 
+-- a.vhd with the artefact y
 abbrev y_built : BuiltFile
 y_built = built a_name (codes "y")
 
@@ -40,16 +42,19 @@ y_built = built a_name (codes "y")
 abbrev pub same_text : Entry
 same_text = file b_name (codes "x") (0 ∷ [])
 
--- the records that the two payloads stand for, and one of a.vhd with the text w and the artefact v
+-- the record of a.vhd with the text x and the artefact y, and that of b.vhd over it with the artefact z
 abbrev pub two_records : List Record
 two_records = recorded a_file [] (codes "y") ∷ recorded same_text (y_built ∷ []) (codes "z") ∷ []
 
+-- the record of a.vhd with the text w and the artefact v
 abbrev newer_record : Record
 newer_record = recorded (file a_name (codes "w") []) [] (codes "v")
 
+-- a record to spell: a file that `cc` compiles, its text, the numbers of the products below it, and its artefact
 abbrev draft : FileName → TextRef → List ℕ → TextRef → RequestDraft
 draft it source deps artefact = record { name = it; command = command; source = source; deps = deps; artefact = artefact }
 
+-- a record of a.vhd to spell, with the text x and the artefact y, both new
 abbrev first_draft : RequestDraft
 first_draft = draft a_name (InFull (codes "x")) [] (InFull (codes "y"))
 

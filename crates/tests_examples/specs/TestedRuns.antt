@@ -29,6 +29,7 @@ use Rattle.base_outcomes.specs.declared.outcome.Outcome.TheVariants as outcome
 abbrev boom : RunEnd
 boom = record { names = codes "lib.t.a" ∷ codes "lib.t.b" ∷ []; verdicts = Passed ∷ Failed ∷ []; output = codes "boom" }
 
+-- what is printed of a run with one failed case, and how the program then ends
 pub record TestsSaid : Type 0 where
   pub text : test_text false false (boom ∷ []) ≡
       codes "boom\npass lib.t.a\nfail lib.t.b\n==== Summary\npass 1 of 2\nfail 1 of 2\nskip 0 of 2\nSome failed!\n"
@@ -38,7 +39,7 @@ pub record TestsSaid : Type 0 where
   pub ignored : tests_outcome (boom ∷ []) true ≡ outcome.Done
   pub none : tests_outcome [] false ≡ outcome.Done
 
--- two runs of a bench, one at once
+-- the run of one case of the bench t of the library `lib`
 abbrev run_of_case : List ℕ → TestRun
 run_of_case it = record {
   library = codes "lib";
@@ -51,6 +52,7 @@ run_of_case it = record {
   path = codes "t.vhd";
 }
 
+-- to run the cases a and b of the bench t one at a time, over a.vhd with the artefact 1, to the end or up to a failure
 abbrev two_runs : Bool → TestSetting
 two_runs fail_fast = record {
   plan = record {
@@ -63,15 +65,19 @@ two_runs fail_fast = record {
   slots = 1;
 }
 
+-- the simulator of case a starts as child 7, and ends with this exit
 abbrev end_of_first : Exit → List Event
 end_of_first it = Started 7 (bench_request (run_of_case (codes "a")) command (a_built ∷ [])) ∷ Ended 7 it ∷ []
 
+-- a simulator ends with code 1, prints nothing, and leaves no results
 abbrev failed_exit : Exit
 failed_exit = exit 1 []
 
+-- a simulator ends with code 0, prints nothing, and leaves results that say that case a passed
 abbrev passed_exit : Exit
 passed_exit = record { code = 0; output = []; results = Given (codes "test_start:a\ntest_suite_done\n") }
 
+-- which of two simulators is started next, before and after the end of the first
 pub record MovesOfTests : Type 0 where
   pub count : (test_job (two_runs false)).count ≡ 2
   pub lawful : IsLawfulMove (test_job (two_runs false)) empty_core (Starts 0 7)
@@ -84,6 +90,7 @@ pub record MovesOfTests : Type 0 where
   pub at_first : step_at (test_job (two_runs false)) empty_core ≡ Start 0
   pub second_step : step_at (test_job (two_runs false)) (book_of_tests (two_runs false) (end_of_first passed_exit)).core ≡ Start 1
 
+-- the verdicts where one case of two was run, and the built files that its simulator is lent
 pub record EndsOfTests : Type 0 where
   pub verdicts_of : map (λ run. run.verdicts) (test_ends (two_runs false) (end_of_first passed_exit)) ≡ (Passed ∷ []) ∷ (Skipped ∷ []) ∷ []
   pub lent : lent_files (λ it. latest it (Ra ∷ [])) files ≡ a_built ∷ []
@@ -92,10 +99,11 @@ pub record EndsOfTests : Type 0 where
 abbrev refusing_b : Request → Exit
 refusing_b request = compiler (exit 0 (codes "1")) (exit 1 []) request
 
--- what a run says in the end
+-- the command-line options that tests look at: none, or `--exit-0` alone
 abbrev words_with : Bool → TestWords
 words_with exit_0 = record { verbose = false; quiet = false; exit_0 = exit_0; report = false }
 
+-- how a run of the program with tests ends, what it prints first, and what a clean build makes
 pub record RunsSaid : Type 0 where
   pub outcome_of : (run_said [] files (Compiled ∷ Compiled ∷ []) [] (words_with false) (Some (record { runs = boom ∷ [] }))).outcome ≡
       outcome.TestsFailed

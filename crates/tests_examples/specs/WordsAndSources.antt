@@ -43,6 +43,7 @@ plain = record {
   patterns = codes "*" ∷ [];
 }
 
+-- what a command line sets, and three that are refused
 pub record SettingsOfWords : Type 0 where
   pub compiling : setting_of (codes "-p" ∷ codes "8" ∷ codes "-k" ∷ codes "--compile" ∷ []) ≡
       Some (record plain { compile = true; keep_compiling = true; num_threads = 8 })
@@ -60,13 +61,15 @@ folder has_a path =
     if bytes_eq path (codes "vunit.csv") then Some (codes "lib,a.vhd\nlib,b.vhd")
     else (if bytes_eq path (codes "a.vhd") && has_a then Some (codes "x") else (if bytes_eq path (codes "b.vhd") then Some (codes "y") else None))
 
--- a scanner that finds nothing in any text, and one that finds no unit in foo
+-- a scanner that finds neither a token nor a unit in any text
 abbrev pub finds_nothing : List ℕ → Finding
 finds_nothing text = Clean (scan_with [] [])
 
+-- a scanner that finds no design unit at byte 0 of the text foo, and accepts any other text
 abbrev refuses_foo : List ℕ → Finding
 refuses_foo text = if bytes_eq text (codes "foo") then Grammatical (NotUnit 0) else finds_nothing text
 
+-- a file of a project by its name, compiled by the program itself
 abbrev listed_file_of : FileName → ProjectFile
 listed_file_of it = record { name = it; command = listed_command }
 
@@ -74,13 +77,15 @@ listed_file_of it = record { name = it; command = listed_command }
 abbrev whole_graph : Wish
 whole_graph = record { extent = extent.Graph; patterns = [] }
 
--- the files as the program compiles them itself
+-- a file of a graph with its text and the positions of its dependencies, compiled by the program itself
 abbrev child_file : FileName → List ℕ → List ℕ → Entry
 child_file it text deps = record { name = it; command = listed_command; text = text; deps = deps }
 
+-- the graph of a.vhd and of b.vhd, which depends on it, compiled by the program itself
 abbrev pub child_files : List Entry
 child_files = child_file a_name (codes "x") [] ∷ child_file b_name (codes "y") (0 ∷ []) ∷ []
 
+-- what is read of a folder, whole or without a file, and which of two refused files is named
 pub record ReadSources : Type 0 where
   pub asked : project_paths (folder true) [] ≡ codes "vunit.toml" ∷ codes "vunit.csv" ∷ codes "a.vhd" ∷ codes "b.vhd" ∷ []
   pub found : project_reading finds_nothing (folder true) [] whole_graph ≡ sources.Found (record {
@@ -106,10 +111,12 @@ cyclic is_listed = record {
   listed = is_listed;
 }
 
+-- what is read of two files that use each other, linked or in listed order
 abbrev cyclic_reading : Bool → SourceReading
 cyclic_reading is_listed = scanned_reading whole_graph (cyclic is_listed) (uses_q_text ∷ uses_p_text ∷ []) (scan_with uses_q_tokens (uses_q_unit ∷ []) ∷
     scan_with uses_p_tokens (uses_p_unit ∷ []) ∷ [])
 
+-- files that use each other are a cycle where they are linked, and none in listed order
 pub record CyclicSources : Type 0 where
   pub linked : cyclic_reading false ≡ sources.Stops (refusal.Cycle (a_name ∷ b_name ∷ []))
   pub in_listed_order : cyclic_reading true ≡ sources.Found (record {
@@ -122,6 +129,7 @@ pub record CyclicSources : Type 0 where
 
 -- ## Names
 
+-- a name needs a path that isn't empty
 pub record FittingNames : Type 0 where
   pub fits : FitsName a_name
   pub empty_path : FitsName (record { library = codes "lib"; path = [] }) → ⊥
