@@ -1,4 +1,5 @@
-# Two starts at once build once, and so do two proofs; one that is stopped leaves the next to build. A start waits for no proof, but for a watch.
+# Two starts at once build once, and so do two proofs; one that is stopped leaves the next to build. A start waits for no proof, and waits
+# for a run of a watch.
 . "$TOP/tests/support/launcher.sh"
 . "$TOP/tests/support/needs.sh"
 needs flock
