@@ -8,6 +8,3 @@ mod writer;
 pub use laws::laws_of_bytes;
 pub use reader::ByteReader;
 pub use writer::ByteWriter;
-
-#[cfg(test)]
-mod tests;

@@ -1,6 +1,6 @@
 //! Keys, each of which has one number.
 
-ghost use Rattle.std.specs.Prelude.{◌≡◌, ◌≢◌, ◌<◌, [], length, position, AllPairs, slice_get, Some, if◌then◌else◌, IfOk, OnOk, OnErr};
+ghost use Rattle.std.specs.Prelude.{◌≡◌, ◌≢◌, ◌<◌, [], length, position, AllPairs, Some, if◌then◌else◌, IfOk, OnOk, OnErr};
 ghost use Rattle.std.specs.BTreeMap.{IsUnchanged, get as other_of};
 ghost use Rattle.std.specs.List.{position_or_len};
 ghost use Rattle.std.specs.Option.{unwrap_or};
@@ -112,14 +112,6 @@ impl<K: Key> KeyNumbers<K> {
         ensures once { AllPairs (λ a b. a ≢ b) self.now }
     {
         self.keys.len()
-    }
-
-    /// The key of a number.
-    pub fn key(&self, number: usize) -> &K
-        requires { number < length self.now }
-        ensures { slice_get self.now number ≡ Some result.now }
-    {
-        &self.keys[number]
     }
 
     /// The number of a key that has a hash, if it has one.

@@ -6,6 +6,3 @@ mod marks;
 
 pub use index::MarkIndex;
 pub use marks::mark_of;
-
-#[cfg(test)]
-mod tests;

@@ -4,6 +4,3 @@
 mod names;
 
 pub use names::NameSet;
-
-#[cfg(test)]
-mod tests;

@@ -6,6 +6,3 @@ mod numbers;
 
 pub use keys::{Key, Numbered};
 pub use numbers::NumberSet;
-
-#[cfg(test)]
-mod tests;

@@ -9,6 +9,3 @@ mod splits;
 pub use index::TextIndex;
 pub use laws::laws_of_splits;
 pub use splits::{Split, split_between, value_at};
-
-#[cfg(test)]
-mod tests;

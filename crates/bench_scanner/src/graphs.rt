@@ -1,6 +1,6 @@
 //! The graph of a project that is handed over as a project file, and as one text with the places where its files end.
 
-ghost use Rattle.std.specs.Prelude.{◌≡◌, ◌≤◌, IfOk, Ok, length};
+ghost use Rattle.std.specs.Prelude.{◌≡◌, IfOk, Ok, length};
 ghost use Rattle.base.specs.Projects.{IsProject};
 ghost use Rattle.order_spec.specs.BuildOrder.{AreEdges};
 ghost use Rattle.order_spec.specs.LinkedGraph.{FitTexts};
@@ -14,7 +14,8 @@ use order_files::order;
 use project_file::read_csv_project;
 use project_graph::{fit_texts, graph_of};
 use std::alloc::Global;
-use vhdl_graph::link_by_outlines;
+use vhdl_graph::link;
+use vhdl_scope::visible_sets;
 
 /// What was told of a project: whether there is a graph, and then how many files it has and how many of them its last file
 /// depends on; or whether files depend on each other in a cycle. Where neither is so, nothing is told.
@@ -87,7 +88,8 @@ fn told_of_texts(alloc: Global, project: &Project, texts: TextList) -> Result<Gr
         return Err(NothingTold);
     }
     let outlines = outlines_of(alloc, &texts)?;
-    let linked = link_by_outlines(alloc, project, &texts, &outlines)?;
+    let sets = visible_sets(alloc, project, &texts, &outlines)?;
+    let linked = link(alloc, project, &texts, &outlines, &sets)?;
     if linked.edges.len() != project.files.len() {
         return Err(NothingTold);
     }

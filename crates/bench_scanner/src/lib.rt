@@ -9,16 +9,16 @@ ghost use Rattle.std.specs.Prelude.{◌≡◌, ◌≤◌, ◌%◌, ◌^◌, IfOk
 ghost use Rattle.vhdl_spec.specs.Scans.{IsScanOf};
 ghost use Rattle.vhdl_spec.specs.Units.{AreTokensOf, roles_of};
 ghost use Rattle.bench_scanner.specs.Graphs.{HasSources, IsTold};
-ghost use Rattle.bench_scanner.specs.Projects.{HasLibraries, HasScans};
+ghost use Rattle.bench_scanner.specs.Projects.{HasScans, HasSight};
 ghost use Rattle.bench_scanner.specs.Counts.{HasTokens, HasUnits, HasLexicalFault, IsFaulty, IsReferred, ref_count};
 
 use crate::graphs::{Graphed, sources_of, told_of};
-use crate::scopes::{library_count, scan_files};
+use crate::scopes::{first_sees, scan_files};
 use base::{NoMemory, OrMemory, RoleList, Scan, TEXT_LIMIT, Tokens};
 use std::alloc::Global;
-use vhdl_lex::{no_tokens, scan_tokens, scan_with_roles};
+use vhdl_lex::{no_tokens, scan_with_roles};
 use vhdl_refs::find_refs;
-use vhdl_units::{outline, outline_by_roles};
+use vhdl_units::outline;
 
 /// What a scan found: whether the text has a cut, and then how many tokens and line comments it has; or whether it has
 /// a fault. Where neither is so, there was no memory.
@@ -60,7 +60,9 @@ pub extern "C" fn bench_scan(alloc: Global, text: &[u8], out: &mut Scanned)
     ensures whole { out.new.whole ≡ true → HasTokens text.now out.new.tokens out.new.comments }
     ensures faulty { out.new.faulty ≡ true → HasLexicalFault text.now }
 {
-    let (whole, faulty, tokens, comments) = match scan_tokens(alloc, text) {
+    let mut roles = RoleList::new(alloc);
+    let scan = scan_with_roles(alloc, text, &mut roles, no_tokens(alloc));
+    let (whole, faulty, tokens, comments) = match scan {
         Ok(tokens) => (true, false, tokens.list.len(), tokens.comments.len()),
         Err(OrMemory::NoMemory) => (false, false, 0, 0),
         Err(OrMemory::Fault(_fault)) => (false, true, 0, 0),
@@ -81,8 +83,10 @@ pub extern "C" fn bench_outline(alloc: Global, text: &[u8], out: &mut Outlined)
     ensures whole { out.new.whole ≡ true → HasUnits text.now out.new.units }
     ensures faulty { out.new.faulty ≡ true → IsFaulty text.now }
 {
-    let (whole, faulty, units) = match scan_tokens(alloc, text) {
-        Ok(tokens) => match outline(alloc, text, &tokens) {
+    let mut roles = RoleList::new(alloc);
+    let scan = scan_with_roles(alloc, text, &mut roles, no_tokens(alloc));
+    let (whole, faulty, units) = match scan {
+        Ok(tokens) => match outline(alloc, text, &tokens, &roles) {
             Ok(units) => (true, false, units.len()),
             Err(OrMemory::NoMemory) => (false, false, 0),
             Err(OrMemory::Fault(_fault)) => (false, true, 0),
@@ -158,7 +162,7 @@ fn refer_tokens(alloc: Global, text: &[u8], tokens: Tokens, roles: &RoleList) ->
     requires roles { roles.now ≡ roles_of text.now tokens.list }
     ensures { IsReferred text.now result }
 {
-    match outline_by_roles(alloc, text, &tokens, roles) {
+    match outline(alloc, text, &tokens, roles) {
         Ok(units) => refer(alloc, text, &Scan { tokens, units }, roles),
         Err(OrMemory::NoMemory) => unknown(),
         Err(OrMemory::Fault(_fault)) => fault_found(),
@@ -188,12 +192,12 @@ pub extern "C" fn bench_refs(alloc: Global, text: &[u8], out: &mut Referred)
     *out = refer_text(alloc, text);
 }
 
-/// What was told of a project: whether all went well, and how many libraries its first unit sees.
+/// What was told of a project: whether all went well, and whether its first unit sees a library.
 #[derive(Clone, Copy)]
 #[repr(C)]
 pub struct Seen {
     pub whole: bool,
-    pub libraries: u64,
+    pub sees: bool,
 }
 
 /// Scans and outlines each file of a project, which is one text with the places where its files end, all of library `l`,
@@ -208,23 +212,27 @@ pub extern "C" fn bench_files(alloc: Global, text: &[u8], ends: &[usize], out: &
         Ok(_done) => true,
         Err(_nothing) => false,
     };
-    *out = Seen {
-        whole,
-        libraries: 0,
-    };
+    *out = Seen { whole, sees: false };
 }
 
-/// The same, and the visible libraries of all units; it counts those of the first unit of the first file. C declares it as
-/// `void bench_scopes(const uint8_t *text, size_t length, const size_t *ends, size_t count, struct seen *out)`.
+/// The same, and the visible libraries of all units; it tells whether the first unit of the first file sees a library. C declares it as
+/// `void bench_scopes(const uint8_t *text, size_t length, const size_t *ends, size_t count, const uint8_t *library,
+/// size_t library_length, struct seen *out)`.
 #[unsafe(no_mangle)]
-pub extern "C" fn bench_scopes(alloc: Global, text: &[u8], ends: &[usize], out: &mut Seen)
-    ensures { out.new.whole ≡ true → HasLibraries text.now ends.now out.new.libraries }
+pub extern "C" fn bench_scopes(
+    alloc: Global,
+    text: &[u8],
+    ends: &[usize],
+    library: &[u8],
+    out: &mut Seen,
+)
+    ensures { out.new.whole ≡ true → HasSight text.now ends.now library.now out.new.sees }
 {
-    let (whole, libraries) = match library_count(alloc, text, ends) {
-        Ok(count) => (true, count),
-        Err(_nothing) => (false, 0),
+    let (whole, sees) = match first_sees(alloc, text, ends, library) {
+        Ok(sees) => (true, sees),
+        Err(_nothing) => (false, false),
     };
-    *out = Seen { whole, libraries };
+    *out = Seen { whole, sees };
 }
 
 /// What was told of a project's sources: whether there are some, and then how many files.

@@ -1,10 +1,10 @@
 //! The visible libraries of a project that is handed over as one text, with the places where its files end.
 
-ghost use Rattle.std.specs.Prelude.{◌≡◌, ◌-◌, ◌<◌, ◌≤◌, [], ◌∷◌, ◌++◌, IfOk, codes, drop, false, length, take, true};
+ghost use Rattle.std.specs.Prelude.{◌≡◌, ◌-◌, ◌<◌, ◌≤◌, IfOk, codes, drop, false, length, take};
 ghost use Rattle.std.specs.List.{All};
 ghost use Rattle.vhdl_outlines.specs.Outlines.{AreOutlined};
 ghost use Rattle.vhdl_outlines.specs.Roles.{IsTextSmall};
-ghost use Rattle.bench_scanner.specs.Projects.{HasLibraries, HasOutlined, HasScans, parts_at};
+ghost use Rattle.bench_scanner.specs.Projects.{HasSight, HasOutlined, HasScans, parts_at};
 
 use base::{
     FileName, Items, NoMemory, OrMemory, Project, ProjectFile, RoleList, Scan, TEXT_LIMIT, Text,
@@ -13,8 +13,8 @@ use base::{
 use std::alloc::Global;
 use vhdl_lex::{no_tokens, scan_with_roles};
 use vhdl_outlines::Outlines;
-use vhdl_scope::visible_libraries_by_outlines;
-use vhdl_units::outline_by_roles;
+use vhdl_scope::visible_sets;
+use vhdl_units::outline;
 
 /// Nothing is told of a project: its ends don't rise within the text, a file is too long or has a fault, or there was no
 /// memory.
@@ -79,7 +79,7 @@ fn outline_text(
     ensures { IfOk result (λ used. HasOutlined text.now outlines.old outlines.new) }
 {
     let tokens = scan_with_roles(alloc, text, roles, used)?;
-    let units = outline_by_roles(alloc, text, &tokens, roles)?;
+    let units = outline(alloc, text, &tokens, roles)?;
     Ok(outlines.push(alloc, text, Scan { tokens, units }, roles)?)
 }
 
@@ -146,9 +146,14 @@ pub fn scan_files(alloc: Global, text: &[u8], ends: &[usize]) -> Result<(), Noth
     Ok(())
 }
 
-/// How many libraries the first unit of the first file sees.
-pub fn library_count(alloc: Global, text: &[u8], ends: &[usize]) -> Result<u64, NothingTold>
-    ensures { IfOk result (HasLibraries text.now ends.now) }
+/// Whether the first unit of the first file sees a library.
+pub fn first_sees(
+    alloc: Global,
+    text: &[u8],
+    ends: &[usize],
+    library: &[u8],
+) -> Result<bool, NothingTold>
+    ensures { IfOk result (HasSight text.now ends.now library.now) }
 {
     let texts = parts_of(alloc, text, ends)?;
     let outlines = outlines_of(alloc, &texts)?;
@@ -156,7 +161,6 @@ pub fn library_count(alloc: Global, text: &[u8], ends: &[usize]) -> Result<u64, 
     if texts.is_empty() {
         return Err(NothingTold);
     }
-    let first = UnitId { file: 0, unit: 0 };
-    let names = visible_libraries_by_outlines(alloc, &project, &texts, &outlines, first)?;
-    Ok(names.len())
+    let sets = visible_sets(alloc, &project, &texts, &outlines)?;
+    Ok(sets.sees_library(UnitId { file: 0, unit: 0 }, library))
 }

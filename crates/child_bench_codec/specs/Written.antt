@@ -1,8 +1,6 @@
 -- A request of a simulator while it is written: its words, its input so far, and its results path.
 use Rattle.std.specs.Prelude.{ℕ, List, ◌++◌, codes}
-use Rattle.base.specs.declared.graph.BuiltFile.{BuiltFile}
 use Rattle.base.specs.Bytes.{number_bytes, text_bytes}
-use Rattle.base.specs.Jobs.{built_bytes}
 use Rattle.test_spec.specs.declared.runs.TestRun.{TestRun}
 use Rattle.test_spec.specs.Runs.{results_path}
 use Rattle.test_spec.specs.Configuration.{configuration, doubled, is_comma}
@@ -26,7 +24,3 @@ begun_run_input run count =
 -- a request up to the number of the files that were built, of which none is written yet
 abbrev pub begun_run : TestRun → List (List ℕ) → ℕ → WrittenRun
 begun_run run simulator count = record { command = simulator; input = begun_run_input run count; results = results_path run }
-
--- one more file that was built
-abbrev pub with_built : WrittenRun → BuiltFile → WrittenRun
-with_built written file = record { command = written.command; input = written.input ++ built_bytes file; results = written.results }

@@ -11,7 +11,4 @@ pub use configuring::runner_cfg;
 pub use laws::laws_of_bench_jobs;
 pub use paths::results_path;
 pub use reading::read_bench_request;
-pub use writing::{BenchWriter, bench_request};
-
-#[cfg(test)]
-mod tests;
+pub use writing::BenchWriter;

@@ -1,16 +1,13 @@
 //! Writing what a simulator is asked.
 
-ghost use Rattle.std.specs.Prelude.{◌≡◌, ◌≤◌, ◌<◌, ◌^◌, ◌++◌, All, length, IfOk, OnOk};
-ghost use Rattle.base.specs.Names.{FitsName};
-ghost use Rattle.base.specs.Graphs.{IsBuiltFile};
-ghost use Rattle.base.specs.Jobs.{built_bytes};
+ghost use Rattle.std.specs.Prelude.{◌≡◌, ◌<◌, ◌^◌, ◌++◌, All, length, IfOk, OnOk};
 ghost use Rattle.test_spec.specs.Runs.{FitsRun};
-ghost use Rattle.test_spec.specs.BenchJobs.{bench_request, texts_bytes};
-ghost use Rattle.child_bench_codec.specs.Written.{begun_run, with_built};
+ghost use Rattle.test_spec.specs.BenchJobs.{texts_bytes};
+ghost use Rattle.child_bench_codec.specs.Written.{begun_run};
 
 use crate::configuring::runner_cfg;
 use crate::paths::results_path;
-use base::{ARTEFACT_LIMIT, Built, FileName, MaybeText, NoMemory, Request, Text, TextList};
+use base::{MaybeText, NoMemory, Request, Text, TextList};
 use base_bytes::ByteWriter;
 use std::alloc::Global;
 use std::marker::Model;
@@ -77,19 +74,6 @@ impl BenchWriter {
         })
     }
 
-    /// Adds a file that was built, with its artefact of at most 262,144 bytes, which is copied once.
-    #[tactic(auto, unfolding(base::specs::Jobs::built_bytes))]
-    pub fn add(&mut self, name: &FileName, artefact: &[u8]) -> Result<(), NoMemory>
-        requires name { FitsName name.now }
-        requires artefact { length artefact.now ≤ ARTEFACT_LIMIT }
-        ensures { OnOk result
-            (self.new ≡ with_built self.old (record { name = name.now; artefact = artefact.now })) }
-    {
-        self.out.name(name)?;
-        self.out.text(artefact)?;
-        Ok(())
-    }
-
     /// Adds the bytes of files that were built, all at once.
     pub fn add_all(&mut self, built: &[u8]) -> Result<(), NoMemory>
         ensures words { OnOk result (self.new.command ≡ self.old.command) }
@@ -117,23 +101,4 @@ impl BenchWriter {
             results: MaybeText::Given(results),
         }
     }
-}
-
-/// What a simulator is started with for a run over the files that were built, in compile order.
-pub fn bench_request(
-    alloc: Global,
-    run: &TestRun,
-    simulator: &TextList,
-    built: &Built,
-) -> Result<Request, NoMemory>
-    requires { FitsRun run.now }
-    ensures { IfOk result
-        (λ request. request ≡ bench_request run.now simulator.now built.now) }
-{
-    let files = built.as_slice();
-    let mut writer = BenchWriter::new(alloc, run, simulator, files.len() as u32)?;
-    for file in files {
-        writer.add(&file.name, file.artefact.bytes())?;
-    }
-    Ok(writer.finish())
 }

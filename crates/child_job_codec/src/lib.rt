@@ -7,7 +7,4 @@ mod writing;
 
 pub use laws::laws_of_jobs;
 pub use reading::{CompileJob, all_built, read_compile_request};
-pub use writing::{BuiltBytes, RequestWriter, compile_request};
-
-#[cfg(test)]
-mod tests;
+pub use writing::{BuiltBytes, RequestWriter};

@@ -2,13 +2,11 @@
 
 ghost use Rattle.std.specs.Prelude.{◌≡◌, ◌≤◌, ◌++◌, [], length, IfOk, OnOk};
 ghost use Rattle.base.specs.Names.{FitsName};
-ghost use Rattle.base.specs.Graphs.{IsBuiltFile};
-ghost use Rattle.base.specs.Jobs.{built_bytes, compile_request};
+ghost use Rattle.base.specs.Jobs.{built_bytes};
 ghost use Rattle.child_job_codec.specs.Written.{begun};
 
 use base::{
-    ARTEFACT_LIMIT, Built, Entry, FileName, MaybeText, NoMemory, Request, TEXT_LIMIT, Text,
-    TextList,
+    ARTEFACT_LIMIT, Entry, FileName, MaybeText, NoMemory, Request, TEXT_LIMIT, Text, TextList,
 };
 use base_bytes::ByteWriter;
 use std::alloc::Global;
@@ -108,18 +106,4 @@ impl RequestWriter {
             results: MaybeText::Nothing,
         }
     }
-}
-
-/// What a compiler is started with for a file over the files that it depends on, in compile order.
-pub fn compile_request(alloc: Global, entry: &Entry, deps: &Built) -> Result<Request, NoMemory>
-    requires name { FitsName entry.now.name }
-    requires text { length entry.now.text ≤ TEXT_LIMIT }
-    ensures { IfOk result (λ request. request ≡ compile_request entry.now deps.now) }
-{
-    let files = deps.as_slice();
-    let mut writer = RequestWriter::new(alloc, entry, files.len() as u32)?;
-    for file in files {
-        writer.input.add(&file.name, file.artefact.bytes())?;
-    }
-    Ok(writer.finish())
 }

@@ -21,7 +21,7 @@ use child_job_codec::{CompileJob, laws_of_jobs, read_compile_request};
 use child_lines::bad_request;
 use std::alloc::Global;
 use vhdl_lex::{no_tokens, scan_with_roles};
-use vhdl_units::outline_by_roles;
+use vhdl_units::outline;
 
 /// The answer to a file that wants some units, and of which an artefact would be made.
 #[tactic(auto, unfolding(crate::specs::Answers::linked))]
@@ -92,7 +92,7 @@ fn scan_units(
     ensures scan { IfOk result (IsFoundClean text.now) }
     ensures tokens { IfOk result (λ scan. IfSome scan (λ scan. scan.tokens ≡ tokens)) }
 {
-    match outline_by_roles(alloc, text, &tokens, roles) {
+    match outline(alloc, text, &tokens, roles) {
         Ok(units) => Ok(Some(Scan { tokens, units })),
         Err(OrMemory::NoMemory) => Err(NoMemory),
         Err(OrMemory::Fault(_fault)) => Ok(None),

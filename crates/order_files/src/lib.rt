@@ -2,11 +2,7 @@
 #![tactic(auto)]
 
 mod cycle;
-mod edges;
 mod ordering;
-#[cfg(test)]
-mod tests;
 mod untaken;
 
-pub use edges::are_edges;
 pub use ordering::order;

@@ -5,8 +5,6 @@ mod closures;
 mod fitting;
 mod graphs;
 mod laws;
-#[cfg(test)]
-mod tests;
 
 pub use fitting::fit_texts;
 pub use graphs::{graph_of, graph_of_entries, linked_entries};

@@ -19,7 +19,7 @@ use std::alloc::Global;
 use vhdl_benches::Tests;
 use vhdl_minimal_set::{minimal, places_in};
 use vhdl_outlines::Outlines;
-use vhdl_scope::{VisibleLibraries, visible_sets_by_outlines};
+use vhdl_scope::{VisibleLibraries, visible_sets};
 
 /// The places in an order of the files of a linked project that tests need.
 fn linked_places(
@@ -95,7 +95,7 @@ fn listed_places(
         AreOutlinesOf texts.now scans outlines.now → kept ≡ needed_places
         (said_of project.now texts.now scans None) tests.now (below (length project.now.files))) }
 {
-    let sets = visible_sets_by_outlines(alloc, project, texts, outlines)?;
+    let sets = visible_sets(alloc, project, texts, outlines)?;
     let set = minimal(alloc, project, texts, outlines, &sets, None, tests)?;
     set.positions_below(alloc, project.files.len() as u32)
 }

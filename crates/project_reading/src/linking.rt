@@ -32,9 +32,9 @@ use project_views::listed_graph;
 use std::alloc::Global;
 use test_scan::benches;
 use vhdl_benches::Tests;
-use vhdl_graph::link_by_sets;
+use vhdl_graph::link;
 use vhdl_outlines::Outlines;
-use vhdl_scope::{VisibleLibraries, visible_sets_by_outlines};
+use vhdl_scope::{VisibleLibraries, visible_sets};
 
 /// The most cases of all benches.
 const MOST_CASES: u64 = CASE_LIMIT as u64;
@@ -110,7 +110,7 @@ fn links_of(
     ensures count { IfOk result (λ links. length links.edges ≡ length project.now.files) }
     ensures cause { (count : ℕ) → ReadCounts result count count }
 {
-    match link_by_sets(alloc, project, texts, outlines, sets) {
+    match link(alloc, project, texts, outlines, sets) {
         Ok(links) => Ok(links),
         Err(fault) => Err(link_stop(fault)),
     }
@@ -429,6 +429,6 @@ pub(crate) fn scanned_project(
     if project.listed {
         return listed_project(alloc, wish, project, texts, outlines);
     }
-    let sets = visible_sets_by_outlines(alloc, &project, &texts, outlines)?;
+    let sets = visible_sets(alloc, &project, &texts, outlines)?;
     seen_project(alloc, wish, project, texts, outlines, &sets)
 }

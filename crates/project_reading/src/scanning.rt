@@ -15,7 +15,7 @@ use base_outcomes::Refusal;
 use std::alloc::Global;
 use vhdl_lex::{no_tokens, scan_with_roles};
 use vhdl_outlines::Outlines;
-use vhdl_units::outline_by_roles;
+use vhdl_units::outline;
 
 /// A refusal of a file for a lexical fault.
 fn lexical(alloc: Global, file: &FileName, fault: LexFault) -> Result<Refusal, NoMemory>
@@ -52,7 +52,7 @@ fn scan_units(
     ensures tokens { IfOk result (λ scan. scan.tokens ≡ tokens) }
     ensures cause { (count : ℕ) → ReadCounts result count count }
 {
-    match outline_by_roles(alloc, text, &tokens, roles) {
+    match outline(alloc, text, &tokens, roles) {
         Ok(units) => Ok(Scan { tokens, units }),
         Err(OrMemory::NoMemory) => Err(ReadStop::NoMemory),
         Err(OrMemory::Fault(fault)) => Err(ReadStop::Refused(grammatical(alloc, file, fault)?)),

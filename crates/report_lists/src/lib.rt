@@ -6,6 +6,3 @@ mod listing;
 
 pub use export::{export_json, laws_of_exports};
 pub use listing::list_tests;
-
-#[cfg(test)]
-mod tests;

@@ -7,6 +7,3 @@ mod starts;
 mod table;
 
 pub use table::verdicts;
-
-#[cfg(test)]
-mod tests;

@@ -4,7 +4,7 @@ ghost use Rattle.std.specs.Prelude.{◌≡◌, ◌<◌, ◌≤◌, length, All};
 ghost use Rattle.std.specs.Vec.{vec_capacity};
 
 use base::NoMemory;
-use run_steps::{Child, Step, has_ticket, index_of};
+use run_steps::{Child, Step, index_of};
 use std::alloc::Global;
 
 /// What runs of tests with many children have to do next. The runs are started in order. It takes no memory but in `new`.
@@ -25,7 +25,7 @@ pub struct Row {
 }
 
 impl Row {
-    ghost use Rattle.std.specs.Prelude.{◌≡◌, ◌≢◌, ◌↔◌, IsTrue, ℕ, ◌+◌, ◌<◌, ◌≤◌, ◌++◌, Bool, List, [], ◌∷◌, length, Contains, Option, Some, None, IfOk};
+    ghost use Rattle.std.specs.Prelude.{◌≡◌, ◌≢◌, ℕ, ◌+◌, ◌<◌, ◌≤◌, ◌++◌, Bool, List, [], ◌∷◌, length, Contains, Option, Some, None, IfOk};
     ghost use Rattle.base.specs.declared.limits.TheConstants.{SLOT_LIMIT};
     ghost use Rattle.outside.specs.Children.{without};
     ghost use Rattle.run_spec.specs.Moves.{Job, Core, Starts, Ends, Loses, Halts, IsLawfulMove, IsGreedyMove, IsFinished, empty_core, position_of, after_move};
@@ -103,14 +103,6 @@ impl Row {
             IsRowOf self.now job core → IsFinished job core }
     {
         self.step()
-    }
-
-    /// Whether a child of this ticket runs.
-    #[tactic(auto, unfolding(crate::specs::Rows::tickets_of))]
-    pub fn is_running(&self, ticket: u64) -> bool
-        ensures { IsTrue result ↔ Contains (tickets_of self.now) ticket }
-    {
-        has_ticket(self.children.as_slice(), ticket)
     }
 
     /// The run of the child with a ticket.

@@ -15,6 +15,3 @@ pub use names::full_name;
 pub use pattern::{ByteRange, Pattern, PatternList, Piece};
 pub use reading::read_pattern;
 pub use selecting::select;
-
-#[cfg(test)]
-mod tests;

@@ -1,9 +1,9 @@
 //! Requests with what the compiler answers to them, by hand.
 
+use crate::requests::compile_request;
 use base::{
     Built, BuiltFile, Entry, Exit, FileName, MaybeText, NoMemory, Positions, Text, TextList,
 };
-use child_job_codec::compile_request;
 use child_tools::analyse;
 use std::alloc::Global;
 use std::test::Fail;

@@ -1,18 +1,18 @@
 //! Small projects, with the tests that VUnit's rules find in them, or the first fault, written out by hand.
 
-ghost use Rattle.std.specs.Prelude.{◌≡◌, ◌≤◌, length, IfOk, IsTrue};
+ghost use Rattle.std.specs.Prelude.{◌≡◌, ◌≤◌, length};
 ghost use Rattle.std.specs.List.{All};
-ghost use Rattle.vhdl_spec.specs.Scans.{AreScansOf};
+ghost use Rattle.vhdl_outlines.specs.Outlines.{AreOutlined};
 ghost use Rattle.vhdl_outlines.specs.Roles.{IsTextSmall};
 
-use crate::projects::{add, are_small, scans_of};
-use base::{FILE_LIMIT, Items, OrMemory, PairList, Project, ProjectFile, Scans, Text, TextList};
+use crate::projects::{add, are_small, outlines_of};
+use base::{FILE_LIMIT, Items, OrMemory, PairList, Project, ProjectFile, Text, TextList};
 use std::alloc::Global;
 use std::process::Abort;
 use std::test::Fail;
 use test_scan::benches;
 use vhdl_benches::{Bench, TestFault, Tests};
-use vhdl_outlines::outlines_of;
+use vhdl_outlines::Outlines;
 
 static ENTITY: &str = "entity e is generic (runner_cfg : string); end;";
 
@@ -126,16 +126,15 @@ fn shown_answer(
     alloc: Global,
     project: &Project,
     texts: &TextList,
-    scans: &Scans,
+    outlines: &Outlines,
     places: bool,
 ) -> Result<Vec<u8>, Fail>
     requires few { length project.now.files ≤ FILE_LIMIT }
     requires each { length texts.now ≡ length project.now.files }
-    requires scans { AreScansOf texts.now scans.now }
+    requires outlined { AreOutlined texts.now outlines.now }
     requires small { All IsTextSmall texts.now }
 {
-    let outlines = outlines_of(alloc, texts, scans)?;
-    match benches(alloc, project, texts, &outlines) {
+    match benches(alloc, project, texts, outlines) {
         Ok(tests) => shown_tests(alloc, &tests, places),
         Err(OrMemory::NoMemory) => shown_text(alloc, "memory", &Text::new(alloc)),
         Err(OrMemory::Fault(fault)) => shown_fault(alloc, &fault),
@@ -151,8 +150,8 @@ fn shown_project(
     if !are_small(texts) || texts.len() != project.files.len() || texts.len() > 8 {
         return Err(Fail::from("few small files"));
     }
-    let scans = scans_of(alloc, texts)?;
-    shown_answer(alloc, project, texts, &scans, places)
+    let outlines = outlines_of(alloc, texts)?;
+    shown_answer(alloc, project, texts, &outlines, places)
 }
 
 fn shown(alloc: Global, files: &str, places: bool) -> Result<Vec<u8>, Fail> {

@@ -1,16 +1,15 @@
 //! Small projects, with the libraries that their units see, written out by hand.
 
-ghost use Rattle.std.specs.Prelude.{◌≡◌, ◌<◌, ◌≤◌, length, IfOk, IsTrue};
-ghost use Rattle.std.specs.List.{All};
-ghost use Rattle.vhdl_spec.specs.Scans.{AreScansOf};
-ghost use Rattle.vhdl_outlines.specs.Roles.{IsTextSmall};
+ghost use Rattle.std.specs.Prelude.{◌≡◌, ◌<◌, ◌≤◌, length};
+ghost use Rattle.vhdl_outlines.specs.Outlines.{AreOutlined};
 
-use crate::projects::{add, are_small, files_of, project_with, scans_of};
-use base::{Items, Project, Scans, Text, TextList, UnitId};
+use crate::projects::{add, are_small, files_of, outlines_of, project_with};
+use base::{Items, Project, Text, TextList, UnitId};
 use std::alloc::Global;
 use std::process::Abort;
 use std::test::Fail;
-use vhdl_scope::{VisibleLibraries, visible_libraries, visible_sets};
+use vhdl_outlines::Outlines;
+use vhdl_scope::{VisibleLibraries, visible_sets};
 
 /// The project of files that are parted by `#`; and the texts.
 fn project_of(alloc: Global, files: &[u8]) -> Result<(Project, TextList), Fail> {
@@ -18,11 +17,21 @@ fn project_of(alloc: Global, files: &[u8]) -> Result<(Project, TextList), Fail> 
     Ok((project_with(alloc, list), texts))
 }
 
-/// Adds names, each with a comma, and a bar.
-fn push_names(names: &TextList, out: &mut Vec<u8>) -> Result<(), Fail> {
-    for name in names.as_slice() {
-        out.extend_from_slice(name.bytes())?;
-        out.push(b',')?;
+/// The libraries that the rows name, and some that none of them does, rising by bytes.
+static LIBRARIES: &[&str] = &[
+    "\\X\\", "a", "b", "c", "d", "e", "f", "g", "h", "i", "j", "k", "l", "lib", "m", "n", "other",
+    "q", "std", "work", "x",
+];
+
+/// Adds those of the libraries that a unit sees, each with a comma, and a bar.
+fn push_seen(sets: &VisibleLibraries, unit: UnitId, out: &mut Vec<u8>) -> Result<(), Fail>
+    requires { unit.file < length sets.now.starts }
+{
+    for library in LIBRARIES {
+        if sets.sees_library(unit, library.as_bytes()) {
+            out.extend_from_slice(library.as_bytes())?;
+            out.push(b',')?;
+        }
     }
     out.push(b'|')?;
     Ok(())
@@ -33,16 +42,16 @@ fn shown_of(
     alloc: Global,
     sets: &VisibleLibraries,
     files: u32,
-    scans: &Scans,
+    outlines: &Outlines,
 ) -> Result<Vec<u8>, Fail>
     requires { files ≤ length sets.now.starts }
 {
     let mut out = Vec::new(alloc);
     for file in 0..files {
-        if (file as u64) < scans.len() {
+        if (file as u64) < outlines.files.len() {
             for unit in 0..8u32 {
-                if (unit as u64) < scans.get(file as u64).units.len() {
-                    push_names(&sets.libraries(alloc, UnitId { file, unit })?, &mut out)?;
+                if (unit as u64) < outlines.files.get(file as u64).units.len() {
+                    push_seen(sets, UnitId { file, unit }, &mut out)?;
                 }
             }
         }
@@ -54,24 +63,23 @@ fn shown_project(alloc: Global, project: &Project, texts: &TextList) -> Result<V
     if !are_small(texts) || texts.len() != project.files.len() || texts.len() > 8 {
         return Err(Fail::from("few small files"));
     }
-    let scans = scans_of(alloc, texts)?;
-    shown_sets(alloc, project, texts, &scans)
+    let outlines = outlines_of(alloc, texts)?;
+    shown_sets(alloc, project, texts, &outlines)
 }
 
 fn shown_sets(
     alloc: Global,
     project: &Project,
     texts: &TextList,
-    scans: &Scans,
+    outlines: &Outlines,
 ) -> Result<Vec<u8>, Fail>
     requires few { length texts.now ≤ 8 }
     requires each { length texts.now ≡ length project.now.files }
-    requires scans { AreScansOf texts.now scans.now }
-    requires small { All IsTextSmall texts.now }
+    requires outlined { AreOutlined texts.now outlines.now }
 {
     let count = texts.len() as u32;
-    let sets = visible_sets(alloc, project, texts, scans)?;
-    shown_of(alloc, &sets, count, scans)
+    let sets = visible_sets(alloc, project, texts, outlines)?;
+    shown_of(alloc, &sets, count, outlines)
 }
 
 fn shown(alloc: Global, files: &[u8]) -> Result<Vec<u8>, Fail> {
@@ -128,74 +136,6 @@ fn projects(rt: HostRuntime) -> Result<(), Fail> {
     Ok(())
 }
 
-/// What one call says of one unit, where there is such a file.
-fn one_unit(
-    alloc: Global,
-    project: &Project,
-    texts: &TextList,
-    scans: &Scans,
-) -> Result<Vec<u8>, Fail>
-    requires each { length texts.now ≡ length project.now.files }
-    requires scans { AreScansOf texts.now scans.now }
-    requires small { All IsTextSmall texts.now }
-{
-    let mut out = Vec::new(alloc);
-    if project.files.len() > 1 {
-        let unit = UnitId { file: 1, unit: 0 };
-        push_names(
-            &visible_libraries(alloc, project, texts, scans, unit)?,
-            &mut out,
-        )?;
-        let sets = visible_sets(alloc, project, texts, scans)?;
-        push_look(&sets, unit, b"other", &mut out)?;
-        push_look(&sets, unit, b"lib", &mut out)?;
-    }
-    Ok(out)
-}
-
-/// Adds whether a unit sees a library.
-fn push_look(
-    sets: &VisibleLibraries,
-    unit: UnitId,
-    library: &[u8],
-    out: &mut Vec<u8>,
-) -> Result<(), Fail>
-    requires { unit.file < length sets.now.starts }
-{
-    out.push(if sets.sees_library(unit, library) {
-        b'y'
-    } else {
-        b'n'
-    })?;
-    Ok(())
-}
-
-fn shown_unit(alloc: Global, project: &Project, texts: &TextList) -> Result<Vec<u8>, Fail> {
-    if !are_small(texts) || texts.len() != project.files.len() {
-        return Err(Fail::from("small files"));
-    }
-    let scans = scans_of(alloc, texts)?;
-    one_unit(alloc, project, texts, &scans)
-}
-
-fn shown_call(alloc: Global, files: &[u8]) -> Result<Vec<u8>, Fail> {
-    let (project, texts) = project_of(alloc, files)?;
-    shown_unit(alloc, &project, &texts)
-}
-
-static ONE_CALL: &[u8] =
-    b"lib%%context ctx is library other; end;#lib%%context work.ctx; package w is end;";
-
-#[test]
-fn one_call(rt: HostRuntime) -> Result<(), Fail> {
-    let found = shown_call(rt.alloc(), ONE_CALL)?;
-    assert!(rt;
-        found.as_slice() == b"other,std,work,|yn".as_slice(),
-        "{found:?}"
-    );
-    Ok(())
-}
-
 /// Contexts in a ring: each has a library of its own, and refers to the one so many places after it.
 fn ring_of(alloc: Global, count: u32, step: u32) -> Result<(Project, TextList), Fail>
     requires { 0 < count }
@@ -244,15 +184,34 @@ fn hostile_of(alloc: Global, count: u32, step: u32) -> Result<(Project, TextList
     }
 }
 
-/// How many libraries the first unit of the first file sees.
-fn first_sees(alloc: Global, project: &Project, texts: &TextList) -> Result<u64, Fail> {
+/// How many of `l0`, `l1` .. and of the libraries of the files, of `std` and of `work` the first unit of the first file sees.
+fn count_seen(alloc: Global, sets: &VisibleLibraries, count: u32) -> Result<u64, Fail>
+    requires { 0 < length sets.now.starts }
+{
+    let first = UnitId { file: 0, unit: 0 };
+    let mut seen: u64 = 0;
+    for i in 0..count {
+        let name = format!(in alloc; "l{i}")?;
+        if sets.sees_library(first, name.as_bytes()) {
+            seen = seen.saturating_add(1);
+        }
+    }
+    for name in ["lib", "std", "work"] {
+        if sets.sees_library(first, name.as_bytes()) {
+            seen = seen.saturating_add(1);
+        }
+    }
+    Ok(seen)
+}
+
+/// The same of a project of so many files.
+fn first_sees(alloc: Global, project: &Project, texts: &TextList, count: u32) -> Result<u64, Fail> {
     if !are_small(texts) || texts.len() != project.files.len() || project.files.is_empty() {
         return Err(Fail::from("small files"));
     }
-    let scans = scans_of(alloc, texts)?;
-    let first = UnitId { file: 0, unit: 0 };
-    let names = visible_libraries(alloc, project, texts, &scans, first)?;
-    Ok(names.len())
+    let outlines = outlines_of(alloc, texts)?;
+    let sets = visible_sets(alloc, project, texts, &outlines)?;
+    count_seen(alloc, &sets, count)
 }
 
 /// Rings, by the number of their contexts and the step from each to the next, and contexts that each refer to all, which
@@ -269,7 +228,7 @@ static HOSTILE: &[(u32, u32, u64)] = &[
 /// How many libraries the first one sees of so many contexts with this step.
 fn seen_of(alloc: Global, count: u32, step: u32) -> Result<u64, Fail> {
     let (project, texts) = hostile_of(alloc, count, step)?;
-    first_sees(alloc, &project, &texts)
+    first_sees(alloc, &project, &texts, count)
 }
 
 #[test]

@@ -1,19 +1,20 @@
 //! Small projects, with what their files depend on, or what is wrong, written out by hand.
 
-ghost use Rattle.std.specs.Prelude.{◌≡◌, ◌≤◌, length, IfOk, IsTrue};
+ghost use Rattle.std.specs.Prelude.{◌≡◌, ◌≤◌, length};
 ghost use Rattle.std.specs.List.{All};
-ghost use Rattle.vhdl_spec.specs.Scans.{AreScansOf};
+ghost use Rattle.vhdl_outlines.specs.Outlines.{AreOutlined};
 ghost use Rattle.vhdl_outlines.specs.Roles.{IsTextSmall};
 
-use crate::projects::{are_small, files_of, scans_of};
+use crate::projects::{are_small, files_of, outlines_of};
 use base::{
-    FILE_LIMIT, Items, LinkFault, Linked, Pair, PairList, Project, ProjectFileList, Scans, Text,
-    TextList,
+    FILE_LIMIT, Items, LinkFault, Linked, Pair, PairList, Project, ProjectFileList, Text, TextList,
 };
 use std::alloc::Global;
 use std::process::Abort;
 use std::test::Fail;
 use vhdl_graph::link;
+use vhdl_outlines::Outlines;
+use vhdl_scope::visible_sets;
 
 /// The library `unisim`, where it is outside.
 fn external_of(alloc: Global, options: &[u8]) -> Result<TextList, Fail> {
@@ -106,14 +107,15 @@ fn shown_answer(
     alloc: Global,
     project: &Project,
     texts: &TextList,
-    scans: &Scans,
+    outlines: &Outlines,
 ) -> Result<Vec<u8>, Fail>
     requires few { length project.now.files ≤ FILE_LIMIT }
     requires each { length texts.now ≡ length project.now.files }
-    requires scans { AreScansOf texts.now scans.now }
+    requires outlined { AreOutlined texts.now outlines.now }
     requires small { All IsTextSmall texts.now }
 {
-    match link(alloc, project, texts, scans) {
+    let sets = visible_sets(alloc, project, texts, outlines)?;
+    match link(alloc, project, texts, outlines, &sets) {
         Ok(linked) => shown_links(alloc, &linked),
         Err(fault) => shown_fault(alloc, &fault),
     }
@@ -124,8 +126,8 @@ fn shown_project(alloc: Global, project: &Project, texts: &TextList) -> Result<V
     if !are_small(texts) || texts.len() != project.files.len() || texts.len() > 8 {
         return Err(Fail::from("few small files"));
     }
-    let scans = scans_of(alloc, texts)?;
-    shown_answer(alloc, project, texts, &scans)
+    let outlines = outlines_of(alloc, texts)?;
+    shown_answer(alloc, project, texts, &outlines)
 }
 
 fn shown(alloc: Global, options: &[u8], files: &[u8]) -> Result<Vec<u8>, Fail> {

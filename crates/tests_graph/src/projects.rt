@@ -1,37 +1,50 @@
-//! Files of a project, and the scans of their texts, as all tests here make them.
+//! Files of a project, and the outlines of their texts, as all tests here make them.
 
-ghost use Rattle.std.specs.Prelude.{◌≡◌, ◌≤◌, length, IfOk, IsTrue};
+ghost use Rattle.std.specs.Prelude.{◌≤◌, length, IfOk, IsTrue};
 ghost use Rattle.std.specs.List.{All};
-ghost use Rattle.vhdl_spec.specs.Scans.{AreScansOf, IsScanOf};
+ghost use Rattle.vhdl_outlines.specs.Outlines.{AreOutlined};
 ghost use Rattle.vhdl_outlines.specs.Roles.{IsTextSmall};
+ghost use Rattle.tests_graph.specs.Outlines.{HasOutlined};
 
 use base::{
-    FileName, Items, Project, ProjectFile, ProjectFileList, Scan, Scans, TEXT_LIMIT, Text, TextList,
+    FileName, Items, Project, ProjectFile, ProjectFileList, RoleList, Scan, TEXT_LIMIT, Text,
+    TextList, Tokens,
 };
 use std::alloc::Global;
 use std::test::Fail;
-use vhdl_lex::scan_tokens;
+use vhdl_lex::{no_tokens, scan_with_roles};
+use vhdl_outlines::Outlines;
 use vhdl_units::outline;
 
-fn scan_of(alloc: Global, text: &[u8]) -> Result<Scan, Fail>
+/// Adds the outline of a text to those of the texts before, in memory that isn't used any more, and gives it back.
+fn outline_text(
+    alloc: Global,
+    text: &[u8],
+    roles: &mut RoleList,
+    used: Tokens,
+    outlines: &mut Outlines,
+) -> Result<Tokens, Fail>
     requires { length text.now ≤ TEXT_LIMIT }
-    ensures { IfOk result (IsScanOf text.now) }
+    ensures { IfOk result (λ used. HasOutlined text.now outlines.old outlines.new) }
 {
-    let tokens = scan_tokens(alloc, text)?;
-    let units = outline(alloc, text, &tokens)?;
-    Ok(Scan { tokens, units })
+    let tokens = scan_with_roles(alloc, text, roles, used)?;
+    let units = outline(alloc, text, &tokens, roles)?;
+    Ok(outlines.push(alloc, text, Scan { tokens, units }, roles)?)
 }
 
-/// The scans of texts, in order.
-pub fn scans_of(alloc: Global, texts: &TextList) -> Result<Scans, Fail>
+/// The outlines of texts, in order.
+pub fn outlines_of(alloc: Global, texts: &TextList) -> Result<Outlines, Fail>
     requires { All IsTextSmall texts.now }
-    ensures { IfOk result (AreScansOf texts.now) }
+    ensures { IfOk result (AreOutlined texts.now) }
 {
-    let mut scans = Scans::new(alloc);
+    let mut outlines = Outlines::new(alloc);
+    let mut roles = RoleList::new(alloc);
+    let mut used = no_tokens(alloc);
     for at in 0..texts.len() {
-        scans.push(scan_of(alloc, texts.get(at).bytes())?)?;
+        let text = texts.get(at).bytes();
+        used = outline_text(alloc, text, &mut roles, used, &mut outlines)?;
     }
-    Ok(scans)
+    Ok(outlines)
 }
 
 /// Whether each text has a length that can be scanned.

@@ -12,6 +12,8 @@ mod over;
 #[cfg(test)]
 mod plain;
 #[cfg(test)]
+mod results;
+#[cfg(test)]
 mod rows;
 #[cfg(test)]
 mod seeded;

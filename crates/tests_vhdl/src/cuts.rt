@@ -5,7 +5,7 @@ use base::{LexFault, OrMemory, Role, RoleList, TokenKind, Tokens};
 use std::alloc::Global;
 use std::process::Abort;
 use std::test::Fail;
-use vhdl_lex::{no_tokens, scan_tokens, scan_with_roles};
+use vhdl_lex::{no_tokens, scan_with_roles};
 
 /// A letter for the kind of a token.
 fn letter(kind: TokenKind) -> u8 {
@@ -57,7 +57,7 @@ fn scanned(alloc: Global, text: &[u8]) -> Result<Vec<u8>, Fail> {
     if text.len() > 4_194_304 {
         return Err(Fail::from("a small text"));
     }
-    match scan_tokens(alloc, text) {
+    match scan_with_roles(alloc, text, &mut RoleList::new(alloc), no_tokens(alloc)) {
         Ok(tokens) => written(alloc, text, &tokens),
         Err(OrMemory::Fault(fault)) => fault_written(alloc, fault),
         Err(OrMemory::NoMemory) => Err(Fail::from("out of memory")),

@@ -5,8 +5,8 @@ use base::{MaybeText, OrMemory, Role, RoleList, UnitFault, UnitKind, UnitList};
 use std::alloc::Global;
 use std::process::Abort;
 use std::test::Fail;
-use vhdl_lex::scan_tokens;
-use vhdl_units::{is_named, name_of, outline, roles_of};
+use vhdl_lex::{no_tokens, scan_with_roles};
+use vhdl_units::{is_named, name_of, outline};
 
 fn word(kind: UnitKind) -> &'static [u8] {
     match kind {
@@ -43,8 +43,9 @@ fn outlined(alloc: Global, text: &[u8]) -> Result<Result<UnitList, OrMemory<Unit
     if text.len() > 4_194_304 {
         return Err(Fail::from("a text within the limit"));
     }
-    let tokens = scan_tokens(alloc, text)?;
-    Ok(outline(alloc, text, &tokens))
+    let mut roles = RoleList::new(alloc);
+    let tokens = scan_with_roles(alloc, text, &mut roles, no_tokens(alloc))?;
+    Ok(outline(alloc, text, &tokens, &roles))
 }
 
 fn fault_written(alloc: Global, fault: UnitFault) -> Result<Vec<u8>, Fail> {
@@ -266,8 +267,9 @@ fn roles_read(alloc: Global, text: &[u8]) -> Result<RoleList, Fail> {
     if text.len() > 4_194_304 {
         return Err(Fail::from("a text within the limit"));
     }
-    let tokens = scan_tokens(alloc, text)?;
-    Ok(roles_of(alloc, text, &tokens)?)
+    let mut roles = RoleList::new(alloc);
+    scan_with_roles(alloc, text, &mut roles, no_tokens(alloc))?;
+    Ok(roles)
 }
 
 /// Whether a copy of a token's name is this one, and whether the token has it.
@@ -275,7 +277,7 @@ fn name_read(alloc: Global, text: &[u8], at: usize, name: &[u8]) -> Result<(bool
     if text.len() > 4_194_304 {
         return Err(Fail::from("a text within the limit"));
     }
-    let tokens = scan_tokens(alloc, text)?;
+    let tokens = scan_with_roles(alloc, text, &mut RoleList::new(alloc), no_tokens(alloc))?;
     if at >= tokens.list.as_slice().len() {
         return Err(Fail::from("a token"));
     }

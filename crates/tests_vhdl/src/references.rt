@@ -5,13 +5,13 @@ ghost use Rattle.vhdl_spec.specs.Units.{roles_of};
 ghost use Rattle.vhdl_spec.specs.Scans.{IsScanOf};
 
 use crate::tables::{halves, repeated, unfolded};
-use base::{MaybeText, RefList, RoleList, Scan, TEXT_LIMIT};
+use base::{Items, MaybeText, RefList, RoleList, Scan, TEXT_LIMIT, Token, TokenList};
 use std::alloc::Global;
 use std::process::Abort;
 use std::test::Fail;
-use vhdl_lex::scan_tokens;
-use vhdl_refs::{context_refs, find_refs, library_names, mentions_of, uses_of_all};
-use vhdl_units::{outline, roles_of};
+use vhdl_lex::{no_tokens, scan_with_roles};
+use vhdl_refs::{Mentions, NamedRef, find_refs, library_names, mentions_of};
+use vhdl_units::outline;
 
 /// What is asked of a unit.
 #[derive(Clone, Copy, Drop)]
@@ -24,12 +24,13 @@ enum Asked {
     Count,
 }
 
-fn scan_of(alloc: Global, text: &[u8]) -> Result<Scan, Fail>
+fn scan_of(alloc: Global, text: &[u8], roles: &mut RoleList) -> Result<Scan, Fail>
     requires { length text.now ≤ TEXT_LIMIT }
-    ensures { IfOk result (IsScanOf text.now) }
+    ensures scan { IfOk result (IsScanOf text.now) }
+    ensures roles { IfOk result (λ scan. roles.new ≡ roles_of text.now scan.tokens.list) }
 {
-    let tokens = scan_tokens(alloc, text)?;
-    let units = outline(alloc, text, &tokens)?;
+    let tokens = scan_with_roles(alloc, text, roles, no_tokens(alloc))?;
+    let units = outline(alloc, text, &tokens, roles)?;
     Ok(Scan { tokens, units })
 }
 
@@ -57,49 +58,61 @@ fn push_refs(alloc: Global, refs: &RefList, out: &mut Vec<u8>) -> Result<(), Fai
     Ok(())
 }
 
-/// The names of the components of a unit, as they are written.
-fn push_components(
-    alloc: Global,
-    text: &[u8],
-    scan: &Scan,
-    roles: &RoleList,
-    unit: u32,
-    out: &mut Vec<u8>,
-) -> Result<(), Fail>
-    requires scan { IsScanOf text.now scan.now }
-    requires small { length text.now ≤ TEXT_LIMIT }
-    requires roles { roles.now ≡ roles_of text.now scan.now.tokens.list }
-    requires unit { unit < length scan.now.units }
-{
-    let mut room = Vec::new(alloc);
-    let mentions = mentions_of(alloc, text, scan, roles, unit, &mut room)?;
-    for token in mentions.components.as_slice() {
-        let name = text.get(token.start as usize..token.end as usize);
-        out.extend_from_slice(name.unwrap_or(b"?"))?;
+/// Adds what stands at a token, as it is written.
+fn push_token(text: &[u8], token: &Token, out: &mut Vec<u8>) -> Result<(), Fail> {
+    let name = text.get(token.start as usize..token.end as usize);
+    out.extend_from_slice(name.unwrap_or(b"?"))?;
+    Ok(())
+}
+
+/// Names, as they are written, with a comma after each.
+fn push_tokens(text: &[u8], tokens: &TokenList, out: &mut Vec<u8>) -> Result<(), Fail> {
+    for token in tokens.as_slice() {
+        push_token(text, token, out)?;
         out.push(b',')?;
     }
     Ok(())
 }
 
-/// How many components a unit has.
-fn count_components(
+/// Each reference as `L.U`, as it is written, with a `!` where it is strict, and its token number.
+fn push_named(
+    alloc: Global,
+    text: &[u8],
+    refs: &Items<NamedRef>,
+    out: &mut Vec<u8>,
+) -> Result<(), Fail> {
+    for found in refs.as_slice() {
+        if !out.is_empty() {
+            out.push(b' ')?;
+        }
+        push_token(text, &found.library, out)?;
+        out.push(b'.')?;
+        push_token(text, &found.name, out)?;
+        if found.strict {
+            out.push(b'!')?;
+        }
+        let at = found.at;
+        let place = format!(in alloc; "@{at}")?;
+        out.extend_from_slice(place.as_bytes())?;
+    }
+    Ok(())
+}
+
+/// What a unit mentions.
+fn mentioned(
     alloc: Global,
     text: &[u8],
     scan: &Scan,
     roles: &RoleList,
     unit: u32,
-) -> Result<u64, Fail>
+) -> Result<Mentions, Fail>
     requires scan { IsScanOf text.now scan.now }
     requires small { length text.now ≤ TEXT_LIMIT }
     requires roles { roles.now ≡ roles_of text.now scan.now.tokens.list }
     requires unit { unit < length scan.now.units }
 {
     let mut room = Vec::new(alloc);
-    Ok(
-        mentions_of(alloc, text, scan, roles, unit, &mut room)?
-            .components
-            .len(),
-    )
+    Ok(mentions_of(alloc, text, scan, roles, unit, &mut room)?)
 }
 
 fn push_asked(
@@ -118,11 +131,10 @@ fn push_asked(
 {
     match asked {
         Asked::Refs => push_refs(alloc, &find_refs(alloc, text, scan, roles, unit)?, out)?,
-        Asked::ContextRefs => push_refs(
-            alloc,
-            &context_refs(alloc, text, scan, roles, unit)?,
-            out,
-        )?,
+        Asked::ContextRefs => {
+            let mentions = mentioned(alloc, text, scan, roles, unit)?;
+            push_named(alloc, text, &mentions.contexts, out)?;
+        }
         Asked::Libraries => {
             for name in library_names(alloc, text, scan, roles, unit)?.as_slice() {
                 out.extend_from_slice(name.bytes())?;
@@ -130,17 +142,21 @@ fn push_asked(
             }
         }
         Asked::UsesOfAll => {
-            for at in uses_of_all(alloc, text, scan, roles, unit)?.as_slice() {
-                let place = format!(in alloc; "@{at}")?;
-                out.extend_from_slice(place.as_bytes())?;
-            }
+            push_tokens(text, &mentioned(alloc, text, scan, roles, unit)?.whole, out)?;
         }
-        Asked::Components => push_components(alloc, text, scan, roles, unit, out)?,
+        Asked::Components => {
+            push_tokens(
+                text,
+                &mentioned(alloc, text, scan, roles, unit)?.components,
+                out,
+            )?;
+        }
         Asked::Count => {
             let count = find_refs(alloc, text, scan, roles, unit)?.len();
             let names = library_names(alloc, text, scan, roles, unit)?.len();
-            let uses = uses_of_all(alloc, text, scan, roles, unit)?.len();
-            let components = count_components(alloc, text, scan, roles, unit)?;
+            let mentions = mentioned(alloc, text, scan, roles, unit)?;
+            let uses = mentions.whole.len();
+            let components = mentions.components.len();
             let shown = format!(in alloc; "{count} {names} {uses} {components}")?;
             out.extend_from_slice(shown.as_bytes())?;
         }
@@ -153,11 +169,11 @@ fn shown(alloc: Global, text: &[u8], asked: Asked) -> Result<Vec<u8>, Fail> {
     if text.len() > 4_194_304 {
         return Err(Fail::from("a text within the limit"));
     }
-    let scan = scan_of(alloc, text)?;
+    let mut roles = RoleList::new(alloc);
+    let scan = scan_of(alloc, text, &mut roles)?;
     if scan.units.len() > 4_194_304 {
         return Err(Fail::from("no more units than bytes"));
     }
-    let roles = roles_of(alloc, text, &scan.tokens)?;
     let mut out = Vec::new(alloc);
     for unit in 0..scan.units.len() {
         let mut part = Vec::new(alloc);
@@ -332,20 +348,20 @@ fn libraries(rt: HostRuntime) -> Result<(), Fail> {
     check(&rt, rt.alloc(), Asked::Libraries, LIBRARIES)
 }
 
-/// Of each text the token numbers of the libraries of which all is used.
+/// Of each text the libraries of which all is used, each with a comma.
 static USES: &[u8] = b"
-use l.all; entity e is end;^@1|
-use l.all, m.all; entity e is end;^@1@5|
-use l.p.all, m.all; entity e is end;^@7|
-use l.all, m.p.all, n.all; entity e is end;^@1@11|
+use l.all; entity e is end;^l,|
+use l.all, m.all; entity e is end;^l,m,|
+use l.p.all, m.all; entity e is end;^m,|
+use l.all, m.p.all, n.all; entity e is end;^l,n,|
 context l.c, m.all; entity e is end;^|
-context c is use l.all, m.all; context work.d, n.all; end;^@4@8|
-package p is use l.a, m.all; end;^@8|
+context c is use l.all, m.all; context work.d, n.all; end;^l,m,|
+package p is use l.a, m.all; end;^m,|
 use l.p; package q is constant c : t := f(a, b.all); end;^|
 entity e is end; architecture a of e is begin x <= f(p.all, q.all); end;^||
-configuration c of e is for a for u : s use entity work.s generic map (a, l.all); end for; end for; end;^@21|
+configuration c of e is for a for u : s use entity work.s generic map (a, l.all); end for; end for; end;^l,|
 use l.p.all; entity e is end;^|
-entity e is end; architecture a of e is use work.all; begin x <= p.all; end;^|@11|
+entity e is end; architecture a of e is use work.all; begin x <= p.all; end;^|work,|
 ";
 
 #[test]

@@ -14,7 +14,7 @@ use Rattle.vhdl_spec.specs.Dependencies.{LinkUnit, first_some, is_external, is_s
 use Rattle.vhdl_scope.specs.Tables.{table_sees}
 use Rattle.vhdl_graph.specs.declared.seen.Tables.{Tables}
 use Rattle.vhdl_graph.specs.Indexes.{GivesOrFaults, IsFaultOf}
-use Rattle.vhdl_graph.specs.Linking.{Stands, named_library, seen_library}
+use Rattle.vhdl_graph.specs.Linking.{Stands, named_library}
 use Rattle.vhdl_graph.specs.Meanings.{missing_in, missing_units, names_in}
 use Rattle.vhdl_graph.specs.Rows.{HasAdded, stands_at}
 use Rattle.vhdl_graph.proofs.IndexLemmas.{fault_on, mapped_more, mapped_split}
@@ -61,15 +61,6 @@ module _ (project : Project) (units : List LinkUnit) (unit : LinkUnit) (ref : Re
     linked_unseen row told =
         let unseen : is_seen units unit ref ≡ false = sym (stands.sees ref.library) ∙ told in
         (missing_unseen unseen, added_none (stands_at (names_unit project units unit ref) units) row (names_unseen unseen))
-
--- whether a library is seen, by what was found
-pub found_seen : (b : Bool) (own named library : List ℕ) → ◌≡◌ {A = Option (List ℕ)} (Some library) (seen_library b own named) → (b ≡ true) × (named_library own named ≡ library)
-found_seen true own named library is = (refl, cc)
-found_seen false own named library is = let never : ⊥ = cc in absurd never
-
-pub found_unseen : (b : Bool) (own named : List ℕ) → ◌≡◌ {A = Option (List ℕ)} None (seen_library b own named) → b ≡ false
-found_unseen true own named is = let never : ⊥ = cc in absurd never
-found_unseen false own named is = refl
 
 -- ## The first of some faults
 

@@ -3,8 +3,6 @@ use Rattle.std.proofs.Common.{◌≡◌, ℕ, Bool, true, false, ◌&&◌, Optio
 use Rattle.std.specs.Prelude.{if◌then◌else◌}
 use Rattle.std.specs.List.{filter_map, flat_map}
 use Rattle.std.proofs.lemmas.List.Elements.{filter_map-append}
-use Rattle.base.specs.declared.child.MaybeText.TheVariants.{Nothing}
-use Rattle.base.specs.declared.design.Unit.{Unit as DesignUnit}
 use Rattle.base.specs.declared.design.UnitKind.TheVariants as kinds
 use Rattle.base.specs.declared.file.FileName.{FileName}
 use Rattle.base.specs.declared.linking.Warning.{Warning}
@@ -16,9 +14,6 @@ use Rattle.vhdl_scope.specs.Tables.{table_sees}
 use Rattle.vhdl_graph.specs.declared.seen.Tables.{Tables}
 use Rattle.vhdl_graph.specs.Libraries.{knows}
 use Rattle.vhdl_graph.specs.Linking.{Knows, Stands, named_library, noted}
-
-pub no_design : DesignUnit
-no_design = record { kind = kinds.Entity; name = []; owner = Nothing; lead = 0; first = 0; last = 0 }
 
 pub some_same : {X : Type 0} (x y : X) → ◌≡◌ {A = Option X} (Some x) (Some y) → x ≡ y
 some_same x y e = cc

@@ -16,4 +16,4 @@ mod units;
 mod warnings;
 
 pub use laws::laws_of_links;
-pub use linking::{link, link_by_outlines, link_by_sets};
+pub use linking::link;

@@ -3,7 +3,6 @@
 ghost use Rattle.std.specs.Prelude.{◌≡◌, ◌≤◌, List, IfOk, length};
 ghost use Rattle.std.specs.List.{All};
 ghost use Rattle.base.specs.declared.design.Scan.{Scan};
-ghost use Rattle.vhdl_spec.specs.Scans.{AreScansOf};
 ghost use Rattle.vhdl_spec.specs.Dependencies.{link_of, link_units};
 ghost use Rattle.order_spec.specs.BuildOrder.{AreEdges};
 ghost use Rattle.vhdl_outlines.specs.Outlines.{AreOutlined, AreOutlinesOf};
@@ -18,11 +17,11 @@ use crate::libraries::libraries_of;
 use crate::pairs::rows_of_pairs;
 use crate::seen::{Tables, no_scratch};
 use crate::units::link_file;
-use base::{Edges, FILE_LIMIT, LinkFault, Linked, Project, Scans, TextList, WarningList};
+use base::{Edges, FILE_LIMIT, LinkFault, Linked, Project, TextList, WarningList};
 use base_position_set::PositionSet;
 use std::alloc::Global;
-use vhdl_outlines::{Outlines, outlines_of};
-use vhdl_scope::{VisibleLibraries, visible_sets_by_outlines};
+use vhdl_outlines::Outlines;
+use vhdl_scope::VisibleLibraries;
 
 /// Takes up the references of all files.
 fn link_files(
@@ -73,47 +72,9 @@ fn link_files(
 
 /// Which files of a project depend on which, strictly rising and none on itself, and the uses of whole libraries that
 /// give no dependency, in project order; or the first thing that is wrong with the names of its units: two of one name,
-/// looked for over all files first, and then a unit or an architecture that is missing. There is one text and one scan
-/// for each file, in order.
+/// looked for over all files first, and then a unit or an architecture that is missing. There is one text and one outline
+/// for each file, in order; `sets` has the libraries that each unit sees.
 pub fn link(
-    alloc: Global,
-    project: &Project,
-    texts: &TextList,
-    scans: &Scans,
-) -> Result<Linked, LinkFault>
-    requires few { length project.now.files ≤ FILE_LIMIT }
-    requires each { length texts.now ≡ length project.now.files }
-    requires scans { AreScansOf texts.now scans.now }
-    requires small { All IsTextSmall texts.now }
-    ensures exact { GivesLinks
-        (link_of project.now (link_units 0 project.now.files texts.now scans.now)) result }
-    ensures edges { IfOk result (λ linked. AreEdges linked.edges) }
-{
-    let outlines = outlines_of(alloc, texts, scans)?;
-    link_by_outlines(alloc, project, texts, &outlines)
-}
-
-/// `link` for a caller that has the outlines of all files, and not their tokens.
-pub fn link_by_outlines(
-    alloc: Global,
-    project: &Project,
-    texts: &TextList,
-    outlines: &Outlines,
-) -> Result<Linked, LinkFault>
-    requires few { length project.now.files ≤ FILE_LIMIT }
-    requires each { length texts.now ≡ length project.now.files }
-    requires small { All IsTextSmall texts.now }
-    requires outlined { AreOutlined texts.now outlines.now }
-    ensures exact { (scans : List Scan) → AreOutlinesOf texts.now scans outlines.now →
-        GivesLinks (link_of project.now (link_units 0 project.now.files texts.now scans)) result }
-    ensures edges { IfOk result (λ linked. AreEdges linked.edges) }
-{
-    let sets = visible_sets_by_outlines(alloc, project, texts, outlines)?;
-    link_by_sets(alloc, project, texts, outlines, &sets)
-}
-
-/// `link_by_outlines` for a caller that has the libraries that each unit sees, which are lent.
-pub fn link_by_sets(
     alloc: Global,
     project: &Project,
     texts: &TextList,

@@ -1,7 +1,7 @@
 -- From the bits of 64 lanes to where runs of bytes stop.
 use Rattle.std.proofs.Common.{◌≡◌, ℕ, ◌+◌, ◌-◌, ◌/◌, ◌%◌, ◌^◌, ◌<◌, ◌≤◌, Bool, true, false, not, cond, List, [], ◌∷◌, map, length, get_or, slice_index, replicate, Fits, w8, w64, inl, inr, refl, sym, ap, ap₂, ◌∙◌, subst, arith}
 use Rattle.std.specs.Int.{bit_at, trailing_zeros}
-use Rattle.std.proofs.Math.Nat.{div-le_self, zero-div}
+use Rattle.std.proofs.Math.Nat.{div-le_self}
 use Rattle.std.proofs.lemmas.Bool.{agree_below, agree_below_at, false≢true, not-true, not-false, cases_lt}
 use Rattle.std.proofs.lemmas.List.{get_or-map, get_or_past, length-map}
 use Rattle.std.proofs.lemmas.Nat.Bits.{bit_at-trailing_zeros}
@@ -33,10 +33,6 @@ one_true false is = let no : ⊥ = omega arith in absurd no
 zero_false : (b : Bool) → ◌≡◌ {A = ℕ} (cond b 1 0) 0 → b ≡ false
 zero_false true is = let no : ⊥ = omega arith in absurd no
 zero_false false is = refl
-
--- no bit is set
-pub no_stops : (test : ℕ → Bool) (text : List ℕ) (base : ℕ) → AreStops test text base 0
-no_stops test text base from end ordered found = absurd (omega (arith, found.some, zero-div (2 ^ (from - base))))
 
 module _ (test : ℕ → Bool) (text : List ℕ) (base stops : ℕ) (ms : List Bool) (room : base + 64 ≤ length text) (long : length ms ≡ 64) (is : stops ≡ mask_l ms) (each : (i : ℕ) → i < 64 → get_or ms i false ≡ not (test (slice_index text (base + i)))) where
   small : stops < 2 ^ 64

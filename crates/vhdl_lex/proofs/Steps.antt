@@ -23,9 +23,6 @@ use Rattle.vhdl_lex.specs.Reading.{Read}
 use Rattle.vhdl_lex.proofs.Longest.{blank_gap, blank_longest}
 use Rattle.vhdl_lex.proofs.Rows.{any_blank_row}
 
-pub read_nothing : (text : List ℕ) → Read text [] [] 0
-read_nothing text = record { pieces = []; leads = refl; tokens_are = refl; comments_are = refl; within = omega arith; lies = tt }
-
 leads_on : (text : List ℕ) (place : Place) (ps qs : List Piece) (middle end : Place) → Leads text place ps middle → Leads text middle qs end → Leads text place (ps ++ qs) end
 leads_on text place [] qs middle end before after = subst (λ (p : Place). Leads text p qs end) (sym before) after
 leads_on text place (p ∷ ps) qs middle end before after = (before.0, leads_on text (place_after place p) ps qs middle end before.1 after)

@@ -11,4 +11,4 @@ mod stops;
 
 pub use reserved::{is_reserved, reserved_number};
 pub use roles::role_of;
-pub use scan::{no_tokens, scan_tokens, scan_with_roles};
+pub use scan::{no_tokens, scan_with_roles};

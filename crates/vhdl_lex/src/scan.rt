@@ -1,8 +1,8 @@
 //! The cut of a whole text, in one pass.
 
-ghost use Rattle.std.specs.Prelude.{◌≡◌, ◌<◌, ◌≤◌, ℕ, List, [], ◌∷◌, ◌++◌, length, true, IfOk};
+ghost use Rattle.std.specs.Prelude.{◌≡◌, ◌<◌, ◌≤◌, List, [], ◌∷◌, ◌++◌, length, IfOk, OnOk};
 ghost use Rattle.base.specs.declared.lexical.LexFault.{LexFault};
-ghost use Rattle.vhdl_spec.specs.Tokens.{Piece, IsCut, HasFault, AreOf, Scans};
+ghost use Rattle.vhdl_spec.specs.Tokens.{Piece, IsCut, HasFault, Scans};
 ghost use Rattle.vhdl_spec.specs.Units.{role_of, roles_of};
 ghost use Rattle.vhdl_lex.specs.Pieces.{LiesIn};
 ghost use Rattle.vhdl_lex.specs.Reading.{Read, ReadsOn};
@@ -16,22 +16,9 @@ use base::{Items, LexFault, NoMemory, OrMemory, Role, RoleList, Span, TEXT_LIMIT
 use std::alloc::Global;
 use std::mem::replace;
 
-/// The tokens and the line comments of a text of at most 4,194,304 bytes, or its lexical fault, in time in
-/// proportion to its length (IEEE Std 1076-2008, clause 15).
-pub fn scan_tokens(alloc: Global, text: &[u8]) -> Result<Tokens, OrMemory<LexFault>>
-    requires { length text.now ≤ TEXT_LIMIT }
-    // Tokens are those of the cut, and a fault is one that the text has.
-    ensures right { Scans text.now result }
-    // Where there is a cut its tokens are given, unless memory runs out.
-    ensures cut { (pieces : List Piece) → IsCut text.now pieces → GivesTokens pieces result }
-    // Where there is a fault it is given, unless memory runs out.
-    ensures fault { (fault : LexFault) → HasFault text.now fault → GivesFault fault result }
-{
-    cut::<false>(text, &mut Vec::new(alloc), no_tokens(alloc))
-}
-
-/// `scan_tokens` in the memory of tokens that aren't used any more, where that has room; and in the same pass the roles of the
-/// tokens, in order: one byte a token, for all who read the file.
+/// The tokens and the line comments of a text of at most 4,194,304 bytes, or its lexical fault, in time in proportion to its
+/// length (IEEE Std 1076-2008, clause 15). They are made in the memory of tokens that aren't used any more, where that has
+/// room; and in the same pass the roles of the tokens, in order: one byte a token, for all who read the file.
 pub fn scan_with_roles(
     alloc: Global,
     text: &[u8],
@@ -39,8 +26,11 @@ pub fn scan_with_roles(
     used: Tokens,
 ) -> Result<Tokens, OrMemory<LexFault>>
     requires { length text.now ≤ TEXT_LIMIT }
+    // Tokens are those of the cut, and a fault is one that the text has.
     ensures right { Scans text.now result }
+    // Where there is a cut its tokens are given, unless memory runs out.
     ensures cut { (pieces : List Piece) → IsCut text.now pieces → GivesTokens pieces result }
+    // Where there is a fault it is given, unless memory runs out.
     ensures fault { (fault : LexFault) → HasFault text.now fault → GivesFault fault result }
     ensures roles { IfOk result (λ tokens. roles.new ≡ roles_of text.now tokens.list) }
 {
@@ -50,26 +40,19 @@ pub fn scan_with_roles(
 /// How many bytes are gone over with one look at 64 of them: a word that begins before there mostly ends within the 64.
 const STRIDE: usize = 48;
 
-/// Adds the role of a token, where roles are kept.
+/// Adds the role of a token.
 #[inline(always)]
-fn keep_role<const ROLES: bool>(
-    text: &[u8],
-    roles: &mut Vec<Role>,
-    token: Token,
-) -> Result<(), NoMemory>
+fn push_role(text: &[u8], roles: &mut Vec<Role>, token: Token) -> Result<(), NoMemory>
     requires { LiesIn text.now token }
-    ensures { IfOk result (λ done.
-        ROLES ≡ true → roles.new.items ≡ roles.old.items ++ role_of text.now token ∷ []) }
+    ensures { OnOk result (roles.new.items ≡ roles.old.items ++ role_of text.now token ∷ []) }
 {
-    if ROLES {
-        roles.push(role_of(text, token))?;
-    }
+    roles.push(role_of(text, token))?;
     Ok(())
 }
 
 /// Goes on with a cut for some bytes or, where a piece begins within them, to its end, and adds tokens and comments; and
-/// the roles of the tokens, where these are kept.
-fn cut_on<const ROLES: bool>(
+/// the roles of the tokens.
+fn cut_on(
     text: &[u8],
     list: &mut Vec<Token>,
     roles: &mut Vec<Role>,
@@ -79,10 +62,9 @@ fn cut_on<const ROLES: bool>(
     requires within { from < length text.now }
     requires small { length text.now ≤ TEXT_LIMIT }
     requires read { Read text.now list.old.items comments.old.items from }
-    requires roles { ROLES ≡ true → roles.old.items ≡ roles_of text.now list.old.items }
+    requires roles { roles.old.items ≡ roles_of text.now list.old.items }
     ensures read { ReadsOn text.now from list.new.items comments.new.items result }
-    ensures roles { IfOk result (λ at.
-        ROLES ≡ true → roles.new.items ≡ roles_of text.now list.new.items) }
+    ensures roles { OnOk result (roles.new.items ≡ roles_of text.now list.new.items) }
 {
     let words = word_stops(text, from);
     let gaps = gap_stops(text, from);
@@ -107,7 +89,7 @@ fn cut_on<const ROLES: bool>(
                     start: at as u32,
                     end: end as u32,
                 };
-                keep_role::<ROLES>(text, roles, token)?;
+                push_role(text, roles, token)?;
                 list.push(token)?;
                 end
             }
@@ -138,27 +120,18 @@ fn room_of(used: Tokens) -> (Vec<Token>, Vec<Span>)
     (list, comments)
 }
 
-/// The cut of a text, and the roles of its tokens, where these are kept.
-fn cut<const ROLES: bool>(
-    text: &[u8],
-    roles: &mut Vec<Role>,
-    used: Tokens,
-) -> Result<Tokens, OrMemory<LexFault>>
+/// The cut of a text, and the roles of its tokens.
+fn cut(text: &[u8], roles: &mut Vec<Role>, used: Tokens) -> Result<Tokens, OrMemory<LexFault>>
     requires small { length text.now ≤ TEXT_LIMIT }
     requires none { roles.old.items ≡ [] }
     ensures right { Scans text.now result }
-    ensures roles { IfOk result (λ tokens.
-        ROLES ≡ true → roles.new.items ≡ roles_of text.now tokens.list) }
+    ensures roles { IfOk result (λ tokens. roles.new.items ≡ roles_of text.now tokens.list) }
 {
     let (mut list, mut comments) = room_of(used);
     list.reserve(text.len() / 4 + 1)?;
     let mut at = 0;
     while at < text.len() {
-        at = cut_on::<ROLES>(text, &mut list, roles, &mut comments, at)?;
-    }
-    // Who asks for no roles keeps the tokens, so the room that was reserved and not used goes back.
-    if !ROLES {
-        list.shrink_to_fit();
+        at = cut_on(text, &mut list, roles, &mut comments, at)?;
     }
     Ok(Tokens {
         list: Items::from_vec(list),
@@ -181,7 +154,7 @@ fn cut_with_roles(
     let mut list = replace(roles, RoleList::new(alloc)).into_vec();
     list.clear();
     list.reserve(text.len() / 4 + 1)?;
-    let tokens = cut::<true>(text, &mut list, used)?;
+    let tokens = cut(text, &mut list, used)?;
     *roles = Items::from_vec(list);
     Ok(tokens)
 }

@@ -1,20 +1,17 @@
 //! What is kept of scanned files: their design units, what each of these names and mentions, and what it says of tests.
 
-ghost use Rattle.std.specs.Prelude.{◌≡◌, ◌<◌, ◌≤◌, [], IfOk, OnOk, Some, length, map, slice_get};
+ghost use Rattle.std.specs.Prelude.{◌≡◌, ◌<◌, ◌≤◌, [], IfOk, Some, length, map, slice_get};
 ghost use Rattle.std.specs.List.{All};
 ghost use Rattle.std.specs.Option.{option_map};
 ghost use Rattle.vhdl_spec.specs.Units.{roles_of};
-ghost use Rattle.vhdl_spec.specs.Scans.{AreScansOf, IsScanOf};
+ghost use Rattle.vhdl_spec.specs.Scans.{IsScanOf};
 ghost use Rattle.vhdl_refs.specs.Mentions.{MentionsLieIn};
-ghost use Rattle.vhdl_outlines.specs.Outlines.{AreOutlinesOf, FilesLieIn, HasAdded, MentionsAreOf, scope_of};
-ghost use Rattle.vhdl_outlines.specs.Roles.{IsTextSmall};
+ghost use Rattle.vhdl_outlines.specs.Outlines.{HasAdded, MentionsAreOf, scope_of};
 
-use crate::copies::copy_units;
-use base::{Items, NoMemory, RoleList, Scan, Scans, TEXT_LIMIT, TextList, Tokens, UnitList};
+use base::{Items, NoMemory, RoleList, Scan, TEXT_LIMIT, TextList, Tokens, UnitList};
 use std::alloc::Global;
 use vhdl_refs::{Mentions, library_names, mentions_of};
 use vhdl_runs::{FileRuns, runs_of};
-use vhdl_units::roles_of;
 
 /// What a design unit names: the libraries of its library clauses (IEEE Std 1076-2008, clause 13.2).
 #[derive(Drop)]
@@ -145,48 +142,4 @@ impl Outlines {
         })?;
         Ok(tokens)
     }
-
-    /// Adds the outline of a file whose scan is lent: its units are copied.
-    fn push_copy(
-        &mut self,
-        alloc: Global,
-        text: &[u8],
-        scan: &Scan,
-        roles: &RoleList,
-    ) -> Result<(), NoMemory>
-        requires scan { IsScanOf text.now scan.now }
-        requires small { length text.now ≤ TEXT_LIMIT }
-        requires roles { roles.now ≡ roles_of text.now scan.now.tokens.list }
-        ensures { OnOk result (HasAdded text.now scan.now self.old self.new) }
-    {
-        let mentions = mentions_of_units(alloc, text, scan, roles)?;
-        let runs = runs_of(alloc, text, scan, roles)?;
-        let scopes = scopes_of_units(alloc, text, scan, roles)?;
-        let units = copy_units(alloc, scan.units.as_slice())?;
-        self.files.push(FileOutline {
-            units,
-            scopes,
-            mentions,
-            runs,
-        })?;
-        Ok(())
-    }
-}
-
-/// The outlines of files whose scans are kept, as tests and benches have them; the program makes outlines by `push`. There
-/// is one text and one scan for each file, in order.
-pub fn outlines_of(alloc: Global, texts: &TextList, scans: &Scans) -> Result<Outlines, NoMemory>
-    requires scans { AreScansOf texts.now scans.now }
-    requires small { All IsTextSmall texts.now }
-    ensures are { IfOk result (AreOutlinesOf texts.now scans.now) }
-    ensures lie { IfOk result (λ outlines. FilesLieIn texts.now outlines.files) }
-{
-    let mut outlines = Outlines::new(alloc);
-    for file in 0..texts.len() {
-        let text = texts.get(file).bytes();
-        let scan = scans.get(file);
-        let roles = roles_of(alloc, text, &scan.tokens)?;
-        outlines.push_copy(alloc, text, scan, &roles)?;
-    }
-    Ok(outlines)
 }

@@ -4,18 +4,16 @@ ghost use Rattle.std.specs.Prelude.{◌≡◌, ◌+◌, ◌<◌, ◌≤◌, [], 
 ghost use Rattle.std.specs.Option.{option_map};
 ghost use Rattle.vhdl_spec.specs.Units.{AreTokensOf, name_of, roles_of};
 ghost use Rattle.vhdl_spec.specs.Scans.{IsScanOf};
-ghost use Rattle.vhdl_spec.specs.References.{context_end, context_refs, is_context_ref, is_in_library_clause, is_library_name, library_names, places};
+ghost use Rattle.vhdl_spec.specs.References.{context_end, is_context_ref, is_in_library_clause, is_library_name, library_names, places};
 ghost use Rattle.vhdl_refs.specs.Clauses.{BeginsUnit, IsClauseAt};
 ghost use Rattle.vhdl_refs.specs.Places.{AreRefPlaces, context_places, ref_place};
 
 use crate::clause::{Clause, clause_after};
 use crate::places::{RefPlace, is_reference, is_strict};
-use crate::refs::push_refs;
 use crate::unit::unit_at;
 use crate::words::{is_comma, is_context_word, is_library_word, is_name, role_before};
 use base::{
-    Items, NoMemory, RefList, Role, RoleList, Scan, TEXT_LIMIT, Text, TextList, Tokens, Unit,
-    UnitKind,
+    Items, NoMemory, Role, RoleList, Scan, TEXT_LIMIT, Text, TextList, Tokens, Unit, UnitKind,
 };
 use std::alloc::Global;
 use vhdl_units::{name_of, role_at};
@@ -107,40 +105,6 @@ pub fn push_contexts(
     ensures after { OnOk result (AreRefPlaces roles.now found.new.items) }
 {
     push_context_places(roles, clause, context_end(unit), found)
-}
-
-/// The references of the unit of a number in a scan to context declarations, in order (IEEE Std 1076-2008, clause 13.4).
-/// `roles` are those of the scan's tokens.
-pub fn context_refs(
-    alloc: Global,
-    text: &[u8],
-    scan: &Scan,
-    roles: &RoleList,
-    unit: u32,
-) -> Result<RefList, NoMemory>
-    requires scan { IsScanOf text.now scan.now }
-    requires small { length text.now ≤ TEXT_LIMIT }
-    requires roles { roles.now ≡ roles_of text.now scan.now.tokens.list }
-    requires unit { unit < length scan.now.units }
-    ensures { IfOk result (λ refs.
-        option_map (context_refs text.now scan.now.tokens.list) (slice_get scan.now.units unit)
-        ≡ Some refs) }
-{
-    let roles = roles.as_slice();
-    let (found, clause) = unit_at(text, scan, roles, unit);
-    let mut places = Vec::new(alloc);
-    push_contexts(roles, found, clause, &mut places)?;
-    let mut refs = Vec::new(alloc);
-    push_refs(
-        alloc,
-        text,
-        &scan.tokens,
-        roles,
-        found.kind,
-        places.as_slice(),
-        &mut refs,
-    )?;
-    Ok(Items::from_vec(refs))
 }
 
 /// Whether a token is between `library` and its `;`, of a unit whose keyword is at `first`.

@@ -15,10 +15,9 @@ mod unit;
 mod uses;
 mod words;
 
-pub use context::{context_refs, library_names};
+pub use context::library_names;
 pub use find::find_refs;
 pub use mentions::{Mentions, NamedRef, mentions_of};
 pub use places::RefPlace;
 pub use refs::{no_ref, ref_in};
 pub use structural::structural_ref;
-pub use uses::uses_of_all;

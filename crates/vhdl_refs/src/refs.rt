@@ -1,6 +1,6 @@
 //! References with their names.
 
-ghost use Rattle.std.specs.Prelude.{◌≡◌, ◌+◌, ◌<◌, ◌++◌, IfOk, OnOk, length, map};
+ghost use Rattle.std.specs.Prelude.{◌≡◌, ◌+◌, ◌<◌, ◌++◌, IfOk, OnOk, map};
 ghost use Rattle.vhdl_spec.specs.Units.{AreTokensOf, roles_of};
 ghost use Rattle.vhdl_spec.specs.References.{ref_at};
 ghost use Rattle.vhdl_refs.specs.Mentions.{NamedLiesIn, SomeLiesIn, named_architecture, named_ref};

@@ -1,19 +1,14 @@
 //! The places of `use L.all` of one design unit, which names a library and no unit of it.
 
-ghost use Rattle.std.specs.Prelude.{◌≡◌, ◌<◌, ◌≤◌, [], ◌∷◌, ◌++◌, true, if◌then◌else◌, IfOk, OnOk, Some, length, slice_get};
+ghost use Rattle.std.specs.Prelude.{◌≡◌, ◌<◌, ◌≤◌, [], ◌∷◌, ◌++◌, true, if◌then◌else◌, OnOk, length};
 ghost use Rattle.std.specs.List.{All};
-ghost use Rattle.std.specs.Option.{option_map};
-ghost use Rattle.vhdl_spec.specs.Units.{roles_of};
-ghost use Rattle.vhdl_spec.specs.Scans.{IsScanOf};
-ghost use Rattle.vhdl_spec.specs.References.{is_all_of, is_comma, is_in_use_list, is_use_of_all, is_used, places, role_before, uses_of_all};
+ghost use Rattle.vhdl_spec.specs.References.{is_all_of, is_comma, is_in_use_list, is_use_of_all, is_used, places, role_before};
 ghost use Rattle.vhdl_refs.specs.Clauses.{HasReached, IsClauseAt};
 
 use crate::clause::{Clause, Reached, follow};
 use crate::dots::next_dotted;
-use crate::unit::unit_at;
 use crate::words::{is_all_word, is_comma, is_dot, is_name, is_use_word, role_before};
-use base::{Items, NoMemory, Positions, Role, RoleList, Scan, TEXT_LIMIT};
-use std::alloc::Global;
+use base::{NoMemory, Role, TEXT_LIMIT};
 
 /// Whether the `L` of an `L.all` is at a token.
 #[inline(always)]
@@ -91,27 +86,4 @@ pub fn push_uses(
         at = next_dotted(roles, at + 1, end);
     }
     Ok(())
-}
-
-/// The token numbers of the `L` of each `L.all` that the unit of a number in a scan uses, rising (IEEE Std 1076-2008, clause
-/// 12.4). `roles` are those of the scan's tokens.
-pub fn uses_of_all(
-    alloc: Global,
-    text: &[u8],
-    scan: &Scan,
-    roles: &RoleList,
-    unit: u32,
-) -> Result<Positions, NoMemory>
-    requires scan { IsScanOf text.now scan.now }
-    requires small { length text.now ≤ TEXT_LIMIT }
-    requires roles { roles.now ≡ roles_of text.now scan.now.tokens.list }
-    requires unit { unit < length scan.now.units }
-    ensures { IfOk result (λ uses.
-        option_map (uses_of_all roles.now) (slice_get scan.now.units unit) ≡ Some uses) }
-{
-    let roles = roles.as_slice();
-    let (found, clause) = unit_at(text, scan, roles, unit);
-    let mut uses = Vec::new(alloc);
-    push_uses(roles, clause, found.last as usize, &mut uses)?;
-    Ok(Items::from_vec(uses))
 }

@@ -111,10 +111,6 @@ stay_owned keeps old new [] (user ∷ users) grown all = all
 stay_owned keeps old new (one ∷ owned) [] grown all = all
 stay_owned keeps old new (one ∷ owned) (user ∷ users) grown all = (stays_owned keeps old new user.library user.unit one grown (all.0), stay_owned keeps old new owned users grown (all.1))
 
--- one group that has a number
-pub numbered_one : (groups : List Group) (group : Group) (number : ℕ) → (number ≡ group_number groups group) × (number < length groups) → IsNumbered groups (group ∷ []) (Some number)
-numbered_one groups group number is = record { group = group; only = refl; is = is.0; within = is.1 }
-
 -- the groups of the units of a scan
 pub groups_of_units : (keeps : Bool) (library text : List ℕ) (scan : Scan) (units : List DesignUnit) → flat_map (user_groups keeps) (map (scope_unit library text scan) units) ≡ flat_map (kept_groups keeps library) units
 groups_of_units keeps library text scan [] = refl

@@ -1,5 +1,5 @@
 -- What runs tell of the words of a row.
-use Rattle.std.proofs.Common.{◌≡◌, ◌≢◌, ℕ, zero, suc, ◌+◌, ◌*◌, ◌/◌, ◌%◌, ◌<◌, ◌≤◌, Bool, true, false, ◌||◌, cond, List, [], ◌∷◌, ◌++◌, length, nat_eq, nat_lt, get_or, drop, replicate, take, below_more, ◌⊎◌, inl, inr, refl, sym, ◌∙◌, ap, subst, arith, if◌then◌else◌, not, bit_or, length-append}
+use Rattle.std.proofs.Common.{◌≡◌, ◌≢◌, ℕ, zero, suc, ◌+◌, ◌/◌, ◌%◌, ◌<◌, ◌≤◌, Bool, true, false, ◌||◌, cond, List, [], ◌∷◌, ◌++◌, length, nat_eq, nat_lt, get_or, drop, replicate, take, below_more, ◌⊎◌, inl, inr, refl, sym, ◌∙◌, ap, subst, arith, if◌then◌else◌, not, bit_or, length-append}
 use Rattle.std.specs.Int.{bit_at}
 use Rattle.std.proofs.Math.ListN.{get_or-append}
 use Rattle.std.proofs.Math.Seq.{get_or-append_seam}
@@ -94,10 +94,7 @@ pub has_there : (words : ℕ) (runs : List Run) (number word : ℕ) → number /
 unfolding row_has
 has_there words runs number word within is = ap (λ (w : ℕ). nat_eq (bit_at w (number % 64)) 1) (is ∙ sym (word_told words runs (number / 64) within))
 
--- no runs
-none_told : (at : ℕ) → word_or 0 [] at ≡ 0
 unfolding word_or
-none_told at = refl
 
 -- a run at the head
 pub word_here : (run : Run) (rest : List Run) (none at : ℕ) → at < run.end → word_or none (run ∷ rest) at ≡ run.word

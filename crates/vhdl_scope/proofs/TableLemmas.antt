@@ -1,22 +1,11 @@
 -- The table of a project says exactly what its units see.
-use Rattle.std.proofs.Common.{◌≡◌, ℕ, zero, suc, ◌+◌, ◌<◌, ◌≤◌, Bool, true, false, cond, Vec, Global, List, [], ◌∷◌, ◌++◌, Contains, IsTrue, Option, Some, None, length, map, filter, take, get_or, ◌⊎◌, inl, inr, refl, sym, ◌∙◌, ap, subst, arith, length-append}
+use Rattle.std.proofs.Common.{◌≡◌, ℕ, zero, suc, ◌+◌, ◌<◌, ◌≤◌, Bool, true, false, cond, List, [], ◌∷◌, ◌++◌, Contains, Option, Some, None, length, map, filter, take, get_or, ◌⊎◌, inl, inr, refl, sym, ◌∙◌, ap, subst, arith, length-append}
 use Rattle.std.specs.List.{list_any, slice_get}
 use Rattle.std.specs.Str.{bytes_eq}
 use Rattle.std.proofs.Math.ListN.{get_or-append}
 use Rattle.std.proofs.lemmas.Bool.{cases_lt}
-use Rattle.std.proofs.lemmas.List.{get_or-append-add, get_or-map, get_or_past, length-map, take_more}
+use Rattle.std.proofs.lemmas.List.{get_or-append-add, get_or-map, get_or_past, length-map}
 use Rattle.std.proofs.lemmas.Option.{get_or_from_slice_get, slice_get-get_or, slice_get_within}
-use Rattle.std.specs.Prelude.{IsPermutation, IsSorted, if◌then◌else◌, nat_eq}
-use Rattle.std.specs.List.{dedup}
-use Rattle.std.specs.List.Sorted.{IsStrictlySortedBy}
-use Rattle.std.proofs.lemmas.List.Elements.{filter-append}
-use Rattle.std.specs.Ordering.{nat_cmp}
-use Rattle.std.specs.Cmp.Lexicographic.{pointwise, slice_cmp}
-use Rattle.std.proofs.lemmas.Cmp.{nat_list_cmp_total, nat_list_eq_equiv}
-use Rattle.std.proofs.lemmas.Slice.Eq.{bytes_eq-Decides}
-use Rattle.std.proofs.lemmas.Map.Text.{is_eq-slice_cmp}
-use Rattle.std.proofs.lemmas.List.Kept.{IsStrictlySortedBy-dedup, Contains-dedup, Contains-from_dedup}
-use Rattle.std.proofs.lemmas.List.Sorted.{Contains-permutation, IsPermutation-sym}
 use Rattle.base.specs.declared.design.Scan.{Scan}
 use Rattle.base.specs.declared.design.Unit.{Unit as DesignUnit}
 use Rattle.base.specs.declared.project.ProjectFile.{ProjectFile}
@@ -29,7 +18,7 @@ use Rattle.vhdl_scope.specs.Links.{place_row}
 use Rattle.vhdl_scope.specs.Names.{name_of_number, number_of}
 use Rattle.vhdl_scope.specs.Scopes.{AreScopes, as_scope, units_before}
 use Rattle.vhdl_scope.specs.Exact.{AreGrown}
-use Rattle.vhdl_scope.specs.Tables.{AreExactly, AreVisible, ListsNames, IsUnitAt, Table, row_names, set_at, table_of}
+use Rattle.vhdl_scope.specs.Tables.{AreVisible, IsUnitAt, Table, row_names, set_at, table_of}
 use Rattle.vhdl_scope.proofs.KeyLemmas.{numbered, there_by}
 use Rattle.vhdl_scope.proofs.NameLemmas.{same_bytes, told_same}
 use Rattle.vhdl_scope.proofs.Exact.{all_seen, any_by, no_unit, only_seen, rows_enough}
@@ -166,52 +155,6 @@ table_there starts names rows table id row view is = subst (λ (t : Table). set_
 pub table_past : (starts : List ℕ) (names rows : List (List ℕ)) (table : Table) (id : UnitId) → table_of starts names rows ≡ table → slice_get rows (get_or starts id.file 0 + id.unit) ≡ None → set_at table id ≡ []
 unfolding table_of
 table_past starts names rows table id view is = subst (λ (t : Table). set_at t id ≡ []) view (set_past names rows (get_or starts id.file 0 + id.unit) is)
-
--- sorted names of a set, without repeats, are its listing
-pub listing : (set names found sorted : List (List ℕ)) → ((name : List ℕ) → Contains set name → Contains names name) → found ≡ filter (λ name. list_any (bytes_eq name) set) names → IsPermutation found sorted → IsSorted (slice_cmp nat_cmp) sorted → ListsNames set (dedup (pointwise nat_eq) sorted)
-listing set names found sorted within is moved in_order = record {
-  rising = IsStrictlySortedBy-dedup nat_list_cmp_total (λ x y. sym (is_eq-slice_cmp x y)) sorted in_order;
-  all = λ (name : List ℕ) (there : Contains set name). Contains-dedup nat_list_eq_equiv (λ x y e. (bytes_eq-Decides x y).0 e) sorted name (Contains-permutation found sorted name moved (subst (λ (some : List (List ℕ)). Contains some name) (sym is) (in_filter (λ (n : List ℕ). list_any (bytes_eq n) set) names name (within name there) (any_by (bytes_eq name) set name there (told_same name name refl)))));
-  only = λ (name : List ℕ) (there : Contains (dedup (pointwise nat_eq) sorted) name). in_set name (from_filter (λ (n : List ℕ). list_any (bytes_eq n) set) names name (subst (λ (some : List (List ℕ)). Contains some name) is (Contains-permutation sorted found name (IsPermutation-sym found sorted moved) (Contains-from_dedup (pointwise nat_eq) sorted name there))));
-} where
-  in_set : (name : List ℕ) → Contains names name × (list_any (bytes_eq name) set ≡ true) → Contains set name
-  in_set name both =
-      let some = some_of (bytes_eq name) set (both.1) in
-      subst (Contains set) (sym (same_bytes name some.0 some.2)) some.1
-
-pub in_names : (names : List (List ℕ)) (row name : List ℕ) → Contains (row_names names row) name → Contains names name
-in_names names row name there = (from_filter (λ (n : List ℕ). row_has row (number_of names n)) names name there).0
-
--- one name more of those that pass a test
-pub pass_more : (p : List ℕ → Bool) (names : List (List ℕ)) (i : ℕ) (name : List ℕ) → slice_get names i ≡ Some name → filter p (take (i + 1) names) ≡ filter p (take i names) ++ (if p name then name ∷ [] else [])
-pass_more p names i name is =
-    let within : i < length names = slice_get_within names i name is in
-    let here : get_or names i [] ≡ name = get_or_from_slice_get names i name [] is in
-    ap (filter p) (take_more names i [] within) ∙ (filter-append p (take i names) (get_or names i [] ∷ []) ∙ (ap (λ (n : List ℕ). filter p (take i names) ++ filter p (n ∷ [])) here ∙ refl))
-
--- the listing of a set that says what is seen
-pub exactly : (units : List ScopeUnit) (user : ScopeUnit) (set names : List (List ℕ)) → ((name : List ℕ) → list_any (bytes_eq name) set ≡ sees units user name) → ListsNames set names → AreExactly units user names
-exactly units user set names is list = record {
-  rising = list.rising;
-  all = λ (name : List ℕ) (told : IsTrue (sees units user name)). let some = some_of (bytes_eq name) set (is name ∙ told) in list.all name (subst (Contains set) (sym (same_bytes name some.0 some.2)) some.1);
-  only = λ (name : List ℕ) (there : Contains names name). sym (is name) ∙ any_by (bytes_eq name) set name (list.only name there) (told_same name name refl);
-}
-
--- the empty list lists no name
-pub no_listing : (set : List (List ℕ)) → set ≡ [] → ListsNames set []
-unfolding IsStrictlySortedBy
-no_listing set none = record {
-  rising = tt;
-  all = λ (name : List ℕ) (there : Contains set name). subst (λ (some : List (List ℕ)). Contains some name) none there;
-  only = λ (name : List ℕ) (there : Contains [] name). absurd (omega (arith, there.1));
-}
-
--- the name of a key
-pub key_there : (keys : List (Vec ℕ Global)) (i : ℕ) (key : Vec ℕ Global) → slice_get keys i ≡ Some key → slice_get (map (λ key. key.items) keys) i ≡ Some key.items
-key_there keys i key is =
-    let within : i < length keys = slice_get_within keys i key is in
-    slice_get-get_or (map (λ (k : Vec ℕ Global). k.items) keys) i [] (omega (arith, length-map keys (λ (k : Vec ℕ Global). k.items)))
-    ∙ ap Some (get_or-map (λ (k : Vec ℕ Global). k.items) keys i key [] within ∙ ap (λ (k : Vec ℕ Global). k.items) (get_or_from_slice_get keys i key key is))
 
 -- a place in slices is one in what they are of
 pub moved : {X : Type 0} (starts starts' : List ℕ) (rows rows' : List X) (file unit : ℕ) (r : Option X) → starts ≡ starts' → rows ≡ rows' → r ≡ slice_get rows (get_or starts file 0 + unit) → slice_get rows' (get_or starts' file 0 + unit) ≡ r

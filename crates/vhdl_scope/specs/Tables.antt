@@ -1,10 +1,7 @@
 -- The sets of all units of a project, as callers see them.
-use Rattle.std.specs.Prelude.{◌≡◌, ℕ, ◌+◌, Bool, List, [], Contains, IsTrue, Some, filter, length, map, slice_get, slice_index, slice_index_or}
+use Rattle.std.specs.Prelude.{◌≡◌, ℕ, ◌+◌, Bool, List, [], Some, filter, length, map, slice_get, slice_index, slice_index_or}
 use Rattle.std.specs.List.{list_any}
 use Rattle.std.specs.Str.{bytes_eq}
-use Rattle.std.specs.List.Sorted.{IsStrictlySortedBy}
-use Rattle.std.specs.Ordering.{nat_cmp}
-use Rattle.std.specs.Cmp.Lexicographic.{slice_cmp}
 use Rattle.base.specs.declared.design.Scan.{Scan}
 use Rattle.base.specs.declared.design.Unit.{Unit as DesignUnit}
 use Rattle.base.specs.declared.project.ProjectFile.{ProjectFile}
@@ -50,15 +47,3 @@ pub record IsUnitAt (files : List ProjectFile) (texts : List (List ℕ)) (scans 
 pub record AreVisible (files : List ProjectFile) (texts : List (List ℕ)) (scans : List Scan) (table : Table) : Type 0 where
   pub each : length table.starts ≡ length files
   pub sees : (id : UnitId) (user : ScopeUnit) → IsUnitAt files texts scans id user → (name : List ℕ) → table_sees table id name ≡ sees (scope_units files texts scans) user name
-
--- a list has exactly the names of a set, strictly rising
-pub record ListsNames (set names : List (List ℕ)) : Type 0 where
-  pub rising : IsStrictlySortedBy (slice_cmp nat_cmp) names
-  pub all : (name : List ℕ) → Contains set name → Contains names name
-  pub only : (name : List ℕ) → Contains names name → Contains set name
-
--- a list has exactly the libraries that are visible in a unit, strictly rising
-pub record AreExactly (units : List ScopeUnit) (user : ScopeUnit) (names : List (List ℕ)) : Type 0 where
-  pub rising : IsStrictlySortedBy (slice_cmp nat_cmp) names
-  pub all : (name : List ℕ) → IsTrue (sees units user name) → Contains names name
-  pub only : (name : List ℕ) → Contains names name → IsTrue (sees units user name)

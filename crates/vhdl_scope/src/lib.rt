@@ -19,7 +19,4 @@ mod want;
 mod wants;
 mod work;
 
-pub use table::{
-    VisibleLibraries, visible_libraries, visible_libraries_by_outlines, visible_sets,
-    visible_sets_by_outlines,
-};
+pub use table::{VisibleLibraries, visible_sets};

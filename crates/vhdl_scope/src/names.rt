@@ -1,6 +1,6 @@
 //! Names of libraries, numbered.
 
-ghost use Rattle.std.specs.Prelude.{◌≡◌, ◌↔◌, ◌<◌, ◌∷◌, ◌++◌, [], Contains, IfOk, IfSome, IfNone, IsSome, OnOk, Some, length, map, position, slice_get};
+ghost use Rattle.std.specs.Prelude.{◌≡◌, ◌<◌, ◌∷◌, ◌++◌, [], Contains, IfOk, IfSome, IfNone, OnOk, Some, length, map, position};
 ghost use Rattle.std.specs.List.{flat_map};
 ghost use Rattle.std.specs.Str.{bytes_eq};
 ghost use Rattle.vhdl_outlines.specs.Outlines.{file_scopes};
@@ -61,19 +61,6 @@ impl Names {
         self.keys.len()
     }
 
-    /// The name of a number, if there is one.
-    pub fn get_index(&self, number: usize) -> Option<&Vec<u8>>
-        ensures name { IfSome result (λ name. slice_get (keys_of self.now) number ≡ Some name.now.items) }
-        ensures found { IsSome result ↔ (number < length (keys_of self.now)) }
-    {
-        if number < self.keys.len() {
-            Some(&self.keys[number])
-        } else {
-            None
-        }
-    }
-
-    /// The names, in the order of their numbers.
     fn keys(&self) -> &[Vec<u8>]
         ensures { map (λ key. key.items) result.now ≡ keys_of self.now }
     {

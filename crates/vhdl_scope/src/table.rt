@@ -1,32 +1,30 @@
 //! The libraries that all units of a project see, worked out at once.
 
 ghost use Rattle.std.specs.Prelude.{◌≡◌, ◌+◌, ◌<◌, ◌++◌, [], List, IfOk, length, slice_get, slice_index};
-ghost use Rattle.std.specs.List.{All, flat_map};
+ghost use Rattle.std.specs.List.{flat_map};
 ghost use Rattle.std.specs.Option.{option_map};
 ghost use Rattle.base.specs.declared.design.Scan.{Scan};
-ghost use Rattle.vhdl_spec.specs.Scans.{AreScansOf};
-ghost use Rattle.vhdl_spec.specs.Visibility.{ScopeUnit, scope_units};
+ghost use Rattle.vhdl_spec.specs.Visibility.{scope_units};
 ghost use Rattle.vhdl_outlines.specs.Outlines.{AreOutlined, AreOutlinesOf, file_scopes};
-ghost use Rattle.vhdl_outlines.specs.Roles.{IsTextSmall};
 ghost use Rattle.vhdl_scope.specs.Exact.{AreGrown};
 ghost use Rattle.vhdl_scope.specs.Names.{HasAll, implicit, keys_of};
 ghost use Rattle.vhdl_scope.specs.Scopes.{HasGroups};
-ghost use Rattle.vhdl_scope.specs.Tables.{AreExactly, AreVisible, ListsNames, IsUnitAt, set_at, table_sees};
+ghost use Rattle.vhdl_scope.specs.Tables.{AreVisible, table_sees};
 
 use crate::groups::{Groups, Owned};
 use crate::joins::group_links;
 use crate::linking::links_of_units;
-use crate::listing::{rising_names, sees_name};
+use crate::listing::sees_name;
 use crate::names::{self, Names, names_of};
 use crate::own::rows_of;
 use crate::row::Row;
 use crate::scope::{Scopes, scopes_of};
 use crate::spread::spread;
 use crate::wants::WORK;
-use base::{Items, NoMemory, Project, Scans, TextList, UnitId};
+use base::{NoMemory, Project, TextList, UnitId};
 use std::alloc::Global;
 use std::marker::Model;
-use vhdl_outlines::{Outlines, outlines_of};
+use vhdl_outlines::Outlines;
 
 /// The rows of units, grown until each takes all that it wants.
 fn grown_rows(
@@ -86,24 +84,8 @@ impl Model for VisibleLibraries {
     ghost view = { λ a. table_of a.starts.items (keys_of a.names) a.rows.items };
 }
 
-/// The sets of all units of a project. There is one text and one scan for each file, in order.
+/// The sets of all units of a project. There is one text and one outline for each file, in order.
 pub fn visible_sets(
-    alloc: Global,
-    project: &Project,
-    texts: &TextList,
-    scans: &Scans,
-) -> Result<VisibleLibraries, NoMemory>
-    requires each { length texts.now ≡ length project.now.files }
-    requires scans { AreScansOf texts.now scans.now }
-    requires small { All IsTextSmall texts.now }
-    ensures { IfOk result (AreVisible project.now.files texts.now scans.now) }
-{
-    let outlines = outlines_of(alloc, texts, scans)?;
-    visible_sets_by_outlines(alloc, project, texts, &outlines)
-}
-
-/// `visible_sets` for a caller that has the outlines of all files, and not their tokens.
-pub fn visible_sets_by_outlines(
     alloc: Global,
     project: &Project,
     texts: &TextList,
@@ -160,56 +142,4 @@ impl VisibleLibraries {
             None => false,
         }
     }
-
-    /// The libraries that are visible in a unit, strictly rising by bytes.
-    pub fn libraries(&self, alloc: Global, unit: UnitId) -> Result<TextList, NoMemory>
-        requires { unit.file < length self.now.starts }
-        ensures { IfOk result (ListsNames (set_at self.now unit)) }
-    {
-        match row_at(self.starts.as_slice(), self.rows.as_slice(), unit) {
-            Some(row) => Ok(Items::from_vec(rising_names(alloc, &self.names, row)?)),
-            None => Ok(Items::new(alloc)),
-        }
-    }
-}
-
-/// The libraries that are visible in one unit of a project (IEEE Std 1076-2008, clauses 13.1 to 13.4), strictly rising by
-/// bytes: one row of the sets of all units.
-pub fn visible_libraries(
-    alloc: Global,
-    project: &Project,
-    texts: &TextList,
-    scans: &Scans,
-    unit: UnitId,
-) -> Result<TextList, NoMemory>
-    requires each { length texts.now ≡ length project.now.files }
-    requires scans { AreScansOf texts.now scans.now }
-    requires small { All IsTextSmall texts.now }
-    requires file { unit.file < length project.now.files }
-    ensures { IfOk result (λ names. (user : ScopeUnit) →
-        IsUnitAt project.now.files texts.now scans.now unit user →
-        AreExactly (scope_units project.now.files texts.now scans.now) user names) }
-{
-    let outlines = outlines_of(alloc, texts, scans)?;
-    visible_libraries_by_outlines(alloc, project, texts, &outlines, unit)
-}
-
-/// `visible_libraries` for a caller that has the outlines of all files, and not their tokens.
-pub fn visible_libraries_by_outlines(
-    alloc: Global,
-    project: &Project,
-    texts: &TextList,
-    outlines: &Outlines,
-    unit: UnitId,
-) -> Result<TextList, NoMemory>
-    requires each { length texts.now ≡ length project.now.files }
-    requires outlined { AreOutlined texts.now outlines.now }
-    requires file { unit.file < length project.now.files }
-    ensures { IfOk result (λ names. (scans : List Scan) (user : ScopeUnit) →
-        AreOutlinesOf texts.now scans outlines.now →
-        IsUnitAt project.now.files texts.now scans unit user →
-        AreExactly (scope_units project.now.files texts.now scans) user names) }
-{
-    let sets = visible_sets_by_outlines(alloc, project, texts, outlines)?;
-    sets.libraries(alloc, unit)
 }

@@ -1,5 +1,5 @@
 -- An element more, with its unit, if it is one.
-use Rattle.std.proofs.Common.{◌≡◌, ℕ, ◌+◌, ◌*◌, ◌<◌, ◌≤◌, List, [], ◌∷◌, ◌++◌, length, Bool, false, Ok, Err, refl, sym, ◌∙◌, ap, subst, arith, append_assoc}
+use Rattle.std.proofs.Common.{◌≡◌, ℕ, ◌+◌, ◌*◌, ◌<◌, ◌≤◌, List, [], ◌∷◌, ◌++◌, length, Bool, Ok, Err, refl, sym, ◌∙◌, ap, subst, arith, append_assoc}
 use Rattle.std.proofs.lemmas.List.{append-nil, length-map}
 use Rattle.base.specs.declared.lexical.Token.{Token}
 use Rattle.base.specs.declared.design.Role.{Role}
@@ -68,9 +68,6 @@ lead_small : (lead at : ℕ) (element : Element) → lead ≤ at → at < last_o
 lead_small lead at (item last) led after = omega arith
 lead_small lead at (plain kind last) led after = omega arith
 lead_small lead at (owned kind before last) led after = omega arith
-
-pub outlined_start : (text : List ℕ) (tokens : List Token) → Outlined text tokens [] false 0 0
-outlined_start text tokens = record { elements = []; follow = refl; units_are = refl; lead_is = refl; begins_is = refl; within = omega arith; led = omega arith }
 
 module _ (text : List ℕ) (tokens : List Token) (units : List DesignUnit) (begins : Bool) (lead at : ℕ) (outlined : Outlined text tokens units begins lead at) where
   -- the next token to be looked at lies within the file, and further on

@@ -1,8 +1,8 @@
 -- What the walk through the roles of a file finds.
-use Rattle.std.specs.Prelude.{◌≡◌, ◌≢◌, ℕ, ◌<◌, ◌≤◌, Bool, false, List, length, Option, Some, None}
+use Rattle.std.specs.Prelude.{◌≢◌, ℕ, ◌<◌, ◌≤◌, Bool, false, List, length, Option, Some, None}
 use Rattle.base.specs.declared.design.Role.{Role}
 use Rattle.base.specs.declared.design.Role.TheVariants.{Is, Semicolon}
-use Rattle.vhdl_spec.specs.Units.{role_at, IsLevel, OpensItems, IsGenerateOpener, Closes, IsSingle, Items, IsPlainEnd, IsFirstSemicolon, IsOwner, IsEndPart, Element, IsElement, last_of}
+use Rattle.vhdl_spec.specs.Units.{role_at, IsLevel, OpensItems, IsGenerateOpener, Closes, IsSingle, Items, IsPlainEnd, IsFirstSemicolon, IsOwner, IsEndPart}
 use Rattle.vhdl_units.specs.Marks.{IsMark}
 use Rattle.vhdl_units.specs.declared.class.Class.{Class}
 use Rattle.vhdl_units.specs.declared.class.Class.TheVariants.{Single, Items as OpensPlain, Region, Close}
@@ -45,8 +45,3 @@ IsCloseFrom roles start (Some close) = IsUnitClose roles start close
 abbrev pub IsEndFrom : List Role → ℕ → Option ℕ → Type 0
 IsEndFrom roles start None = (last : ℕ) → IsEndPart roles start last → ⊥
 IsEndFrom roles start (Some last) = IsEndPart roles start last
-
--- what begins at a token of the file, or none where nothing that begins there ends
-abbrev pub IsElementAt : List Role → ℕ → Option ℕ → Type 0
-IsElementAt roles at None = (element : Element) → IsElement roles at element → ⊥
-IsElementAt roles at (Some last) = (element : Element) × IsElement roles at element × (last ≡ last_of element)

@@ -1,6 +1,6 @@
 //! The design units of a whole file.
 
-ghost use Rattle.std.specs.Prelude.{◌≡◌, ◌<◌, ◌≤◌, ◌++◌, List, length, IfOk};
+ghost use Rattle.std.specs.Prelude.{◌≡◌, ◌<◌, ◌≤◌, List, length};
 ghost use Rattle.base.specs.declared.lexical.Token.{Token};
 ghost use Rattle.base.specs.declared.design.UnitFault.{UnitFault};
 ghost use Rattle.vhdl_spec.specs.Units.{AreTokensOf, Element, HasUnitFault, IsOutline, Outlines, roles_of, units_of};
@@ -11,7 +11,6 @@ use crate::ends::begins_at;
 use crate::marks::marks_of;
 use crate::stands::{Standing, stands_at};
 use crate::texts::{owned_unit, plain_unit};
-use crate::view::roles_of;
 use base::{Items, OrMemory, Role, RoleList, TEXT_LIMIT, Token, Tokens, Unit, UnitFault, UnitList};
 use std::alloc::Global;
 
@@ -22,27 +21,9 @@ pub struct Next {
     pub lead: usize,
 }
 
-/// The design units of a text of at most 4,194,304 bytes by its tokens, or the first fault of the unit grammar, in
+/// The design units of a text of at most 4,194,304 bytes by its tokens and their roles, or the first fault of the unit grammar, in
 /// time in proportion to the number of tokens (IEEE Std 1076-2008, clause 13.1).
-pub fn outline(alloc: Global, text: &[u8], tokens: &Tokens) -> Result<UnitList, OrMemory<UnitFault>>
-    requires tokens { AreTokensOf text.now tokens.now }
-    requires small { length text.now ≤ TEXT_LIMIT }
-    // Units are those of the file, and a fault is one that it has.
-    ensures right { Outlines text.now tokens.now.list result }
-    // Where there is an outline its units are given, unless memory runs out.
-    ensures outline { (elements : List Element) →
-        IsOutline (roles_of text.now tokens.now.list) elements →
-        GivesUnits (units_of text.now tokens.now.list elements) result }
-    // Where there is a fault it is given, unless memory runs out.
-    ensures fault { (fault : UnitFault) →
-        HasUnitFault text.now tokens.now.list fault → GivesUnitFault fault result }
-{
-    let roles = roles_of(alloc, text, tokens)?;
-    outline_by_roles(alloc, text, tokens, &roles)
-}
-
-/// `outline` for a caller that has the roles of the tokens already, and hands them on to who reads references.
-pub fn outline_by_roles(
+pub fn outline(
     alloc: Global,
     text: &[u8],
     tokens: &Tokens,
@@ -51,10 +32,13 @@ pub fn outline_by_roles(
     requires tokens { AreTokensOf text.now tokens.now }
     requires small { length text.now ≤ TEXT_LIMIT }
     requires roles { roles.now ≡ roles_of text.now tokens.now.list }
+    // Units are those of the file, and a fault is one that it has.
     ensures right { Outlines text.now tokens.now.list result }
+    // Where there is an outline its units are given, unless memory runs out.
     ensures outline { (elements : List Element) →
         IsOutline (roles_of text.now tokens.now.list) elements →
         GivesUnits (units_of text.now tokens.now.list elements) result }
+    // Where there is a fault it is given, unless memory runs out.
     ensures fault { (fault : UnitFault) →
         HasUnitFault text.now tokens.now.list fault → GivesUnitFault fault result }
 {

@@ -7,12 +7,11 @@ mod file;
 mod level;
 mod marks;
 mod regions;
-mod roles;
 mod stands;
 mod texts;
 mod view;
 
 pub use ends::role_at;
-pub use file::{outline, outline_by_roles};
+pub use file::outline;
 pub use texts::{name_of_token, token_has_name};
-pub use view::{is_named, name_in, name_of, roles_of, token_of};
+pub use view::{is_named, name_of, token_of};

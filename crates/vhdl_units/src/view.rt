@@ -1,22 +1,12 @@
-//! What readers of a file's tokens ask: the role of each token, and the name of one.
+//! What readers of a file's tokens ask: a token, and its name.
 
 ghost use Rattle.std.specs.Prelude.{◌≡◌, ◌<◌, ◌↔◌, IsTrue, IfOk, length};
-ghost use Rattle.vhdl_spec.specs.Units.{AreTokensOf, name_of, roles_of, token_at};
+ghost use Rattle.vhdl_spec.specs.Units.{AreTokensOf, name_of, token_at};
 ghost use Rattle.vhdl_lex.specs.Pieces.{LiesIn};
 
-use crate::roles::token_roles;
-use crate::texts::{name_of_token, token_at, token_has_name, token_name};
-use base::{Items, NoMemory, RoleList, Text, Token, Tokens};
+use crate::texts::{token_at, token_has_name, token_name};
+use base::{NoMemory, Text, Token, Tokens};
 use std::alloc::Global;
-
-/// The roles of a text's tokens, in order: one byte a token, made once for all who read the file.
-pub fn roles_of(alloc: Global, text: &[u8], tokens: &Tokens) -> Result<RoleList, NoMemory>
-    requires { AreTokensOf text.now tokens.now }
-    ensures { IfOk result (λ roles. roles ≡ roles_of text.now tokens.now.list) }
-{
-    let roles = token_roles(alloc, text, tokens.list.as_slice())?;
-    Ok(Items::from_vec(roles))
-}
 
 /// The name that a token is: a word in lower case, an extended identifier as written (IEEE Std 1076-2008, clause 15.4).
 pub fn name_of(alloc: Global, text: &[u8], tokens: &Tokens, at: usize) -> Result<Text, NoMemory>
@@ -35,15 +25,6 @@ pub fn token_of(text: &[u8], tokens: &Tokens, at: usize) -> Token
     ensures lies { LiesIn text.now result }
 {
     token_at(text, tokens.list.as_slice(), at)
-}
-
-/// `name_of` in the memory of a text that isn't used any more, where that has room.
-pub fn name_in(text: &[u8], tokens: &Tokens, at: usize, used: Text) -> Result<Text, NoMemory>
-    requires tokens { AreTokensOf text.now tokens.now }
-    requires within { at < length tokens.now.list }
-    ensures { IfOk result (λ name. name ≡ name_of text.now tokens.now.list at) }
-{
-    name_of_token(text, token_of(text, tokens, at), used)
 }
 
 /// Whether a token has this name, as `run` or `runner_cfg`, of which no copy is made.

@@ -1,0 +1,3 @@
+-- What the tests say of what they make.
+pub mod Deps
+pub mod Outlines
