@@ -4,7 +4,7 @@ use Rattle.base.specs.declared.child.MaybeText.TheVariants.{Given}
 use Rattle.project_reading.specs.declared.wish.Extent.{Extent}
 use Rattle.project_reading.specs.declared.wish.Wish.{Wish}
 use Rattle.vunit_top.specs.Reading.{Builds, Generates, Over, begins_as_child, is_build, is_run, job_of, may_write, reading, setting_job, wish_of}
-use Rattle.tests_examples.specs.WordsAndSources.{child_files, finds_nothing, plain}
+use Rattle.tests_examples.specs.WordsAndSources.{child_files, finds_nothing, folder, plain}
 use Rattle.base_outcomes.specs.declared.outcome.Limit.TheVariants as limit
 use Rattle.project_reading.specs.declared.wish.Extent.TheVariants as extent
 use Rattle.vunit_top.specs.declared.words.Job.TheVariants as job
