@@ -34,7 +34,7 @@ pub(super) fn disk_of(alloc: Global, failing: &[u64], bytes: &[u8]) -> Result<Me
 const DEAD_COUNT: u32 = 1_048_600;
 
 /// A side with one more payload before all others, which stands for no record: its first byte is none of a form of a payload.
-pub(super) fn with_dead_bytes(alloc: Global, side: &[u8]) -> Result<Vec<u8>, NoMemory> {
+fn with_dead_bytes(alloc: Global, side: &[u8]) -> Result<Vec<u8>, NoMemory> {
     let head = side.len().min(18);
     let mut bytes = Vec::from_slice(alloc, &side[..head])?;
     bytes.push(1)?;

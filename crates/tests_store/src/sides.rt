@@ -25,7 +25,7 @@ pub(super) static SIDE: [u8; 115] = [
 ];
 
 /// The side of generation 2 that keeps the second record alone.
-pub(super) static KEPT: [u8; 67] = [
+static KEPT: [u8; 67] = [
     1, b'V', b'U', b'N', b'I', b'T', b'R', b'E', b'C', 3, 2, 0, 0, 0, 0, 0, 0, 0, //
     1, 43, 0, 0, 0, //
     1, 3, 0, 0, 0, b'l', b'i', b'b', 5, 0, 0, 0, b'a', b'.', b'v', b'h', b'd', //

@@ -1,7 +1,7 @@
 //! Stops inside the calls of a store over a disk in memory, and calls that fail.
 
-use crate::changes::{Change, disk_of, empty_disk, full_disk, run};
-use crate::sides::{KEPT, SIDE};
+use crate::changes::{Change, disk_of, empty_disk, run};
+use crate::sides::SIDE;
 use memory_outside::MemDisk;
 use outside::{Disk, Side, StoreFault};
 use std::alloc::Global;
@@ -10,8 +10,7 @@ use store_journal::{Journal, Opened, Payloads};
 
 const LONG: u64 = (1 << 63) - 1;
 
-/// The letter of payloads: `y` for the first of `SIDE` alone, `v` for the second alone, `2` for both, also after a dead one, `-`
-/// for none.
+/// The letter of payloads: `y` for the first of `SIDE` alone, `v` for the second alone, `2` for both, `-` for none.
 fn letter_of(payloads: &Payloads) -> u8 {
     let first = &SIDE[23..66];
     let second = &SIDE[71..114];
@@ -20,7 +19,6 @@ fn letter_of(payloads: &Payloads) -> u8 {
         1 if payloads.get(0) == first => b'y',
         1 if payloads.get(0) == second => b'v',
         2 if payloads.get(0) == first && payloads.get(1) == second => b'2',
-        3 if payloads.get(1) == first && payloads.get(2) == second => b'2',
         _ => b'?',
     }
 }
@@ -33,7 +31,7 @@ fn held<D: Disk>(alloc: Global, disk: &mut D) -> Result<u8, StoreFault> {
 /// Whether a disk has the payloads of a letter, and its store lends the artefact of the last one.
 fn holds<D: Disk>(alloc: Global, disk: &mut D, letter: u8) -> Result<bool, StoreFault> {
     let last = if letter == b'2' { b'v' } else { letter };
-    Ok(held(alloc, disk)? == letter && run(alloc, disk, Change::Opens)?[2] == last)
+    Ok(run(alloc, disk, Change::Opens)?[2] == last && held(alloc, disk)? == letter)
 }
 
 /// Whether an image of a moment holds that.
@@ -50,7 +48,7 @@ fn leaves_image(
 }
 
 /// Whether each image of a moment holds one letter where its free bytes are 1, and another where they are others.
-fn leaves_images(
+fn leaves(
     alloc: Global,
     disk: &MemDisk,
     moment: u64,
@@ -66,23 +64,6 @@ fn leaves_images(
         }
     }
     Ok(true)
-}
-
-/// The same; of a disk whose side A is long, each image of which takes a while, of two images.
-fn leaves(
-    alloc: Global,
-    disk: &MemDisk,
-    moment: u64,
-    ones: u8,
-    others: u8,
-) -> Result<bool, StoreFault> {
-    if disk.reads(Side::A).len() < 1_000_000 {
-        return leaves_images(alloc, disk, moment, ones, others);
-    }
-    Ok(
-        leaves_image(alloc, disk, moment, LONG, 1, ones)?
-            && leaves_image(alloc, disk, moment, 0, 0, others)?,
-    )
 }
 
 /// The same of moments from the first one on, with a letter for each in either list.
@@ -126,7 +107,6 @@ fn open_gate(alloc: Global, failing: &[u64]) -> Result<MemDisk, StoreFault> {
 fn failing_disk(alloc: Global, change: Change, call: u64) -> Result<MemDisk, StoreFault> {
     match change {
         Change::Opens => open_gate(alloc, &[call]),
-        Change::Compacts => full_disk(alloc, &[call], &SIDE),
         _ => Ok(empty_disk(alloc, &[call])?),
     }
 }
@@ -137,7 +117,6 @@ fn has_sides(disk: &MemDisk, change: Change) -> bool {
     match change {
         Change::Opens => a.len() == 67 && a.ends_with(b"y\0"),
         Change::Commits => a.len() == 67 && a.starts_with(&SIDE[..66]),
-        Change::Compacts => a.ends_with(&SIDE[18..]) && disk.reads(Side::B) == KEPT.as_slice(),
         Change::Empties => {
             a.len() == 19 && a.starts_with(&SIDE[..18]) && disk.reads(Side::B).is_empty()
         }
@@ -166,18 +145,6 @@ static COMMITTING: &str = "----------------yyy\n------------------y";
 #[test]
 fn a_stop_inside_a_commit_leaves_its_record_or_none(rt: HostRuntime) -> Result<(), Fail> {
     assert!(rt; goes(rt.alloc(), Change::Commits, 0, COMMITTING)?);
-    Ok(())
-}
-
-/// From the opening on, which takes 9 calls where a side is live and its first payload is longer than a window; a compaction
-/// takes 8.
-static COMPACTING: &str = "222222222222222vvv\n22222222222222222v";
-
-#[test]
-fn a_stop_inside_a_compaction_leaves_all_records_or_the_latest(
-    rt: HostRuntime,
-) -> Result<(), Fail> {
-    assert!(rt; goes(rt.alloc(), Change::Compacts, 2, COMPACTING)?);
     Ok(())
 }
 
@@ -277,15 +244,6 @@ static FAILING_IN_OPENING: &str = "yyyyyyyyy\nyyyyyyyyy";
 #[test]
 fn each_disk_call_of_an_opening_may_fail(rt: HostRuntime) -> Result<(), Fail> {
     assert!(rt; fails_all(rt.alloc(), Change::Opens, 2, FAILING_IN_OPENING)?);
-    Ok(())
-}
-
-/// From the opening on.
-static FAILING_IN_COMPACTION: &str = "222222222222222vv\n22222222222222222";
-
-#[test]
-fn each_disk_call_of_a_compaction_may_fail(rt: HostRuntime) -> Result<(), Fail> {
-    assert!(rt; fails_all(rt.alloc(), Change::Compacts, 2, FAILING_IN_COMPACTION)?);
     Ok(())
 }
 
