@@ -25,7 +25,7 @@ SUBJECTS = {"tree": r"vunit\.toml|p\.vhd|\.", "disk": r"vunit_out(?:/store_[ab])
 
 def failing(calls, error, number, paths):
     """A command that starts a program of which one of these calls fails, of those of these paths where some are given."""
-    traced = (calls if "wait4" in calls else calls + ",wait4") + ",write"
+    traced = (calls if "wait4" in calls else calls + ",wait4") + ",write,?open,openat"
     paths = [*paths, "../text"] if paths else []
     command = ["sh", "-c", 'exec "$@" >../text', "sh", "strace", "--quiet=all", "-o", "../calls", "-e", f"trace={traced}", "-e", f"inject={calls}:error={error}:when={number}"]
     for path in paths:

@@ -73,7 +73,7 @@ def traced(words, report, calls, error, number, paths):
     """Status, standard output and standard error of a run of which one of these calls fails, whether there was such a call, and
     whether it is one that a run passes over."""
     before = ["strace", "--quiet=all", "-o", "../calls",
-              "-e", f"trace={calls},write,?rename,?renameat,?renameat2" + ("" if "wait4" in calls else ",wait4"),
+              "-e", f"trace={calls},write,?open,openat,?rename,?renameat,?renameat2" + ("" if "wait4" in calls else ",wait4"),
               "-e", f"inject={calls}:error={error}:when={number}"]
     marks = [] if not paths or calls == "write" else BESIDE if report else ["../said"]
     for path in [*paths, *marks]:

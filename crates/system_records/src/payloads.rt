@@ -132,13 +132,14 @@ impl<'a> Reading<'a> {
 
 /// Whether so many numbers of eight bytes are all below a number.
 fn are_below(bytes: &[u8], count: u32, limit: u64) -> bool {
-    let mut reader = ByteReader::new(bytes);
-    let mut most = 0;
+    let mut rest = bytes;
+    let mut most: u64 = 0;
     for _ in 0..count {
-        match reader.u64() {
-            Some(number) => most = most.max(number),
-            None => return false,
-        }
+        let [a, b, c, d, e, f, g, h, after @ ..] = rest else {
+            return false;
+        };
+        most = most.max(u64::from_le_bytes([*a, *b, *c, *d, *e, *f, *g, *h]));
+        rest = after;
     }
     count == 0 || most < limit
 }

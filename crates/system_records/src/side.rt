@@ -2,6 +2,7 @@
 
 use std::alloc::Global;
 use std::fs::{File, OpenOptions};
+use std::io::{Seek, SeekFrom};
 use std::os::unix::fs::FileExt;
 
 /// How many bytes are read at once at least, where so many are left: more than the numbers of the products of a record take.
@@ -19,8 +20,8 @@ pub struct SideBytes {
 impl SideBytes {
     /// The file of a path, if it can be read.
     pub fn open(rt: &HostRuntime, path: &str) -> Option<SideBytes> {
-        let file = OpenOptions::new().read(true).open(rt, path).ok()?;
-        let len = file.metadata().ok()?.len();
+        let mut file = OpenOptions::new().read(true).open(rt, path).ok()?;
+        let len = file.seek(SeekFrom::End(0)).ok()?;
         Some(SideBytes {
             file,
             len,

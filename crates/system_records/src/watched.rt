@@ -59,7 +59,7 @@ impl<D: Disk + Drop> Disk for WatchedDisk<D> {
 
     fn read(&mut self, side: Side, at: u64, into: &mut [u8]) -> Result<(), DiskFailed> {
         let answer = self.disk.read(side, at, into);
-        if answer.is_ok() {
+        if answer.is_ok() && !into.is_empty() {
             self.look();
         }
         answer
