@@ -13,10 +13,10 @@ use std::alloc::Global;
 use std::process::Abort;
 use std::test::Fail;
 use store_holdings::Seats;
-use tests_graphs::{Record, read_record};
 use store_requests::RequestStore;
 use test_loop::{TestRunFault, run_tests};
 use test_spec::{RunEnd, TestEnd, TestRunList, Verdict};
+use tests_graphs::{Record, read_record};
 
 /// What runs did and answered.
 #[derive(Drop)]
