@@ -69,8 +69,8 @@ impl<D: Disk + Drop> Disk for WatchedDisk<D> {
         self.disk.write(side, at, bytes)
     }
 
-    fn cut(&mut self, side: Side, len: u64) -> Result<(), DiskFailed> {
-        self.disk.cut(side, len)
+    fn cut(&mut self, side: Side) -> Result<(), DiskFailed> {
+        self.disk.cut(side)
     }
 
     fn sync(&mut self, side: Side) -> Result<(), DiskFailed> {
