@@ -31,15 +31,16 @@ plant() {
     exit 1
 }
 
-notes=docs/NOTES.md
+notes=docs/NOTES.md map=docs/MAP.md
 plant "$notes: nothing on the way from main calls never_called" $notes '$a - `order` and `never_called`, which the program calls.'
 plant "$notes: nothing on the way from main calls never_called" $notes '$a - Of these the program calls `never_called`.'
 plant "$notes: never_written is no function of the program" $notes '$a - `never_written`, which the program calls.'
 plant "$notes: minimal_graph is called on the way from main" $notes '$a - `minimal_graph`, which tests alone call.'
-plant "docs/MAP.md, graph: nothing on the way from main calls never_called" docs/MAP.md 's/ordering.rt`: `order`/ordering.rt`: `never_called`/'
-plant "docs/MAP.md, graph: order_graph is no function of the program" docs/MAP.md 's/ordering.rt`: `order`/ordering.rt`: `order_graph`/'
-plant "docs/MAP.md, graph: graph_of is no function of the program" docs/MAP.md 's/ordering.rt`: `order`/ordering.rt`: `graph_of`/'
-plant "docs/MAP.md, graph: there is no file order_files/src/orders.rt" docs/MAP.md 's/ordering.rt`: `order`/orders.rt`: `order`/'
+plant "$map, graph: nothing on the way from main calls never_called" $map 's/ordering.rt`: `order`/ordering.rt`: `never_called`/'
+plant "$map, graph: order_graph isn't in order_files/src/ordering.rt" $map 's/ordering.rt`: `order`/ordering.rt`: `order_graph`/'
+plant "$map, graph: graph_of isn't in order_files/src/ordering.rt" $map 's/ordering.rt`: `order`/ordering.rt`: `graph_of`/'
+plant "$map has no table of steps" $map 's/^| Step |/| Turn |/'
+plant "$map, graph: there is no file order_files/src/orders.rt" $map 's/ordering.rt`: `order`/orders.rt`: `order`/'
 plant "docs/proof/PROMISES.md, order_files: nothing on the way from main calls never_called" docs/proof/PROMISES.md '$a \
 \
 | Crate | Promise | State | By |\

@@ -3,9 +3,10 @@
 usage: document_calls.py [TOP]
 
 A page says that the program calls a function by "`NAME`, which the program calls" or "the program calls `NAME`", and that it doesn't by
-"`NAME`, for tests", "for tests `NAME`" or "`NAME`, which tests alone call"; NAME may have its type before it, and may be a list of names. In MAP the
-column "Where" of the table of steps names calls: those behind a file stand in that file. In PROMISES each function of the crate of a
-row that the column "Promise" names is a call too, unless the row says that it is for tests; laws, whose bodies are empty, aren't called.
+"`NAME`, for tests", "for tests `NAME`" or "`NAME`, which tests alone call"; NAME may have its type before it, and may be a list of names.
+In MAP the column "Where" of the table of steps names calls: those behind a file stand in that file. In PROMISES each function of the
+crate of a row that the column "Promise" names is a call too, unless the row says that it is for tests; laws, whose bodies are empty,
+aren't called.
 
 Prints what isn't so, and ends with 1 then, else with 0.
 """
@@ -93,24 +94,28 @@ def rows_of(text, head):
 
 def steps(page, text):
     """The calls of MAP's steps: files and names of functions, from left to right."""
-    for row in rows_of(text, "| Step | Where |"):
-        folder, file, behind = None, None, ""
+    rows = list(rows_of(text, "| Step | Where |"))
+    if not rows:
+        wrong.append(f"{page} has no table of steps")
+    for row in rows:
+        folder, file, within = None, None, None
         for found in re.finditer(r"`([^`]+)`", row[1]):
-            code, between = found[1], row[1][:found.start()]
+            code, before = found[1], row[1][:found.start()].rstrip()[-1:]
             if code.endswith(".rt"):
                 folder = (top / "crates" / code).parent if "/" in code else folder
                 file = folder / code.rpartition("/")[2] if folder else None
                 if file is None or not file.is_file():
                     wrong.append(f"{page}, {row[0]}: there is no file {code}")
                     file = None
-                behind = "file"
                 continue
-            # (the first name behind a file stands in it, and so do those behind a comma; behind an arrow it may be anywhere)
-            anywhere = behind != "file" and re.search(r"[^,`:]\s*$", between) is not None
-            behind = "name"
+            # (what stands behind a file and a colon is in that file, and so is each further name behind a comma)
+            within = file if before == ":" else within if before == "," else None
             if code in crates or not re.fullmatch(r"[a-z_]\w*", code):
                 continue
-            claim_called(f"{page}, {row[0]}", code, meant(code, None, None if anywhere else file))
+            if within and not meant(code, None, within):
+                wrong.append(f"{page}, {row[0]}: {code} isn't in {within.relative_to(top / 'crates')}")
+            else:
+                claim_called(f"{page}, {row[0]}", code, meant(code, None, within))
 
 
 pages = [top / "README.md", *sorted((top / "docs").rglob("*.md"))]
