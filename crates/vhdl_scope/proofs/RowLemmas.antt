@@ -94,8 +94,6 @@ pub has_there : (words : ℕ) (runs : List Run) (number word : ℕ) → number /
 unfolding row_has
 has_there words runs number word within is = ap (λ (w : ℕ). nat_eq (bit_at w (number % 64)) 1) (is ∙ sym (word_told words runs (number / 64) within))
 
-unfolding word_or
-
 -- a run at the head
 pub word_here : (run : Run) (rest : List Run) (none at : ℕ) → at < run.end → word_or none (run ∷ rest) at ≡ run.word
 unfolding word_or
