@@ -10,6 +10,9 @@ const FIRST_GATE: u64 = 18;
 /// How many payloads are tried behind a damage at most.
 const TRIES: usize = 100_000;
 
+/// How many bytes behind a damage are looked through at most, so that a file of any length is soon passed.
+const SEARCHED: u64 = 67_108_864;
+
 /// A gate is open where it has this value.
 const OPEN: u8 = 1;
 
@@ -113,9 +116,10 @@ fn closed_off(side: &mut SideBytes, gate: u64) -> u64 {
 /// How many payloads after an open gate are found behind a damage.
 fn found_behind(side: &mut SideBytes, damaged: u64) -> u64 {
     let mut from = damaged.saturating_add(1);
+    let until = from.saturating_add(SEARCHED);
     let mut found: u64 = 0;
     for _ in 0..TRIES {
-        let Some(gate) = next_open(side, from) else {
+        let Some(gate) = next_open(side, from, until) else {
             return found;
         };
         let (count, end) = in_a_row(side, gate);
@@ -129,14 +133,15 @@ fn found_behind(side: &mut SideBytes, damaged: u64) -> u64 {
     found
 }
 
-/// The offset of the next byte that an open gate may be.
-fn next_open(side: &mut SideBytes, from: u64) -> Option<u64> {
+/// The offset of the next byte before a limit that an open gate may be.
+fn next_open(side: &mut SideBytes, from: u64, until: u64) -> Option<u64> {
+    let end = side.len().min(until);
     let mut at = from;
     for _ in 0..u64::MAX {
-        if at >= side.len() {
+        if at >= end {
             return None;
         }
-        let left = side.len().saturating_sub(at).min(WINDOW as u64);
+        let left = end.saturating_sub(at).min(WINDOW as u64);
         let bytes = side.bytes(at, usize::try_from(left).ok()?)?;
         if let Some(index) = bytes.iter().position(|byte| *byte == OPEN) {
             return Some(at.saturating_add(index as u64));
