@@ -1,9 +1,9 @@
 # No run of twelve words stands in two pages of README.md and docs/, so that each fact has one home: fenced blocks, which are code
 # and what is printed, and the project's sentence, which is quoted by lines with `>`, don't count, nor do the pages that are made of
 # comments in the sources, whose words have their home there. Words between backticks count as one. Each link of these pages, and
-# each page that a script names, leads somewhere; MAP has a row for each crate of crates.txt, in that order; and README names no
-# public function that the program doesn't call. Prints what isn't so. Ends with 0, with 1 where something isn't, and with 77 where
-# python3 is missing.
+# each page that a script names, leads somewhere; MAP has a row for each crate of crates.txt, in that order, and says how many there are;
+# and README names no public function that the program doesn't call. All pages, with CHANGES.md, have at most 70,000 words, and those by
+# hand 55,000. Prints what isn't so. Ends with 0, with 1 where something isn't, and with 77 where python3 is missing.
 cd -- "${TOP:-$(dirname -- "$0")/..}" || exit 1
 . tests/support/needs.sh
 needs python3
@@ -11,6 +11,7 @@ exec python3 - <<'END'
 import os, pathlib, re, sys
 
 RUN = 12
+WORDS, WORDS_BY_HAND = 70_000, 55_000  # of all pages, CHANGES.md too; as wc counts them
 MADE = ("docs/proof/DEFINITIONS.md", "docs/proof/CALLS.md")  # by tests/support/proof_pages.py
 pages = {str(path): path.read_text() for path in [pathlib.Path("README.md"), *sorted(pathlib.Path("docs").rglob("*.md"))]}
 
@@ -64,6 +65,21 @@ main, small, tested = tables
 wrong.extend(f"docs/MAP.md has no row for {crate}" for crate in crates if crate not in main + tested)
 if any(table != [crate for crate in crates if crate in table] for table in (main, tested)):
     wrong.append("docs/MAP.md hasn't the order of crates.txt")
+counts = re.search(r"longest chain of the program has (\d+):\s+(.*?)\. The program has (\d+) of the (\d+) crates; (\d+) are",
+                   pages["docs/MAP.md"], re.S)
+depth = {}
+for crate in crates:
+    depth[crate] = 1 + max((depth[low] for low in crates[crate] if low in crates), default=0)
+chain = re.findall(r"\w+", counts[2]) if counts else []
+has = [int(counts[at]) for at in (1, 3, 4, 5)] if counts else []
+right = [depth["vunit_run"], len(program), len(crates), sum(crate.startswith("tests_") for crate in crates)]
+if has != right or len(chain) != right[0] or any(low not in crates[high] for low, high in zip(chain, chain[1:])):
+    wrong.append(f"docs/MAP.md: longest chain, crates of the program, all crates, crates of tests: {right}, and not {has} with {' '.join(chain)}")
+sizes = {page: len(text.split()) for page, text in (pages | {"CHANGES.md": pathlib.Path("CHANGES.md").read_text()}).items()}
+every = sum(sizes.values())
+by_hand = every - sum(sizes[page] for page in MADE)
+if every > WORDS or by_hand > WORDS_BY_HAND:
+    wrong.append(f"the pages have {every} words and those by hand {by_hand}: at most {WORDS} and {WORDS_BY_HAND} are allowed")
 sources = {crate: "\n".join(re.sub(r"//.*", "", path.read_text()) for path in pathlib.Path("crates", crate, "src").rglob("*.rt")) for crate in crates}
 called = "\n".join(sources[crate] for crate in program)
 for name in {name for code in re.findall(r"`([^`\n]+)`", pages["README.md"]) for name in re.findall(r"\w+", code)}:
@@ -75,6 +91,6 @@ for path in (path for path in named if path.is_file() and path.suffix not in (".
         if not os.path.exists(page):
             wrong.append(f"{path} names {page}, which isn't there")
 print(*wrong, sep="\n", end="\n" if wrong else "")
-print(f"{len(pages)} pages, {links} links, {len(wrong)} things wrong")
+print(f"{len(pages)} pages, {every} words and {by_hand} by hand, {links} links, {len(wrong)} things wrong")
 sys.exit(1 if wrong else 0)
 END
