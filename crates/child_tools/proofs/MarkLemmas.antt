@@ -5,12 +5,12 @@ use Rattle.std.specs.Option.{option_map}
 use Rattle.std.specs.Str.{bytes_eq}
 use Rattle.base_key_index.specs.Maps.{Entries, get}
 use Rattle.child_tools.specs.Exports.{is_export}
-use Rattle.child_tools.specs.NameOrder.{is_same_unit}
-use Rattle.child_tools.specs.declared.names.UnitName.{UnitName}
+use Rattle.vhdl_keys.specs.UnitKeys.{is_same_unit}
+use Rattle.vhdl_keys.specs.declared.units.UnitKey.{UnitKey}
 
 abbrev pub Marking : Type 0
-Marking = Entries UnitName Bool
+Marking = Entries UnitKey Bool
 
 -- what is found once the lines that are left are gone over
-abbrev pub in_time : List ℕ → List (List ℕ) → Marking → UnitName → Option Bool
+abbrev pub in_time : List ℕ → List (List ℕ) → Marking → UnitKey → Option Bool
 in_time library left marks unit = option_map (λ found. found || (bytes_eq library unit.library && list_any (is_export unit.name) left)) (get is_same_unit marks unit)

@@ -12,14 +12,14 @@ use Rattle.base_key_index.specs.Maps.{get}
 use Rattle.child_lines.specs.Lines.{in_library}
 use Rattle.child_tools.specs.Exports.{exports, exports_unit, first_missing, has_library, is_missing}
 use Rattle.child_tools.specs.Marks.{HasPut, KnowsLibraries, KnowsUnits, Marks, has_key}
-use Rattle.child_tools.specs.NameOrder.{is_same_unit, units_decide}
-use Rattle.child_tools.specs.declared.names.UnitName.{UnitName}
+use Rattle.vhdl_keys.specs.UnitKeys.{is_same_unit, unit_key, units_decide}
+use Rattle.vhdl_keys.specs.declared.units.UnitKey.{UnitKey}
 use Rattle.child_tools.proofs.MarkLemmas.{Marking}
 
 -- ## Units that are wanted
 
-abbrev pub AreWanted : List UnitName → Marking → Type 0
-AreWanted units marks = (unit : UnitName) → get is_same_unit marks unit ≡ cond (list_any (λ other. is_same_unit other unit) units) (Some false) None
+abbrev pub AreWanted : List UnitKey → Marking → Type 0
+AreWanted units marks = (unit : UnitKey) → get is_same_unit marks unit ≡ cond (list_any (λ other. is_same_unit other unit) units) (Some false) None
 
 either : (a b : Bool) → cond b (Some false) (cond a (Some false) None) ≡ cond (a || (b || false)) (Some false) None
 either true true = refl
@@ -27,13 +27,13 @@ either true false = refl
 either false true = refl
 either false false = refl
 
-pub wanted_more : (units : List UnitName) (unit : UnitName) (old new : Marking) → AreWanted units old → ((other : UnitName) → get is_same_unit new other ≡ cond (is_same_unit unit other) (Some false) (get is_same_unit old other)) → AreWanted (units ++ unit ∷ []) new
+pub wanted_more : (units : List UnitKey) (unit : UnitKey) (old new : Marking) → AreWanted units old → ((other : UnitKey) → get is_same_unit new other ≡ cond (is_same_unit unit other) (Some false) (get is_same_unit old other)) → AreWanted (units ++ unit ∷ []) new
 wanted_more units unit old new are put other =
     put other ∙ (ap (cond (is_same_unit unit other) (Some false)) (are other) ∙ (either (list_any (λ o. is_same_unit o other) units) (is_same_unit unit other)
     ∙ ap (λ (b : Bool). cond b (Some false) None) (sym (list_any-append (λ o. is_same_unit o other) units (unit ∷ [])))))
 
 -- what files and one more export is found of what is wanted
-pub units_known : (files : List BuiltFile) (last : BuiltFile) (units : List UnitName) (library artefact : List ℕ) (first now new : Marking) → last.name.library ≡ library → last.artefact ≡ artefact → AreWanted units first → Marks (exports files) first now
+pub units_known : (files : List BuiltFile) (last : BuiltFile) (units : List UnitKey) (library artefact : List ℕ) (first now new : Marking) → last.name.library ≡ library → last.artefact ≡ artefact → AreWanted units first → Marks (exports files) first now
     → Marks (λ unit. bytes_eq library unit.library && exports_unit artefact unit.name) now new → KnowsUnits (files ++ last ∷ []) units new
 units_known files last units library artefact first now new is_library is_artefact are more own unit =
     own unit ∙ (ap (option_map (λ found. found || (bytes_eq library unit.library && exports_unit artefact unit.name))) (more unit ∙ ap (option_map (λ found. found || exports files unit)) (are unit))
@@ -50,8 +50,8 @@ units_known files last units library artefact first now new is_library is_artefa
 
 -- ## Libraries that are there
 
-abbrev pub library_name : List ℕ → UnitName
-library_name library = record { library = library; name = [] }
+abbrev pub library_name : List ℕ → UnitKey
+library_name library = unit_key library []
 
 some_put : (b : Bool) (o : Option Bool) → is_some (cond b (Some true) o) ≡ (is_some o || b)
 some_put true None = refl
@@ -63,14 +63,9 @@ or_false : (a : Bool) → (a || false) ≡ a
 or_false true = refl
 or_false false = refl
 
-and_true : (a : Bool) → (a && true) ≡ a
-and_true true = refl
-and_true false = refl
-
-pub has_put : (library : List ℕ) (old new : Marking) → ((other : UnitName) → get is_same_unit new other ≡ cond (is_same_unit (library_name library) other) (Some true) (get is_same_unit old other)) → HasPut library old new
+pub has_put : (library : List ℕ) (old new : Marking) → ((other : UnitKey) → get is_same_unit new other ≡ cond (is_same_unit (library_name library) other) (Some true) (get is_same_unit old other)) → HasPut library old new
 has_put library old new put other =
-    ap is_some (put (library_name other)) ∙ (some_put (is_same_unit (library_name library) (library_name other)) (get is_same_unit old (library_name other))
-    ∙ ap (λ (b : Bool). has_key old other || b) (and_true (bytes_eq library other)))
+    ap is_some (put (library_name other)) ∙ some_put (is_same_unit (library_name library) (library_name other)) (get is_same_unit old (library_name other))
 
 -- nothing is to be put where it is there
 pub has_same : (library before : List ℕ) (old : Marking) → library ≡ before → has_key old before ≡ true → HasPut library old old
@@ -91,7 +86,7 @@ put_is_there library old new put = put library ∙ (ap (λ (b : Bool). has_key o
 abbrev pub AreThere : List BuiltFile → List ℕ → Marking → Type 0
 AreThere files own libraries = (other : List ℕ) → has_key libraries other ≡ (has_library files other || bytes_eq own other)
 
-pub own_there : (own : List ℕ) (old new : Marking) → ((key : UnitName) → get is_same_unit old key ≡ None) → HasPut own old new → AreThere [] own new
+pub own_there : (own : List ℕ) (old new : Marking) → ((key : UnitKey) → get is_same_unit old key ≡ None) → HasPut own old new → AreThere [] own new
 own_there own old new none put other = put other ∙ ap (λ (o : Option Bool). is_some o || bytes_eq own other) (none (library_name other))
 
 pub library_more : (files : List BuiltFile) (file : BuiltFile) (own : List ℕ) (old new : Marking) → AreThere files own old → HasPut file.name.library old new → AreThere (files ++ file ∷ []) own new
@@ -113,7 +108,7 @@ libraries_known files own libraries last is there other =
 -- ## The first that is missing
 
 -- each of the units is among them
-pub among : (units : List UnitName) (i : ℕ) (unit : UnitName) → i < length units → unit ≡ get_or units i unit → list_any (λ other. is_same_unit other unit) units ≡ true
+pub among : (units : List UnitKey) (i : ℕ) (unit : UnitKey) → i < length units → unit ≡ get_or units i unit → list_any (λ other. is_same_unit other unit) units ≡ true
 among [] i unit within is = absurd (omega arith)
 among (first ∷ units) zero unit within is = ap (λ (b : Bool). b || list_any (λ other. is_same_unit other unit) units) ((units_decide first unit).1 (sym is))
 among (first ∷ units) (suc i) unit within is = ap (λ (b : Bool). is_same_unit first unit || b) (among units i unit (omega arith) is) ∙ or_true (is_same_unit first unit) where
@@ -121,10 +116,10 @@ among (first ∷ units) (suc i) unit within is = ap (λ (b : Bool). is_same_unit
   or_true true = refl
   or_true false = refl
 
-module _ (files : List BuiltFile) (units : List UnitName) (i : ℕ) (unit : UnitName) (within : i < length units) (is : unit ≡ get_or units i unit) (so_far : first_missing files (drop i units) ≡ first_missing files units) where
+module _ (files : List BuiltFile) (units : List UnitKey) (i : ℕ) (unit : UnitKey) (within : i < length units) (is : unit ≡ get_or units i unit) (so_far : first_missing files (drop i units) ≡ first_missing files units) where
   next : (missing : Bool) → is_missing files unit ≡ missing → first_missing files units ≡ cond missing (Some unit) (first_missing files (drop (i + 1) units))
   next missing says =
-      sym so_far ∙ (ap (first_missing files) (drop_more units i unit within ∙ ap (λ (u : UnitName). u ∷ drop (i + 1) units) (sym is))
+      sym so_far ∙ (ap (first_missing files) (drop_more units i unit within ∙ ap (λ (u : UnitKey). u ∷ drop (i + 1) units) (sym is))
       ∙ ap (λ (b : Bool). cond b (Some unit) (first_missing files (drop (i + 1) units))) says)
 
   pub missing_here : is_missing files unit ≡ true → first_missing files units ≡ Some unit
@@ -133,7 +128,7 @@ module _ (files : List BuiltFile) (units : List UnitName) (i : ℕ) (unit : Unit
   pub missing_later : is_missing files unit ≡ false → first_missing files (drop (i + 1) units) ≡ first_missing files units
   missing_later says = sym (next false says)
 
-pub none_missing : (files : List BuiltFile) (units : List UnitName) (i : ℕ) → length units ≤ i → first_missing files (drop i units) ≡ first_missing files units → first_missing files units ≡ None
+pub none_missing : (files : List BuiltFile) (units : List UnitKey) (i : ℕ) → length units ≤ i → first_missing files (drop i units) ≡ first_missing files units → first_missing files units ≡ None
 none_missing files units i long so_far = sym so_far ∙ ap (first_missing files) (drop_all i units long)
 
 -- ## Lists up to a place

@@ -13,7 +13,7 @@ use Rattle.vhdl_spec.specs.Scans.{Finding, Clean, Lexical, Grammatical}
 use Rattle.child_tools.specs.Artefacts.{artefact_of}
 use Rattle.child_tools.specs.Exports.{first_missing, wanted_units}
 use Rattle.child_tools.specs.Scripts.{first_refusal}
-use Rattle.child_tools.specs.declared.names.UnitName.{UnitName}
+use Rattle.vhdl_keys.specs.declared.units.UnitKey.{UnitKey}
 
 -- the file is refused with this line
 unfoldable pub refused : List ℕ → Exit
@@ -24,7 +24,7 @@ unfoldable pub not_vhdl : FileName → Exit
 not_vhdl name = refused (name.path ++ codes ": not VHDL")
 
 -- the file is refused since it names a unit that its library doesn't have
-unfoldable pub no_unit : FileName → UnitName → Exit
+unfoldable pub no_unit : FileName → UnitKey → Exit
 no_unit name unit = refused (name.path ++ (codes ": no unit " ++ (unit.library ++ (codes "." ++ unit.name))))
 
 -- the artefact, where it isn't too long
@@ -36,7 +36,7 @@ abbrev pub with_own : CompileJob → List ℕ → List BuiltFile
 with_own job artefact = job.deps ++ record { name = job.name; artefact = artefact } ∷ []
 
 -- the answer to a file that wants these units, and of which this artefact would be made
-unfoldable pub linked : CompileJob → List ℕ → List UnitName → Exit
+unfoldable pub linked : CompileJob → List ℕ → List UnitKey → Exit
 linked job artefact units = option_map_or (no_unit job.name) (first_missing (with_own job artefact) units) (made artefact)
 
 -- the answer to a file of this scan

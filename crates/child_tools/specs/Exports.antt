@@ -8,7 +8,8 @@ use Rattle.base.specs.declared.graph.BuiltFile.{BuiltFile}
 use Rattle.base.specs.declared.refs.Ref.{Ref}
 use Rattle.vhdl_spec.specs.References.{refs_of, work}
 use Rattle.child_lines.specs.Lines.{after_word, in_library, lines}
-use Rattle.child_tools.specs.declared.names.UnitName.{UnitName}
+use Rattle.vhdl_keys.specs.UnitKeys.{unit_key}
+use Rattle.vhdl_keys.specs.declared.units.UnitKey.{UnitKey}
 
 -- the primary unit that a line of an artefact is of
 unfoldable pub exported_by : List ℕ → Option (List ℕ)
@@ -35,15 +36,15 @@ abbrev pub has_library : List BuiltFile → List ℕ → Bool
 has_library files library = list_any (in_library library) files
 
 -- one of the files is of this library, and exports a unit of this name
-abbrev pub exports : List BuiltFile → UnitName → Bool
+abbrev pub exports : List BuiltFile → UnitKey → Bool
 exports files unit = list_any (λ file. in_library unit.library file && exports_unit file.artefact unit.name) files
 
 -- one of the files is of the library of a unit, and none of that library exports the unit
-abbrev pub is_missing : List BuiltFile → UnitName → Bool
+abbrev pub is_missing : List BuiltFile → UnitKey → Bool
 is_missing files unit = has_library files unit.library && not (exports files unit)
 
 -- the first of these units that is missing, where one is
-abbrev pub first_missing : List BuiltFile → List UnitName → Option UnitName
+abbrev pub first_missing : List BuiltFile → List UnitKey → Option UnitKey
 first_missing files units = find (is_missing files) units
 
 -- ## References
@@ -53,13 +54,13 @@ abbrev pub named_library : List ℕ → List ℕ → List ℕ
 named_library own library = if bytes_eq library work then own else library
 
 -- the unit that a strict reference of a file of this library names
-unfoldable pub strict_unit : List ℕ → Ref → List UnitName
-strict_unit own ref = if ref.strict then record { library = named_library own ref.library; name = ref.name } ∷ [] else []
+unfoldable pub strict_unit : List ℕ → Ref → List UnitKey
+strict_unit own ref = if ref.strict then unit_key (named_library own ref.library) ref.name ∷ [] else []
 
 -- the units that the strict references of a file of this library name, in order
-abbrev pub strict_units : List ℕ → List Ref → List UnitName
+abbrev pub strict_units : List ℕ → List Ref → List UnitKey
 strict_units own refs = flat_map (strict_unit own) refs
 
 -- the units that the strict references of all units of a file name, in order
-unfoldable pub wanted_units : List ℕ → List ℕ → Scan → List UnitName
+unfoldable pub wanted_units : List ℕ → List ℕ → Scan → List UnitKey
 wanted_units own text scan = flat_map (λ unit. strict_units own (refs_of text scan.tokens.list unit)) scan.units

@@ -13,13 +13,13 @@ ghost use Rattle.child_tools.specs.Found.{IsFoundClean};
 use crate::answers::{made, no_unit, not_vhdl, refused};
 use crate::artefacts::artefact_of;
 use crate::exports::first_missing;
-use crate::names::UnitName;
 use crate::scripts::first_refusal;
 use crate::wanted::wanted_units;
 use base::{Exit, NoMemory, OrMemory, RoleList, Scan, TEXT_LIMIT, Text, Tokens};
 use child_job_codec::{CompileJob, laws_of_jobs, read_compile_request};
 use child_lines::bad_request;
 use std::alloc::Global;
+use vhdl_keys::UnitKey;
 use vhdl_lex::{no_tokens, scan_with_roles};
 use vhdl_units::outline;
 
@@ -29,7 +29,7 @@ fn link(
     alloc: Global,
     job: &CompileJob,
     artefact: Text,
-    units: &[UnitName],
+    units: &[UnitKey],
 ) -> Result<Exit, NoMemory>
     ensures { IfOk result (λ exit. exit ≡ linked job.now artefact units.now) }
 {

@@ -3,10 +3,10 @@
 ghost use Rattle.std.specs.Prelude.{◌≡◌, IfOk};
 ghost use Rattle.child_tools.specs.Answers.{made, no_unit, not_vhdl, refused};
 
-use crate::names::UnitName;
 use base::{ARTEFACT_LIMIT, Exit, FileName, NoMemory, Text};
 use child_lines::{ends_with, put};
 use std::alloc::Global;
+use vhdl_keys::UnitKey;
 
 /// A refusal with a line, to which its line feed is added.
 #[tactic(auto, unfolding(crate::specs::Answers::refused))]
@@ -37,7 +37,7 @@ pub fn not_vhdl(alloc: Global, name: &FileName) -> Result<Exit, NoMemory>
 
 /// The answer to a file that refers to a unit which isn't there.
 #[tactic(auto, unfolding(crate::specs::Answers::no_unit))]
-pub fn no_unit(alloc: Global, name: &FileName, unit: &UnitName) -> Result<Exit, NoMemory>
+pub fn no_unit(alloc: Global, name: &FileName, unit: &UnitKey) -> Result<Exit, NoMemory>
     ensures { IfOk result (λ exit. exit ≡ no_unit name.now unit.now) }
 {
     let mut line = Vec::from_slice(alloc, name.path.bytes())?;

@@ -6,15 +6,16 @@ ghost use Rattle.std.specs.Option.{option_map};
 ghost use Rattle.std.specs.Str.{bytes_eq};
 ghost use Rattle.base.specs.declared.graph.BuiltFile.{BuiltFile};
 ghost use Rattle.base_key_index.specs.Maps.{get};
-ghost use Rattle.child_tools.specs.NameOrder.{is_same_unit};
+ghost use Rattle.vhdl_keys.specs.UnitKeys.{is_same_unit};
 ghost use Rattle.child_tools.specs.Exports.{exported_by, exports, exports_unit, first_missing, is_export, is_missing};
 ghost use Rattle.child_tools.specs.Marks.{Marks, HasPut, KnowsLibraries, KnowsUnits, has_key};
 
-use crate::names::{UnitName, library_key, put_library, put_name};
+use crate::names::{library_key, put_library, put_name};
 use base::{BuiltFile, NoMemory, Text};
 use base_key_index::{Key, KeyMap};
 use child_lines::{after_word, next_line};
 use std::alloc::Global;
+use vhdl_keys::UnitKey;
 
 /// The primary unit that a line of an artefact is of.
 #[tactic(auto, unfolding(crate::specs::Exports::exported_by))]
@@ -43,8 +44,8 @@ fn exported_by(line: &[u8]) -> Option<&[u8]>
 /// Marks a unit as found, where it is wanted.
 fn mark_unit(
     alloc: Global,
-    unit: &UnitName,
-    marks: &mut KeyMap<UnitName, bool>,
+    unit: &UnitKey,
+    marks: &mut KeyMap<UnitKey, bool>,
 ) -> Result<(), NoMemory>
     ensures { OnOk result (Marks (is_same_unit unit.now) marks.old marks.new) }
 {
@@ -62,8 +63,8 @@ fn mark_unit(
 fn mark_line(
     alloc: Global,
     line: &[u8],
-    key: &mut UnitName,
-    marks: &mut KeyMap<UnitName, bool>,
+    key: &mut UnitKey,
+    marks: &mut KeyMap<UnitKey, bool>,
 ) -> Result<(), NoMemory>
     ensures library { OnOk result (key.new.library ≡ key.old.library) }
     ensures marks { OnOk result (Marks
@@ -81,8 +82,8 @@ fn mark_line(
 fn mark_lines(
     alloc: Global,
     artefact: &[u8],
-    key: &mut UnitName,
-    marks: &mut KeyMap<UnitName, bool>,
+    key: &mut UnitKey,
+    marks: &mut KeyMap<UnitKey, bool>,
 ) -> Result<(), NoMemory>
     ensures { OnOk result (Marks
         (λ unit. bytes_eq key.old.library unit.library && exports_unit artefact.now unit.name)
@@ -101,8 +102,8 @@ fn mark_artefact(
     alloc: Global,
     library: &Text,
     artefact: &[u8],
-    key: &mut UnitName,
-    marks: &mut KeyMap<UnitName, bool>,
+    key: &mut UnitKey,
+    marks: &mut KeyMap<UnitKey, bool>,
 ) -> Result<(), NoMemory>
     ensures { OnOk result (Marks
         (λ unit. bytes_eq library.now unit.library && exports_unit artefact.now unit.name)
@@ -116,8 +117,8 @@ fn mark_artefact(
 fn mark_files(
     alloc: Global,
     files: &[BuiltFile],
-    key: &mut UnitName,
-    marks: &mut KeyMap<UnitName, bool>,
+    key: &mut UnitKey,
+    marks: &mut KeyMap<UnitKey, bool>,
 ) -> Result<(), NoMemory>
     ensures { OnOk result (Marks (exports files.now) marks.old marks.new) }
 {
@@ -128,8 +129,8 @@ fn mark_files(
 }
 
 /// Units that are wanted, none of which is found yet.
-fn wanted(alloc: Global, units: &[UnitName]) -> Result<KeyMap<UnitName, bool>, NoMemory>
-    ensures { IfOk result (λ marks. (unit : UnitName) → get is_same_unit marks unit ≡
+fn wanted(alloc: Global, units: &[UnitKey]) -> Result<KeyMap<UnitKey, bool>, NoMemory>
+    ensures { IfOk result (λ marks. (unit : UnitKey) → get is_same_unit marks unit ≡
         (if list_any (λ other. is_same_unit other unit) units.now then Some false else None)) }
 {
     let mut marks = KeyMap::with_room(alloc, units.len())?;
@@ -142,11 +143,11 @@ fn wanted(alloc: Global, units: &[UnitName]) -> Result<KeyMap<UnitName, bool>, N
 /// Which of some units are exported by the artefacts of files, of which the last is lent apart.
 fn marks_of(
     alloc: Global,
-    units: &[UnitName],
+    units: &[UnitKey],
     files: &[BuiltFile],
     library: &Text,
     artefact: &[u8],
-) -> Result<KeyMap<UnitName, bool>, NoMemory>
+) -> Result<KeyMap<UnitKey, bool>, NoMemory>
     ensures { (last : BuiltFile) → last.name.library ≡ library.now → last.artefact ≡ artefact.now →
         IfOk result (KnowsUnits (files.now ++ last ∷ []) units.now) }
 {
@@ -161,7 +162,7 @@ fn marks_of(
 fn put_new(
     alloc: Global,
     library: &Text,
-    libraries: &mut KeyMap<UnitName, bool>,
+    libraries: &mut KeyMap<UnitKey, bool>,
 ) -> Result<(), NoMemory>
     ensures { OnOk result (HasPut library.now libraries.old libraries.new) }
 {
@@ -174,7 +175,7 @@ fn put_next(
     alloc: Global,
     library: &Text,
     before: &Text,
-    libraries: &mut KeyMap<UnitName, bool>,
+    libraries: &mut KeyMap<UnitKey, bool>,
 ) -> Result<(), NoMemory>
     ensures { IsTrue (has_key libraries.old before.now) →
         OnOk result (HasPut library.now libraries.old libraries.new) }
@@ -190,7 +191,7 @@ fn libraries_of<'a>(
     alloc: Global,
     files: &'a [BuiltFile],
     library: &'a Text,
-) -> Result<KeyMap<UnitName, bool>, NoMemory>
+) -> Result<KeyMap<UnitKey, bool>, NoMemory>
     ensures { (last : BuiltFile) → last.name.library ≡ library.now →
         IfOk result (KnowsLibraries (files.now ++ last ∷ [])) }
 {
@@ -207,11 +208,11 @@ fn libraries_of<'a>(
 /// Whether a unit that is wanted is missing.
 fn is_missing(
     alloc: Global,
-    unit: &UnitName,
-    libraries: &KeyMap<UnitName, bool>,
-    marks: &KeyMap<UnitName, bool>,
+    unit: &UnitKey,
+    libraries: &KeyMap<UnitKey, bool>,
+    marks: &KeyMap<UnitKey, bool>,
 ) -> Result<bool, NoMemory>
-    ensures { (files : List BuiltFile) (units : List UnitName) →
+    ensures { (files : List BuiltFile) (units : List UnitKey) →
         KnowsLibraries files libraries.now → KnowsUnits files units marks.now →
         IsTrue (list_any (λ other. is_same_unit other unit.now) units) →
         IfOk result (λ missing. missing ≡ is_missing files unit.now) }
@@ -229,10 +230,10 @@ fn is_missing(
 /// The first of some units that is missing.
 fn first_of<'a>(
     alloc: Global,
-    units: &'a [UnitName],
-    libraries: &KeyMap<UnitName, bool>,
-    marks: &KeyMap<UnitName, bool>,
-) -> Result<Option<&'a UnitName>, NoMemory>
+    units: &'a [UnitKey],
+    libraries: &KeyMap<UnitKey, bool>,
+    marks: &KeyMap<UnitKey, bool>,
+) -> Result<Option<&'a UnitKey>, NoMemory>
     ensures { (files : List BuiltFile) →
         KnowsLibraries files libraries.now → KnowsUnits files units.now marks.now →
         IfOk result (λ found. MatchOption found
@@ -252,11 +253,11 @@ fn first_of<'a>(
 /// though its library is that of one of them. Time goes by n log n of units, files and lines of artefacts.
 pub fn first_missing<'a>(
     alloc: Global,
-    units: &'a [UnitName],
+    units: &'a [UnitKey],
     files: &[BuiltFile],
     library: &Text,
     artefact: &[u8],
-) -> Result<Option<&'a UnitName>, NoMemory>
+) -> Result<Option<&'a UnitKey>, NoMemory>
     ensures { (last : BuiltFile) → last.name.library ≡ library.now → last.artefact ≡ artefact.now →
         IfOk result (λ found. MatchOption found
         (first_missing (files.now ++ last ∷ []) units.now ≡ None)

@@ -8,9 +8,9 @@ ghost use Rattle.vhdl_spec.specs.Units.{roles_of};
 ghost use Rattle.std.specs.Str.{bytes_eq};
 ghost use Rattle.child_tools.specs.Exports.{named_library, strict_unit, strict_units, wanted_units};
 
-use crate::names::UnitName;
 use base::{NoMemory, Ref, RoleList, Scan, TEXT_LIMIT, Text};
 use std::alloc::Global;
+use vhdl_keys::{UnitKey, unit_key};
 use vhdl_refs::find_refs;
 
 fn is_work(name: &[u8]) -> bool
@@ -32,16 +32,14 @@ fn push_strict(
     alloc: Global,
     own: &Text,
     reference: &Ref,
-    units: &mut Vec<UnitName>,
+    units: &mut Vec<UnitKey>,
 ) -> Result<(), NoMemory>
     ensures { OnOk result
         (units.new.items ≡ units.old.items ++ strict_unit own.now reference.now) }
 {
     if reference.strict {
-        units.push(UnitName {
-            library: named_library(own, &reference.library).copy(alloc)?,
-            name: reference.name.copy(alloc)?,
-        })?;
+        let library = named_library(own, &reference.library);
+        units.push(unit_key(alloc, library.bytes(), reference.name.bytes())?)?;
     }
     Ok(())
 }
@@ -51,7 +49,7 @@ fn push_units(
     alloc: Global,
     own: &Text,
     refs: &[Ref],
-    units: &mut Vec<UnitName>,
+    units: &mut Vec<UnitKey>,
 ) -> Result<(), NoMemory>
     ensures { OnOk result (units.new.items ≡ units.old.items ++ strict_units own.now refs.now) }
 {
@@ -69,7 +67,7 @@ fn push_wanted(
     scan: &Scan,
     roles: &RoleList,
     number: u32,
-    units: &mut Vec<UnitName>,
+    units: &mut Vec<UnitKey>,
 ) -> Result<(), NoMemory>
     requires scan { IsScanOf text.now scan.now }
     requires small { length text.now ≤ TEXT_LIMIT }
@@ -91,7 +89,7 @@ pub fn wanted_units(
     text: &[u8],
     scan: &Scan,
     roles: &RoleList,
-) -> Result<Vec<UnitName>, NoMemory>
+) -> Result<Vec<UnitKey>, NoMemory>
     requires scan { IsScanOf text.now scan.now }
     requires small { length text.now ≤ TEXT_LIMIT }
     requires roles { roles.now ≡ roles_of text.now scan.now.tokens.list }

@@ -19,7 +19,7 @@ use Rattle.child_tools.specs.Answers.{analysis, answer, answer_by, linked, made,
 use Rattle.child_tools.specs.Artefacts.{artefact_of}
 use Rattle.child_tools.specs.Exports.{first_missing, wanted_units}
 use Rattle.child_tools.specs.Scripts.{first_refusal}
-use Rattle.child_tools.specs.declared.names.UnitName.{UnitName}
+use Rattle.vhdl_keys.specs.declared.units.UnitKey.{UnitKey}
 use Rattle.generated_texts.specs.PackageLinks.{used_library}
 use Rattle.generated_answers.specs.CompiledFiles.{IsLoopEntry}
 
@@ -28,7 +28,7 @@ abbrev pub lib_job : (path text : List ℕ) → List BuiltFile → CompileJob
 lib_job path text deps = record { name = record { library = used_library; path = path }; text = text; deps = deps }
 
 -- nothing is wrong in a text: its scan, the artefact that is made of it, and the units that it wants of others, which are there
-pub record IsClean (path text : List ℕ) (deps : List BuiltFile) (found : Scan) (artefact : List ℕ) (wanted : List UnitName) : Type 0 where
+pub record IsClean (path text : List ℕ) (deps : List BuiltFile) (found : Scan) (artefact : List ℕ) (wanted : List UnitKey) : Type 0 where
   pub accepted : first_refusal text found.tokens.comments ≡ None
   pub artefact_is : artefact_of text found ≡ artefact
   pub small : length artefact ≤ ARTEFACT_LIMIT
@@ -39,11 +39,11 @@ made_is : (artefact : List ℕ) → length artefact ≤ ARTEFACT_LIMIT → made 
 unfolding made
 made_is artefact small = ap (λ (test : Bool). cond test (ends_with 0 artefact) (refused (codes "artefact too long"))) (le-leb (length artefact) ARTEFACT_LIMIT small)
 
-linked_is : (job : CompileJob) (artefact : List ℕ) (units : List UnitName) → length artefact ≤ ARTEFACT_LIMIT → first_missing (with_own job artefact) units ≡ None → linked job artefact units ≡ ends_with 0 artefact
+linked_is : (job : CompileJob) (artefact : List ℕ) (units : List UnitKey) → length artefact ≤ ARTEFACT_LIMIT → first_missing (with_own job artefact) units ≡ None → linked job artefact units ≡ ends_with 0 artefact
 unfolding linked
-linked_is job artefact units small links = ap (λ (missing : Option UnitName). option_map_or (no_unit job.name) missing (made artefact)) links ∙ made_is artefact small
+linked_is job artefact units small links = ap (λ (missing : Option UnitKey). option_map_or (no_unit job.name) missing (made artefact)) links ∙ made_is artefact small
 
-scripted_is : (path text : List ℕ) (deps : List BuiltFile) (found : Scan) (artefact : List ℕ) (wanted : List UnitName) → IsClean path text deps found artefact wanted → scripted (lib_job path text deps) found ≡ ends_with 0 artefact
+scripted_is : (path text : List ℕ) (deps : List BuiltFile) (found : Scan) (artefact : List ℕ) (wanted : List UnitKey) → IsClean path text deps found artefact wanted → scripted (lib_job path text deps) found ≡ ends_with 0 artefact
 unfolding scripted
 scripted_is path text deps found artefact wanted clean =
     ap (λ (line : Option (List ℕ)). option_map_or refused line (linked (lib_job path text deps) (artefact_of text found) (wanted_units used_library text found))) clean.accepted
@@ -66,7 +66,7 @@ input_is path text entry deps source =
     ∙ ap (λ (of_file : List ℕ). compile_input (record { library = used_library; path = of_file }) entry.text deps) source.path_is
     ∙ ap (λ (bytes : List ℕ). compile_input (record { library = used_library; path = path }) bytes deps) source.text_is
 
-pub clean_answer : (scan : List ℕ → Finding) (path text : List ℕ) (entry : Entry) (deps : List BuiltFile) (found : Scan) (artefact : List ℕ) (wanted : List UnitName)
+pub clean_answer : (scan : List ℕ → Finding) (path text : List ℕ) (entry : Entry) (deps : List BuiltFile) (found : Scan) (artefact : List ℕ) (wanted : List UnitKey)
     → IsLoopEntry path text entry → FitsName (record { library = used_library; path = path }) → length text ≤ TEXT_LIMIT → IsBuilt deps → scan text ≡ Clean found → IsClean path text deps found artefact wanted
     → analysis scan (compile_input entry.name entry.text deps) ≡ ends_with 0 artefact
 clean_answer scan path text entry deps found artefact wanted source fits short built is clean =

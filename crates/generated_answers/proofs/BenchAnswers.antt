@@ -19,7 +19,7 @@ use Rattle.child_lines.specs.Lines.{after_word}
 use Rattle.child_tools.specs.Answers.{analysis, with_own}
 use Rattle.child_tools.specs.Artefacts.{artefact_of, kind_word, of_entity, unit_line}
 use Rattle.child_tools.specs.Exports.{exported_by, exports, exports_unit, first_missing, strict_unit, strict_units, wanted_units}
-use Rattle.child_tools.specs.declared.names.UnitName.{UnitName}
+use Rattle.vhdl_keys.specs.declared.units.UnitKey.{UnitKey}
 use Rattle.generated_project.specs.Files.{bench_body, bench_head, bench_path}
 use Rattle.generated_texts.proofs.BenchFindings.{bench_found}
 use Rattle.generated_texts.specs.BenchScans.{bench_architecture, bench_entity, bench_entity_name, bench_scan, bench_file_tokens, entity_ref}
@@ -68,7 +68,7 @@ architecture_refs : refs_of text bench_file_tokens bench_architecture ≡ entity
 unfolding bench_head bench_body bench_entity_name used_library word_role reserved_words
 architecture_refs = refl
 
-abbrev wanted : List UnitName
+abbrev wanted : List UnitKey
 wanted = lib_unit first_name ∷ lib_unit bench_entity_name ∷ []
 
 strict_are : strict_units used_library (used_ref first_name ∷ []) ++ (strict_units used_library (entity_ref ∷ []) ++ []) ≡ wanted

@@ -17,7 +17,7 @@ use Rattle.child_lines.specs.Ends.{ends_with}
 use Rattle.child_tools.specs.Answers.{analysis, with_own}
 use Rattle.child_tools.specs.Artefacts.{artefact_of, comment_line, kind_word, of_entity, unit_line}
 use Rattle.child_tools.specs.Exports.{exports, first_missing, strict_unit, strict_units, wanted_units}
-use Rattle.child_tools.specs.declared.names.UnitName.{UnitName}
+use Rattle.vhdl_keys.specs.declared.units.UnitKey.{UnitKey}
 use Rattle.generated_project.specs.Files.{package_path, package_text}
 use Rattle.generated_texts.proofs.PackageFindings.{half_small, package_found}
 use Rattle.generated_texts.proofs.PackageReferences.{package_refers}
@@ -55,7 +55,7 @@ artefact_is number noted =
 -- ## The package that it uses
 
 -- what a file that uses a package of this name wants, if it uses any
-abbrev wanted_of : (alone : Bool) → (used : List ℕ) → List UnitName
+abbrev wanted_of : (alone : Bool) → (used : List ℕ) → List UnitKey
 wanted_of alone used = if alone then [] else lib_unit used ∷ []
 
 strict_are : (alone : Bool) (used : List ℕ) → strict_units used_library (file_refs alone used) ++ [] ≡ wanted_of alone used

@@ -11,58 +11,60 @@ use Rattle.vhdl_spec.proofs.SomeTests.{and_cases}
 use Rattle.test_scan.specs.Architectures.{AreFoundInFiles, HoldsArchitectures, IsArchitecture, first_of_some, one_more}
 use Rattle.vhdl_benches.specs.declared.bench.TestFault.TheVariants.{NoArchitecture, TwoArchitectures}
 use Rattle.test_scan.specs.Benches.{ScannedFiles, bench_name, bench_of, bench_with, design_unit, is_architecture_of, unit_library}
-use Rattle.test_scan.specs.Entities.{is_same_entity}
-use Rattle.test_scan.specs.EntityOrder.{same_entity}
+use Rattle.vhdl_keys.specs.UnitKeys.{is_same_unit, unit_key, units_decide}
 use Rattle.test_scan.specs.Files.{IsInFiles}
 use Rattle.test_scan.specs.declared.architectures.Architectures.{Architectures}
 use Rattle.test_scan.specs.declared.files.Files.{Files}
-use Rattle.test_scan.specs.declared.key.EntityKey.{EntityKey}
-
-abbrev key_of : List ℕ → List ℕ → EntityKey
-key_of library entity = record { library = library; entity = entity }
+use Rattle.vhdl_keys.specs.declared.units.UnitKey.{UnitKey}
 
 -- a key is given a value
-abbrev Gives : Entries EntityKey Architectures → Entries EntityKey Architectures → EntityKey → Architectures → Type 0
-Gives old new key more = (other : EntityKey) → get is_same_entity new other ≡ (if is_same_entity key other then Some more else get is_same_entity old other)
+abbrev Gives : Entries UnitKey Architectures → Entries UnitKey Architectures → UnitKey → Architectures → Type 0
+Gives old new key more = (other : UnitKey) → get is_same_unit new other ≡ (if is_same_unit key other then Some more else get is_same_unit old other)
 
 found_more : (xs : List UnitId) (id : UnitId) → first_of_some (xs ++ id ∷ []) ≡ Some (one_more (first_of_some xs) id)
 found_more [] id = refl
 found_more (x ∷ []) id = refl
 found_more (x ∷ y ∷ xs) id = refl
 
-module _ (sources : ScannedFiles) (ids : List UnitId) (id : UnitId) where
-  abbrev test : EntityKey → UnitId → Bool
-  test k = is_architecture_of k.library k.entity sources
+turned : (a b : Bool) → (a && b) ≡ (b && a)
+turned true true = refl
+turned true false = refl
+turned false true = refl
+turned false false = refl
 
-  pushed : (k : EntityKey) (b : Bool) → test k id ≡ b → filter (test k) (ids ++ id ∷ []) ≡ filter (test k) ids ++ cond b (id ∷ []) []
+module _ (sources : ScannedFiles) (ids : List UnitId) (id : UnitId) where
+  abbrev test : UnitKey → UnitId → Bool
+  test k = is_architecture_of k.library k.name sources
+
+  pushed : (k : UnitKey) (b : Bool) → test k id ≡ b → filter (test k) (ids ++ id ∷ []) ≡ filter (test k) ids ++ cond b (id ∷ []) []
   pushed k b told = filter-append (test k) ids (id ∷ []) ∙ ap (λ (c : Bool). filter (test k) ids ++ cond c (id ∷ []) []) told
 
-  kept : (k : EntityKey) → test k id ≡ false → filter (test k) (ids ++ id ∷ []) ≡ filter (test k) ids
+  kept : (k : UnitKey) → test k id ≡ false → filter (test k) (ids ++ id ∷ []) ≡ filter (test k) ids
   kept k told = pushed k false told ∙ append-nil (filter (test k) ids)
 
   -- the unit is no architecture
-  pub holds_other : (index : Entries EntityKey Architectures) → HoldsArchitectures sources ids index → is_architecture_kind (design_unit sources id).kind ≡ false → HoldsArchitectures sources (ids ++ id ∷ []) index
-  holds_other index holds other k = holds k ∙ sym (ap first_of_some (kept k (ap (λ (b : Bool). b && (bytes_eq (unit_library sources id) k.library && bytes_eq (owner_name (design_unit sources id).owner) k.entity)) other)))
+  pub holds_other : (index : Entries UnitKey Architectures) → HoldsArchitectures sources ids index → is_architecture_kind (design_unit sources id).kind ≡ false → HoldsArchitectures sources (ids ++ id ∷ []) index
+  holds_other index holds other k = holds k ∙ sym (ap first_of_some (kept k (ap (λ (b : Bool). b && (bytes_eq (unit_library sources id) k.library && bytes_eq (owner_name (design_unit sources id).owner) k.name)) other)))
 
   -- it is one of the entity of a key
-  pub holds_one : (old new : Entries EntityKey Architectures) (key : EntityKey) (more : Architectures) → HoldsArchitectures sources ids old → is_architecture_kind (design_unit sources id).kind ≡ true → key ≡ key_of (unit_library sources id) (owner_name (design_unit sources id).owner) → more ≡ one_more (get is_same_entity old key) id → Gives old new key more → HoldsArchitectures sources (ids ++ id ∷ []) new
-  holds_one old new key more holds right named is updates k = updates k ∙ by_key (is_same_entity key k) refl where
-    tested : test k id ≡ is_same_entity key k
-    tested = ap (λ (b : Bool). b && (bytes_eq (unit_library sources id) k.library && bytes_eq (owner_name (design_unit sources id).owner) k.entity)) right ∙ ap (λ (e : EntityKey). is_same_entity e k) (sym named)
+  pub holds_one : (old new : Entries UnitKey Architectures) (key : UnitKey) (more : Architectures) → HoldsArchitectures sources ids old → is_architecture_kind (design_unit sources id).kind ≡ true → key ≡ unit_key (unit_library sources id) (owner_name (design_unit sources id).owner) → more ≡ one_more (get is_same_unit old key) id → Gives old new key more → HoldsArchitectures sources (ids ++ id ∷ []) new
+  holds_one old new key more holds right named is updates k = updates k ∙ by_key (is_same_unit key k) refl where
+    tested : test k id ≡ is_same_unit key k
+    tested = ap (λ (b : Bool). b && (bytes_eq (unit_library sources id) k.library && bytes_eq (owner_name (design_unit sources id).owner) k.name)) right ∙ turned (bytes_eq (unit_library sources id) k.library) _ ∙ ap (λ (e : UnitKey). is_same_unit e k) (sym named)
 
-    by_key : (b : Bool) → is_same_entity key k ≡ b → cond b (Some more) (get is_same_entity old k) ≡ first_of_some (filter (test k) (ids ++ id ∷ []))
+    by_key : (b : Bool) → is_same_unit key k ≡ b → cond b (Some more) (get is_same_unit old k) ≡ first_of_some (filter (test k) (ids ++ id ∷ []))
     by_key true told =
-        let same : key ≡ k = same_entity key k told in
-        ap (λ (m : Architectures). Some m) (is ∙ ap (λ (o : Option Architectures). one_more o id) (ap (get is_same_entity old) same ∙ holds k))
+        let same : key ≡ k = (units_decide key k).0 told in
+        ap (λ (m : Architectures). Some m) (is ∙ ap (λ (o : Option Architectures). one_more o id) (ap (get is_same_unit old) same ∙ holds k))
         ∙ sym (found_more (filter (test k) ids) id) ∙ sym (ap first_of_some (pushed k true (tested ∙ told)))
     by_key false told = holds k ∙ sym (ap first_of_some (kept k (tested ∙ told)))
 
 -- all that is found is in the files
-pub found_in : (files : Files) (old new : Entries EntityKey Architectures) (key : EntityKey) (more : Architectures) → AreFoundInFiles files old → IsInFiles files more.first → Gives old new key more → AreFoundInFiles files new
-found_in files old new key more are within updates other found told = by_key (is_same_entity key other) refl where
-  by_key : (b : Bool) → is_same_entity key other ≡ b → IsInFiles files found.first
-  by_key true is = let e : Some more ≡ Some found = sym (ap (λ (b : Bool). cond b (Some more) (get is_same_entity old other)) is) ∙ (sym (updates other) ∙ told) in let same : more ≡ found = cc in subst (λ (m : Architectures). IsInFiles files m.first) same within
-  by_key false is = are other found (sym (ap (λ (b : Bool). cond b (Some more) (get is_same_entity old other)) is) ∙ (sym (updates other) ∙ told))
+pub found_in : (files : Files) (old new : Entries UnitKey Architectures) (key : UnitKey) (more : Architectures) → AreFoundInFiles files old → IsInFiles files more.first → Gives old new key more → AreFoundInFiles files new
+found_in files old new key more are within updates other found told = by_key (is_same_unit key other) refl where
+  by_key : (b : Bool) → is_same_unit key other ≡ b → IsInFiles files found.first
+  by_key true is = let e : Some more ≡ Some found = sym (ap (λ (b : Bool). cond b (Some more) (get is_same_unit old other)) is) ∙ (sym (updates other) ∙ told) in let same : more ≡ found = cc in subst (λ (m : Architectures). IsInFiles files m.first) same within
+  by_key false is = are other found (sym (ap (λ (b : Bool). cond b (Some more) (get is_same_unit old other)) is) ∙ (sym (updates other) ∙ told))
 
 pub more_in : (files : Files) (found : Option Architectures) (id : UnitId) (more : Architectures) → IsInFiles files id → ((one : Architectures) → found ≡ Some one → IsInFiles files one.first) → more ≡ one_more found id → IsInFiles files more.first
 more_in files None id more within are is = subst (λ (m : Architectures). IsInFiles files m.first) (sym is) within

@@ -7,8 +7,8 @@ use Rattle.test_scan.specs.Benches.{ScannedFiles, design_unit, is_architecture_o
 use Rattle.test_scan.specs.Files.{IsInFiles}
 use Rattle.test_scan.specs.declared.architectures.Architectures.{Architectures}
 use Rattle.test_scan.specs.declared.files.Files.{Files}
-use Rattle.test_scan.specs.declared.key.EntityKey.{EntityKey}
-use Rattle.test_scan.specs.Entities.{is_same_entity}
+use Rattle.vhdl_keys.specs.declared.units.UnitKey.{UnitKey}
+use Rattle.vhdl_keys.specs.UnitKeys.{is_same_unit}
 
 -- the first of some, and whether there are more
 abbrev pub first_of_some : List UnitId → Option Architectures
@@ -23,12 +23,12 @@ one_more (Some found) id = record { first = found.first; several = true }
 
 -- an index has the first of these units that is an architecture of an entity, and whether there are more, by the library and
 -- the name of the entity
-abbrev pub HoldsArchitectures : ScannedFiles → List UnitId → Entries EntityKey Architectures → Type 0
-HoldsArchitectures sources ids index = (key : EntityKey) → get is_same_entity index key ≡ first_of_some (filter (is_architecture_of key.library key.entity sources) ids)
+abbrev pub HoldsArchitectures : ScannedFiles → List UnitId → Entries UnitKey Architectures → Type 0
+HoldsArchitectures sources ids index = (key : UnitKey) → get is_same_unit index key ≡ first_of_some (filter (is_architecture_of key.library key.name sources) ids)
 
 -- each architecture of an index is a unit of the files
-abbrev pub AreFoundInFiles : Files → Entries EntityKey Architectures → Type 0
-AreFoundInFiles files index = (key : EntityKey) (found : Architectures) → get is_same_entity index key ≡ Some found → IsInFiles files found.first
+abbrev pub AreFoundInFiles : Files → Entries UnitKey Architectures → Type 0
+AreFoundInFiles files index = (key : UnitKey) (found : Architectures) → get is_same_unit index key ≡ Some found → IsInFiles files found.first
 
 -- the unit of a number is an architecture
 abbrev pub IsArchitecture : ScannedFiles → UnitId → Type 0

@@ -1,8 +1,6 @@
 -- The definitions: the benches of a project, and what the walks of this crate keep.
 pub mod Benches
 pub mod Files
-pub mod Entities
-pub mod EntityOrder
 pub mod Architectures
 pub mod Results
 pub mod Steps

@@ -8,13 +8,13 @@ ghost use Rattle.vhdl_spec.specs.Dependencies.{is_architecture_kind};
 ghost use Rattle.vhdl_spec.specs.References.{owner_name};
 ghost use Rattle.test_scan.specs.Files.{AreFiles, AreInFiles, AreScannedAs, IsInFiles, scanned};
 ghost use Rattle.test_scan.specs.Architectures.{AreFoundInFiles, HoldsArchitectures, one_more};
-ghost use Rattle.test_scan.specs.Entities.{is_same_entity};
+ghost use Rattle.vhdl_keys.specs.UnitKeys.{is_same_unit, unit_key};
 
 use crate::files::{Files, Found, find};
-use crate::key::{EntityKey, entity_key};
-use base::{MaybeText, NoMemory, Text, UnitId, UnitKind};
+use base::{NoMemory, UnitId, UnitKind};
 use base_key_index::KeyMap;
 use std::alloc::Global;
+use vhdl_keys::{UnitKey, owner_name, unit_key};
 
 /// The first architecture of an entity, and whether there are more.
 #[derive(Clone, Copy)]
@@ -24,11 +24,11 @@ pub struct Architectures {
 }
 
 /// The architectures by entity, in project and unit order.
-pub type Index = KeyMap<EntityKey, Architectures>;
+pub type Index = KeyMap<UnitKey, Architectures>;
 
 /// The architectures of an entity, if it has one.
-pub fn architectures_of(index: &Index, key: &EntityKey) -> Option<Architectures>
-    ensures { result ≡ get is_same_entity index.now key.now }
+pub fn architectures_of(index: &Index, key: &UnitKey) -> Option<Architectures>
+    ensures { result ≡ get is_same_unit index.now key.now }
 {
     index.get(key)
 }
@@ -58,26 +58,13 @@ fn is_architecture(kind: UnitKind) -> bool
     }
 }
 
-/// The name of an owner, which is empty where there is none.
-fn owner_text(alloc: Global, owner: &MaybeText) -> Result<Text, NoMemory>
-    ensures { IfOk result (λ name. name ≡ owner_name owner.now) }
-{
-    match owner {
-        MaybeText::Nothing => Ok(Text::new(alloc)),
-        MaybeText::Given(name) => name.copy(alloc),
-    }
-}
-
-/// The name of the entity of a unit.
-fn owner_key(alloc: Global, found: Found) -> Result<EntityKey, NoMemory>
+/// The key of the entity of an architecture.
+fn owner_key(alloc: Global, found: Found) -> Result<UnitKey, NoMemory>
     ensures { IfOk result (λ key. key ≡
-        record {
-          library = found.entry.library.now;
-          entity = owner_name found.entry.unit.now.owner;
-        }) }
+        unit_key found.entry.library.now (owner_name found.entry.unit.now.owner)) }
 {
-    let owner = owner_text(alloc, &found.unit.owner)?;
-    entity_key(alloc, found.library, &owner)
+    let owner = owner_name(&found.unit.owner);
+    unit_key(alloc, found.library.bytes(), owner)
 }
 
 /// Adds a unit, where it is an architecture.

@@ -11,10 +11,10 @@ ghost use Rattle.test_scan.specs.Results.{GivesBench};
 use crate::architectures::{Index, architectures_of};
 use crate::called::{called_cases, cases_or};
 use crate::files::{Files, Found, find};
-use crate::key::entity_key;
 use base::{NoMemory, OrMemory, Text, UnitId};
 use std::alloc::Global;
 use vhdl_benches::{Bench, CaseList, TestFault};
+use vhdl_keys::unit_key;
 
 /// A bench as faults name it: its library and its name, with a dot between them.
 pub fn bench_name(alloc: Global, library: &Text, name: &Text) -> Result<Text, NoMemory>
@@ -97,7 +97,7 @@ pub fn bench_at(
         GivesBench (bench_at (scanned files.entry scans) entity) result }
 {
     let found = find(files, entity);
-    let key = entity_key(alloc, found.library, &found.unit.name)?;
+    let key = unit_key(alloc, found.library.bytes(), found.unit.name.bytes())?;
     let Some(architectures) = architectures_of(index, &key) else {
         return Err(OrMemory::Fault(no_architecture(alloc, found)?));
     };

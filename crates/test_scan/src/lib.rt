@@ -5,7 +5,6 @@ mod architectures;
 mod bench;
 mod called;
 mod files;
-mod key;
 mod laws;
 mod names;
 mod numbers;

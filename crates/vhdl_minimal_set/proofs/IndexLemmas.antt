@@ -9,14 +9,14 @@ use Rattle.base.specs.declared.design.Scan.{Scan}
 use Rattle.base.specs.declared.design.Unit.{Unit as DesignUnit}
 use Rattle.base.specs.declared.project.ProjectFile.{ProjectFile}
 use Rattle.vhdl_minimal_set.specs.MinimalSet.{NeedSources, NeedUnit, need_unit, units_at}
-use Rattle.vhdl_minimal_set.specs.Names.{is_same_name}
+use Rattle.vhdl_keys.specs.UnitKeys.{is_same_unit, same_parts, unit_key}
 use Rattle.std.proofs.lemmas.Option.{slice_get-get_or, slice_get_within}
 use Rattle.vhdl_outlines.specs.declared.outlines.FileOutline.{FileOutline}
 use Rattle.vhdl_minimal_set.specs.Sources.{AreNeeds, AreSources}
 use Rattle.vhdl_minimal_set.specs.declared.sources.Sources.{Sources}
 use Rattle.vhdl_minimal_set.specs.Suppliers.{Adds, AddsAll, AreVoid, FitAll, FitFiles, HoldsFiles, HoldsSuppliers, IsVoid, Naming, architecture_name, body_name, calls_one, entity_name, is_called, supplies}
 use Rattle.vhdl_minimal_set.specs.declared.index.Index.{Index}
-use Rattle.vhdl_minimal_set.specs.declared.names.SupplierName.{SupplierName}
+use Rattle.vhdl_keys.specs.declared.units.UnitKey.{UnitKey}
 use Rattle.vhdl_minimal_set.specs.declared.suppliers.Suppliers.{Suppliers}
 use Rattle.vhdl_minimal_set.proofs.Supplied.{units_there}
 use Rattle.vhdl_minimal_set.proofs.SupplierLemmas.{none_supplied}
@@ -26,11 +26,11 @@ abbrev no_scan : Scan
 no_scan = record { tokens = record { list = []; comments = [] }; units = [] }
 
 -- the unit of this name was added
-pub adds_one : (naming : Naming) (library : List ℕ) (unit : DesignUnit) (file count : ℕ) (old new : Suppliers) (name : SupplierName) → FitFiles count new
-    → ((other : SupplierName) (at : ℕ) → supplies new other at ≡ (supplies old other at || (is_same_name other name && file == at))) → naming library unit ≡ Some name → Adds naming library (unit ∷ []) file count old new
+pub adds_one : (naming : Naming) (library : List ℕ) (unit : DesignUnit) (file count : ℕ) (old new : Suppliers) (name : UnitKey) → FitFiles count new
+    → ((other : UnitKey) (at : ℕ) → supplies new other at ≡ (supplies old other at || (is_same_unit other name && file == at))) → naming library unit ≡ Some name → Adds naming library (unit ∷ []) file count old new
 adds_one naming library unit file count old new name fit added is = record {
   fit = fit;
-  all = λ other at. added other at ∙ ap (λ (b : Bool). supplies old other at || b) (and_turned (is_same_name other name) (file == at) ∙ ap (λ (b : Bool). file == at && b) (sym (or_none (is_called other (naming library unit)) ∙ ap (is_called other) is)));
+  all = λ other at. added other at ∙ ap (λ (b : Bool). supplies old other at || b) (and_turned (is_same_unit other name) (file == at) ∙ ap (λ (b : Bool). file == at && b) (sym (or_none (is_called other (naming library unit)) ∙ ap (is_called other) is)));
 }
 
 -- nothing was added
@@ -74,7 +74,7 @@ fit_now library units file count a b adds = record { architectures = adds.archit
 
 -- the units of one file more
 module _ (said : NeedSources) (n : ℕ) (file : ProjectFile) (text : List ℕ) (scan : Scan) (f : slice_get said.files n ≡ Some file) (t : slice_get said.texts n ≡ Some text) (s : slice_get said.scans n ≡ Some scan) where
-  calls_here : (naming : Naming) (name : SupplierName) → list_any (λ unit. is_called name (naming unit.scope.library unit.scope.unit)) (units_at said n) ≡ calls_one naming file.name.library scan.units name
+  calls_here : (naming : Naming) (name : UnitKey) → list_any (λ unit. is_called name (naming unit.scope.library unit.scope.unit)) (units_at said n) ≡ calls_one naming file.name.library scan.units name
   calls_here naming name =
       ap (list_any (λ unit. is_called name (naming unit.scope.library unit.scope.unit))) (units_there said n file text scan f t s)
       ∙ any_map (λ unit. is_called name (naming unit.scope.library unit.scope.unit)) (need_unit file.name.library text scan) scan.units
@@ -112,12 +112,12 @@ module _ (said : NeedSources) (n : ℕ) (file : ProjectFile) (text : List ℕ) (
   }
 
 -- no unit at first
-void_supplies : (suppliers : Suppliers) → IsVoid suppliers → (name : SupplierName) (at : ℕ) → supplies suppliers name at ≡ false
+void_supplies : (suppliers : Suppliers) → IsVoid suppliers → (name : UnitKey) (at : ℕ) → supplies suppliers name at ≡ false
 void_supplies suppliers is name at = none_supplied suppliers name at is.files
 
 void_fits : (count : ℕ) (suppliers : Suppliers) → IsVoid suppliers → FitFiles count suppliers
 void_fits count suppliers is = record {
-  paired = ap (λ (rows : List (List ℕ)). length rows) is.files ∙ sym (ap (λ (names : List SupplierName). length names) is.names);
+  paired = ap (λ (rows : List (List ℕ)). length rows) is.files ∙ sym (ap (λ (names : List UnitKey). length names) is.names);
   within = subst (λ (rows : List (List ℕ)). All (λ (some : List ℕ). All (λ other. other < count) some) rows) (sym is.files) (λ k d low. absurd (omega (arith, low)));
 }
 
@@ -137,13 +137,8 @@ files_void said index are = record {
 }
 
 -- a name that was made of a library and a name
-pub named_as : (library its_library name its_name : List ℕ) (key : SupplierName) → key ≡ record { library = its_library; name = its_name } → its_library ≡ library → its_name ≡ name → ◌≡◌ {A = Option SupplierName} (Some (record { library = library; name = name })) (Some key)
-named_as library its_library name its_name key is l n = ap some (sym (is ∙ (ap (λ (x : List ℕ). made x its_name) l ∙ ap (made library) n))) where
-  some : SupplierName → Option SupplierName
-  some key = Some key
-
-  made : List ℕ → List ℕ → SupplierName
-  made library name = record { library = library; name = name }
+pub named_as : (library its_library name its_name : List ℕ) (key : UnitKey) → key ≡ unit_key its_library its_name → its_library ≡ library → its_name ≡ name → ◌≡◌ {A = Option UnitKey} (Some (unit_key library name)) (Some key)
+named_as library its_library name its_name key is l n = ap (λ (k : UnitKey). Some k) (sym (is ∙ same_parts its_library library its_name name l n))
 
 -- a file is added with all that is said of it
 pub file_more : (sources : Sources) (said : NeedSources) (n : ℕ) (file : ProjectFile) (outline : FileOutline) (count : ℕ) (a b : Index) → AreSources sources → AreNeeds sources said

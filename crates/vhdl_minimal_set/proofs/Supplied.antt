@@ -30,17 +30,15 @@ use Rattle.vhdl_outlines.specs.declared.outlines.FileOutline.{FileOutline}
 use Rattle.vhdl_minimal_set.specs.Needing.{AreTables, IsKnown, binds_one, count_of, has_part, library_at, looks, no_file}
 use Rattle.vhdl_minimal_set.specs.Suppliers.{HoldsFiles, Naming, architecture_by, architecture_name, body_by, body_name, entity_by, entity_name, files_of, has_file, is_called, is_supplied, supplies}
 use Rattle.vhdl_minimal_set.specs.declared.index.Index.{Index}
-use Rattle.vhdl_minimal_set.specs.declared.names.SupplierName.{SupplierName}
+use Rattle.vhdl_keys.specs.UnitKeys.{unit_key}
+use Rattle.vhdl_keys.specs.declared.units.UnitKey.{UnitKey}
 use Rattle.vhdl_minimal_set.specs.declared.suppliers.Suppliers.{Suppliers}
 use Rattle.vhdl_minimal_set.specs.declared.units.Tables.{Tables}
 use Rattle.vhdl_minimal_set.proofs.Tests.{and_all, and_none, any_map, any_never, any_or, any_same, any_swapped, any_where, or_group, or_none}
 
 -- ## What a unit is called
 
-abbrev named : List ℕ → List ℕ → SupplierName
-named library name = record { library = library; name = name }
-
-called_architecture : (kind : UnitKind) (library name : List ℕ) (other : List ℕ) (unit : DesignUnit) → is_called (named library name) (architecture_by kind other unit) ≡ (is_architecture_kind kind && (bytes_eq name (owner_name unit.owner) && bytes_eq library other))
+called_architecture : (kind : UnitKind) (library name : List ℕ) (other : List ℕ) (unit : DesignUnit) → is_called (unit_key library name) (architecture_by kind other unit) ≡ (is_architecture_kind kind && (bytes_eq name (owner_name unit.owner) && bytes_eq library other))
 called_architecture kinds.Architecture library name other unit = refl
 called_architecture kinds.Entity library name other unit = refl
 called_architecture kinds.Configuration library name other unit = refl
@@ -49,7 +47,7 @@ called_architecture kinds.PackageBody library name other unit = refl
 called_architecture kinds.PackageInstance library name other unit = refl
 called_architecture kinds.Context library name other unit = refl
 
-called_body : (kind : UnitKind) (library name : List ℕ) (other : List ℕ) (unit : DesignUnit) → is_called (named library name) (body_by kind other unit) ≡ (is_body_kind kind && (bytes_eq name unit.name && bytes_eq library other))
+called_body : (kind : UnitKind) (library name : List ℕ) (other : List ℕ) (unit : DesignUnit) → is_called (unit_key library name) (body_by kind other unit) ≡ (is_body_kind kind && (bytes_eq name unit.name && bytes_eq library other))
 called_body kinds.PackageBody library name other unit = refl
 called_body kinds.Architecture library name other unit = refl
 called_body kinds.Entity library name other unit = refl
@@ -58,7 +56,7 @@ called_body kinds.Package library name other unit = refl
 called_body kinds.PackageInstance library name other unit = refl
 called_body kinds.Context library name other unit = refl
 
-called_entity : (kind : UnitKind) (name : List ℕ) (other : List ℕ) (unit : DesignUnit) → is_called (named [] name) (entity_by kind other unit) ≡ (is_entity_kind kind && bytes_eq name unit.name)
+called_entity : (kind : UnitKind) (name : List ℕ) (other : List ℕ) (unit : DesignUnit) → is_called (unit_key [] name) (entity_by kind other unit) ≡ (is_entity_kind kind && bytes_eq name unit.name)
 called_entity kinds.Entity name other unit = and_all (bytes_eq name unit.name)
 called_entity kinds.Architecture name other unit = refl
 called_entity kinds.Configuration name other unit = refl
@@ -74,7 +72,7 @@ unfolding units_at
 no_units said at past = ap (λ (file : Option ProjectFile). units_of file (slice_get said.texts at) (slice_get said.scans at)) (slice_get_past said.files at past)
 
 -- what is said of the units of the files before the last one's end is said of all
-supplied_all : (naming : Naming) (said : NeedSources) (name : SupplierName) (at : ℕ) → is_supplied naming said (length said.files) name at ≡ list_any (λ unit. is_called name (naming unit.scope.library unit.scope.unit)) (units_at said at)
+supplied_all : (naming : Naming) (said : NeedSources) (name : UnitKey) (at : ℕ) → is_supplied naming said (length said.files) name at ≡ list_any (λ unit. is_called name (naming unit.scope.library unit.scope.unit)) (units_at said at)
 supplied_all naming said name at = elim (cases_lt at (length said.files)) [
   | inl low ↦ ap (λ (b : Bool). b && list_any (λ unit. is_called name (naming unit.scope.library unit.scope.unit)) (units_at said at)) (lt-ltb at (length said.files) low)
   | inr past ↦
@@ -89,20 +87,20 @@ abbrev body_of : UnitKind → List ℕ → List ℕ → NeedUnit → Bool
 body_of kind library name other = is_package_kind kind && (is_body_kind other.scope.unit.kind && (bytes_eq name other.scope.unit.name && bytes_eq library other.scope.library))
 
 module _ (said : NeedSources) (index : Index) (holds : HoldsFiles said (length said.files) index) where
-  architectures_are : (library name : List ℕ) (at : ℕ) → supplies index.architectures (named library name) at ≡ list_any (λ other. is_architecture_kind other.scope.unit.kind && (bytes_eq name (owner_name other.scope.unit.owner) && bytes_eq library other.scope.library)) (units_at said at)
+  architectures_are : (library name : List ℕ) (at : ℕ) → supplies index.architectures (unit_key library name) at ≡ list_any (λ other. is_architecture_kind other.scope.unit.kind && (bytes_eq name (owner_name other.scope.unit.owner) && bytes_eq library other.scope.library)) (units_at said at)
   architectures_are library name at =
-      holds.architectures (named library name) at ∙ supplied_all architecture_name said (named library name) at
-      ∙ any_same (λ other. is_called (named library name) (architecture_name other.scope.library other.scope.unit)) _ (units_at said at) (λ other. called_architecture other.scope.unit.kind library name other.scope.library other.scope.unit)
+      holds.architectures (unit_key library name) at ∙ supplied_all architecture_name said (unit_key library name) at
+      ∙ any_same (λ other. is_called (unit_key library name) (architecture_name other.scope.library other.scope.unit)) _ (units_at said at) (λ other. called_architecture other.scope.unit.kind library name other.scope.library other.scope.unit)
 
-  bodies_are : (library name : List ℕ) (at : ℕ) → supplies index.bodies (named library name) at ≡ list_any (λ other. is_body_kind other.scope.unit.kind && (bytes_eq name other.scope.unit.name && bytes_eq library other.scope.library)) (units_at said at)
+  bodies_are : (library name : List ℕ) (at : ℕ) → supplies index.bodies (unit_key library name) at ≡ list_any (λ other. is_body_kind other.scope.unit.kind && (bytes_eq name other.scope.unit.name && bytes_eq library other.scope.library)) (units_at said at)
   bodies_are library name at =
-      holds.bodies (named library name) at ∙ supplied_all body_name said (named library name) at
-      ∙ any_same (λ other. is_called (named library name) (body_name other.scope.library other.scope.unit)) _ (units_at said at) (λ other. called_body other.scope.unit.kind library name other.scope.library other.scope.unit)
+      holds.bodies (unit_key library name) at ∙ supplied_all body_name said (unit_key library name) at
+      ∙ any_same (λ other. is_called (unit_key library name) (body_name other.scope.library other.scope.unit)) _ (units_at said at) (λ other. called_body other.scope.unit.kind library name other.scope.library other.scope.unit)
 
-  entities_are : (name : List ℕ) (at : ℕ) → supplies index.entities (named [] name) at ≡ list_any (λ other. is_entity_kind other.scope.unit.kind && bytes_eq name other.scope.unit.name) (units_at said at)
+  entities_are : (name : List ℕ) (at : ℕ) → supplies index.entities (unit_key [] name) at ≡ list_any (λ other. is_entity_kind other.scope.unit.kind && bytes_eq name other.scope.unit.name) (units_at said at)
   entities_are name at =
-      holds.entities (named [] name) at ∙ supplied_all entity_name said (named [] name) at
-      ∙ any_same (λ other. is_called (named [] name) (entity_name other.scope.library other.scope.unit)) _ (units_at said at) (λ other. called_entity other.scope.unit.kind name other.scope.library other.scope.unit)
+      holds.entities (unit_key [] name) at ∙ supplied_all entity_name said (unit_key [] name) at
+      ∙ any_same (λ other. is_called (unit_key [] name) (entity_name other.scope.library other.scope.unit)) _ (units_at said at) (λ other. called_entity other.scope.unit.kind name other.scope.library other.scope.unit)
 
   -- what belongs to a unit of a kind and a name
   parts_are : (kind : UnitKind) (library name : List ℕ) (at : ℕ) → has_part index kind library name at ≡ list_any (λ other. arch_of kind library name other || body_of kind library name other) (units_at said at)
@@ -115,9 +113,9 @@ module _ (said : NeedSources) (index : Index) (holds : HoldsFiles said (length s
   parts_are kinds.Context library name at = sym (any_never (units_at said at))
 
   -- entities of one of some names
-  entities_of : (names : List (List ℕ)) (at : ℕ) → list_any (λ name. supplies index.entities (named [] name) at) names ≡ list_any (λ other. is_entity_kind other.scope.unit.kind && is_one_of names other.scope.unit.name) (units_at said at)
+  entities_of : (names : List (List ℕ)) (at : ℕ) → list_any (λ name. supplies index.entities (unit_key [] name) at) names ≡ list_any (λ other. is_entity_kind other.scope.unit.kind && is_one_of names other.scope.unit.name) (units_at said at)
   entities_of names at =
-      any_same (λ name. supplies index.entities (named [] name) at) (λ name. list_any (λ other. is_entity_kind other.scope.unit.kind && bytes_eq name other.scope.unit.name) (units_at said at)) names (λ name. entities_are name at)
+      any_same (λ name. supplies index.entities (unit_key [] name) at) (λ name. list_any (λ other. is_entity_kind other.scope.unit.kind && bytes_eq name other.scope.unit.name) (units_at said at)) names (λ name. entities_are name at)
       ∙ any_swapped (λ name other. is_entity_kind other.scope.unit.kind && bytes_eq name other.scope.unit.name) names (units_at said at)
       ∙ any_same (λ other. list_any (λ name. is_entity_kind other.scope.unit.kind && bytes_eq name other.scope.unit.name) names) (λ other. is_entity_kind other.scope.unit.kind && is_one_of names other.scope.unit.name) (units_at said at)
       (λ other. any_where (is_entity_kind other.scope.unit.kind) (λ name. bytes_eq name other.scope.unit.name) names
@@ -167,10 +165,10 @@ module _ (said : NeedSources) (tables : Tables) (known : IsKnown tables said) (i
   -- what is bound, by what is supplied
   bound_are : (at : ℕ) → binds_one tables id text tokens at ≡ (looks tables id at && list_any is_named (units_at said at))
   bound_are at =
-      any_where (looks tables id at) (λ token. supplies tables.index.now.entities (named [] (token_name text token)) at) tokens
+      any_where (looks tables id at) (λ token. supplies tables.index.now.entities (unit_key [] (token_name text token)) at) tokens
       ∙ ap (λ (b : Bool). looks tables id at && b)
-      (sym (any_map (λ name. supplies tables.index.now.entities (named [] name) at) (token_name text) tokens)
-      ∙ ap (list_any (λ name. supplies tables.index.now.entities (named [] name) at)) components
+      (sym (any_map (λ name. supplies tables.index.now.entities (unit_key [] name) at) (token_name text) tokens)
+      ∙ ap (list_any (λ name. supplies tables.index.now.entities (unit_key [] name) at)) components
       ∙ entities_of said tables.index.now known.index user.components at)
 
   abbrev Agrees : List NeedUnit → ℕ → Type 0
@@ -256,7 +254,7 @@ module _ (tables : Tables) (said : NeedSources) (are : AreTables tables) (known 
       ap (λ (one : NeedUnit). wants_of said one at) (sym (user_is said tables known id file text the_scan design tokens f_said t_said scan_there u components unit found))
       ∙ wants_are said tables known id file text the_scan design tokens f_said t_said scan_there u components at
 
-pub supplies_is : (suppliers : Suppliers) (name : SupplierName) (at : ℕ) → supplies suppliers name at ≡ has_file (files_of suppliers name) at
+pub supplies_is : (suppliers : Suppliers) (name : UnitKey) (at : ℕ) → supplies suppliers name at ≡ has_file (files_of suppliers name) at
 unfolding supplies
 supplies_is suppliers name at = refl
 

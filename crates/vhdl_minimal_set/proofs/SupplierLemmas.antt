@@ -8,9 +8,9 @@ use Rattle.std.proofs.lemmas.List.Sums.{passes_at_first}
 use Rattle.std.proofs.lemmas.Bool.Decides.{nat_tests}
 use Rattle.std.proofs.lemmas.Option.{get_or_from_slice_get}
 use Rattle.base_key_index.specs.Keys.{TakesNumber}
-use Rattle.vhdl_minimal_set.specs.Names.{is_same_name, names_decide}
+use Rattle.vhdl_keys.specs.UnitKeys.{is_same_unit, units_decide}
 use Rattle.vhdl_minimal_set.specs.Suppliers.{FitFiles, HasPut, IsPaired, files_of, has_file, supplies, with_room}
-use Rattle.vhdl_minimal_set.specs.declared.names.SupplierName.{SupplierName}
+use Rattle.vhdl_keys.specs.declared.units.UnitKey.{UnitKey}
 use Rattle.vhdl_minimal_set.specs.declared.suppliers.Suppliers.{Suppliers}
 use Rattle.vhdl_minimal_set.proofs.Tests.{or_none}
 
@@ -46,10 +46,10 @@ room_length number files few =
           (omega (arith, is, few, differ), omega (arith, is), omega (arith, is))
     ]
 
-module _ (old new : Suppliers) (name : SupplierName) (file number : ℕ) (paired : IsPaired old)
-    (number_is : number ≡ position_or_len (is_same_name name) old.names) (takes : TakesNumber name number old.names new.names) (put : HasPut number file old.files.items new.files.items) where
+module _ (old new : Suppliers) (name : UnitKey) (file number : ℕ) (paired : IsPaired old)
+    (number_is : number ≡ position_or_len (is_same_unit name) old.names) (takes : TakesNumber name number old.names new.names) (put : HasPut number file old.files.items new.files.items) where
   few : number ≤ length old.names
-  few = omega (arith, number_is, position_few (is_same_name name) old.names)
+  few = omega (arith, number_is, position_few (is_same_unit name) old.names)
 
   sizes : (number < length (with_room number old.files.items)) × (length old.files.items ≤ length (with_room number old.files.items)) × (length (with_room number old.files.items) ≤ length old.files.items + 1)
   sizes = room_length number old.files.items (omega (arith, few, paired))
@@ -57,16 +57,16 @@ module _ (old new : Suppliers) (name : SupplierName) (file number : ℕ) (paired
   new_size : length new.files.items ≡ length (with_room number old.files.items)
   new_size = ap (λ (rows : List (List ℕ)). length rows) put.is ∙ length-set (with_room number old.files.items) number put.row
 
-  itself : is_same_name name name ≡ true
-  itself = (names_decide name name).1 refl
+  itself : is_same_unit name name ≡ true
+  itself = (units_decide name name).1 refl
 
-  pub here : position_or_len (is_same_name name) new.names ≡ number
+  pub here : position_or_len (is_same_unit name) new.names ≡ number
   here = elim (cases_lt number (length old.names)) [
-    | inl low ↦ ap (position_or_len (is_same_name name)) (takes.kept low) ∙ sym number_is
+    | inl low ↦ ap (position_or_len (is_same_unit name)) (takes.kept low) ∙ sym number_is
     | inr high ↦
-        let at_end : position_or_len (is_same_name name) old.names ≡ length old.names = omega (arith, number_is, few, high) in
-        let pushed = position_or_len_push (is_same_name name) old.names name in
-        ap (position_or_len (is_same_name name)) (takes.grown high) ∙ grind (arith, nat_tests, pushed, at_end, itself, number_is)
+        let at_end : position_or_len (is_same_unit name) old.names ≡ length old.names = omega (arith, number_is, few, high) in
+        let pushed = position_or_len_push (is_same_unit name) old.names name in
+        ap (position_or_len (is_same_unit name)) (takes.grown high) ∙ grind (arith, nat_tests, pushed, at_end, itself, number_is)
   ]
 
   at_number : get_or new.files.items number [] ≡ put.row
@@ -82,40 +82,40 @@ module _ (old new : Suppliers) (name : SupplierName) (file number : ℕ) (paired
       ∙ put.has at ∙ ap (λ (k : ℕ). has_file (get_or old.files.items k []) at || file == at) number_is
 
   -- another name has the same files
-  same_files : (other : SupplierName) → is_same_name other name ≡ false → files_of new other ≡ files_of old other
+  same_files : (other : UnitKey) → is_same_unit other name ≡ false → files_of new other ≡ files_of old other
   same_files other differ = elim (cases_lt number (length old.names)) [
     | inl low ↦
-        let place = position_or_len (is_same_name other) old.names in
-        ap (λ (names : List SupplierName). get_or new.files.items (position_or_len (is_same_name other) names) []) (takes.kept low)
+        let place = position_or_len (is_same_unit other) old.names in
+        ap (λ (names : List UnitKey). get_or new.files.items (position_or_len (is_same_unit other) names) []) (takes.kept low)
         ∙ elsewhere place (λ is.
-        let passes : is_same_name other (get_or old.names place name) ≡ true = passes_at_first (is_same_name other) old.names name (omega (arith, low, is)) in
-        let found : get_or old.names place name ≡ name = ap (λ (k : ℕ). get_or old.names k name) is ∙ ap (λ (names : List SupplierName). get_or names number name) (sym (takes.kept low)) ∙ get_or_from_slice_get new.names number name name takes.numbered in
-        never (sym (ap (is_same_name other) found) ∙ passes))
+        let passes : is_same_unit other (get_or old.names place name) ≡ true = passes_at_first (is_same_unit other) old.names name (omega (arith, low, is)) in
+        let found : get_or old.names place name ≡ name = ap (λ (k : ℕ). get_or old.names k name) is ∙ ap (λ (names : List UnitKey). get_or names number name) (sym (takes.kept low)) ∙ get_or_from_slice_get new.names number name name takes.numbered in
+        never (sym (ap (is_same_unit other) found) ∙ passes))
     | inr high ↦
-        let place = position_or_len (is_same_name other) old.names in
-        let pushed = position_or_len_push (is_same_name other) old.names name in
-        let most = position_few (is_same_name other) old.names in
+        let place = position_or_len (is_same_unit other) old.names in
+        let pushed = position_or_len_push (is_same_unit other) old.names name in
+        let most = position_few (is_same_unit other) old.names in
         elim (cases_lt place (length old.names)) [
           | inl within ↦
-              let same : position_or_len (is_same_name other) new.names ≡ place = ap (position_or_len (is_same_name other)) (takes.grown high) ∙ grind (arith, nat_tests, pushed, within) in
+              let same : position_or_len (is_same_unit other) new.names ≡ place = ap (position_or_len (is_same_unit other)) (takes.grown high) ∙ grind (arith, nat_tests, pushed, within) in
               ap (λ (k : ℕ). get_or new.files.items k []) same ∙ elsewhere place (λ is. omega (arith, within, is, high))
           | inr past ↦
               let at_end : place ≡ length old.names = omega (arith, most, past) in
-              let next : position_or_len (is_same_name other) new.names ≡ length old.names + 1 = ap (position_or_len (is_same_name other)) (takes.grown high) ∙ grind (arith, nat_tests, pushed, at_end, differ) in
+              let next : position_or_len (is_same_unit other) new.names ≡ length old.names + 1 = ap (position_or_len (is_same_unit other)) (takes.grown high) ∙ grind (arith, nat_tests, pushed, at_end, differ) in
               ap (λ (k : ℕ). get_or new.files.items k []) next ∙ nowhere new.files.items (length old.names + 1) [] (omega (arith, new_size, sizes.2, paired))
               ∙ sym (nowhere old.files.items place [] (omega (arith, paired, past)))
         ]
   ] where
-    never : is_same_name other name ≡ true → ⊥
+    never : is_same_unit other name ≡ true → ⊥
     never is = let contra : false ≡ true = sym differ ∙ is in cc
 
   -- the file supplies a unit of the name
-  pub supplied : (other : SupplierName) (at : ℕ) → supplies new other at ≡ (supplies old other at || (is_same_name other name && file == at))
+  pub supplied : (other : UnitKey) (at : ℕ) → supplies new other at ≡ (supplies old other at || (is_same_unit other name && file == at))
   unfolding supplies
-  supplied other at = elim (cases_Bool (is_same_name other name)) [
+  supplied other at = elim (cases_Bool (is_same_unit other name)) [
     | inl same ↦
-        let is : other ≡ name = (names_decide other name).0 same in
-        subst (λ (n : SupplierName). supplies new n at ≡ (supplies old n at || file == at)) (sym is) (has_here at)
+        let is : other ≡ name = (units_decide other name).0 same in
+        subst (λ (n : UnitKey). supplies new n at ≡ (supplies old n at || file == at)) (sym is) (has_here at)
         ∙ ap (λ (b : Bool). supplies old other at || (b && file == at)) (sym same)
     | inr differ ↦
         ap (λ (rows : List ℕ). has_file rows at) (same_files other differ) ∙ sym (or_none (supplies old other at))
@@ -126,15 +126,15 @@ module _ (old new : Suppliers) (name : SupplierName) (file number : ℕ) (paired
   paired_now = elim (cases_lt number (length old.names)) [
     | inl low ↦
         let room : length (with_room number old.files.items) ≡ length old.files.items = ap (λ (b : Bool). length (cond b (old.files.items ++ [] ∷ []) old.files.items)) (ne_eqb number (length old.files.items) (λ is. omega (arith, is, low, paired))) in
-        omega (arith, new_size, room, paired, ap (λ (names : List SupplierName). length names) (takes.kept low))
+        omega (arith, new_size, room, paired, ap (λ (names : List UnitKey). length names) (takes.kept low))
     | inr high ↦
         let room : length (with_room number old.files.items) ≡ length old.files.items + 1 = ap (λ (b : Bool). length (cond b (old.files.items ++ [] ∷ []) old.files.items)) (eq-eqb number (length old.files.items) (omega (arith, few, high, paired))) ∙ length_push old.files.items [] in
-        omega (arith, new_size, room, paired, ap (λ (names : List SupplierName). length names) (takes.grown high), length_push old.names name)
+        omega (arith, new_size, room, paired, ap (λ (names : List UnitKey). length names) (takes.grown high), length_push old.names name)
   ]
 
-pub fit_put : (count file number : ℕ) (old new : Suppliers) (name : SupplierName) → IsPaired old → number ≡ position_or_len (is_same_name name) old.names → TakesNumber name number old.names new.names → HasPut number file old.files.items new.files.items → All (λ (some : List ℕ). All (λ other. other < count) some) new.files.items → FitFiles count new
+pub fit_put : (count file number : ℕ) (old new : Suppliers) (name : UnitKey) → IsPaired old → number ≡ position_or_len (is_same_unit name) old.names → TakesNumber name number old.names new.names → HasPut number file old.files.items new.files.items → All (λ (some : List ℕ). All (λ other. other < count) some) new.files.items → FitFiles count new
 fit_put count file number old new name paired number_is takes put within = record { paired = paired_now old new name file number paired number_is takes put; within = within }
 
-pub none_supplied : (suppliers : Suppliers) (name : SupplierName) (at : ℕ) → suppliers.files.items ≡ [] → supplies suppliers name at ≡ false
+pub none_supplied : (suppliers : Suppliers) (name : UnitKey) (at : ℕ) → suppliers.files.items ≡ [] → supplies suppliers name at ≡ false
 unfolding supplies
-none_supplied suppliers name at none = ap (λ (rows : List (List ℕ)). has_file (get_or rows (position_or_len (is_same_name name) suppliers.names) []) at) none
+none_supplied suppliers name at none = ap (λ (rows : List (List ℕ)). has_file (get_or rows (position_or_len (is_same_unit name) suppliers.names) []) at) none

@@ -1,5 +1,4 @@
 -- The definitions of this crate.
-pub mod Names
 pub mod MinimalSet
 pub mod Suppliers
 pub mod Taking

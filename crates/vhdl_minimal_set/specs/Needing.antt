@@ -9,6 +9,7 @@ use Rattle.base.specs.declared.project.ProjectFile.{ProjectFile}
 use Rattle.base.specs.declared.refs.UnitId.{UnitId}
 use Rattle.vhdl_outlines.specs.declared.outlines.FileOutline.{FileOutline}
 use Rattle.vhdl_scope.specs.Tables.{AreVisible, table_sees}
+use Rattle.vhdl_keys.specs.UnitKeys.{unit_key}
 use Rattle.vhdl_units.specs.Names.{token_name}
 use Rattle.vhdl_minimal_set.specs.MinimalSet.{NeedSources, needs}
 use Rattle.vhdl_minimal_set.specs.Sources.{AreNeeds, AreSources}
@@ -56,12 +57,12 @@ looks tables id at = bytes_eq (library_at tables id.file) (library_at tables at)
 
 -- a file supplies an entity of a name in a library that a unit looks into
 abbrev pub binds : Tables → UnitId → List ℕ → ℕ → Bool
-binds tables id name at = looks tables id at && supplies tables.index.now.entities (record { library = []; name = name }) at
+binds tables id name at = looks tables id at && supplies tables.index.now.entities (unit_key [] name) at
 
 -- a file supplies what belongs to a unit of a kind
 abbrev pub has_part : Index → UnitKind → List ℕ → List ℕ → ℕ → Bool
-has_part index kinds.Entity library name at = supplies index.architectures (record { library = library; name = name }) at
-has_part index kinds.Package library name at = supplies index.bodies (record { library = library; name = name }) at
+has_part index kinds.Entity library name at = supplies index.architectures (unit_key library name) at
+has_part index kinds.Package library name at = supplies index.bodies (unit_key library name) at
 has_part index _ library name at = false
 
 -- a component of one of these tokens in a unit may be bound to an entity of a file

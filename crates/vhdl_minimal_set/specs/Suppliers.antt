@@ -6,14 +6,14 @@ use Rattle.base.specs.declared.design.UnitKind.{UnitKind}
 use Rattle.base.specs.declared.design.UnitKind.TheVariants as kinds
 use Rattle.vhdl_spec.specs.References.{owner_name}
 use Rattle.vhdl_minimal_set.specs.MinimalSet.{NeedSources, units_at}
-use Rattle.vhdl_minimal_set.specs.Names.{is_same_name}
-use Rattle.vhdl_minimal_set.specs.declared.names.SupplierName.{SupplierName}
+use Rattle.vhdl_keys.specs.UnitKeys.{is_same_unit, unit_key}
+use Rattle.vhdl_keys.specs.declared.units.UnitKey.{UnitKey}
 use Rattle.vhdl_minimal_set.specs.declared.suppliers.Suppliers.{Suppliers}
 use Rattle.vhdl_minimal_set.specs.declared.index.Index.{Index}
 
 -- the files of a name
-abbrev pub files_of : Suppliers → SupplierName → List ℕ
-files_of suppliers name = slice_index_or suppliers.files.items (position_or_len (is_same_name name) suppliers.names) []
+abbrev pub files_of : Suppliers → UnitKey → List ℕ
+files_of suppliers name = slice_index_or suppliers.files.items (position_or_len (is_same_unit name) suppliers.names) []
 
 -- whether a file is in a list of positions
 abbrev pub has_file : List ℕ → ℕ → Bool
@@ -30,7 +30,7 @@ pub record HasPut (number file : ℕ) (old new : List (List ℕ)) : Type 0 where
   pub has : (at : ℕ) → has_file row at ≡ (has_file (slice_index_or old number []) at || file == at)
 
 -- a file supplies a unit of a name
-unfoldable pub supplies : Suppliers → SupplierName → ℕ → Bool
+unfoldable pub supplies : Suppliers → UnitKey → ℕ → Bool
 supplies suppliers name at = has_file (files_of suppliers name) at
 
 -- each name has a list of files
@@ -50,23 +50,23 @@ pub record IsVoid (suppliers : Suppliers) : Type 0 where
 -- ## What units are called
 
 -- an architecture by its entity, in its library
-abbrev pub architecture_by : UnitKind → List ℕ → DesignUnit → Option SupplierName
-architecture_by kinds.Architecture library unit = Some (record { library = library; name = owner_name unit.owner })
+abbrev pub architecture_by : UnitKind → List ℕ → DesignUnit → Option UnitKey
+architecture_by kinds.Architecture library unit = Some (unit_key library (owner_name unit.owner))
 architecture_by _ library unit = None
 
 -- a body by its package, in its library
-abbrev pub body_by : UnitKind → List ℕ → DesignUnit → Option SupplierName
-body_by kinds.PackageBody library unit = Some (record { library = library; name = unit.name })
+abbrev pub body_by : UnitKind → List ℕ → DesignUnit → Option UnitKey
+body_by kinds.PackageBody library unit = Some (unit_key library unit.name)
 body_by _ library unit = None
 
 -- an entity by its name alone
-abbrev pub entity_by : UnitKind → List ℕ → DesignUnit → Option SupplierName
-entity_by kinds.Entity library unit = Some (record { library = []; name = unit.name })
+abbrev pub entity_by : UnitKind → List ℕ → DesignUnit → Option UnitKey
+entity_by kinds.Entity library unit = Some (unit_key [] unit.name)
 entity_by _ library unit = None
 
 -- how units of one kind are called where they are needed, by their library; nothing for units of other kinds
 abbrev pub Naming : Type 0
-Naming = List ℕ → DesignUnit → Option SupplierName
+Naming = List ℕ → DesignUnit → Option UnitKey
 
 -- architectures are called by their entity
 abbrev pub architecture_name : Naming
@@ -81,18 +81,18 @@ abbrev pub entity_name : Naming
 entity_name library unit = entity_by unit.kind library unit
 
 -- whether a unit is called by this name
-abbrev pub is_called : SupplierName → Option SupplierName → Bool
+abbrev pub is_called : UnitKey → Option UnitKey → Bool
 is_called name None = false
-is_called name (Some other) = is_same_name name other
+is_called name (Some other) = is_same_unit name other
 
 -- whether one of some units of a library is called by this name
-abbrev pub calls_one : Naming → List ℕ → List DesignUnit → SupplierName → Bool
+abbrev pub calls_one : Naming → List ℕ → List DesignUnit → UnitKey → Bool
 calls_one naming library units name = list_any (λ unit. is_called name (naming library unit)) units
 
 -- the units of a file that a naming calls were added
 pub record Adds (naming : Naming) (library : List ℕ) (units : List DesignUnit) (file count : ℕ) (old new : Suppliers) : Type 0 where
   pub fit : FitFiles count new
-  pub all : (name : SupplierName) (at : ℕ) → supplies new name at ≡ (supplies old name at || (file == at && calls_one naming library units name))
+  pub all : (name : UnitKey) (at : ℕ) → supplies new name at ≡ (supplies old name at || (file == at && calls_one naming library units name))
 
 -- the architectures, bodies and entities of a file were added
 pub record AddsAll (library : List ℕ) (units : List DesignUnit) (file count : ℕ) (old new : Index) : Type 0 where
@@ -115,12 +115,12 @@ pub record AreVoid (index : Index) : Type 0 where
 -- ## The units of a project
 
 -- whether a file before a position has a unit that is called by this name
-abbrev pub is_supplied : Naming → NeedSources → ℕ → SupplierName → ℕ → Bool
+abbrev pub is_supplied : Naming → NeedSources → ℕ → UnitKey → ℕ → Bool
 is_supplied naming sources end name at = nat_lt at end && list_any (λ unit. is_called name (naming unit.scope.library unit.scope.unit)) (units_at sources at)
 
 -- for each name exactly the files before a position that supply a unit that is called so
 abbrev pub HoldsSuppliers : Naming → NeedSources → ℕ → Suppliers → Type 0
-HoldsSuppliers naming sources end suppliers = (name : SupplierName) (at : ℕ) → supplies suppliers name at ≡ is_supplied naming sources end name at
+HoldsSuppliers naming sources end suppliers = (name : UnitKey) (at : ℕ) → supplies suppliers name at ≡ is_supplied naming sources end name at
 
 -- the units of the files before a position
 pub record HoldsFiles (sources : NeedSources) (end : ℕ) (index : Index) : Type 0 where

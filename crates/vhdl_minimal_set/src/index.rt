@@ -1,16 +1,15 @@
 //! The units of a project by what they are called where they are needed.
 
 ghost use Rattle.std.specs.Prelude.{◌≡◌, ◌+◌, ◌<◌, [], ◌∷◌, length, IfOk, OnOk};
-ghost use Rattle.vhdl_spec.specs.References.{owner_name};
 ghost use Rattle.vhdl_minimal_set.specs.MinimalSet.{NeedSources};
 ghost use Rattle.vhdl_minimal_set.specs.Sources.{AreNeeds, AreSources};
 ghost use Rattle.vhdl_minimal_set.specs.Suppliers.{Adds, AddsAll, AreVoid, FitAll, FitFiles, HoldsFiles, IsVoid, architecture_name, body_name, entity_name};
 
-use crate::names::name_of;
 use crate::sources::Sources;
 use crate::suppliers::{Suppliers, add, no_suppliers};
-use base::{FILE_LIMIT, MaybeText, NoMemory, Text, Unit, UnitKind};
+use base::{FILE_LIMIT, NoMemory, Text, Unit, UnitKind};
 use std::alloc::Global;
+use vhdl_keys::{owner_name, unit_key};
 use vhdl_outlines::room_for_units;
 
 /// The files that supply architectures by their entities, bodies by their packages, and entities by their names alone.
@@ -19,16 +18,6 @@ pub struct Index {
     pub architectures: Suppliers,
     pub bodies: Suppliers,
     pub entities: Suppliers,
-}
-
-/// The name of an owner, which is empty where there is none.
-fn owner_text(alloc: Global, owner: &MaybeText) -> Result<Text, NoMemory>
-    ensures { IfOk result (λ name. name ≡ owner_name owner.now) }
-{
-    match owner {
-        MaybeText::Nothing => Ok(Text::new(alloc)),
-        MaybeText::Given(name) => name.copy(alloc),
-    }
 }
 
 /// Adds the file of a unit, where that is an architecture.
@@ -47,8 +36,7 @@ fn add_architecture(
 {
     match unit.kind {
         UnitKind::Architecture => {
-            let owner = owner_text(alloc, &unit.owner)?;
-            let name = name_of(alloc, library.bytes(), &owner)?;
+            let name = unit_key(alloc, library.bytes(), owner_name(&unit.owner))?;
             add(alloc, suppliers, name, file)?;
             Ok(())
         }
@@ -72,7 +60,7 @@ fn add_body(
 {
     match unit.kind {
         UnitKind::PackageBody => {
-            let name = name_of(alloc, library.bytes(), &unit.name)?;
+            let name = unit_key(alloc, library.bytes(), unit.name.bytes())?;
             add(alloc, suppliers, name, file)?;
             Ok(())
         }
@@ -96,7 +84,7 @@ fn add_entity(
 {
     match unit.kind {
         UnitKind::Entity => {
-            let name = name_of(alloc, b"".as_slice(), &unit.name)?;
+            let name = unit_key(alloc, b"".as_slice(), unit.name.bytes())?;
             add(alloc, suppliers, name, file)?;
             Ok(())
         }

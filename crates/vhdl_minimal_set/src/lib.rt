@@ -2,7 +2,6 @@
 #![tactic(auto)]
 
 mod index;
-mod names;
 mod needed;
 mod places;
 mod sources;

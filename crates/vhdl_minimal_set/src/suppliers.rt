@@ -4,19 +4,19 @@ ghost use Rattle.std.specs.List.{All};
 ghost use Rattle.std.specs.Prelude.{◌≡◌, ◌<◌, ◌≤◌, ◌==◌, ◌||◌, ◌&&◌, ◌∷◌, ◌++◌, ℕ, [], true, false, if◌then◌else◌, length, IfOk, OnOk};
 ghost use Rattle.base.specs.declared.design.Unit.{Unit as DesignUnit};
 ghost use Rattle.vhdl_spec.specs.References.{owner_name};
-ghost use Rattle.vhdl_minimal_set.specs.Names.{is_same_name};
+ghost use Rattle.vhdl_keys.specs.UnitKeys.{is_same_unit};
 ghost use Rattle.vhdl_minimal_set.specs.Suppliers.{FitFiles, HasPut, IsPaired, IsVoid, files_of, has_file, supplies};
-ghost use Rattle.vhdl_minimal_set.specs.declared.names.SupplierName.{SupplierName as Named};
+ghost use Rattle.vhdl_keys.specs.declared.units.UnitKey.{UnitKey as Named};
 
-use crate::names::SupplierName;
 use base::{Items, NoMemory, Positions};
 use base_key_index::KeyNumbers;
 use std::alloc::Global;
+use vhdl_keys::UnitKey;
 
 /// The files that supply units, by what the units are called where they are needed.
 #[derive(Drop)]
 pub struct Suppliers {
-    pub names: KeyNumbers<SupplierName>,
+    pub names: KeyNumbers<UnitKey>,
     pub files: Vec<Positions>,
 }
 
@@ -86,14 +86,14 @@ fn put_file(
 pub fn add(
     alloc: Global,
     suppliers: &mut Suppliers,
-    name: SupplierName,
+    name: UnitKey,
     file: u32,
 ) -> Result<(), NoMemory>
     requires { IsPaired suppliers.old }
     ensures fit { (count : ℕ) → file < count → FitFiles count suppliers.old →
         OnOk result (FitFiles count suppliers.new) }
     ensures added { OnOk result ((other : Named) (at : ℕ) → supplies suppliers.new other at
-        ≡ (supplies suppliers.old other at || (is_same_name other name && file == at))) }
+        ≡ (supplies suppliers.old other at || (is_same_unit other name && file == at))) }
 {
     let number = suppliers.names.add(name)?;
     put_file(alloc, &mut suppliers.files, number, file)?;
@@ -103,7 +103,7 @@ pub fn add(
 static NOTHING: [u32; 0] = [];
 
 /// The files that supply a unit of a name.
-pub fn files_of<'a>(suppliers: &'a Suppliers, name: &SupplierName) -> &'a [u32]
+pub fn files_of<'a>(suppliers: &'a Suppliers, name: &UnitKey) -> &'a [u32]
     requires { IsPaired suppliers.now }
     ensures is { result.now ≡ files_of suppliers.entry.now name.now }
     ensures within { (count : ℕ) → FitFiles count suppliers.entry.now →

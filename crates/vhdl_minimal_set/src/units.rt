@@ -11,14 +11,15 @@ ghost use Rattle.vhdl_minimal_set.specs.Needing.{AreTables, IsKnown, binds, bind
 ghost use Rattle.vhdl_minimal_set.specs.Suppliers.{FitAll, FitFiles, has_file, supplies};
 ghost use Rattle.vhdl_minimal_set.specs.Taking.{AreTaken, Grows, Takes};
 ghost use Rattle.order_spec.specs.BuildOrder.{AreEdges};
+ghost use Rattle.vhdl_keys.specs.UnitKeys.{unit_key};
 
 use crate::index::Index;
-use crate::names::{SupplierName, name_of};
 use crate::sources::Sources;
 use crate::suppliers::{Suppliers, files_of};
 use crate::taken::{Taken, is_in, take, take_all, take_earlier};
 use base::{Edges, FILE_LIMIT, NoMemory, Text, Token, Unit, UnitId, UnitKind};
 use std::alloc::Global;
+use vhdl_keys::{UnitKey, unit_key};
 use vhdl_scope::VisibleLibraries;
 use vhdl_units::name_of_token;
 
@@ -44,11 +45,11 @@ fn take_named(
     requires before { AreTaken count taken.old }
     ensures grows { OnOk result (Grows count taken.old taken.new) }
     ensures takes { OnOk result (Takes
-        (supplies suppliers.now (record { library = library.now; name = name.now }))
+        (supplies suppliers.now (unit_key library.now name.now))
         taken.old taken.new) }
 {
-    let name = name_of(alloc, library.bytes(), name)?;
-    take_all(count, files_of(suppliers, &name), taken)?;
+    let key = unit_key(alloc, library.bytes(), name.bytes())?;
+    take_all(count, files_of(suppliers, &key), taken)?;
     Ok(())
 }
 
@@ -168,12 +169,12 @@ fn take_bound(
     ensures takes { OnOk result (Takes (binds tables.entry id (token_name text.now component))
         taken.old taken.new) }
 {
-    let name = SupplierName {
+    let key = UnitKey {
         library: Text::new(alloc),
         name: name_of_token(text, component, room)?,
     };
-    take_all_seen(tables, id, files_of(&tables.index.entities, &name), taken)?;
-    let SupplierName { library: _, name } = name;
+    take_all_seen(tables, id, files_of(&tables.index.entities, &key), taken)?;
+    let UnitKey { library: _, name } = key;
     Ok(name)
 }
 

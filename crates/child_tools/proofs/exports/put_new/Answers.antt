@@ -1,8 +1,8 @@
 -- What is put is there.
 use Rattle.std.proofs.Common.{◌≡◌, true, cond, Some, subst}
 use Rattle.base_key_index.specs.Maps.{get}
-use Rattle.child_tools.specs.NameOrder.{is_same_unit}
-use Rattle.child_tools.specs.declared.names.UnitName.{UnitName}
+use Rattle.vhdl_keys.specs.UnitKeys.{is_same_unit}
+use Rattle.vhdl_keys.specs.declared.units.UnitKey.{UnitKey}
 use Rattle.child_tools.proofs.MissingLemmas.{has_put}
 use Rattle.child_tools.proofs.exports.put_new.Goals as goal
 
@@ -11,4 +11,4 @@ returns c =
     let old = c.args.libraries.now in
     let new = c.insert.new.self in
     has_put c.args.library.now old new
-    (subst (λ (key : UnitName). (other : UnitName) → get is_same_unit new other ≡ cond (is_same_unit key other) (Some true) (get is_same_unit old other)) c.in_ok-library_key.ensures c.in_ok-insert.ensures.updates)
+    (subst (λ (key : UnitKey). (other : UnitKey) → get is_same_unit new other ≡ cond (is_same_unit key other) (Some true) (get is_same_unit old other)) c.in_ok-library_key.ensures c.in_ok-insert.ensures.updates)

@@ -6,15 +6,12 @@ use Rattle.vhdl_spec.specs.Dependencies.{is_architecture_kind}
 use Rattle.vhdl_spec.specs.References.{owner_name}
 use Rattle.test_scan.specs.Architectures.{one_more}
 use Rattle.test_scan.specs.Benches.{design_unit, unit_library}
-use Rattle.test_scan.specs.Entities.{is_same_entity}
+use Rattle.vhdl_keys.specs.UnitKeys.{is_same_unit, unit_key}
 use Rattle.test_scan.specs.Files.{scanned}
 use Rattle.test_scan.specs.declared.architectures.Architectures.{Architectures}
-use Rattle.test_scan.specs.declared.key.EntityKey.{EntityKey}
+use Rattle.vhdl_keys.specs.declared.units.UnitKey.{UnitKey}
 use Rattle.test_scan.proofs.Owners.{found_in, holds_one, holds_other, more_in}
 use Rattle.test_scan.proofs.architectures.add_unit.Goals as goal
-
-abbrev named : List ℕ → List ℕ → EntityKey
-named library entity = record { library = library; entity = entity }
 
 pub returns-then-not-is_architecture-clause-added : goal.returns-then-not-is_architecture-clause-added
 returns-then-not-is_architecture-clause-added c scans ids are holds =
@@ -23,7 +20,7 @@ returns-then-not-is_architecture-clause-added c scans ids are holds =
 
 pub returns-clause-within : goal.returns-clause-within
 returns-clause-within c =
-    let found : c.architectures_of.result ≡ get is_same_entity c.args.index.now c.in_ok-key.key = c.architectures_of.ensures in
+    let found : c.architectures_of.result ≡ get is_same_unit c.args.index.now c.in_ok-key.key = c.architectures_of.ensures in
     found_in c.args.files c.args.index.now c.insert.new.self c.in_ok-key.key c.one_more-more.result c.requires.within
     (more_in c.args.files c.architectures_of.result c.args.id c.one_more-more.result c.requires.id (λ one told. c.requires.within c.in_ok-key.key one (sym found ∙ told)) c.one_more-more.ensures)
     c.in_ok-insert.ensures.updates
@@ -32,8 +29,8 @@ pub returns-clause-added : goal.returns-clause-added
 returns-clause-added c scans ids are holds =
     let sources = scanned c.args.files scans in
     let located = c.find-found.ensures.located scans are in
-    let key : c.in_ok-key.key ≡ named (unit_library sources c.args.id) (owner_name (design_unit sources c.args.id).owner) =
-    c.in_ok-key.ensures ∙ ap (λ (l : List ℕ). named l (owner_name c.find-found.result.unit.now.owner)) located.library ∙ ap (λ (u : DesignUnit). named (unit_library sources c.args.id) (owner_name u.owner)) located.unit in
+    let key : c.in_ok-key.key ≡ unit_key (unit_library sources c.args.id) (owner_name (design_unit sources c.args.id).owner) =
+    c.in_ok-key.ensures ∙ ap (λ (l : List ℕ). unit_key l (owner_name c.find-found.result.unit.now.owner)) located.library ∙ ap (λ (u : DesignUnit). unit_key (unit_library sources c.args.id) (owner_name u.owner)) located.unit in
     holds_one sources ids c.args.id c.args.index.now c.insert.new.self c.in_ok-key.key c.one_more-more.result holds
     (ap (λ (u : DesignUnit). is_architecture_kind u.kind) (sym located.unit) ∙ sym c.is_architecture.ensures ∙ c.if-not-is_architecture.false)
     key (c.one_more-more.ensures ∙ ap (λ (o : Option Architectures). one_more o c.args.id) c.architectures_of.ensures) c.in_ok-insert.ensures.updates

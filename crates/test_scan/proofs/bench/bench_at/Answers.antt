@@ -6,17 +6,14 @@ use Rattle.vhdl_benches.specs.declared.bench.Bench.{Bench}
 use Rattle.base.specs.declared.design.Unit.{Unit as DesignUnit}
 use Rattle.test_scan.specs.Architectures.{first_of_some}
 use Rattle.test_scan.specs.Benches.{architectures_of, design_unit, unit_library, unit_numbers}
-use Rattle.test_scan.specs.Entities.{is_same_entity}
+use Rattle.vhdl_keys.specs.UnitKeys.{is_same_unit, same_parts, unit_key}
 use Rattle.test_scan.specs.Files.{scanned}
-use Rattle.test_scan.specs.declared.key.EntityKey.{EntityKey}
+use Rattle.vhdl_keys.specs.declared.units.UnitKey.{UnitKey}
 use Rattle.test_scan.proofs.Owners.{first_right, one_found}
 use Rattle.test_scan.proofs.bench.bench_at.Goals as goal
 
 pub bench_of-requires-clause-architecture : goal.bench_of-requires-clause-architecture
 bench_of-requires-clause-architecture c = c.requires.within c.in_ok-key.key c.in-Some.architectures (sym c.architectures_of.ensures ∙ c.in-Some.is)
-
-abbrev named : List ℕ → List ℕ → EntityKey
-named library entity = record { library = library; entity = entity }
 
 pub returns : goal.returns
 returns c scans are holds =
@@ -24,8 +21,8 @@ returns c scans are holds =
     let located = c.find-found.ensures.located scans are in
     let library = unit_library sources c.args.entity in
     let name = (design_unit sources c.args.entity).name in
-    let key : c.in_ok-key.key ≡ named library name = c.in_ok-key.ensures ∙ ap (λ (l : List ℕ). named l c.find-found.result.unit.now.name) located.library ∙ ap (λ (u : DesignUnit). named library u.name) located.unit in
+    let key : c.in_ok-key.key ≡ unit_key library name = c.in_ok-key.ensures ∙ same_parts _ _ _ _ (c.bytes.ensures ∙ located.library) (c.bytes-2.ensures ∙ ap (λ (u : DesignUnit). u.name) located.unit) in
     let found : first_of_some (architectures_of sources library name) ≡ Some c.in-Some.architectures =
-    sym (holds (named library name)) ∙ ap (λ (k : EntityKey). get is_same_entity c.args.index.now k) (sym key) ∙ sym c.architectures_of.ensures ∙ c.in-Some.is in
+    sym (holds (unit_key library name)) ∙ ap (λ (k : UnitKey). get is_same_unit c.args.index.now k) (sym key) ∙ sym c.architectures_of.ensures ∙ c.in-Some.is in
     one_found sources c.args.entity (architectures_of sources library name) c.in-Some.architectures found c.if-architectures.false
     ∙ ap (λ (b : Bench). Ok b) (sym (c.in_ok-bench_of.ensures scans are (first_right sources library name (unit_numbers scans) c.in-Some.architectures found)))

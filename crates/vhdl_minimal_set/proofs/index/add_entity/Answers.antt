@@ -1,5 +1,5 @@
 -- It is called so.
-use Rattle.std.proofs.Common.{◌∙◌, [], refl, ap}
+use Rattle.std.proofs.Common.{◌∙◌, [], ap}
 use Rattle.base.specs.declared.design.UnitKind.{UnitKind}
 use Rattle.vhdl_minimal_set.specs.Suppliers.{entity_by, entity_name}
 use Rattle.vhdl_minimal_set.proofs.IndexLemmas.{adds_one, named_as}
@@ -9,4 +9,4 @@ pub returns-in_ok-add-in-Entity : goal.returns-in_ok-add-in-Entity
 returns-in_ok-add-in-Entity c =
     adds_one entity_name c.args.library.now c.args.unit.now c.args.file c.args.count c.args.suppliers.now c.add.new.suppliers c.in_ok-name-in-Entity.name
     (c.in_ok-add-in-Entity.ensures.fit c.args.count c.requires.file c.requires.fit) c.in_ok-add-in-Entity.ensures.added
-    (ap (λ (kind : UnitKind). entity_by kind c.args.library.now c.args.unit.now) c.in-Entity.is ∙ named_as [] c.as_slice.result.now c.args.unit.now.name c.args.unit.now.name c.in_ok-name-in-Entity.name c.in_ok-name-in-Entity.ensures c.as_slice.ensures refl)
+    (ap (λ (kind : UnitKind). entity_by kind c.args.library.now c.args.unit.now) c.in-Entity.is ∙ named_as [] c.as_slice.result.now c.args.unit.now.name c.bytes.result.now c.in_ok-name-in-Entity.name c.in_ok-name-in-Entity.ensures c.as_slice.ensures c.bytes.ensures)
