@@ -17,7 +17,7 @@ use Rattle.base.specs.declared.linking.LinkFault.TheVariants.{NoMemory, Duplicat
 use Rattle.base.specs.declared.project.ProjectFile.{ProjectFile}
 use Rattle.vhdl_spec.specs.Dependencies.{LinkUnit, first_duplicate, is_alike, is_package_kind, link_unit, link_units}
 use Rattle.vhdl_graph.specs.declared.index.Place.{Place}
-use Rattle.vhdl_graph.specs.Keys.{UnitKey, is_same_key, key_of, unit_key}
+use Rattle.vhdl_graph.specs.Keys.{DesignUnitKey, is_same_key, key_of, design_unit_key}
 use Rattle.vhdl_graph.specs.Indexes.{AreDistinct, ArePlacesOfFiles, GivesOrFaults, GivesPlace, HoldsUnits, IsFaultOf, IsIndex, IsOfFile, IsUnitOf, Refuses, fault_before, unit_place, unit_named}
 use Rattle.vhdl_graph.proofs.KeyLemmas.{alike_is, same_key, told_key}
 
@@ -38,13 +38,13 @@ none_some : {X : Type 0} (x : X) → ◌≡◌ {A = Option X} None (Some x) → 
 none_some x e = cc
 
 -- the unit of a name in an index
-pub named_some : (units : List LinkUnit) (key : UnitKey) (place : Place) → option_map unit_place (unit_named units key) ≡ Some place → (unit : LinkUnit) × (unit_named units key ≡ Some unit) × (unit_place unit ≡ place)
+pub named_some : (units : List LinkUnit) (key : DesignUnitKey) (place : Place) → option_map unit_place (unit_named units key) ≡ Some place → (unit : LinkUnit) × (unit_named units key ≡ Some unit) × (unit_place unit ≡ place)
 named_some units key place told = by_unit (unit_named units key) refl where
   by_unit : (found : Option LinkUnit) → unit_named units key ≡ found → (unit : LinkUnit) × (unit_named units key ≡ Some unit) × (unit_place unit ≡ place)
   by_unit None is = let never : ⊥ = none_some place (ap (option_map unit_place) (sym is) ∙ told) in absurd never
   by_unit (Some unit) is = (unit, is, (let e : Some (unit_place unit) ≡ Some place = ap (option_map unit_place) (sym is) ∙ told in cc))
 
-pub named_none : (units : List LinkUnit) (key : UnitKey) → option_map unit_place (unit_named units key) ≡ None → unit_named units key ≡ None
+pub named_none : (units : List LinkUnit) (key : DesignUnitKey) → option_map unit_place (unit_named units key) ≡ None → unit_named units key ≡ None
 named_none units key told = by_unit (unit_named units key) refl where
   by_unit : (found : Option LinkUnit) → unit_named units key ≡ found → unit_named units key ≡ None
   by_unit None is = is
@@ -52,13 +52,13 @@ named_none units key told = by_unit (unit_named units key) refl where
 
 -- ## One unit more
 
-module _ (files : List ProjectFile) (units : List LinkUnit) (unit : LinkUnit) (old new : Entries UnitKey Place) (is : IsIndex files units old) (of : IsOfFile files unit) (absent : unit_named units (key_of unit) ≡ None) (updates : GivesPlace old new (key_of unit) (unit_place unit)) where
+module _ (files : List ProjectFile) (units : List LinkUnit) (unit : LinkUnit) (old new : Entries DesignUnitKey Place) (is : IsIndex files units old) (of : IsOfFile files unit) (absent : unit_named units (key_of unit) ≡ None) (updates : GivesPlace old new (key_of unit) (unit_place unit)) where
   holds : HoldsUnits new (units ++ unit ∷ [])
   holds key = updates key ∙ by_key (is_same_key (key_of unit) key) refl ∙ sym (ap (option_map unit_place) (find-append (λ u. is_same_key key (key_of u)) units (unit ∷ []))) where
     by_key : (b : Bool) → is_same_key (key_of unit) key ≡ b → cond b (Some (unit_place unit)) (get is_same_key old key) ≡ option_map unit_place (option_or (unit_named units key) (cond (is_same_key key (key_of unit)) (Some unit) None))
     by_key true told =
         let same : key_of unit ≡ key = same_key (key_of unit) key told in
-        let none : unit_named units key ≡ None = subst (λ (k : UnitKey). unit_named units k ≡ None) same absent in
+        let none : unit_named units key ≡ None = subst (λ (k : DesignUnitKey). unit_named units k ≡ None) same absent in
         let back : is_same_key key (key_of unit) ≡ true = told_key key (key_of unit) (sym same) in
         rw none (rw back refl)
     by_key false told =
@@ -93,7 +93,7 @@ module _ (files : List ProjectFile) (units : List LinkUnit) (unit : LinkUnit) (o
     of_at = grind (arith, common_steps, is.of, of)
 
 -- places of one unit more
-pub places_more : (files : ℕ) (old new : Entries UnitKey Place) (key : UnitKey) (place : Place) → ArePlacesOfFiles files old → place.file < files → GivesPlace old new key place → ArePlacesOfFiles files new
+pub places_more : (files : ℕ) (old new : Entries DesignUnitKey Place) (key : DesignUnitKey) (place : Place) → ArePlacesOfFiles files old → place.file < files → GivesPlace old new key place → ArePlacesOfFiles files new
 places_more files old new key place are within updates other found told = by_key (is_same_key key other) refl where
   by_key : (b : Bool) → is_same_key key other ≡ b → found.file < files
   by_key true is = let e : Some place ≡ Some found = sym (cond-true (is_same_key key other) (Some place) (get is_same_key old other) is) ∙ (sym (updates other) ∙ told) in let same : place ≡ found = cc in subst (λ (p : Place). p.file < files) same within
@@ -113,13 +113,13 @@ some_same : {X : Type 0} (x y : X) → ◌≡◌ {A = Option X} (Some x) (Some y
 some_same x y e = cc
 
 -- the name of a unit of a file
-pub key_is : (files : List ProjectFile) (file : ℕ) (named : ProjectFile) (design : DesignUnit) (other : LinkUnit) → IsUnitOf files file design other → slice_get files file ≡ Some named → unit_key named.name.library design design.kind ≡ key_of other
+pub key_is : (files : List ProjectFile) (file : ℕ) (named : ProjectFile) (design : DesignUnit) (other : LinkUnit) → IsUnitOf files file design other → slice_get files file ≡ Some named → design_unit_key named.name.library design design.kind ≡ key_of other
 key_is files file named design other is got =
     let of : slice_get files file ≡ Some other.file = subst (λ (at : ℕ). slice_get files at ≡ Some other.file) is.position (is.of.0) in
     let same : named ≡ other.file = some_same named other.file (sym got ∙ of) in
-    ap (λ (f : ProjectFile). unit_key f.name.library design design.kind) same
-    ∙ (ap (λ (library : List ℕ). unit_key library design design.kind) (sym (is.of.1))
-    ∙ ap (λ (d : DesignUnit). unit_key other.scope.library d d.kind) (sym is.is))
+    ap (λ (f : ProjectFile). design_unit_key f.name.library design design.kind) same
+    ∙ (ap (λ (library : List ℕ). design_unit_key library design design.kind) (sym (is.of.1))
+    ∙ ap (λ (d : DesignUnit). design_unit_key other.scope.library d d.kind) (sym is.is))
 
 -- a fault that is said here is said there
 pub fault_on : (said other : Option LinkFault) (fault : LinkFault) → ((given : LinkFault) → said ≡ Some given → other ≡ Some given) → IsFaultOf said fault → IsFaultOf other fault
@@ -158,7 +158,7 @@ pub unit_of : (files : List ProjectFile) (file : ℕ) (named : ProjectFile) (tex
 unit_of files file named text scan design got = record { position = refl; is = refl; of = (got, refl) }
 
 -- one unit more was added
-pub added_more : (files : List ProjectFile) (units more : List LinkUnit) (unit : LinkUnit) (new : Entries UnitKey Place) → (fault_before (units ++ more) unit ≡ None) × IsIndex files ((units ++ more) ++ unit ∷ []) new → ((rest : List LinkUnit) → first_duplicate units (more ++ rest) ≡ first_duplicate (units ++ more) rest) → (all : List LinkUnit) → all ≡ more ++ unit ∷ [] →
+pub added_more : (files : List ProjectFile) (units more : List LinkUnit) (unit : LinkUnit) (new : Entries DesignUnitKey Place) → (fault_before (units ++ more) unit ≡ None) × IsIndex files ((units ++ more) ++ unit ∷ []) new → ((rest : List LinkUnit) → first_duplicate units (more ++ rest) ≡ first_duplicate (units ++ more) rest) → (all : List LinkUnit) → all ≡ more ++ unit ∷ [] →
     IsIndex files (units ++ all) new × ((rest : List LinkUnit) → first_duplicate units (all ++ rest) ≡ first_duplicate (units ++ all) rest)
 added_more files units more unit new told none all is =
     let longer : (units ++ more) ++ unit ∷ [] ≡ units ++ all = append_assoc units more (unit ∷ []) ∙ ap (λ (some : List LinkUnit). units ++ some) (sym is) in (
@@ -214,7 +214,7 @@ files_after first (x ∷ files) (y ∷ texts) (z ∷ scans) (suc at) within t s 
     (after.0, ap (λ (some : List LinkUnit). here ++ some) after.1 ∙ sym (append_assoc here (link_units (suc first) (take at files) (take at texts) (take at scans)) (after.0)))
 
 -- a unit that is named is of its file, and its place says so
-pub of_named : (files : List ProjectFile) (units : List LinkUnit) (key : UnitKey) (unit : LinkUnit) → All (IsOfFile files) units → unit_named units key ≡ Some unit → IsOfFile files unit
+pub of_named : (files : List ProjectFile) (units : List LinkUnit) (key : DesignUnitKey) (unit : LinkUnit) → All (IsOfFile files) units → unit_named units key ≡ Some unit → IsOfFile files unit
 of_named files units key unit all found = within units all (found_within (λ u. is_same_key key (key_of u)) units unit found) where
   within : (us : List LinkUnit) → All (IsOfFile files) us → Contains us unit → IsOfFile files unit
   within us are there = subst (IsOfFile files) (there.2) (are (there.0) unit (there.1))
@@ -239,7 +239,7 @@ pub none_more : (before more : List LinkUnit) → ((rest : List LinkUnit) → fi
 none_more before more one two rest = ap (first_duplicate []) (append_assoc before more rest) ∙ (one (more ++ rest) ∙ two rest)
 
 -- the units of the files up to a position are added, and no two of them have one name
-pub record AreIndexed (files : List ProjectFile) (texts : List (List ℕ)) (scans : List Scan) (count : ℕ) (index : Entries UnitKey Place) : Type 0 where
+pub record AreIndexed (files : List ProjectFile) (texts : List (List ℕ)) (scans : List Scan) (count : ℕ) (index : Entries DesignUnitKey Place) : Type 0 where
   pub is : IsIndex files (link_units 0 (take count files) (take count texts) (take count scans)) index
   pub none : (rest : List LinkUnit) → first_duplicate [] (link_units 0 (take count files) (take count texts) (take count scans) ++ rest) ≡ first_duplicate (link_units 0 (take count files) (take count texts) (take count scans)) rest
 

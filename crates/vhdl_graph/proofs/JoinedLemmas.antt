@@ -10,10 +10,10 @@ use Rattle.vhdl_spec.proofs.SomeTests.{and_cases}
 use Rattle.vhdl_scope.proofs.TableLemmas.{both_ways}
 use Rattle.vhdl_graph.specs.declared.key.Head.{Head}
 use Rattle.vhdl_graph.specs.Joined.{AreJoined, joined_key}
-use Rattle.vhdl_graph.specs.Keys.{UnitKey, is_same_key}
+use Rattle.vhdl_graph.specs.Keys.{DesignUnitKey, is_same_key}
 use Rattle.vhdl_graph.proofs.KeyLemmas.{same_key, told_key}
 
-abbrev key : Bool → Bool → List ℕ → List ℕ → List ℕ → UnitKey
+abbrev key : Bool → Bool → List ℕ → List ℕ → List ℕ → DesignUnitKey
 key primary body library entity name = record { primary = primary; body = body; library = library; entity = entity; name = name }
 
 -- a slice to the end has what comes after its start
@@ -33,10 +33,10 @@ joined_is head library entity name letters first second is =
     ∙ ap (key head.primary head.body library entity) (drop-append_seam entity name))))
 
 -- all letters, from the names
-pub letters_are : (head : Head) (letters : List ℕ) (named : UnitKey) → joined_key head letters ≡ named → letters ≡ named.library ++ (named.entity ++ named.name)
+pub letters_are : (head : Head) (letters : List ℕ) (named : DesignUnitKey) → joined_key head letters ≡ named → letters ≡ named.library ++ (named.entity ++ named.name)
 unfolding joined_key
 letters_are head letters named is =
-    subst (λ (k : UnitKey). letters ≡ k.library ++ (k.entity ++ k.name)) is
+    subst (λ (k : DesignUnitKey). letters ≡ k.library ++ (k.entity ++ k.name)) is
     (sym (ap (λ (rest : List ℕ). take head.library letters ++ rest) (take-append-drop head.entity (drop head.library letters)) ∙ take-append-drop head.library letters))
 
 counts : (head : Head) (letters : List ℕ) → AreJoined head letters → (length (joined_key head letters).library ≡ head.library) × (length (joined_key head letters).entity ≡ head.entity)
@@ -88,9 +88,9 @@ told_heads a b primary body library entity =
 
 flags : (a b : Head) (letters others : List ℕ) → joined_key a letters ≡ joined_key b others → (a.primary ≡ b.primary) × (a.body ≡ b.body)
 unfolding joined_key
-flags a b letters others keys = (ap (λ (k : UnitKey). k.primary) keys, ap (λ (k : UnitKey). k.body) keys)
+flags a b letters others keys = (ap (λ (k : DesignUnitKey). k.primary) keys, ap (λ (k : DesignUnitKey). k.body) keys)
 
-module _ (a b : Head) (letters others : List ℕ) (one other : UnitKey) (is : joined_key a letters ≡ one) (also : joined_key b others ≡ other) where
+module _ (a b : Head) (letters others : List ℕ) (one other : DesignUnitKey) (is : joined_key a letters ≡ one) (also : joined_key b others ≡ other) where
   -- under the same head keys are the same exactly where their letters are
   pub by_letters : a ≡ b → bytes_eq letters others ≡ is_same_key one other
   by_letters same = both_ways (bytes_eq letters others) (is_same_key one other) there back where
@@ -100,7 +100,7 @@ module _ (a b : Head) (letters others : List ℕ) (one other : UnitKey) (is : jo
     back : is_same_key one other ≡ true → bytes_eq letters others ≡ true
     back told =
         let keys = same_key one other told in
-        (bytes_eq-Decides letters others).1 (letters_are a letters one is ∙ (ap (λ (k : UnitKey). k.library ++ (k.entity ++ k.name)) keys ∙ sym (letters_are b others other also)))
+        (bytes_eq-Decides letters others).1 (letters_are a letters one is ∙ (ap (λ (k : DesignUnitKey). k.library ++ (k.entity ++ k.name)) keys ∙ sym (letters_are b others other also)))
 
   -- under different heads they aren't
   pub by_heads : AreJoined a letters → AreJoined b others → same_head a b ≡ false → is_same_key one other ≡ false
@@ -110,4 +110,4 @@ module _ (a b : Head) (letters others : List ℕ) (one other : UnitKey) (is : jo
         let keys : joined_key a letters ≡ joined_key b others = is ∙ (same_key one other told ∙ sym also) in
         let first = counts a letters fit in
         let second = counts b others fits in
-        sym differ ∙ told_heads a b (flags a b letters others keys).0 (flags a b letters others keys).1 (sym first.0 ∙ (ap (λ (k : UnitKey). length k.library) keys ∙ second.0)) (sym first.1 ∙ (ap (λ (k : UnitKey). length k.entity) keys ∙ second.1))
+        sym differ ∙ told_heads a b (flags a b letters others keys).0 (flags a b letters others keys).1 (sym first.0 ∙ (ap (λ (k : DesignUnitKey). length k.library) keys ∙ second.0)) (sym first.1 ∙ (ap (λ (k : DesignUnitKey). length k.entity) keys ∙ second.1))

@@ -6,13 +6,13 @@ use Rattle.base.specs.declared.design.UnitKind.TheVariants as kinds
 use Rattle.vhdl_spec.specs.References.{owner_name}
 use Rattle.vhdl_spec.specs.Dependencies.{LinkUnit, in_library, is_alike, is_architecture, is_architecture_kind, is_body, is_body_kind, is_primary}
 use Rattle.vhdl_spec.specs.Visibility.{is_secondary}
-use Rattle.vhdl_graph.specs.Keys.{UnitKey, architecture_key, body_key, is_same_key, key_of, primary_key, unit_key}
+use Rattle.vhdl_graph.specs.Keys.{DesignUnitKey, architecture_key, body_key, is_same_key, key_of, primary_key, design_unit_key}
 use Rattle.vhdl_graph.specs.KeyOrder.{keys_decide}
 
-pub same_key : (a b : UnitKey) → is_same_key a b ≡ true → a ≡ b
+pub same_key : (a b : DesignUnitKey) → is_same_key a b ≡ true → a ≡ b
 same_key a b told = (keys_decide a b).0 told
 
-pub told_key : (a b : UnitKey) → a ≡ b → is_same_key a b ≡ true
+pub told_key : (a b : DesignUnitKey) → a ≡ b → is_same_key a b ≡ true
 told_key a b same = (keys_decide a b).1 same
 
 -- ## The tests of units, by kind
@@ -22,7 +22,7 @@ grouped true b c = refl
 grouped false b c = refl
 
 module _ (library name : List ℕ) (unit : LinkUnit) where
-  primary_by : (kind : UnitKind) → (not (is_secondary kind) && in_library library unit && bytes_eq unit.scope.unit.name name) ≡ is_same_key (primary_key library name) (unit_key unit.scope.library unit.scope.unit kind)
+  primary_by : (kind : UnitKind) → (not (is_secondary kind) && in_library library unit && bytes_eq unit.scope.unit.name name) ≡ is_same_key (primary_key library name) (design_unit_key unit.scope.library unit.scope.unit kind)
   primary_by kinds.Entity = refl
   primary_by kinds.Architecture = refl
   primary_by kinds.Configuration = refl
@@ -34,7 +34,7 @@ module _ (library name : List ℕ) (unit : LinkUnit) where
   pub primary_is : is_primary library name unit ≡ is_same_key (primary_key library name) (key_of unit)
   primary_is = primary_by unit.scope.unit.kind
 
-  body_by : (kind : UnitKind) → (is_body_kind kind && in_library library unit && bytes_eq unit.scope.unit.name name) ≡ is_same_key (body_key library name) (unit_key unit.scope.library unit.scope.unit kind)
+  body_by : (kind : UnitKind) → (is_body_kind kind && in_library library unit && bytes_eq unit.scope.unit.name name) ≡ is_same_key (body_key library name) (design_unit_key unit.scope.library unit.scope.unit kind)
   body_by kinds.Entity = refl
   body_by kinds.Architecture = refl
   body_by kinds.Configuration = refl
@@ -47,7 +47,7 @@ module _ (library name : List ℕ) (unit : LinkUnit) where
   body_is = body_by unit.scope.unit.kind
 
   module _ (entity : List ℕ) where
-    architecture_by : (kind : UnitKind) → (is_architecture_kind kind && in_library library unit && bytes_eq (owner_name unit.scope.unit.owner) entity && bytes_eq unit.scope.unit.name name) ≡ is_same_key (architecture_key library entity name) (unit_key unit.scope.library unit.scope.unit kind)
+    architecture_by : (kind : UnitKind) → (is_architecture_kind kind && in_library library unit && bytes_eq (owner_name unit.scope.unit.owner) entity && bytes_eq unit.scope.unit.name name) ≡ is_same_key (architecture_key library entity name) (design_unit_key unit.scope.library unit.scope.unit kind)
     architecture_by kinds.Entity = refl
     architecture_by kinds.Architecture = grouped (in_library library unit) (bytes_eq (owner_name unit.scope.unit.owner) entity) (bytes_eq unit.scope.unit.name name)
     architecture_by kinds.Configuration = refl
@@ -96,7 +96,7 @@ module _ (unit other : LinkUnit) where
       ((is_primary unit.scope.library unit.scope.unit.name other && not (is_secondary kind))
       || (is_architecture unit.scope.library (owner_name unit.scope.unit.owner) unit.scope.unit.name other && is_architecture_kind kind)
       || (is_body unit.scope.library unit.scope.unit.name other && is_body_kind kind))
-      ≡ is_same_key (unit_key unit.scope.library unit.scope.unit kind) (key_of other)
+      ≡ is_same_key (design_unit_key unit.scope.library unit.scope.unit kind) (key_of other)
   by_kind kind = of kind where
     p : Bool
     p = is_primary unit.scope.library unit.scope.unit.name other
@@ -107,7 +107,7 @@ module _ (unit other : LinkUnit) where
     b : Bool
     b = is_body unit.scope.library unit.scope.unit.name other
 
-    of : (kind : UnitKind) → ((p && not (is_secondary kind)) || (a && is_architecture_kind kind) || (b && is_body_kind kind)) ≡ is_same_key (unit_key unit.scope.library unit.scope.unit kind) (key_of other)
+    of : (kind : UnitKind) → ((p && not (is_secondary kind)) || (a && is_architecture_kind kind) || (b && is_body_kind kind)) ≡ is_same_key (design_unit_key unit.scope.library unit.scope.unit kind) (key_of other)
     of kinds.Entity = first_of p a b ∙ primary_is unit.scope.library unit.scope.unit.name other
     of kinds.Architecture = second_of p a b ∙ architecture_is unit.scope.library unit.scope.unit.name other (owner_name unit.scope.unit.owner)
     of kinds.Configuration = first_of p a b ∙ primary_is unit.scope.library unit.scope.unit.name other

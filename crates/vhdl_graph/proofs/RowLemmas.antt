@@ -14,7 +14,7 @@ use Rattle.vhdl_scope.proofs.Exact.{any_by}
 use Rattle.vhdl_scope.proofs.TableLemmas.{both_ways}
 use Rattle.vhdl_graph.specs.declared.index.Place.{Place}
 use Rattle.vhdl_graph.specs.Indexes.{AreDistinct, unit_place, unit_named}
-use Rattle.vhdl_graph.specs.Keys.{UnitKey, is_same_key, key_of}
+use Rattle.vhdl_graph.specs.Keys.{DesignUnitKey, is_same_key, key_of}
 use Rattle.vhdl_graph.specs.Rows.{HasAdded, has_package, is_named_at, stands_at}
 use Rattle.vhdl_graph.proofs.KeyLemmas.{same_key}
 
@@ -79,7 +79,7 @@ some_none : {X : Type 0} (x : X) → ◌≡◌ {A = Option X} None (Some x) → 
 some_none x e = cc
 
 -- a unit of a name passes a test where the first of this name does
-pub by_name : (P : LinkUnit → Bool) (units : List LinkUnit) (key : UnitKey) → AreDistinct units → list_any (λ u. P u && is_same_key key (key_of u)) units ≡ option_map_or P (unit_named units key) false
+pub by_name : (P : LinkUnit → Bool) (units : List LinkUnit) (key : DesignUnitKey) → AreDistinct units → list_any (λ u. P u && is_same_key key (key_of u)) units ≡ option_map_or P (unit_named units key) false
 by_name P units key distinct = by_found (unit_named units key) refl where
   by_found : (found : Option LinkUnit) → unit_named units key ≡ found → list_any (λ u. P u && is_same_key key (key_of u)) units ≡ option_map_or P (unit_named units key) false
   by_found None is = rw is (both_ways (list_any (λ u. P u && is_same_key key (key_of u)) units) false none_there never) where
@@ -106,7 +106,7 @@ by_name P units key distinct = by_found (unit_named units key) refl where
         (and_both (P first) (is_same_key key (key_of first)) told (found_passes (λ u. is_same_key key (key_of u)) units first is))
 
 -- whether there is a unit of a name
-pub any_named : (units : List LinkUnit) (key : UnitKey) → is_some (option_map unit_place (unit_named units key)) ≡ list_any (λ u. is_same_key key (key_of u)) units
+pub any_named : (units : List LinkUnit) (key : DesignUnitKey) → is_some (option_map unit_place (unit_named units key)) ≡ list_any (λ u. is_same_key key (key_of u)) units
 any_named [] key = refl
 any_named (u ∷ units) key = by_test (is_same_key key (key_of u)) refl (any_named units key) where
   by_test : (b : Bool) → is_same_key key (key_of u) ≡ b → is_some (option_map unit_place (unit_named units key)) ≡ list_any (λ u. is_same_key key (key_of u)) units → is_some (option_map unit_place (cond b (Some u) (unit_named units key))) ≡ (b || list_any (λ u. is_same_key key (key_of u)) units)
@@ -118,7 +118,7 @@ at_place : (at : ℕ) (found : Option LinkUnit) → option_map_or (λ (p : Place
 at_place at None = refl
 at_place at (Some u) = refl
 
-pub put_at : (units : List LinkUnit) (key : UnitKey) (place : Option Place) (at : ℕ) → AreDistinct units → place ≡ option_map unit_place (unit_named units key) → option_map_or (λ (p : Place). p.file == at) place false ≡ is_named_at units key at
+pub put_at : (units : List LinkUnit) (key : DesignUnitKey) (place : Option Place) (at : ℕ) → AreDistinct units → place ≡ option_map unit_place (unit_named units key) → option_map_or (λ (p : Place). p.file == at) place false ≡ is_named_at units key at
 put_at units key place at distinct is =
     ap (λ (o : Option Place). option_map_or (λ (p : Place). p.file == at) o false) is ∙ (at_place at (unit_named units key) ∙ sym (by_name (λ u. u.position == at) units key distinct))
 
@@ -127,7 +127,7 @@ as_package None = refl
 as_package (Some u) = refl
 
 -- whether the unit of a name is a package
-pub package_of : (units : List LinkUnit) (key : UnitKey) (place : Option Place) → AreDistinct units → place ≡ option_map unit_place (unit_named units key) → option_map_or (λ (p : Place). p.is_package) place false ≡ has_package units key
+pub package_of : (units : List LinkUnit) (key : DesignUnitKey) (place : Option Place) → AreDistinct units → place ≡ option_map unit_place (unit_named units key) → option_map_or (λ (p : Place). p.is_package) place false ≡ has_package units key
 package_of units key place distinct is =
     ap (λ (o : Option Place). option_map_or (λ (p : Place). p.is_package) o false) is
     ∙ (as_package (unit_named units key)

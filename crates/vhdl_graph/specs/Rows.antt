@@ -6,14 +6,14 @@ use Rattle.base.specs.declared.project.Pair.{Pair}
 use Rattle.base_position_set.specs.declared.set.PositionSet.{PositionSet}
 use Rattle.base_position_set.specs.Positions.{has}
 use Rattle.vhdl_spec.specs.Dependencies.{LinkUnit, is_package_kind}
-use Rattle.vhdl_graph.specs.Keys.{UnitKey, is_same_key, key_of}
+use Rattle.vhdl_graph.specs.Keys.{DesignUnitKey, is_same_key, key_of}
 
 -- the positions that pass a test were put into a set
 abbrev pub HasAdded : (ℕ → Bool) → PositionSet → PositionSet → Type 0
 HasAdded test old new = (at : ℕ) → has new at ≡ (has old at || test at)
 
 -- a unit of a name stands in the file at a position
-abbrev pub is_named_at : List LinkUnit → UnitKey → ℕ → Bool
+abbrev pub is_named_at : List LinkUnit → DesignUnitKey → ℕ → Bool
 is_named_at units key at = list_any (λ unit. unit.position == at && is_same_key key (key_of unit)) units
 
 -- a unit that passes a test stands in the file at a position
@@ -21,7 +21,7 @@ abbrev pub stands_at : (LinkUnit → Bool) → List LinkUnit → ℕ → Bool
 stands_at test units at = list_any (λ unit. unit.position == at && test unit) units
 
 -- a package has a name
-abbrev pub has_package : List LinkUnit → UnitKey → Bool
+abbrev pub has_package : List LinkUnit → DesignUnitKey → Bool
 has_package units key = list_any (λ unit. is_same_key key (key_of unit) && is_package_kind unit.scope.unit.kind) units
 
 -- a position is in the row of a file

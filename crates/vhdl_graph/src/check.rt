@@ -12,13 +12,13 @@ ghost use Rattle.vhdl_graph.specs.Keys.{is_same_key, key_of, primary_key};
 ghost use Rattle.vhdl_graph.specs.Meanings.{missing_in, missing_units};
 
 use crate::index::{Index, Place, place_of};
-use crate::key::{UnitKey, put_architecture_key};
+use crate::key::{DesignUnitKey, put_architecture_key};
 use crate::libraries::Libraries;
 use base::{FileName, LinkFault, MaybeText, NoMemory, Project, Ref, Text};
 use std::alloc::Global;
 
 /// Whether there is a unit of a name, by its place.
-fn has_unit(_index: &Index, _key: &UnitKey, place: Option<Place>) -> bool
+fn has_unit(_index: &Index, _key: &DesignUnitKey, place: Option<Place>) -> bool
     requires { place ≡ get is_same_key _index.now _key.now }
     ensures { (units : List LinkUnit) → HoldsUnits _index.now units →
         result ≡ list_any (λ unit. is_same_key _key.now (key_of unit)) units }
@@ -31,7 +31,7 @@ fn has_primary(
     index: &Index,
     _library: &Text,
     _name: &Text,
-    key: &UnitKey,
+    key: &DesignUnitKey,
     place: Option<Place>,
 ) -> bool
     requires key { key.now ≡ primary_key _library.now _name.now }
@@ -49,7 +49,7 @@ fn has_architecture(
     library: &Text,
     entity: &Text,
     name: &Text,
-    other: &mut UnitKey,
+    other: &mut DesignUnitKey,
 ) -> Result<bool, NoMemory>
     ensures { IfOk result (λ found. (units : List LinkUnit) → HoldsUnits index.now units →
         found ≡ list_any (is_architecture library.now entity.now name.now) units) }
@@ -101,7 +101,7 @@ fn check_architecture(
     library: &Text,
     entity: &Text,
     architecture: &MaybeText,
-    other: &mut UnitKey,
+    other: &mut DesignUnitKey,
 ) -> Result<(), LinkFault>
     ensures { (units : List LinkUnit) → HoldsUnits index.now units →
         GivesOrFaults (if lacks_given units library.now entity.now architecture.now
@@ -127,9 +127,9 @@ fn check_units(
     file: &FileName,
     library: &Text,
     reference: &Ref,
-    key: &UnitKey,
+    key: &DesignUnitKey,
     place: Option<Place>,
-    other: &mut UnitKey,
+    other: &mut DesignUnitKey,
 ) -> Result<(), LinkFault>
     requires key { key.now ≡ primary_key library.now reference.now.name }
     requires place { place ≡ get is_same_key index.now key.now }
@@ -161,9 +161,9 @@ pub fn check_ref(
     file: &FileName,
     library: &Text,
     reference: &Ref,
-    key: &UnitKey,
+    key: &DesignUnitKey,
     place: Option<Place>,
-    other: &mut UnitKey,
+    other: &mut DesignUnitKey,
 ) -> Result<(), LinkFault>
     requires inside { stands_outside _libraries.now library.now ≡ false }
     requires key { key.now ≡ primary_key library.now reference.now.name }

@@ -10,7 +10,7 @@ ghost use Rattle.vhdl_outlines.specs.Outlines.{FilesAreOf};
 ghost use Rattle.vhdl_graph.specs.Keys.{is_same_key};
 ghost use Rattle.vhdl_graph.specs.Indexes.{AddsAll, AddsUnit, ArePlacesOfFiles, GivesOrFaults, IsIndex, IsOfFile, IsUnitOf, Refuses};
 
-use crate::key::{UnitKey, unit_key};
+use crate::key::{DesignUnitKey, design_unit_key};
 use crate::spelling::spelled;
 use base::{FILE_LIMIT, FileName, Items, LinkFault, NoMemory, Project, Unit, UnitKind};
 use base_key_index::KeyMap;
@@ -25,10 +25,10 @@ pub struct Place {
 }
 
 /// The units by name, in project and unit order.
-pub type Index = KeyMap<UnitKey, Place>;
+pub type Index = KeyMap<DesignUnitKey, Place>;
 
 /// Where the unit of a name is.
-pub fn place_of(index: &Index, key: &UnitKey) -> Option<Place>
+pub fn place_of(index: &Index, key: &DesignUnitKey) -> Option<Place>
     ensures { result ≡ get is_same_key index.now key.now }
 {
     index.get(key)
@@ -96,7 +96,7 @@ fn add_unit(
         IsUnitOf project.now.files file unit.now other →
         AddsUnit project.now.files units other index.new result }
 {
-    let key = unit_key(alloc, &project.files.get(file as u64).name.library, unit)?;
+    let key = design_unit_key(alloc, &project.files.get(file as u64).name.library, unit)?;
     let is_package = is_package(unit.kind);
     match index.insert(key, Place { file, is_package })? {
         Some(place) => refuse(alloc, project, place.file, file, unit),

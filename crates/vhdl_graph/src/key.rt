@@ -3,20 +3,20 @@
 ghost use Rattle.std.specs.Prelude.{◌≡◌, ◌+◌, ◌≤◌, [], ◌∷◌, ◌++◌, drop, length, IfOk, OnOk};
 ghost use Rattle.std.specs.Cmp.Rules.{comparing, hashing};
 ghost use Rattle.std.proofs.Common.{refl, rules};
-ghost use Rattle.vhdl_spec.specs.References.{owner_name};
 ghost use Rattle.std.specs.Cmp.{partial_order_from_agreeing_total};
-ghost use Rattle.std.specs.Cmp.Lexicographic.{slice_cmp};
-ghost use Rattle.std.specs.Ordering.{as_partial_cmp, nat_cmp};
-ghost use Rattle.vhdl_graph.specs.KeyOrder.{entities_cmp, flags_cmp, key_cmp, key_ties, key_total, keys_decide, libraries_cmp};
-ghost use Rattle.vhdl_graph.specs.Keys.{is_same_key, primary_key, architecture_key, body_key, unit_key};
+ghost use Rattle.std.specs.Ordering.{as_partial_cmp};
+ghost use Rattle.vhdl_keys.specs.KeyParts.{flags_cmp, libraries_cmp, owners_cmp};
+ghost use Rattle.vhdl_graph.specs.KeyOrder.{key_cmp, key_parts, key_ties, key_total, keys_decide};
+ghost use Rattle.vhdl_graph.specs.Keys.{is_same_key, primary_key, architecture_key, body_key, design_unit_key};
 
-use base::{MaybeText, NoMemory, Text, Unit, UnitKind};
+use base::{NoMemory, Text, Unit, UnitKind};
 use base_key_index::Key;
 use std::alloc::Global;
 use std::cmp::Ordering;
 use std::hash::{Hash, Hasher};
 use std::marker::Model;
 use std::mem::replace;
+use vhdl_keys::{order_of_names, owner_name};
 
 static NOTHING: [u8; 0] = *b"";
 
@@ -33,14 +33,14 @@ pub struct Head {
 /// name, an architecture by its entity too, and the body of a package by the name of the package. The three names stand one
 /// after another in one buffer, so that a key takes one allocation. Contracts see the names.
 #[derive(Drop)]
-pub struct UnitKey {
+pub struct DesignUnitKey {
     head: Head,
     letters: Vec<u8>,
 }
 
-impl Model for UnitKey {
+impl Model for DesignUnitKey {
     ghost use Rattle.vhdl_graph.specs.Joined.{AreJoined, joined_key};
-    ghost use Rattle.vhdl_graph.specs.Keys.{UnitKey as Named};
+    ghost use Rattle.vhdl_graph.specs.Keys.{DesignUnitKey as Named};
 
     ghost Value = { Named };
 
@@ -49,22 +49,22 @@ impl Model for UnitKey {
     ghost invariant = { λ a. AreJoined a.head a.letters.items };
 }
 
-impl PartialEq for UnitKey {
+impl PartialEq for DesignUnitKey {
     ghost eq = { is_same_key };
 
     ghost laws = { Prim.search (comparing, rules) };
 
-    fn eq(&self, other: &UnitKey) -> bool {
+    fn eq(&self, other: &DesignUnitKey) -> bool {
         self.head == other.head && self.letters.as_slice() == other.letters.as_slice()
     }
 }
 
-impl Eq for UnitKey {
+impl Eq for DesignUnitKey {
     ghost laws = { Prim.search (comparing, rules) };
 }
 
 /// The names are handed over as one.
-impl Hash for UnitKey {
+impl Hash for DesignUnitKey {
     ghost hash_input = { λ a. (a.library ++ (a.entity ++ a.name)) ∷ [] };
 
     ghost respects_eq = { Prim.search (hashing, rules) };
@@ -84,7 +84,7 @@ fn after(bytes: &[u8], count: usize) -> &[u8]
     &bytes[count..]
 }
 
-impl UnitKey {
+impl DesignUnitKey {
     /// Whether it is of a primary unit.
     #[tactic(auto, unfolding(crate::specs::Joined::joined_key))]
     fn is_primary(&self) -> bool
@@ -129,26 +129,19 @@ impl UnitKey {
     }
 }
 
-/// The order of two texts by their bytes.
-fn order<'a>(one: &'a [u8], other: &'a [u8]) -> Ordering
-    ensures { result ≡ slice_cmp nat_cmp one.now other.now }
-{
-    Ord::cmp(&one, &other)
-}
-
 /// The order by what keys are of.
-fn order_of_flags(one: &UnitKey, other: &UnitKey) -> Ordering
-    ensures { result ≡ flags_cmp one.now other.now }
+fn order_of_flags(one: &DesignUnitKey, other: &DesignUnitKey) -> Ordering
+    ensures { result ≡ flags_cmp (key_parts one.now) (key_parts other.now) }
 {
     let rest = one.is_primary().cmp(&other.is_primary());
     one.is_body().cmp(&other.is_body()).then(rest)
 }
 
 /// The order by libraries, and then by what keys are of.
-fn order_of_libraries(one: &UnitKey, other: &UnitKey) -> Ordering
-    ensures { result ≡ libraries_cmp one.now other.now }
+fn order_of_libraries(one: &DesignUnitKey, other: &DesignUnitKey) -> Ordering
+    ensures { result ≡ libraries_cmp (key_parts one.now) (key_parts other.now) }
 {
-    match order(one.library(), other.library()) {
+    match order_of_names(one.library(), other.library()) {
         Ordering::Less => Ordering::Less,
         Ordering::Equal => order_of_flags(one, other),
         Ordering::Greater => Ordering::Greater,
@@ -156,10 +149,10 @@ fn order_of_libraries(one: &UnitKey, other: &UnitKey) -> Ordering
 }
 
 /// The order by entities, and then by the rest.
-fn order_of_entities(one: &UnitKey, other: &UnitKey) -> Ordering
-    ensures { result ≡ entities_cmp one.now other.now }
+fn order_of_entities(one: &DesignUnitKey, other: &DesignUnitKey) -> Ordering
+    ensures { result ≡ owners_cmp (key_parts one.now) (key_parts other.now) }
 {
-    match order(one.entity(), other.entity()) {
+    match order_of_names(one.entity(), other.entity()) {
         Ordering::Less => Ordering::Less,
         Ordering::Equal => order_of_libraries(one, other),
         Ordering::Greater => Ordering::Greater,
@@ -167,7 +160,7 @@ fn order_of_entities(one: &UnitKey, other: &UnitKey) -> Ordering
 }
 
 /// Names come first, since nearly all keys differ in them: nothing else is then looked at.
-impl Ord for UnitKey {
+impl Ord for DesignUnitKey {
     ghost cmp = { key_cmp };
 
     ghost total = { key_total };
@@ -176,8 +169,8 @@ impl Ord for UnitKey {
 
     ghost matches_eq = { key_ties };
 
-    fn cmp(&self, other: &UnitKey) -> Ordering {
-        match order(self.name(), other.name()) {
+    fn cmp(&self, other: &DesignUnitKey) -> Ordering {
+        match order_of_names(self.name(), other.name()) {
             Ordering::Less => Ordering::Less,
             Ordering::Equal => order_of_entities(self, other),
             Ordering::Greater => Ordering::Greater,
@@ -185,21 +178,21 @@ impl Ord for UnitKey {
     }
 }
 
-impl PartialOrd for UnitKey {
+impl PartialOrd for DesignUnitKey {
     ghost partial_cmp = { as_partial_cmp key_cmp };
 
     ghost laws = { partial_order_from_agreeing_total key_cmp key_total (λ one other. refl) key_ties };
 
-    fn partial_cmp(&self, other: &UnitKey) -> Option<Ordering> {
+    fn partial_cmp(&self, other: &DesignUnitKey) -> Option<Ordering> {
         Some(self.cmp(other))
     }
 }
 
-impl Key for UnitKey {
+impl Key for DesignUnitKey {
     ghost decides = { keys_decide };
 
-    fn copy(&self, alloc: Global) -> Result<UnitKey, NoMemory> {
-        Ok(UnitKey {
+    fn copy(&self, alloc: Global) -> Result<DesignUnitKey, NoMemory> {
+        Ok(DesignUnitKey {
             head: self.head,
             letters: Vec::from_slice(alloc, self.letters.as_slice())?,
         })
@@ -207,14 +200,14 @@ impl Key for UnitKey {
 }
 
 /// No name of a unit, which takes no memory: others are put in its place.
-pub fn no_key(alloc: Global) -> UnitKey {
+pub fn no_key(alloc: Global) -> DesignUnitKey {
     let head = Head {
         primary: false,
         body: false,
         library: 0,
         entity: 0,
     };
-    UnitKey {
+    DesignUnitKey {
         head,
         letters: Vec::new(alloc),
     }
@@ -233,13 +226,13 @@ pub fn fill(alloc: Global, text: &mut Text, bytes: &[u8]) -> Result<(), NoMemory
 
 /// A name, in the memory of one that isn't used any more.
 fn joined(
-    used: UnitKey,
+    used: DesignUnitKey,
     primary: bool,
     body: bool,
     library: &[u8],
     entity: &[u8],
     name: &[u8],
-) -> Result<UnitKey, NoMemory>
+) -> Result<DesignUnitKey, NoMemory>
     ensures { IfOk result (λ key. key ≡ record {
       primary = primary;
       body = body;
@@ -259,13 +252,13 @@ fn joined(
         library: library.len(),
         entity: entity.len(),
     };
-    Ok(UnitKey { head, letters })
+    Ok(DesignUnitKey { head, letters })
 }
 
 /// Puts a name in the place of another, in its memory.
 fn put_key(
     alloc: Global,
-    key: &mut UnitKey,
+    key: &mut DesignUnitKey,
     primary: bool,
     body: bool,
     library: &[u8],
@@ -288,7 +281,7 @@ fn put_key(
 /// Puts the name of a primary unit of a library in the place of another.
 pub fn put_primary_key(
     alloc: Global,
-    key: &mut UnitKey,
+    key: &mut DesignUnitKey,
     library: &Text,
     name: &Text,
 ) -> Result<(), NoMemory>
@@ -308,7 +301,7 @@ pub fn put_primary_key(
 /// The same of an architecture of an entity.
 pub fn put_architecture_key(
     alloc: Global,
-    key: &mut UnitKey,
+    key: &mut DesignUnitKey,
     library: &Text,
     entity: &Text,
     name: &Text,
@@ -329,7 +322,7 @@ pub fn put_architecture_key(
 /// The same of the body of a package.
 pub fn put_body_key(
     alloc: Global,
-    key: &mut UnitKey,
+    key: &mut DesignUnitKey,
     library: &Text,
     name: &Text,
 ) -> Result<(), NoMemory>
@@ -346,24 +339,14 @@ pub fn put_body_key(
     )
 }
 
-/// The name of an owner, which is empty where there is none.
-pub fn owner_name<'a>(owner: &'a MaybeText) -> &'a [u8]
-    ensures { result.now ≡ owner_name owner.entry.now }
-{
-    match owner {
-        MaybeText::Nothing => NOTHING.as_slice(),
-        MaybeText::Given(name) => name.bytes(),
-    }
-}
-
 /// Puts the name of a unit of a library in the place of another.
-fn put_unit_key(
+fn put_design_unit_key(
     alloc: Global,
-    key: &mut UnitKey,
+    key: &mut DesignUnitKey,
     library: &Text,
     unit: &Unit,
 ) -> Result<(), NoMemory>
-    ensures { OnOk result (key.new ≡ unit_key library.now unit.now unit.now.kind) }
+    ensures { OnOk result (key.new ≡ design_unit_key library.now unit.now unit.now.kind) }
 {
     match unit.kind {
         UnitKind::Architecture => {
@@ -384,10 +367,14 @@ fn put_unit_key(
 }
 
 /// The name of a unit of a library.
-pub fn unit_key(alloc: Global, library: &Text, unit: &Unit) -> Result<UnitKey, NoMemory>
-    ensures { IfOk result (λ key. key ≡ unit_key library.now unit.now unit.now.kind) }
+pub fn design_unit_key(
+    alloc: Global,
+    library: &Text,
+    unit: &Unit,
+) -> Result<DesignUnitKey, NoMemory>
+    ensures { IfOk result (λ key. key ≡ design_unit_key library.now unit.now unit.now.kind) }
 {
     let mut key = no_key(alloc);
-    put_unit_key(alloc, &mut key, library, unit)?;
+    put_design_unit_key(alloc, &mut key, library, unit)?;
     Ok(key)
 }

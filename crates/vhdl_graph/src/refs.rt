@@ -11,14 +11,14 @@ ghost use Rattle.vhdl_graph.specs.Meanings.{names_in};
 ghost use Rattle.vhdl_graph.specs.Rows.{HasAdded, has_package, stands_at};
 
 use crate::index::{Index, Place, place_of};
-use crate::key::{UnitKey, put_architecture_key, put_body_key};
+use crate::key::{DesignUnitKey, put_architecture_key, put_body_key};
 use crate::rows::{put_found, put_named};
 use base::{FILE_LIMIT, MaybeText, NoMemory, Ref, Text};
 use base_position_set::PositionSet;
 use std::alloc::Global;
 
 /// Whether a primary unit of a name is a package.
-fn is_package(index: &Index, key: &UnitKey) -> bool
+fn is_package(index: &Index, key: &DesignUnitKey) -> bool
     ensures { (files : List ProjectFile) (units : List LinkUnit) → IsIndex files units index.now →
         result ≡ has_package units key.now }
 {
@@ -36,7 +36,7 @@ fn put_architecture(
     library: &Text,
     entity: &Text,
     architecture: &MaybeText,
-    other: &mut UnitKey,
+    other: &mut DesignUnitKey,
 ) -> Result<(), NoMemory>
     requires { ArePlacesOfFiles FILE_LIMIT index.now }
     ensures { OnOk result ((files : List ProjectFile) (units : List LinkUnit) →
@@ -60,7 +60,7 @@ fn put_body(
     index: &Index,
     library: &Text,
     name: &Text,
-    other: &mut UnitKey,
+    other: &mut DesignUnitKey,
 ) -> Result<(), NoMemory>
     requires { ArePlacesOfFiles FILE_LIMIT index.now }
     ensures { OnOk result ((files : List ProjectFile) (units : List LinkUnit) →
@@ -77,10 +77,10 @@ fn put_package_body(
     alloc: Global,
     row: &mut PositionSet,
     index: &Index,
-    key: &UnitKey,
+    key: &DesignUnitKey,
     library: &Text,
     name: &Text,
-    other: &mut UnitKey,
+    other: &mut DesignUnitKey,
 ) -> Result<(), NoMemory>
     requires { ArePlacesOfFiles FILE_LIMIT index.now }
     ensures { OnOk result ((files : List ProjectFile) (units : List LinkUnit) →
@@ -104,9 +104,9 @@ pub fn put_ref(
     bodies: bool,
     library: &Text,
     reference: &Ref,
-    key: &UnitKey,
+    key: &DesignUnitKey,
     place: Option<Place>,
-    other: &mut UnitKey,
+    other: &mut DesignUnitKey,
 ) -> Result<(), NoMemory>
     requires places { ArePlacesOfFiles FILE_LIMIT index.now }
     requires key { key.now ≡ primary_key library.now reference.now.name }

@@ -10,7 +10,7 @@ ghost use Rattle.vhdl_graph.specs.Keys.{is_same_key};
 ghost use Rattle.vhdl_graph.specs.Rows.{HasAdded, is_named_at};
 
 use crate::index::{Index, Place, place_of};
-use crate::key::UnitKey;
+use crate::key::DesignUnitKey;
 use base::FILE_LIMIT;
 use base_position_set::PositionSet;
 
@@ -26,7 +26,7 @@ fn put_place(row: &mut PositionSet, place: Option<Place>)
 }
 
 /// Puts the file of the unit of a name in, if there is one, by its place.
-pub fn put_found(row: &mut PositionSet, _index: &Index, _key: &UnitKey, place: Option<Place>)
+pub fn put_found(row: &mut PositionSet, _index: &Index, _key: &DesignUnitKey, place: Option<Place>)
     requires places { ArePlacesOfFiles FILE_LIMIT _index.now }
     requires place { place ≡ get is_same_key _index.now _key.now }
     ensures { (files : List ProjectFile) (units : List LinkUnit) → IsIndex files units _index.now →
@@ -36,7 +36,7 @@ pub fn put_found(row: &mut PositionSet, _index: &Index, _key: &UnitKey, place: O
 }
 
 /// Puts the file of the unit of a name in, if there is one.
-pub fn put_named(row: &mut PositionSet, index: &Index, key: &UnitKey)
+pub fn put_named(row: &mut PositionSet, index: &Index, key: &DesignUnitKey)
     requires { ArePlacesOfFiles FILE_LIMIT index.now }
     ensures { (files : List ProjectFile) (units : List LinkUnit) → IsIndex files units index.now →
         HasAdded (is_named_at units key.now) row.old row.new }

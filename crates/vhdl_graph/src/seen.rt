@@ -18,7 +18,7 @@ ghost use Rattle.vhdl_graph.specs.Rows.{HasAdded, stands_at};
 
 use crate::check::check_ref;
 use crate::index::{Index, place_of};
-use crate::key::{UnitKey, fill, no_key, put_primary_key};
+use crate::key::{DesignUnitKey, fill, no_key, put_primary_key};
 use crate::libraries::{Libraries, is_external};
 use crate::refs::put_ref;
 use base::{
@@ -155,8 +155,8 @@ fn look_named(
 #[derive(Drop)]
 pub struct Scratch {
     pub reference: Ref,
-    pub key: UnitKey,
-    pub other: UnitKey,
+    pub key: DesignUnitKey,
+    pub other: DesignUnitKey,
     pub looked: Looked,
 }
 
@@ -187,8 +187,8 @@ fn link_inside(
     file: &FileName,
     library: &Text,
     reference: &Ref,
-    key: &mut UnitKey,
-    other: &mut UnitKey,
+    key: &mut DesignUnitKey,
+    other: &mut DesignUnitKey,
     row: &mut PositionSet,
 ) -> Result<(), LinkFault>
     requires places { ArePlacesOfFiles FILE_LIMIT tables.now.index }
@@ -235,8 +235,8 @@ fn link_ref(
     _id: UnitId,
     file: &FileName,
     reference: &Ref,
-    key: &mut UnitKey,
-    other: &mut UnitKey,
+    key: &mut DesignUnitKey,
+    other: &mut DesignUnitKey,
     row: &mut PositionSet,
 ) -> Result<(), LinkFault>
     requires places { ArePlacesOfFiles FILE_LIMIT tables.now.index }

@@ -4,9 +4,9 @@ ghost use Rattle.std.specs.Prelude.{◌≡◌, ◌++◌, IfOk, OnOk};
 ghost use Rattle.vhdl_spec.specs.References.{owner_name};
 ghost use Rattle.vhdl_spec.specs.Dependencies.{spelled_by};
 
-use crate::key::owner_name;
 use base::{NoMemory, Text, Unit, UnitKind};
 use std::alloc::Global;
+use vhdl_keys::owner_name;
 
 static DOT: [u8; 1] = *b".";
 

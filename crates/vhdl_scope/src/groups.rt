@@ -1,7 +1,6 @@
 //! Groups of units, numbered, and the numbers of the groups that each unit is in.
 
 ghost use Rattle.std.specs.Prelude.{◌≡◌, ◌<◌, ◌∷◌, [], Contains, IfOk, IfSome, IfNone, OnOk, length};
-ghost use Rattle.vhdl_spec.specs.References.{owner_name};
 ghost use Rattle.vhdl_scope.specs.Names.{HasAll, group_number};
 ghost use Rattle.vhdl_scope.specs.Owned.{AddsOwned, HasGrown, IsNumbered, IsOwned};
 ghost use Rattle.vhdl_scope.specs.Wants.{architecture_group, context_group, kept_architectures, kept_groups, primary_group};
@@ -10,9 +9,10 @@ use crate::want::Group;
 use crate::wants::{
     architectures_of, group_of, is_architecture_kind, is_context_kind, is_secondary,
 };
-use base::{MaybeText, NoMemory, Text, Unit};
+use base::{NoMemory, Text, Unit};
 use base_key_index::KeyNumbers;
 use std::alloc::Global;
+use vhdl_keys::owner_name;
 
 /// Groups, in the order in which they were met.
 pub type Groups = KeyNumbers<Group>;
@@ -24,18 +24,6 @@ pub struct Owned {
     pub primary: Option<usize>,
     pub context: Option<usize>,
     pub architecture: Option<usize>,
-}
-
-static NOTHING: [u8; 0] = *b"";
-
-/// The name of an owner, and no letters where there is none.
-fn owner_name<'a>(owner: &'a MaybeText) -> &'a [u8]
-    ensures { result.now ≡ owner_name owner.entry.now }
-{
-    match owner {
-        MaybeText::Nothing => NOTHING.as_slice(),
-        MaybeText::Given(name) => name.bytes(),
-    }
 }
 
 /// The number of a group, if it has one.

@@ -2,18 +2,19 @@
 
 ghost use Rattle.std.specs.Prelude.{◌≡◌, [], ◌∷◌};
 ghost use Rattle.std.specs.Cmp.{partial_equiv_from_equiv, partial_order_from_agreeing_total};
-ghost use Rattle.std.specs.Cmp.Lexicographic.{slice_cmp};
 ghost use Rattle.std.specs.Cmp.Rules.{hashing};
-ghost use Rattle.std.specs.Ordering.{as_partial_cmp, nat_cmp};
+ghost use Rattle.std.specs.Ordering.{as_partial_cmp};
 ghost use Rattle.std.proofs.Common.{refl, rules};
-ghost use Rattle.vhdl_scope.specs.Groups.{is_same_group};
-ghost use Rattle.vhdl_scope.specs.GroupOrder.{group_cmp, group_ties, group_total, groups_alike, groups_decide, kind_cmp};
+ghost use Rattle.vhdl_keys.specs.KeyParts.{flags_cmp, libraries_cmp};
+ghost use Rattle.vhdl_scope.specs.Groups.{group_parts, is_same_group};
+ghost use Rattle.vhdl_scope.specs.GroupOrder.{group_cmp, group_ties, group_total, groups_alike, groups_decide};
 
 use base::{NoMemory, Text};
 use base_key_index::Key;
 use std::alloc::Global;
 use std::cmp::Ordering;
 use std::hash::{Hash, Hasher};
+use vhdl_keys::order_of_names;
 
 /// The units of one name in one library: its context declarations, the architectures of one entity, which is their owner,
 /// or its primary units of any kind.
@@ -57,19 +58,22 @@ impl Hash for Group {
     }
 }
 
-/// The order of two texts by their bytes.
-fn order<'a>(one: &'a [u8], other: &'a [u8]) -> Ordering
-    ensures { result ≡ slice_cmp nat_cmp one.now other.now }
-{
-    Ord::cmp(&one, &other)
-}
-
 /// The order of groups by what they are of alone.
 fn kind_order(one: &Group, other: &Group) -> Ordering
-    ensures { result ≡ kind_cmp one.now other.now }
+    ensures { result ≡ flags_cmp (group_parts one.now) (group_parts other.now) }
 {
     match one.context.cmp(&other.context) {
         Ordering::Equal => one.architecture.cmp(&other.architecture),
+        before => before,
+    }
+}
+
+/// The order of groups by libraries, and then by what they are of.
+fn order_of_libraries(one: &Group, other: &Group) -> Ordering
+    ensures { result ≡ libraries_cmp (group_parts one.now) (group_parts other.now) }
+{
+    match order_of_names(one.library.bytes(), other.library.bytes()) {
+        Ordering::Equal => kind_order(one, other),
         before => before,
     }
 }
@@ -85,12 +89,9 @@ impl Ord for Group {
     ghost matches_eq = { group_ties };
 
     fn cmp(&self, other: &Group) -> Ordering {
-        match order(self.name.bytes(), other.name.bytes()) {
-            Ordering::Equal => match order(self.owner.bytes(), other.owner.bytes()) {
-                Ordering::Equal => match order(self.library.bytes(), other.library.bytes()) {
-                    Ordering::Equal => kind_order(self, other),
-                    before => before,
-                },
+        match order_of_names(self.name.bytes(), other.name.bytes()) {
+            Ordering::Equal => match order_of_names(self.owner.bytes(), other.owner.bytes()) {
+                Ordering::Equal => order_of_libraries(self, other),
                 before => before,
             },
             before => before,

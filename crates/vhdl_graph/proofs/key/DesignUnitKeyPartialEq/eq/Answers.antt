@@ -2,7 +2,7 @@
 use Rattle.std.proofs.Common.{◌∙◌, List, ℕ, ap, sym}
 use Rattle.std.specs.Str.{bytes_eq}
 use Rattle.vhdl_graph.proofs.JoinedLemmas.{by_heads, by_letters, same_heads}
-use Rattle.vhdl_graph.proofs.key.UnitKeyPartialEq.eq.Goals as goal
+use Rattle.vhdl_graph.proofs.key.DesignUnitKeyPartialEq.eq.Goals as goal
 
 pub returns-then-eq : goal.returns-then-eq
 returns-then-eq c =
