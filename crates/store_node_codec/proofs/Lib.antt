@@ -5,5 +5,4 @@ pub mod Taking
 pub mod Closed
 pub mod Once
 pub mod Fitting
-pub mod Spanning
 pub mod NodeFits

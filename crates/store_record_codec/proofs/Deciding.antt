@@ -16,14 +16,9 @@ use Rattle.base.specs.declared.graph.Entry.{Entry}
 use Rattle.base.specs.Names.{is_same_name, IsBetween, FitsName, FitsCommand}
 use Rattle.base.specs.Graphs.{IsEntryAt, IsGraph}
 use Rattle.base.specs.View.{IsView}
-use Rattle.store_record_codec.specs.Found.{all_pairs, is_between, fits_name, fits_command, holds_all, found_deps, fit_deps, stands, is_graph, is_whole, is_view}
-use Rattle.base.specs.declared.limits.TheConstants.{COMMAND_LIMIT, FILE_LIMIT, GRAPH_TEXT_LIMIT, LIBRARY_LIMIT, PATH_LIMIT, TEXT_LIMIT, WORD_LIMIT}
-
-nat_le-Decides : (a b : ℕ) → Decides (nat_le a b) (a ≤ b)
-nat_le-Decides a b = (leb-true a b, le-leb a b)
-
-list_all-Decides : {X : Type 0} (test : X → Bool) (P : X → Type 0) → ((x : X) → Decides (test x) (P x)) → (xs : List X) → Decides (list_all test xs) (All P xs)
-list_all-Decides test P each = Decides-by_and test P (list_all test) each refl (λ _ _. refl)
+use Rattle.store_record_codec.specs.Found.{all_pairs, holds_all, found_deps, fit_deps, stands, is_graph, is_whole, is_view}
+use Rattle.base_ranges.proofs.Sized.{all-Decides, command_sizes-Decides, name_sizes-Decides, nat_le-Decides, same_name-Decides}
+use Rattle.base.specs.declared.limits.TheConstants.{FILE_LIMIT, GRAPH_TEXT_LIMIT, TEXT_LIMIT}
 
 all_pairs-Decides : {X : Type 0} (test : X → X → Bool) (R : X → X → Type 0) → ((x y : X) → Decides (test x y) (R x y)) → (xs : List X) → Decides (all_pairs test xs) (AllPairs R xs)
 unfolding all_pairs
@@ -31,27 +26,7 @@ all_pairs-Decides test R each [] = (λ _ i j d a b. absurd (omega arith), λ _. 
 all_pairs-Decides test R each (x ∷ xs) =
     Decides-like (list_all (test x) xs && all_pairs test xs) (λ h. AllPairs-cons R x xs h.0 h.1)
     (λ pairs. (λ k d l. pairs 0 (suc k) d (omega arith) (omega arith), λ i j d a b. pairs (suc i) (suc j) d (omega arith) (omega arith)))
-    (Decides-and (list_all (test x) xs) (all_pairs test xs) (list_all-Decides (test x) (R x) (each x) xs) (all_pairs-Decides test R each xs))
-
-is_same_name-Decides : (a b : FileName) → Decides (is_same_name a b) (a ≡ b)
-is_same_name-Decides a b =
-    Decides-like (is_same_name a b)
-    (λ h. ap (λ (library : List ℕ). record { library = library; path = a.path }) h.0 ∙ ap (λ (path : List ℕ). record { library = b.library; path = path }) h.1)
-    (λ e. (ap (λ (n : FileName). n.library) e, ap (λ (n : FileName). n.path) e))
-    (Decides-and _ _ (bytes_eq-Decides a.library b.library) (bytes_eq-Decides a.path b.path))
-
-is_between-Decides : (low high n : ℕ) → Decides (is_between low high n) (IsBetween low high n)
-is_between-Decides low high n =
-    Decides-like (is_between low high n) (λ h. record { at_least = h.0; at_most = h.1 }) (λ b. (b.at_least, b.at_most)) (Decides-and _ _ (nat_le-Decides low n) (nat_le-Decides n high))
-
-fits_name-Decides : (name : FileName) → Decides (fits_name name) (FitsName name)
-fits_name-Decides name =
-    Decides-like (fits_name name) (λ h. record { library = h.0; path = h.1 }) (λ fits. (fits.library, fits.path)) (Decides-and _ _ (is_between-Decides 1 LIBRARY_LIMIT (length name.library)) (is_between-Decides 1 PATH_LIMIT (length name.path)))
-
-fits_command-Decides : (command : List (List ℕ)) → Decides (fits_command command) (FitsCommand command)
-fits_command-Decides command =
-    Decides-like (fits_command command) (λ h. record { count = h.0; words = h.1 }) (λ fits. (fits.count, fits.words))
-    (Decides-and _ _ (is_between-Decides 1 COMMAND_LIMIT (length command)) (list_all-Decides (λ word. nat_le (length word) WORD_LIMIT) (λ word. length word ≤ WORD_LIMIT) (λ word. nat_le-Decides (length word) WORD_LIMIT) command))
+    (Decides-and (list_all (test x) xs) (all_pairs test xs) (all-Decides (test x) (R x) (each x) xs) (all_pairs-Decides test R each xs))
 
 contains-Decides : (deps : List ℕ) (position : ℕ) → Decides (list_any (λ dep. dep == position) deps) (Contains deps position)
 contains-Decides deps position =
@@ -59,7 +34,7 @@ contains-Decides deps position =
     (Decides-by_or (λ dep. dep == position) (λ dep. dep ≡ position) (list_any (λ dep. dep == position)) (λ dep. Decides-eqb dep position) refl (λ _ _. refl) deps)
 
 holds_all-Decides : (deps positions : List ℕ) → Decides (holds_all deps positions) (All (Contains deps) positions)
-holds_all-Decides deps = list_all-Decides (λ position. list_any (λ dep. dep == position) deps) (Contains deps) (contains-Decides deps)
+holds_all-Decides deps = all-Decides (λ position. list_any (λ dep. dep == position) deps) (Contains deps) (contains-Decides deps)
 
 rising-Decides : (deps : List ℕ) → Decides (all_pairs nat_lt deps) (IsStrictlyIncreasing deps)
 rising-Decides deps =
@@ -76,8 +51,8 @@ fit_deps-Decides : (files : List Entry) (place : ℕ) (deps : List ℕ) → Deci
 unfolding fit_deps
 fit_deps-Decides files place deps =
     Decides-and _ _ (rising-Decides deps)
-    (Decides-and _ _ (list_all-Decides (λ dep. nat_lt dep place) (λ dep. dep < place) (λ dep. Decides-ltb dep place) deps)
-    (list_all-Decides (λ dep. holds_all deps (found_deps files dep)) (λ dep. All (Contains deps) (found_deps files dep)) (λ dep. holds_all-Decides deps (found_deps files dep)) deps))
+    (Decides-and _ _ (all-Decides (λ dep. nat_lt dep place) (λ dep. dep < place) (λ dep. Decides-ltb dep place) deps)
+    (all-Decides (λ dep. holds_all deps (found_deps files dep)) (λ dep. All (Contains deps) (found_deps files dep)) (λ dep. holds_all-Decides deps (found_deps files dep)) deps))
 
 stands-Decides : (files : List Entry) (place : ℕ) (entry : Entry) → place < length files → Decides (stands files place entry) (IsEntryAt files place entry)
 unfolding stands
@@ -95,7 +70,7 @@ stands-Decides files place entry lt =
       (at.rising, (at.before, λ k d l. subst (All (Contains entry.deps)) (sym (deps_there files (get_or entry.deps k d) entry (omega (arith, at.before k d l, lt)))) (at.closed k d l entry))),
       (at.name, (at.command, at.text)),
     ))
-    (Decides-and _ _ (fit_deps-Decides files place entry.deps) (Decides-and _ _ (fits_name-Decides entry.name) (Decides-and _ _ (fits_command-Decides entry.command) (nat_le-Decides (length entry.text) TEXT_LIMIT))))
+    (Decides-and _ _ (fit_deps-Decides files place entry.deps) (Decides-and _ _ (name_sizes-Decides entry.name) (Decides-and _ _ (command_sizes-Decides entry.command) (nat_le-Decides (length entry.text) TEXT_LIMIT))))
 
 -- a file with its place
 placed_at : (files : List Entry) (place : ℕ) (d : ℕ × Entry) → place < length files → get_or (enumerate_from 0 files) place d ≡ (place, get_or files place d.1)
@@ -113,7 +88,7 @@ all_stand-Decides files =
     (λ all place d l.
     let lt : place < length files = omega (arith, length-enumerate_from 0 files) in
     subst passes (sym (placed_at files place d lt)) ((stands-Decides files place (get_or files place d.1) lt).1 (all place d.1 lt)))
-    (list_all-Decides (λ placed. stands files placed.0 placed.1) passes (λ placed. (λ e. e, λ e. e)) (enumerate_from 0 files))
+    (all-Decides (λ placed. stands files placed.0 placed.1) passes (λ placed. (λ e. e, λ e. e)) (enumerate_from 0 files))
 
 is_graph-Decides : (files : List Entry) → Decides (is_graph files) (IsGraph files)
 unfolding is_graph
@@ -123,7 +98,7 @@ is_graph-Decides files =
     (λ valid. (valid.few, (valid.distinct, (valid.each, valid.small))))
     (Decides-and _ _ (nat_le-Decides (length files) FILE_LIMIT)
     (Decides-and _ _
-    (all_pairs-Decides (λ entry other. not (is_same_name entry.name other.name)) (λ entry other. entry.name ≢ other.name) (λ entry other. Decides-not _ (is_same_name-Decides entry.name other.name)) files)
+    (all_pairs-Decides (λ entry other. not (is_same_name entry.name other.name)) (λ entry other. entry.name ≢ other.name) (λ entry other. Decides-not _ (same_name-Decides entry.name other.name)) files)
     (Decides-and _ _ (all_stand-Decides files) (nat_le-Decides (sum_by (λ entry. length entry.text) files) GRAPH_TEXT_LIMIT))))
 
 -- what a place past the end reads

@@ -2,27 +2,15 @@
 use Rattle.std.specs.Prelude.{ℕ, ◌-◌, Bool, true, not, ◌&&◌, ◌==◌, nat_le, nat_lt, List, [], ◌∷◌, length, slice_get}
 use Rattle.std.specs.List.{list_all, list_any, enumerate_from, range_with_len, sum_by}
 use Rattle.std.specs.Option.{option_map_or}
-use Rattle.base.specs.declared.file.FileName.{FileName}
 use Rattle.base.specs.declared.graph.Entry.{Entry}
 use Rattle.base.specs.Names.{is_same_name}
-use Rattle.base.specs.declared.limits.TheConstants.{COMMAND_LIMIT, FILE_LIMIT, GRAPH_TEXT_LIMIT, LIBRARY_LIMIT, PATH_LIMIT, TEXT_LIMIT, WORD_LIMIT}
+use Rattle.base.specs.declared.limits.TheConstants.{FILE_LIMIT, GRAPH_TEXT_LIMIT, TEXT_LIMIT}
+use Rattle.base_ranges.specs.Sizes.{has_command_sizes, has_name_sizes}
 
 -- each item passes the test with each later one
 unfoldable pub all_pairs : {X : Type 0} → (X → X → Bool) → List X → Bool
 all_pairs test [] = true
 all_pairs test (first ∷ others) = list_all (test first) others && all_pairs test others
-
--- from low to high, both included
-abbrev pub is_between : ℕ → ℕ → ℕ → Bool
-is_between low high n = nat_le low n && nat_le n high
-
--- a library of 1 to 64 bytes, and a path of 1 to 1,024
-abbrev pub fits_name : FileName → Bool
-fits_name name = is_between 1 LIBRARY_LIMIT (length name.library) && is_between 1 PATH_LIMIT (length name.path)
-
--- 1 to 64 words of at most 1,024 bytes each
-abbrev pub fits_command : List (List ℕ) → Bool
-fits_command command = is_between 1 COMMAND_LIMIT (length command) && list_all (λ word. nat_le (length word) WORD_LIMIT) command
 
 -- each of the positions is among the dependencies
 abbrev pub holds_all : List ℕ → List ℕ → Bool
@@ -38,7 +26,7 @@ fit_deps files place deps = all_pairs nat_lt deps && (list_all (λ dep. nat_lt d
 
 -- a file at its place among the files
 unfoldable pub stands : List Entry → ℕ → Entry → Bool
-stands files place entry = fit_deps files place entry.deps && (fits_name entry.name && (fits_command entry.command && nat_le (length entry.text) TEXT_LIMIT))
+stands files place entry = fit_deps files place entry.deps && (has_name_sizes entry.name && (has_command_sizes entry.command && nat_le (length entry.text) TEXT_LIMIT))
 
 -- at most 4,096 files with distinct names, of at most 67,108,864 bytes together
 unfoldable pub is_graph : List Entry → Bool
