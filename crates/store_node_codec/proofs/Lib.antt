@@ -6,3 +6,5 @@ pub mod Closed
 pub mod Once
 pub mod Fitting
 pub mod NodeFits
+pub mod Standing
+pub mod Deciding

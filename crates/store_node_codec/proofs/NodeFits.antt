@@ -11,8 +11,8 @@ use Rattle.base.specs.View.{IsView, view}
 use Rattle.project_views.proofs.Parts.{no_entry}
 use Rattle.store_node_codec.specs.Fitting.{FitsNew, IsListed}
 use Rattle.store_node_codec.specs.Nodes.{AreNodes, AreOnce, Node, node_file, node_files, unfolded}
-use Rattle.store_record_codec.specs.Found.{is_view}
-use Rattle.store_record_codec.proofs.Deciding.{is_view-Decides}
+use Rattle.store_node_codec.specs.Views.{is_view}
+use Rattle.store_node_codec.proofs.Deciding.{is_view-Decides}
 use Rattle.store_node_codec.specs.Forms.{Draft}
 use Rattle.store_node_codec.specs.Shelves.{Shelf, draft_node, is_draft, is_same_node}
 use Rattle.base_ranges.specs.TextRefs.{is_text_ref, with_text}

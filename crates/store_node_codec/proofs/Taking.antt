@@ -10,7 +10,7 @@ use Rattle.std.proofs.lemmas.List.{append-nil, get_or_append_left, get_or_at}
 use Rattle.std.proofs.lemmas.List.Folds.{list_all_at, list_any_at}
 use Rattle.std.proofs.lemmas.Slice.Eq.{bytes_eq-Decides}
 use Rattle.base.specs.Graphs.{IsGraph}
-use Rattle.store_record_codec.proofs.Deciding.{is_view-Decides}
+use Rattle.store_node_codec.proofs.Deciding.{is_view-Decides}
 use Rattle.store_node_codec.specs.Nodes.{AreNodes, AreOnce, Node, unfolded}
 use Rattle.store_node_codec.specs.Forms.{Draft, NodePayload, node_payload_in}
 use Rattle.base_ranges.specs.TextRefs.{TextRef, is_text_ref, with_text}

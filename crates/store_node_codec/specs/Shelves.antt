@@ -5,8 +5,8 @@ use Rattle.std.specs.Option.{option_map_or}
 use Rattle.std.specs.Str.{bytes_eq}
 use Rattle.base.specs.Names.{is_same_name}
 use Rattle.base.specs.declared.limits.TheConstants.{ARTEFACT_LIMIT}
-use Rattle.store_record_codec.specs.declared.kept_view.Record.{Record}
-use Rattle.store_record_codec.specs.Found.{is_view}
+use Rattle.store_node_codec.specs.declared.kept_view.Record.{Record}
+use Rattle.store_node_codec.specs.Views.{is_view}
 use Rattle.store_node_codec.specs.Nodes.{Node, unfolded}
 use Rattle.base_ranges.specs.TextRefs.{TextRef, is_text_ref, with_text}
 use Rattle.base_ranges.specs.TextRefs.TextRef.{ByNumber, InFull}

@@ -11,7 +11,7 @@ use Rattle.std.proofs.lemmas.Option.{get_or_from_slice_get, slice_get-get_or, sl
 use Rattle.base.specs.declared.file.FileName.{FileName}
 use Rattle.base.specs.declared.memory.NoMemory.{NoMemory}
 use Rattle.base.specs.declared.limits.TheConstants.{ARTEFACT_LIMIT}
-use Rattle.store_record_codec.specs.declared.kept_view.Record.{Record}
+use Rattle.store_node_codec.specs.declared.kept_view.Record.{Record}
 use Rattle.project_views.proofs.Parts.{map_same}
 use Rattle.store_node_codec.specs.Forms.{Draft, NodePayload, node_payload_in}
 use Rattle.store_node_codec.specs.Forms.NodePayload.{DraftAlone, OfDraft, OfNode}

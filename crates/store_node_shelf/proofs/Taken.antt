@@ -6,7 +6,7 @@ use Rattle.std.proofs.lemmas.List.{map-append}
 use Rattle.std.proofs.lemmas.List.Elements.{All-push}
 use Rattle.std.proofs.lemmas.Option.{get_or_from_slice_get}
 use Rattle.base.specs.declared.file.FileName.{FileName}
-use Rattle.store_record_codec.specs.declared.kept_view.Record.{Record}
+use Rattle.store_node_codec.specs.declared.kept_view.Record.{Record}
 use Rattle.project_views.proofs.Parts.{no_entry}
 use Rattle.base_mark_index.specs.Marks.{mark_of}
 use Rattle.store_node_codec.specs.Fitting.{FitsNew}

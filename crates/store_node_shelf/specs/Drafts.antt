@@ -2,7 +2,7 @@
 use Rattle.std.specs.Prelude.{◌≡◌, ℕ, ◌<◌, ◌++◌, true, false, List, length, All, Option, None, Some}
 use Rattle.std.specs.List.{list_any}
 use Rattle.base.specs.declared.file.FileName.{FileName}
-use Rattle.store_record_codec.specs.declared.kept_view.Record.{Record}
+use Rattle.store_node_codec.specs.declared.kept_view.Record.{Record}
 use Rattle.store_node_codec.specs.Forms.{Draft}
 use Rattle.store_node_codec.specs.Nodes.{Node}
 use Rattle.store_node_codec.specs.Shelves.{draft_node, is_draft, is_same_node}

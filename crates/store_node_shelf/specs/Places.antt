@@ -2,7 +2,7 @@
 use Rattle.std.specs.Prelude.{◌≡◌, ◌≢◌, ℕ, ◌<◌, ◌≤◌, List, [], length, map, All, Option, Some, slice_get, slice_index, slice_index_or}
 use Rattle.std.specs.Vec.{vec_len, vec_capacity}
 use Rattle.base.specs.declared.limits.TheConstants.{ARTEFACT_LIMIT}
-use Rattle.store_record_codec.specs.declared.kept_view.Record.{Record}
+use Rattle.store_node_codec.specs.declared.kept_view.Record.{Record}
 use Rattle.base_mark_index.specs.Indexes.{IsLastWith}
 use Rattle.base_mark_index.specs.Marks.{mark_of}
 use Rattle.store_node_codec.specs.Nodes.{Node, unfolded}

@@ -1,6 +1,6 @@
 -- What is there after a payload was taken up.
 use Rattle.std.specs.Prelude.{◌≡◌, ℕ, ◌++◌, ◌∷◌, [], Bool, List, length, map, if◌then◌else◌}
-use Rattle.store_record_codec.specs.declared.kept_view.Record.{Record}
+use Rattle.store_node_codec.specs.declared.kept_view.Record.{Record}
 use Rattle.store_node_codec.specs.Forms.{Draft}
 use Rattle.store_node_codec.specs.Nodes.{Node}
 use Rattle.store_node_codec.specs.Shelves.{after_payload, draft_node, is_draft, with_draft}

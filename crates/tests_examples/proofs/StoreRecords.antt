@@ -6,7 +6,7 @@ use Rattle.base.specs.View.{part, viewed}
 use Rattle.outside.specs.Records.{latest_alone}
 use Rattle.base_bytes.specs.Names.{name_at}
 use Rattle.base_bytes.specs.Reading.{counted_at, many_at, text_at}
-use Rattle.store_record_codec.specs.Found.{all_pairs, fit_deps, is_graph, is_whole, stands}
+use Rattle.store_node_codec.specs.Views.{all_pairs, fit_deps, is_graph, is_whole, stands}
 use Rattle.store_node_codec.specs.Forms.{draft_alone_in, draft_at, node_payload_by, node_payload_in, of_draft_in, of_node_in}
 use Rattle.base_ranges.specs.TextRefs.{ref_by_number_at, ref_in_full_at, text_ref_at, text_ref_by}
 use Rattle.store_node_codec.specs.Nodes.{node_files}

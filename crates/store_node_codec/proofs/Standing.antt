@@ -8,7 +8,7 @@ use Rattle.base.specs.declared.graph.Entry.{Entry}
 use Rattle.base.specs.Graphs.{IsEntryAt}
 use Rattle.base.specs.View.{IsView}
 use Rattle.project_views.proofs.Rising.{before_later, place_le}
-use Rattle.store_record_codec.specs.Validity.{StandBelow}
+use Rattle.store_node_codec.specs.Validity.{StandBelow}
 
 module _ (deps : List ℕ) (rising : IsStrictlyIncreasing deps) (last : ℕ) (below : All (λ dep. dep < last) deps) where
   -- rising from after

@@ -16,7 +16,7 @@ use Rattle.base.specs.declared.graph.Entry.{Entry}
 use Rattle.base.specs.Names.{is_same_name, IsBetween, FitsName, FitsCommand}
 use Rattle.base.specs.Graphs.{IsEntryAt, IsGraph}
 use Rattle.base.specs.View.{IsView}
-use Rattle.store_record_codec.specs.Found.{all_pairs, holds_all, found_deps, fit_deps, stands, is_graph, is_whole, is_view}
+use Rattle.store_node_codec.specs.Views.{all_pairs, holds_all, found_deps, fit_deps, stands, is_graph, is_whole, is_view}
 use Rattle.base_ranges.proofs.Sized.{all-Decides, command_sizes-Decides, name_sizes-Decides, nat_le-Decides, same_name-Decides}
 use Rattle.base.specs.declared.limits.TheConstants.{FILE_LIMIT, GRAPH_TEXT_LIMIT, TEXT_LIMIT}
 
