@@ -1,18 +1,16 @@
 -- A bench job that is read is spelled so, and what is spelled so is read.
-use Rattle.std.proofs.Common.{◌≡◌, ℕ, ◌^◌, ◌<◌, cond, eqb, List, [], ◌++◌, length, Option, Some, None, refl, sym, ap, subst, ◌∙◌, arith}
-use Rattle.std.specs.Prelude.{codes, IfSome, IsSome}
-use Rattle.std.specs.Str.{bytes_eq}
-use Rattle.std.specs.List.{flat_map, AllByRecursion}
+use Rattle.std.proofs.Common.{◌≡◌, ℕ, ◌^◌, ◌<◌, cond, eqb, List, [], ◌++◌, length, Option, Some, None, refl, sym, ap, subst, ◌∙◌}
+use Rattle.std.specs.Prelude.{codes}
+use Rattle.std.specs.List.{AllByRecursion}
 use Rattle.std.proofs.lemmas.List.{append-nil}
-use Rattle.std.proofs.lemmas.Slice.Eq.{bytes_eq-Decides}
-use Rattle.std.proofs.lemmas.Option.{same_Some}
-use Rattle.base.specs.Bytes.{number_bytes, text_bytes}
+use Rattle.base.specs.Bytes.{text_bytes}
 use Rattle.base.specs.Jobs.{all_built_bytes}
-use Rattle.base_bytes.specs.Reading.{◌>>=◌, AreBytes, Takes, ReadsAll, counted_at, taken_at, text_at}
-use Rattle.base_bytes.proofs.Fields.{bind_some, guard_ended, guard_first, Takes-then, ends_there, taken_takes, taken_again, text_takes, text_again}
+use Rattle.base_bytes.specs.Reading.{◌>>=◌, AreBytes, Takes, counted_at, text_at}
+use Rattle.base_bytes.proofs.Fields.{bind_some, guard_ended, Takes-then, ends_there, text_takes, text_again}
 use Rattle.base_bytes.proofs.Many.{by_recursion, by_place, counted_take, counted_again}
 use Rattle.child_job_codec.specs.Reading.{all_built_at}
 use Rattle.child_job_codec.proofs.Jobs.{all_takes, all_again}
+use Rattle.child_job_codec.proofs.Spelled.{behind_again, behind_takes}
 use Rattle.test_spec.specs.declared.jobs.BenchJob.{BenchJob}
 use Rattle.test_spec.specs.BenchJobs.{IsBenchJob, bench_input, texts_bytes}
 use Rattle.child_bench_codec.specs.Reading.{bench_at, bench_fields_at}
@@ -108,32 +106,8 @@ fields_again job is =
 
 pub bench_takes : (bytes : List ℕ) (job : BenchJob) → AreBytes bytes → bench_at bytes ≡ Some job → IsBenchJob job × (bytes ≡ bench_input job)
 unfolding bench_at bench_input
-bench_takes bytes job fits e =
-    let a = bind_some (taken_at 4 bytes) (λ mark. cond (bytes_eq mark.0 (codes "VRB1")) (bench_fields_at mark.1) None) job e in
-    let t = taken_takes 4 bytes a.0.0 a.0.1 fits a.1 in
-    let g = guard_first (bytes_eq a.0.0 (codes "VRB1")) (bench_fields_at a.0.1) job a.2 in
-    let mark : a.0.0 ≡ codes "VRB1" = (bytes_eq-Decides a.0.0 (codes "VRB1")).0 g.0 in
-    let fields = fields_takes a.0.1 job t.0.left_are_bytes g.1 in
-    (fields.0, t.0.parts ∙ ap (λ (m : List ℕ). m ++ a.0.1) mark ∙ ap (λ (f : List ℕ). codes "VRB1" ++ f) fields.1)
+bench_takes = behind_takes bench_fields_at after_mark IsBenchJob (codes "VRB1") fields_takes
 
 pub bench_again : (job : BenchJob) → IsBenchJob job → bench_at (bench_input job) ≡ Some job
 unfolding bench_at bench_input
-bench_again job is = rw (taken_again (codes "VRB1") (after_mark job)) (fields_again job is)
-
--- two bench jobs never have the same bytes
-pub same_bench_job : (job other : BenchJob) → IsBenchJob job → IsBenchJob other → bench_input job ≡ bench_input other → job ≡ other
-same_bench_job job other is is_other e = same_Some job other (sym (bench_again job is) ∙ ap bench_at e ∙ bench_again other is_other)
-
--- what a reader gives is a job with these bytes
-pub is_bench_job : (bytes : List ℕ) (given : Option BenchJob) → AreBytes bytes → ReadsAll (λ same. same) given (bench_at bytes) → IfSome given (λ job. IsBenchJob job × (bytes ≡ bench_input job))
-is_bench_job bytes None fits e = tt
-is_bench_job bytes (Some job) fits e = bench_takes bytes job fits e
-
--- where a job has these bytes, a reader gives it
-pub is_given : (bytes : List ℕ) (given : Option BenchJob) → ReadsAll (λ same. same) given (bench_at bytes) → (job : BenchJob) → IsBenchJob job → bytes ≡ bench_input job → IsSome given
-is_given bytes None none job is e = let both = sym none ∙ ap bench_at e ∙ bench_again job is in absurd cc
-is_given bytes (Some other) read job is e = refl
-
-pub is_that : (bytes : List ℕ) (given : Option BenchJob) → ReadsAll (λ same. same) given (bench_at bytes) → (job : BenchJob) → IsBenchJob job → bytes ≡ bench_input job → IfSome given (λ other. other ≡ job)
-is_that bytes None none job is e = tt
-is_that bytes (Some other) read job is e = same_Some other job (sym read ∙ ap bench_at e ∙ bench_again job is)
+bench_again = behind_again bench_fields_at after_mark IsBenchJob (codes "VRB1") fields_again

@@ -1,16 +1,15 @@
 -- How long the texts of a bench job are, for a run of the sizes of one.
-use Rattle.std.proofs.Common.{◌≡◌, ℕ, zero, suc, ◌+◌, ◌*◌, ◌^◌, ◌<◌, ◌≤◌, Bool, true, false, ◌||◌, cond, eqb, List, [], ◌∷◌, ◌++◌, length, reverse, refl, sym, ap, ◌∙◌, arith, inl, inr}
+use Rattle.std.proofs.Common.{◌≡◌, ℕ, zero, suc, ◌+◌, ◌*◌, ◌^◌, ◌<◌, ◌≤◌, Bool, ◌||◌, cond, eqb, List, [], ◌∷◌, ◌++◌, length, reverse, refl, ap, ◌∙◌, arith, inl, inr}
 use Rattle.std.specs.Prelude.{codes, All, slice_index_or, sum_by}
 use Rattle.std.specs.List.{flat_map, join_by}
-use Rattle.std.proofs.lemmas.Bool.{cases_Bool, cond-true, cond-false}
+use Rattle.std.proofs.lemmas.Bool.{cases_Bool}
 use Rattle.std.proofs.lemmas.List.{length-append, length-reverse}
 use Rattle.std.proofs.lemmas.List.Concat.{flat_map-cons}
 use Rattle.std.proofs.lemmas.List.Sums.{sum_by-cons}
 use Rattle.base.specs.declared.graph.BuiltFile.{BuiltFile}
-use Rattle.base.specs.declared.limits.TheConstants.{CASE_LIMIT, PATH_LIMIT, TEXT_LIMIT}
 use Rattle.base.specs.Graphs.{IsBuilt}
 use Rattle.test_spec.specs.declared.runs.TestRun.{TestRun}
-use Rattle.test_spec.specs.Runs.{FitsRun, escaped, escaped_byte, hex_digit, is_name_byte, name_of_bench, name_of_case, output_path, results_path, run_name}
+use Rattle.test_spec.specs.Runs.{FitsRun, escaped, escaped_byte, is_name_byte, name_of_bench, name_of_case, output_path, results_path, run_name}
 use Rattle.test_spec.specs.Configuration.{configuration, doubled, enabled_cases, folder_of, from_slash, is_comma, is_mark, pair, pairs_of}
 use Rattle.test_spec.specs.BenchJobs.{IsBenchJob, bench_job}
 

@@ -1,8 +1,7 @@
 -- Reading a bench job from start to end.
 use Rattle.std.specs.Prelude.{ℕ, ◌==◌, List, length, codes, Option, Some, None, if◌then◌else◌}
-use Rattle.std.specs.Str.{bytes_eq}
-use Rattle.base_bytes.specs.Reading.{◌>>=◌, counted_at, taken_at, text_at}
-use Rattle.child_job_codec.specs.Reading.{all_built_at}
+use Rattle.base_bytes.specs.Reading.{◌>>=◌, counted_at, text_at}
+use Rattle.child_job_codec.specs.Reading.{all_built_at, behind}
 use Rattle.test_spec.specs.declared.jobs.BenchJob.{BenchJob}
 
 -- three texts, the cases, two texts and the files that were built, with no byte after them
@@ -17,8 +16,6 @@ bench_fields_at bytes = do
   built ← all_built_at results.1
   if length built.1 == 0 then Some (record { library = library.0; bench = bench.0; architecture = architecture.0; cases = cases.0; runner_cfg = runner_cfg.0; results = results.0; built = built.0 }) else None
 
--- all of the bytes: the mark of a bench job, and its fields
+-- all of the bytes: the magic of a bench job, and its fields
 unfoldable pub bench_at : List ℕ → Option BenchJob
-bench_at bytes = do
-  mark ← taken_at 4 bytes
-  if bytes_eq mark.0 (codes "VRB1") then bench_fields_at mark.1 else None
+bench_at bytes = behind (codes "VRB1") bench_fields_at bytes

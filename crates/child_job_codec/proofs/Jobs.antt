@@ -1,12 +1,10 @@
 -- A job that is read is spelled so, and what is spelled so is read.
-use Rattle.std.proofs.Common.{◌≡◌, ℕ, ◌^◌, ◌<◌, ◌≤◌, cond, eqb, leb, List, [], ◌++◌, length, Option, Some, None, refl, sym, ap, subst, ◌∙◌, append_assoc, arith}
-use Rattle.std.specs.Prelude.{codes, IfSome, IsSome}
-use Rattle.std.specs.Str.{bytes_eq}
+use Rattle.std.proofs.Common.{◌≡◌, ℕ, ◌^◌, ◌<◌, ◌≤◌, cond, eqb, leb, List, [], ◌++◌, length, Some, None, refl, sym, ap, subst, ◌∙◌, append_assoc, arith}
+use Rattle.std.specs.Prelude.{codes}
 use Rattle.std.specs.List.{flat_map}
 use Rattle.std.specs.Int.{w32}
 use Rattle.std.proofs.lemmas.Bool.{leb-true, le-leb}
 use Rattle.std.proofs.lemmas.List.{append-nil}
-use Rattle.std.proofs.lemmas.Slice.Eq.{bytes_eq-Decides}
 use Rattle.std.proofs.lemmas.Option.{same_Some}
 use Rattle.base.specs.declared.file.FileName.{FileName}
 use Rattle.base.specs.declared.graph.BuiltFile.{BuiltFile}
@@ -14,25 +12,28 @@ use Rattle.base.specs.Bytes.{number_bytes, text_bytes}
 use Rattle.base.specs.Jobs.{name_bytes, built_bytes, all_built_bytes, compile_input}
 use Rattle.base.specs.Names.{FitsName}
 use Rattle.base.specs.Graphs.{IsBuilt, IsBuiltFile}
-use Rattle.base_bytes.specs.Reading.{◌>>=◌, AreBytes, Takes, ReadsAll, number_at, taken_at, text_at, many_at}
+use Rattle.base_bytes.specs.Reading.{◌>>=◌, AreBytes, Takes, number_at, text_at, many_at}
 use Rattle.base_bytes.specs.Names.{name_at, HasNameSpelling}
-use Rattle.base_bytes.proofs.Fields.{bind_some, guard_ended, guard_first, Takes-then, ends_there, taken_takes, taken_again, u32_takes, u32_again, text_takes, text_again}
+use Rattle.base_bytes.proofs.Fields.{bind_some, guard_ended, Takes-then, ends_there, u32_takes, u32_again, text_takes, text_again}
 use Rattle.base_bytes.proofs.NameFields.{name_takes, name_again}
 use Rattle.base_bytes.proofs.Many.{by_recursion, by_place, many_take, many_again}
+use Rattle.base_ranges.specs.Sizes.{has_name_sizes}
+use Rattle.base_ranges.proofs.Sized.{name_sizes-Decides}
 use Rattle.child_job_codec.specs.declared.reading.CompileJob.{CompileJob}
 use Rattle.child_job_codec.specs.Jobs.{IsJob, job_bytes}
-use Rattle.child_job_codec.specs.Reading.{tested_at, has_sizes, fitting_name_at, short_text_at, built_at, all_built_at, fields_at, job_at}
-use Rattle.child_job_codec.proofs.Tested.{tested_takes, tested_again, name_fits, name_passes}
+use Rattle.child_job_codec.specs.Reading.{tested_at, fitting_name_at, short_text_at, built_at, all_built_at, fields_at, job_at}
+use Rattle.child_job_codec.proofs.Spelled.{behind_again, behind_takes}
+use Rattle.child_job_codec.proofs.Tested.{tested_takes, tested_again}
 use Rattle.base.specs.declared.limits.TheConstants.{ARTEFACT_LIMIT, FILE_LIMIT, TEXT_LIMIT}
 
 fitting_takes : (bytes : List ℕ) (name : FileName) (left : List ℕ) → AreBytes bytes → fitting_name_at bytes ≡ Some (name, left) → Takes bytes (name_bytes name) left × FitsName name
 fitting_takes bytes name left fits e =
-    let t = tested_takes has_sizes name_at name_bytes HasNameSpelling name_takes bytes name left fits e in
-    (t.0, name_fits name t.1)
+    let t = tested_takes has_name_sizes name_at name_bytes HasNameSpelling name_takes bytes name left fits e in
+    (t.0, (name_sizes-Decides name).0 t.1)
 
 fitting_again : (name : FileName) (left : List ℕ) → FitsName name → fitting_name_at (name_bytes name ++ left) ≡ Some (name, left)
 fitting_again name left fits =
-    tested_again has_sizes name_at name_bytes HasNameSpelling name_again name left (record { library = omega (arith, fits.library.at_most); path = omega (arith, fits.path.at_most) }) (name_passes name fits)
+    tested_again has_name_sizes name_at name_bytes HasNameSpelling name_again name left (record { library = omega (arith, fits.library.at_most); path = omega (arith, fits.path.at_most) }) ((name_sizes-Decides name).1 fits)
 
 abbrev TextFits : List ℕ → Type 0
 TextFits text = length text < 2 ^ 32
@@ -112,32 +113,8 @@ fields_again job is =
 
 pub job_takes : (bytes : List ℕ) (job : CompileJob) → AreBytes bytes → job_at bytes ≡ Some job → IsJob job × (bytes ≡ job_bytes job)
 unfolding job_at compile_input
-job_takes bytes job fits e =
-    let a = bind_some (taken_at 4 bytes) (λ mark. cond (bytes_eq mark.0 (codes "VRC1")) (fields_at mark.1) None) job e in
-    let t = taken_takes 4 bytes a.0.0 a.0.1 fits a.1 in
-    let g = guard_first (bytes_eq a.0.0 (codes "VRC1")) (fields_at a.0.1) job a.2 in
-    let mark : a.0.0 ≡ codes "VRC1" = (bytes_eq-Decides a.0.0 (codes "VRC1")).0 g.0 in
-    let fields = fields_takes a.0.1 job t.0.left_are_bytes g.1 in
-    (fields.0, t.0.parts ∙ ap (λ (m : List ℕ). m ++ a.0.1) mark ∙ ap (λ (f : List ℕ). codes "VRC1" ++ f) fields.1)
+job_takes = behind_takes fields_at fields_bytes IsJob (codes "VRC1") fields_takes
 
 pub job_again : (job : CompileJob) → IsJob job → job_at (job_bytes job) ≡ Some job
 unfolding job_at compile_input
-job_again job is = rw (taken_again (codes "VRC1") (fields_bytes job)) (fields_again job is)
-
--- two jobs never have the same bytes
-pub same_job : (job other : CompileJob) → IsJob job → IsJob other → job_bytes job ≡ job_bytes other → job ≡ other
-same_job job other is is_other e = same_Some job other (sym (job_again job is) ∙ ap job_at e ∙ job_again other is_other)
-
--- what a reader gives is a job with these bytes
-pub is_job : (bytes : List ℕ) (given : Option CompileJob) → AreBytes bytes → ReadsAll (λ same. same) given (job_at bytes) → IfSome given (λ job. IsJob job × (bytes ≡ job_bytes job))
-is_job bytes None fits e = tt
-is_job bytes (Some job) fits e = job_takes bytes job fits e
-
--- where a job has these bytes, a reader gives it
-pub is_given : (bytes : List ℕ) (given : Option CompileJob) → ReadsAll (λ same. same) given (job_at bytes) → (job : CompileJob) → IsJob job → bytes ≡ job_bytes job → IsSome given
-is_given bytes None none job is e = let both = sym none ∙ ap job_at e ∙ job_again job is in absurd cc
-is_given bytes (Some other) read job is e = refl
-
-pub is_that : (bytes : List ℕ) (given : Option CompileJob) → ReadsAll (λ same. same) given (job_at bytes) → (job : CompileJob) → IsJob job → bytes ≡ job_bytes job → IfSome given (λ other. other ≡ job)
-is_that bytes None none job is e = tt
-is_that bytes (Some other) read job is e = same_Some other job (sym read ∙ ap job_at e ∙ job_again job is)
+job_again = behind_again fields_at fields_bytes IsJob (codes "VRC1") fields_again

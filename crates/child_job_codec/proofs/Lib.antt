@@ -2,3 +2,4 @@
 pub mod Tested
 pub mod Jobs
 pub mod WrittenInput
+pub mod Spelled

@@ -1,11 +1,8 @@
 -- What is read and tested is spelled so, and what passes the test is read.
 use Rattle.std.proofs.Common.{◌≡◌, ℕ, Bool, true, cond, List, ◌++◌, Option, Some, None, refl, subst}
-use Rattle.std.proofs.lemmas.Bool.{and_parts, and_from, leb-true, le-leb}
-use Rattle.base.specs.declared.file.FileName.{FileName}
-use Rattle.base.specs.Names.{FitsName}
 use Rattle.base_bytes.specs.Reading.{AreBytes, Takes}
 use Rattle.base_bytes.proofs.Fields.{bind_some, guard_ended}
-use Rattle.child_job_codec.specs.Reading.{tested_at, has_sizes}
+use Rattle.child_job_codec.specs.Reading.{tested_at}
 
 module _ {X : Type 0} (test : X → Bool) (read : List ℕ → Option (X × List ℕ)) (spelling : X → List ℕ) (Fits : X → Type 0) where
   pub tested_takes : ((bytes : List ℕ) (x : X) (left : List ℕ) → AreBytes bytes → read bytes ≡ Some (x, left) → Takes bytes (spelling x) left × Fits x)
@@ -19,14 +16,3 @@ module _ {X : Type 0} (test : X → Bool) (read : List ℕ → Option (X × List
   pub tested_again : ((x : X) (left : List ℕ) → Fits x → read (spelling x ++ left) ≡ Some (x, left))
       → (x : X) (left : List ℕ) → Fits x → test x ≡ true → tested_at test read (spelling x ++ left) ≡ Some (x, left)
   tested_again law x left fits passes = rw (law x left fits, passes) refl
-
-pub name_fits : (name : FileName) → has_sizes name ≡ true → FitsName name
-name_fits name t =
-    let both = and_parts _ _ t in
-    let library = and_parts _ _ both.0 in
-    let path = and_parts _ _ both.1 in
-    record { library = record { at_least = leb-true _ _ library.0; at_most = leb-true _ _ library.1 }; path = record { at_least = leb-true _ _ path.0; at_most = leb-true _ _ path.1 } }
-
-pub name_passes : (name : FileName) → FitsName name → has_sizes name ≡ true
-name_passes name fits =
-    and_from _ _ (and_from _ _ (le-leb _ _ fits.library.at_least) (le-leb _ _ fits.library.at_most)) (and_from _ _ (le-leb _ _ fits.path.at_least) (le-leb _ _ fits.path.at_most))

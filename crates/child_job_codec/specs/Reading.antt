@@ -1,13 +1,14 @@
 -- Reading a job from start to end, each part with its sizes.
-use Rattle.std.specs.Prelude.{ℕ, nat_le, Bool, ◌&&◌, ◌==◌, List, length, codes, Option, Some, None, if◌then◌else◌}
+use Rattle.std.specs.Prelude.{ℕ, nat_le, Bool, ◌==◌, List, length, codes, Option, Some, None, if◌then◌else◌}
 use Rattle.std.specs.Int.{w32}
 use Rattle.std.specs.Str.{bytes_eq}
 use Rattle.base.specs.declared.file.FileName.{FileName}
 use Rattle.base.specs.declared.graph.BuiltFile.{BuiltFile}
 use Rattle.base_bytes.specs.Reading.{◌>>=◌, number_at, taken_at, text_at, many_at}
 use Rattle.base_bytes.specs.Names.{name_at}
+use Rattle.base_ranges.specs.Sizes.{has_name_sizes}
 use Rattle.child_job_codec.specs.declared.reading.CompileJob.{CompileJob}
-use Rattle.base.specs.declared.limits.TheConstants.{ARTEFACT_LIMIT, FILE_LIMIT, LIBRARY_LIMIT, PATH_LIMIT, TEXT_LIMIT}
+use Rattle.base.specs.declared.limits.TheConstants.{ARTEFACT_LIMIT, FILE_LIMIT, TEXT_LIMIT}
 
 -- whatever is read, if it passes a test
 abbrev pub tested_at : {X : Type 0} → (X → Bool) → (List ℕ → Option (X × List ℕ)) → List ℕ → Option (X × List ℕ)
@@ -15,13 +16,9 @@ tested_at test read bytes = do
   x ← read bytes
   if test x.0 then Some x else None
 
--- whether a library has 1 to 64 bytes, and a path 1 to 1,024
-abbrev pub has_sizes : FileName → Bool
-has_sizes name = (nat_le 1 (length name.library) && nat_le (length name.library) LIBRARY_LIMIT) && (nat_le 1 (length name.path) && nat_le (length name.path) PATH_LIMIT)
-
 -- a library of 1 to 64 bytes and a path of 1 to 1,024; and the bytes after them
 abbrev pub fitting_name_at : List ℕ → Option (FileName × List ℕ)
-fitting_name_at bytes = tested_at has_sizes name_at bytes
+fitting_name_at bytes = tested_at has_name_sizes name_at bytes
 
 -- a text of at most so many bytes
 abbrev pub short_text_at : ℕ → List ℕ → Option (List ℕ × List ℕ)
@@ -48,8 +45,18 @@ fields_at bytes = do
   deps ← all_built_at text.1
   if length deps.1 == 0 then Some (record { name = name.0; text = text.0; deps = deps.0 }) else None
 
--- all of the bytes: the mark of a job, and its fields
+-- the bytes after a magic, where they begin with it
+unfoldable pub after_magic_at : List ℕ → List ℕ → Option (List ℕ)
+after_magic_at magic bytes = do
+  taken ← taken_at (length magic) bytes
+  if bytes_eq taken.0 magic then Some taken.1 else None
+
+-- what is read of the bytes after a magic
+abbrev pub behind : {X : Type 0} → List ℕ → (List ℕ → Option X) → List ℕ → Option X
+behind magic read bytes = do
+  rest ← after_magic_at magic bytes
+  read rest
+
+-- all of the bytes: the magic of a job, and its fields
 unfoldable pub job_at : List ℕ → Option CompileJob
-job_at bytes = do
-  mark ← taken_at 4 bytes
-  if bytes_eq mark.0 (codes "VRC1") then fields_at mark.1 else None
+job_at bytes = behind (codes "VRC1") fields_at bytes

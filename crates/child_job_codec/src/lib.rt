@@ -6,5 +6,5 @@ mod reading;
 mod writing;
 
 pub use laws::laws_of_jobs;
-pub use reading::{CompileJob, all_built, read_compile_request};
+pub use reading::{CompileJob, after_magic, all_built, read_compile_request};
 pub use writing::{BuiltBytes, RequestWriter};

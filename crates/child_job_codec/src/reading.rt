@@ -6,7 +6,7 @@ ghost use Rattle.base.specs.Graphs.{IsBuiltFile};
 ghost use Rattle.base_bytes.specs.Reading.{Reads, ReadsAll, many_at};
 ghost use Rattle.child_job_codec.specs.declared.reading.CompileJob.{CompileJob};
 ghost use Rattle.child_job_codec.specs.Jobs.{IsJob, job_bytes};
-ghost use Rattle.child_job_codec.specs.Reading.{fitting_name_at, short_text_at, built_at, all_built_at, fields_at, job_at};
+ghost use Rattle.child_job_codec.specs.Reading.{fitting_name_at, short_text_at, built_at, all_built_at, after_magic_at, fields_at, job_at};
 
 use base::{ARTEFACT_LIMIT, Built, BuiltFile, FILE_LIMIT, FileName, NoMemory, TEXT_LIMIT, Text};
 use base_bytes::ByteReader;
@@ -104,7 +104,7 @@ pub fn all_built(alloc: Global, reader: &mut ByteReader<'_>) -> Result<Option<Bu
     built_files(alloc, count, reader)
 }
 
-/// What comes after the mark of a request, to its end.
+/// What comes after the magic of a request, to its end.
 #[tactic(auto, unfolding(crate::specs::Reading::fields_at))]
 fn fields(alloc: Global, reader: &mut ByteReader<'_>) -> Result<Option<CompileJob>, NoMemory>
     ensures { IfOk result (λ job. ReadsAll (λ same. same) job (fields_at reader.old)) }
@@ -124,18 +124,29 @@ fn fields(alloc: Global, reader: &mut ByteReader<'_>) -> Result<Option<CompileJo
     Ok(Some(CompileJob { name, text, deps }))
 }
 
+/// The bytes after a magic, where they begin with it.
+#[tactic(auto, unfolding(crate::specs::Reading::after_magic_at))]
+pub fn after_magic<'a>(bytes: &'a [u8], magic: &[u8]) -> Option<ByteReader<'a>>
+    ensures { ReadsAll (λ rest. rest) result (after_magic_at magic.now bytes.now) }
+{
+    let mut reader = ByteReader::new(bytes);
+    let Some(taken) = reader.take(magic.len()) else {
+        return None;
+    };
+    if taken != magic {
+        return None;
+    }
+    Some(reader)
+}
+
 /// The job that all of the bytes spell, if they do.
 #[tactic(auto, unfolding(crate::specs::Reading::job_at))]
 fn job_of(alloc: Global, bytes: &[u8]) -> Result<Option<CompileJob>, NoMemory>
     ensures { IfOk result (λ job. ReadsAll (λ same. same) job (job_at bytes.now)) }
 {
-    let mut reader = ByteReader::new(bytes);
-    let Some(mark) = reader.take(4) else {
+    let Some(mut reader) = after_magic(bytes, b"VRC1".as_slice()) else {
         return Ok(None);
     };
-    if mark != b"VRC1".as_slice() {
-        return Ok(None);
-    }
     fields(alloc, &mut reader)
 }
 

@@ -6,7 +6,8 @@ use Rattle.std.proofs.lemmas.List.{append-nil, map_push}
 use Rattle.base.specs.declared.graph.BuiltFile.{BuiltFile}
 use Rattle.base_numbering.specs.Numbers.{IsAdded, NumbersBelow}
 use Rattle.outside.specs.Records.{Record as RequestRecord, built_of_record}
-use Rattle.store_codec.specs.Forms.{RequestDraft, RequestPayload, TextRef}
+use Rattle.store_codec.specs.Forms.{RequestDraft, RequestPayload}
+use Rattle.base_ranges.specs.TextRefs.{TextRef}
 use Rattle.store_codec.specs.Forms.RequestPayload.{OfRequest}
 use Rattle.store_codec.specs.Shelves.{AreNumberedOnce, RequestShelf, is_same_built, product_at, with_built}
 use Rattle.store_codec.specs.Carrying.{CarriedSoFar, carried_draft, carried_ref, carry_own, number_of_built, with_carried_text}

@@ -6,7 +6,7 @@ use Rattle.std.proofs.lemmas.Option.{get_or_from_slice_get}
 use Rattle.base.specs.declared.file.FileName.{FileName}
 use Rattle.base.specs.declared.graph.BuiltFile.{BuiltFile}
 use Rattle.outside.specs.Records.{Record as RequestRecord, built_of_record}
-use Rattle.store_codec.specs.Ranges.{counted_words}
+use Rattle.base_ranges.specs.Ranges.{counted_words}
 use Rattle.store_codec.specs.Shelves.{no_product, product_at}
 use Rattle.store_shelf.specs.declared.products.ProductRow.{ProductRow}
 use Rattle.store_shelf.specs.declared.shelf.PlacedShelf.{PlacedShelf}

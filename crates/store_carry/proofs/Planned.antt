@@ -8,9 +8,10 @@ use Rattle.std.proofs.lemmas.Slice.Eq.{bytes_eq-Decides}
 use Rattle.base.specs.declared.graph.BuiltFile.{BuiltFile}
 use Rattle.base_numbering.specs.Numbers.{IsPlaceOf, NumbersBelow}
 use Rattle.store_journal.specs.Payloads.{block}
-use Rattle.store_codec.specs.Forms.{ProductDraft, RequestPayload, TextRef, request_payload_bytes}
+use Rattle.store_codec.specs.Forms.{ProductDraft, RequestPayload, request_payload_bytes}
+use Rattle.base_ranges.specs.TextRefs.{TextRef, with_text}
 use Rattle.store_codec.specs.Forms.RequestPayload.{OfProduct, OfRequest}
-use Rattle.store_codec.specs.Shelves.{AreNumberedOnce, RequestShelf, is_same_built, no_product, product_at, with_text}
+use Rattle.store_codec.specs.Shelves.{AreNumberedOnce, RequestShelf, is_same_built, no_product, product_at}
 use Rattle.store_codec.specs.Carrying.{CarriedSoFar, carried_ref, carry_product, number_of_built, with_carried_text}
 use Rattle.store_codec.specs.Writing.{ref_or}
 use Rattle.store_codec.proofs.Deciding.{same_built-Decides}

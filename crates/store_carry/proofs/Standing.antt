@@ -14,7 +14,8 @@ use Rattle.base_numbering.specs.Numbers.{IsPlaceOf}
 use Rattle.outside.specs.Records.{Record as RequestRecord}
 use Rattle.store_codec.specs.Forms.{IsSpellable, ProductDraft, RequestDraft, RequestPayload, request_payload_bytes}
 use Rattle.store_codec.specs.Forms.RequestPayload.{OfProduct, OfRequest}
-use Rattle.store_codec.specs.Shelves.{IsNewProduct, IsRequest, RequestShelf, after_request_payload, bare_shelf, drafted_product, drafted_record, is_same_built, is_text_ref, no_product, product_at, request_shelf_of, told_text, with_built, with_request_payload}
+use Rattle.store_codec.specs.Shelves.{IsNewProduct, IsRequest, RequestShelf, after_request_payload, bare_shelf, drafted_product, drafted_record, is_same_built, no_product, product_at, request_shelf_of, with_built, with_request_payload}
+use Rattle.base_ranges.specs.TextRefs.{is_text_ref, told_text}
 use Rattle.store_codec.specs.Writing.{ref_or}
 use Rattle.store_codec.specs.Carrying.{CarriedSoFar, carried_draft, carried_from, carried_ref, carry_own, carry_product, carry_request, none_carried, number_of_built, with_carried_text}
 use Rattle.store_codec.proofs.Deciding.{same_built-Decides}

@@ -11,7 +11,8 @@ ghost use Rattle.store_carry.specs.Plans.{IsShelfToCarry, draft_over, product_st
 use crate::words::spelled_in;
 use crate::{ProductStep, RequestStep};
 use base::FileName;
-use store_codec::{Numbers, ProductParts, RequestParts, TextPart, numbers_of};
+use base_ranges::{Numbers, numbers_of};
+use store_codec::{ProductParts, RequestParts, TextPart};
 use store_shelf::{HeldPayloads, PlacedShelf, text_at};
 
 /// The name of a number.

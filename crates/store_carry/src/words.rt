@@ -3,11 +3,11 @@
 ghost use Rattle.std.specs.Prelude.{◌≡◌, ◌≤◌, length};
 ghost use Rattle.base.specs.Names.{FitsCommand};
 ghost use Rattle.store_codec.specs.Forms.{command_bytes};
-ghost use Rattle.store_codec.specs.Ranges.{counted_words};
+ghost use Rattle.base_ranges.specs.Ranges.{counted_words};
 ghost use Rattle.store_carry.specs.Words.{first_words};
 
 use base_bytes::ByteReader;
-use store_codec::{ByteRange, bytes_in};
+use base_ranges::{ByteRange, bytes_in};
 
 /// The bytes of the words that are counted from the start of some bytes, behind their number.
 fn words_first(bytes: &[u8]) -> &[u8]

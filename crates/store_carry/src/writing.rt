@@ -13,8 +13,9 @@ use crate::rows::{deps_of, product_parts, request_parts};
 use crate::{CarryPlan, CarryStep, ProductStep, RequestStep};
 use base::{Items, NoMemory, Text};
 use base_numbering::NumberSet;
+use base_ranges::Numbers;
 use std::alloc::Global;
-use store_codec::{Numbers, product_payload, request_payload};
+use store_codec::{product_payload, request_payload};
 use store_journal::Payloads;
 use store_shelf::{HeldPayloads, PlacedShelf};
 

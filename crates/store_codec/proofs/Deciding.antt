@@ -1,31 +1,19 @@
 -- The tests of drafts decide what drafts have.
-use Rattle.std.proofs.Common.{◌≡◌, ◌≢◌, ◌<◌, ◌≤◌, ℕ, zero, suc, Bool, true, false, not, ◌∙◌, List, [], ◌∷◌, length, map, refl, ap, arith}
-use Rattle.std.specs.Prelude.{All, AllPairs, nat_le, nat_lt}
+use Rattle.std.proofs.Common.{◌≡◌, ◌≢◌, ◌<◌, ℕ, zero, suc, Bool, true, false, not, ◌∙◌, List, [], ◌∷◌, length, map, refl, ap, arith}
+use Rattle.std.specs.Prelude.{All, AllPairs, nat_lt}
 use Rattle.std.specs.Bool.{Decides}
-use Rattle.std.specs.List.{list_all, list_any}
-use Rattle.std.proofs.lemmas.Bool.{leb-true, le-leb}
-use Rattle.std.proofs.lemmas.Bool.Decides.{Decides-like, Decides-and, Decides-not, Decides-ltb, Decides-by_and}
+use Rattle.std.specs.List.{list_any}
+use Rattle.std.proofs.lemmas.Bool.Decides.{Decides-like, Decides-and, Decides-not, Decides-ltb}
 use Rattle.std.proofs.lemmas.List.Kept.{AllPairs-cons}
 use Rattle.std.proofs.lemmas.Slice.Eq.{bytes_eq-Decides}
 use Rattle.base.specs.declared.file.FileName.{FileName}
 use Rattle.base.specs.declared.graph.BuiltFile.{BuiltFile}
-use Rattle.base.specs.Names.{is_same_name, IsBetween, FitsName, FitsCommand}
-use Rattle.base.specs.declared.limits.TheConstants.{ARTEFACT_LIMIT, COMMAND_LIMIT, FILE_LIMIT, LIBRARY_LIMIT, PATH_LIMIT, TEXT_LIMIT, WORD_LIMIT}
+use Rattle.base.specs.Names.{is_same_name}
+use Rattle.base.specs.declared.limits.TheConstants.{ARTEFACT_LIMIT, FILE_LIMIT, TEXT_LIMIT}
+use Rattle.base_ranges.proofs.Sized.{all-Decides, command_sizes-Decides, name_sizes-Decides, nat_le-Decides, same_name-Decides}
 use Rattle.store_codec.specs.Forms.{ProductDraft, RequestDraft}
-use Rattle.store_codec.specs.Shelves.{IsNewProduct, IsRequest, RequestShelf, are_apart, drafted_artefact, drafted_product, has_command_sizes, has_name_sizes, is_new_product, is_request, is_same_built, is_text_ref, is_within, product_at, told_text, with_text}
-
-nat_le-Decides : (a b : ℕ) → Decides (nat_le a b) (a ≤ b)
-nat_le-Decides a b = (leb-true a b, le-leb a b)
-
-pub all-Decides : {X : Type 0} (test : X → Bool) (P : X → Type 0) → ((x : X) → Decides (test x) (P x)) → (xs : List X) → Decides (list_all test xs) (All P xs)
-all-Decides test P each = Decides-by_and test P (list_all test) each refl (λ _ _. refl)
-
-pub same_name-Decides : (a b : FileName) → Decides (is_same_name a b) (a ≡ b)
-same_name-Decides a b =
-    Decides-like (is_same_name a b)
-    (λ h. ap (λ (library : List ℕ). record { library = library; path = a.path }) h.0 ∙ ap (λ (path : List ℕ). record { library = b.library; path = path }) h.1)
-    (λ e. (ap (λ (n : FileName). n.library) e, ap (λ (n : FileName). n.path) e))
-    (Decides-and _ _ (bytes_eq-Decides a.library b.library) (bytes_eq-Decides a.path b.path))
+use Rattle.store_codec.specs.Shelves.{IsNewProduct, IsRequest, RequestShelf, are_apart, drafted_artefact, drafted_product, is_new_product, is_request, is_same_built, product_at}
+use Rattle.base_ranges.specs.TextRefs.{is_text_ref, told_text, with_text}
 
 pub same_built-Decides : (a b : BuiltFile) → Decides (is_same_built a b) (a ≡ b)
 same_built-Decides a b =
@@ -33,19 +21,6 @@ same_built-Decides a b =
     (λ h. ap (λ (name : FileName). record { name = name; artefact = a.artefact }) h.0 ∙ ap (λ (artefact : List ℕ). record { name = b.name; artefact = artefact }) h.1)
     (λ e. (ap (λ (f : BuiltFile). f.name) e, ap (λ (f : BuiltFile). f.artefact) e))
     (Decides-and _ _ (same_name-Decides a.name b.name) (bytes_eq-Decides a.artefact b.artefact))
-
-within-Decides : (low high n : ℕ) → Decides (is_within low high n) (IsBetween low high n)
-within-Decides low high n =
-    Decides-like (is_within low high n) (λ h. record { at_least = h.0; at_most = h.1 }) (λ b. (b.at_least, b.at_most)) (Decides-and _ _ (nat_le-Decides low n) (nat_le-Decides n high))
-
-name_sizes-Decides : (name : FileName) → Decides (has_name_sizes name) (FitsName name)
-name_sizes-Decides name =
-    Decides-like (has_name_sizes name) (λ h. record { library = h.0; path = h.1 }) (λ fits. (fits.library, fits.path)) (Decides-and _ _ (within-Decides 1 LIBRARY_LIMIT (length name.library)) (within-Decides 1 PATH_LIMIT (length name.path)))
-
-command_sizes-Decides : (command : List (List ℕ)) → Decides (has_command_sizes command) (FitsCommand command)
-command_sizes-Decides command =
-    Decides-like (has_command_sizes command) (λ h. record { count = h.0; words = h.1 }) (λ fits. (fits.count, fits.words))
-    (Decides-and _ _ (within-Decides 1 COMMAND_LIMIT (length command)) (all-Decides (λ word. nat_le (length word) WORD_LIMIT) (λ word. length word ≤ WORD_LIMIT) (λ word. nat_le-Decides (length word) WORD_LIMIT) command))
 
 -- no two files have one name, and none has a name
 abbrev AreApart : FileName → List BuiltFile → Type 0

@@ -1,9 +1,6 @@
 -- The lemmas.
 pub mod Examples
 pub mod Spelling
-pub mod Ranging
 pub mod Deciding
 pub mod Once
 pub mod Sized
-pub mod LongNumbers
-pub mod CountedWords

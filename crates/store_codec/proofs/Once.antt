@@ -9,10 +9,11 @@ use Rattle.std.proofs.lemmas.List.Folds.{list_any_at}
 use Rattle.std.proofs.lemmas.List.Quantifiers.{all_pairs_push}
 use Rattle.std.proofs.lemmas.Slice.Eq.{bytes_eq-Decides}
 use Rattle.base.specs.declared.graph.BuiltFile.{BuiltFile}
-use Rattle.store_codec.specs.Forms.{IsSpellable, ProductDraft, RequestDraft, RequestPayload, TextRef, request_payload_bytes, request_payload_in}
-use Rattle.store_codec.specs.Forms.TextRef.{ByNumber, InFull}
+use Rattle.store_codec.specs.Forms.{IsSpellable, ProductDraft, RequestDraft, RequestPayload, request_payload_bytes, request_payload_in}
+use Rattle.base_ranges.specs.TextRefs.{TextRef, is_text_ref, with_text}
+use Rattle.base_ranges.specs.TextRefs.TextRef.{ByNumber, InFull}
 use Rattle.store_codec.specs.Forms.RequestPayload.{OfProduct, OfRequest}
-use Rattle.store_codec.specs.Shelves.{AreNumberedOnce, IsNewProduct, IsRequest, RequestShelf, after_request_payload, bare_shelf, drafted_product, is_new_product, is_request, is_same_built, is_text_ref, request_shelf_of, with_built, with_product, with_request, with_request_payload, with_text}
+use Rattle.store_codec.specs.Shelves.{AreNumberedOnce, IsNewProduct, IsRequest, RequestShelf, after_request_payload, bare_shelf, drafted_product, is_new_product, is_request, is_same_built, request_shelf_of, with_built, with_product, with_request, with_request_payload}
 use Rattle.store_codec.proofs.Deciding.{new_product-Decides, request-Decides, same_built-Decides}
 use Rattle.store_codec.proofs.Spelling.{payload_again}
 

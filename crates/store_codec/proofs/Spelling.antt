@@ -12,9 +12,11 @@ use Rattle.base_bytes.specs.Names.{name_at}
 use Rattle.base_bytes.proofs.Fields.{Takes-then, bind_some, ends_there, guard_ended, text_again, text_takes, u64_again, u64_takes}
 use Rattle.base_bytes.proofs.Many.{by_place, by_recursion, counted_again, counted_take}
 use Rattle.base_bytes.proofs.NameFields.{name_again, name_takes}
-use Rattle.store_codec.specs.Forms.{HasProductSpelling, HasRefSpelling, HasRequestSpelling, IsSpellable, ProductDraft, RequestDraft, RequestPayload, TextRef, command_bytes, product_draft_bytes, product_in, product_numbers_bytes, read_whole, ref_by_number_at, ref_in_full_at, request_draft_bytes, request_in, request_payload_by, request_payload_bytes, request_payload_in, tag_at, text_ref_at, text_ref_by, text_ref_bytes}
+use Rattle.store_codec.specs.Forms.{HasProductSpelling, HasRefSpelling, HasRequestSpelling, IsSpellable, ProductDraft, RequestDraft, RequestPayload, command_bytes, product_draft_bytes, product_in, product_numbers_bytes, request_draft_bytes, request_in, request_payload_by, request_payload_bytes, request_payload_in, text_ref_bytes}
+use Rattle.base_ranges.specs.TextRefs.{TextRef, ref_by_number_at, ref_in_full_at, text_ref_at, text_ref_by}
+use Rattle.base_ranges.specs.Ranges.{read_whole, byte_at}
 use Rattle.store_codec.specs.Forms.RequestPayload.{OfProduct, OfRequest}
-use Rattle.store_codec.specs.Forms.TextRef.{ByNumber, InFull}
+use Rattle.base_ranges.specs.TextRefs.TextRef.{ByNumber, InFull}
 
 abbrev TextFits : List ℕ → Type 0
 TextFits text = length text < 2 ^ 32
@@ -27,7 +29,7 @@ two_ways : {X : Type 0} (test : Bool) (one other : Option X) (x : X) → cond te
 two_ways true one other x e = inl (refl, e)
 two_ways false one other x e = inr (refl, e)
 
-tag_takes : (bytes : List ℕ) (tag : ℕ) (left : List ℕ) → AreBytes bytes → tag_at bytes ≡ Some (tag, left) → (bytes ≡ tag ∷ left) × AreBytes left
+tag_takes : (bytes : List ℕ) (tag : ℕ) (left : List ℕ) → AreBytes bytes → byte_at bytes ≡ Some (tag, left) → (bytes ≡ tag ∷ left) × AreBytes left
 tag_takes [] tag left fits e = absurd (none-some (tag, left) e)
 tag_takes (first ∷ rest) tag left fits e =
     subst (λ (y : ℕ × List ℕ). (first ∷ rest ≡ y.0 ∷ y.1) × AreBytes y.1) (same_Some (first, rest) (tag, left) e) (refl, λ i. fits (suc i))
@@ -62,7 +64,7 @@ ref_by_takes tag bytes source left fits e =
 ref_takes : (bytes : List ℕ) (source : TextRef) (left : List ℕ) → AreBytes bytes → text_ref_at bytes ≡ Some (source, left) → Takes bytes (text_ref_bytes source) left × HasRefSpelling source
 unfolding text_ref_at
 ref_takes bytes source left fits e =
-    let a = bind_some (tag_at bytes) (λ tag. text_ref_by tag.0 tag.1) (source, left) e in
+    let a = bind_some (byte_at bytes) (λ tag. text_ref_by tag.0 tag.1) (source, left) e in
     let t = tag_takes bytes a.0.0 a.0.1 fits a.1 in
     subst (λ (bs : List ℕ). Takes bs (text_ref_bytes source) left × HasRefSpelling source) (sym t.0) (ref_by_takes a.0.0 a.0.1 source left t.1 a.2)
 
@@ -124,7 +126,7 @@ payload_by_takes tag bytes payload fits e =
 pub payload_takes : (bytes : List ℕ) (payload : RequestPayload) → AreBytes bytes → request_payload_in bytes ≡ Some payload → IsSpelledBy bytes payload
 unfolding request_payload_in
 payload_takes bytes payload fits e =
-    let a = bind_some (tag_at bytes) (λ tag. request_payload_by tag.0 tag.1) payload e in
+    let a = bind_some (byte_at bytes) (λ tag. request_payload_by tag.0 tag.1) payload e in
     let t = tag_takes bytes a.0.0 a.0.1 fits a.1 in
     subst (λ (bs : List ℕ). IsSpelledBy bs payload) (sym t.0) (payload_by_takes a.0.0 a.0.1 payload t.1 a.2)
 

@@ -3,10 +3,11 @@ use Rattle.std.specs.Prelude.{ℕ, List, [], ◌∷◌, ◌++◌, map, if◌then
 use Rattle.std.specs.List.{fold, list_any, position, position_or_len}
 use Rattle.std.specs.Str.{bytes_eq}
 use Rattle.base.specs.declared.graph.BuiltFile.{BuiltFile}
-use Rattle.store_codec.specs.Forms.{RequestDraft, RequestPayload, TextRef, request_payload_bytes}
+use Rattle.store_codec.specs.Forms.{RequestDraft, RequestPayload, request_payload_bytes}
+use Rattle.base_ranges.specs.TextRefs.{TextRef, with_text}
 use Rattle.store_codec.specs.Forms.RequestPayload.{OfProduct, OfRequest}
 use Rattle.outside.specs.Records.{Record as RequestRecord, built_of_record, latest_alone as latest_requests}
-use Rattle.store_codec.specs.Shelves.{is_same_built, with_built, with_text}
+use Rattle.store_codec.specs.Shelves.{is_same_built, with_built}
 use Rattle.store_codec.specs.Writing.{ref_or}
 
 -- the texts and the products so far, in the order of their numbers, and the payloads that add them

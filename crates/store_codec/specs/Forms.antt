@@ -1,5 +1,5 @@
 -- Payloads of records of requests as bytes: what bytes spell, and how a payload is spelled.
-use Rattle.std.specs.Prelude.{ℕ, ◌<◌, ◌^◌, List, [], ◌∷◌, ◌++◌, ◌==◌, length, All, Option, Some, None, if◌then◌else◌}
+use Rattle.std.specs.Prelude.{ℕ, ◌<◌, ◌^◌, List, ◌∷◌, ◌++◌, ◌==◌, length, All, Option, None, if◌then◌else◌}
 use Rattle.std.specs.Int.{w64, to_le_bytes}
 use Rattle.std.specs.List.{flat_map}
 use Rattle.base.specs.declared.file.FileName.{FileName}
@@ -7,15 +7,13 @@ use Rattle.base.specs.Bytes.{number_bytes, text_bytes}
 use Rattle.base.specs.Jobs.{name_bytes}
 use Rattle.base_bytes.specs.Reading.{◌>>=◌, number_at, text_at, counted_at}
 use Rattle.base_bytes.specs.Names.{HasNameSpelling, name_at}
+use Rattle.base_ranges.specs.Ranges.{byte_at, read_whole}
+use Rattle.base_ranges.specs.TextRefs.{TextRef, text_ref_at}
+use Rattle.base_ranges.specs.TextRefs.TextRef.{ByNumber, InFull}
 
 -- the number that sides with payloads of requests have as their form
 abbrev pub request_form : ℕ
 request_form = 3
-
--- a text: one that is there by its number, or a new one
-pub data TextRef : Type 0 where
-  ByNumber : (number : ℕ) → TextRef
-  InFull : (text : List ℕ) → TextRef
 
 -- a product as it is spelled: a file, and the artefact that a compiler gave for it
 pub record ProductDraft : Type 0 where
@@ -35,37 +33,6 @@ pub record RequestDraft : Type 0 where
 pub data RequestPayload : Type 0 where
   OfProduct : (draft : ProductDraft) → RequestPayload
   OfRequest : (draft : RequestDraft) → RequestPayload
-
--- the first byte, and the bytes after it
-abbrev pub tag_at : List ℕ → Option (ℕ × List ℕ)
-tag_at [] = None
-tag_at (tag ∷ rest) = Some (tag, rest)
-
--- a text by its number: eight bytes, the low one first; and the bytes after it
-unfoldable pub ref_by_number_at : List ℕ → Option (TextRef × List ℕ)
-ref_by_number_at bytes = do
-  number ← number_at w64 bytes
-  Some (ByNumber number.0, number.1)
-
--- a new text: its length in four bytes, and its bytes; and the bytes after it
-unfoldable pub ref_in_full_at : List ℕ → Option (TextRef × List ℕ)
-ref_in_full_at bytes = do
-  text ← text_at bytes
-  Some (InFull text.0, text.1)
-
--- a text after its tag: its number after 0, or a new text after 1; and the bytes after it
-unfoldable pub text_ref_by : ℕ → List ℕ → Option (TextRef × List ℕ)
-text_ref_by tag bytes = if tag == 0 then ref_by_number_at bytes else (if tag == 1 then ref_in_full_at bytes else None)
-
--- a tag, and the text that it stands for; and the bytes after it
-unfoldable pub text_ref_at : List ℕ → Option (TextRef × List ℕ)
-text_ref_at bytes = do
-  tag ← tag_at bytes
-  text_ref_by tag.0 tag.1
-
--- what was read, where no byte follows
-abbrev pub read_whole : {X : Type 0} → X × List ℕ → Option X
-read_whole read = if length read.1 == 0 then Some read.0 else None
 
 -- what bytes after the tag of a product spell: a name and an artefact, and no byte after them
 unfoldable pub product_in : List ℕ → Option RequestPayload
@@ -92,7 +59,7 @@ request_payload_by tag bytes = if tag == 0 then product_in bytes else (if tag ==
 -- the payload that all of these bytes spell, if they spell one
 unfoldable pub request_payload_in : List ℕ → Option RequestPayload
 request_payload_in bytes = do
-  tag ← tag_at bytes
+  tag ← byte_at bytes
   request_payload_by tag.0 tag.1
 
 -- how a text is spelled: 0 and its number in eight bytes, or 1 and the new text after its length

@@ -1,35 +1,13 @@
 -- Payloads as ranges of their bytes.
-use Rattle.std.specs.Prelude.{◌≡◌, ℕ, zero, suc, ◌+◌, ◌/◌, ◌≤◌, List, [], ◌∷◌, length, take, drop, Option, Some, None}
-use Rattle.std.specs.Int.{w64, from_le_bytes}
-use Rattle.std.specs.Option.{option_map_or}
-use Rattle.base_bytes.specs.Reading.{counted_at, number_at, text_at}
-use Rattle.store_codec.specs.declared.reading.ByteRange.{ByteRange}
-use Rattle.store_codec.specs.declared.reading.TextRange.{TextRange}
-use Rattle.store_codec.specs.declared.reading.TextRange.TheVariants.{Known, Full}
+use Rattle.std.specs.Prelude.{ℕ, List}
 use Rattle.store_codec.specs.declared.reading.ProductRanges.{ProductRanges}
 use Rattle.store_codec.specs.declared.reading.RequestRanges.{RequestRanges}
 use Rattle.store_codec.specs.declared.reading.PayloadRanges.{PayloadRanges}
 use Rattle.store_codec.specs.declared.reading.PayloadRanges.TheVariants as ranges
-use Rattle.store_codec.specs.Forms.{ProductDraft, RequestDraft, RequestPayload, TextRef}
-use Rattle.store_codec.specs.Forms.TextRef.{ByNumber, InFull}
+use Rattle.base_ranges.specs.Ranges.{counted_numbers, counted_words, ranged}
+use Rattle.base_ranges.specs.TextRefs.{ref_in_range}
+use Rattle.store_codec.specs.Forms.{ProductDraft, RequestDraft, RequestPayload}
 use Rattle.store_codec.specs.Forms.RequestPayload.{OfProduct, OfRequest}
-
--- the bytes of a range
-abbrev pub ranged : List ℕ → ByteRange → List ℕ
-ranged bytes range = take range.count (drop range.start bytes)
-
--- the texts that are counted from the start of a range; none where they can't be read
-abbrev pub counted_words : List ℕ → ByteRange → List (List ℕ)
-counted_words bytes range = option_map_or (λ read. read.0) (counted_at text_at (drop range.start bytes)) []
-
--- the numbers of eight bytes that are counted from the start of a range; none where they can't be read
-abbrev pub counted_numbers : List ℕ → ByteRange → List ℕ
-counted_numbers bytes range = option_map_or (λ read. read.0) (counted_at (number_at w64) (drop range.start bytes)) []
-
--- the text that was found in bytes: by its number, or the bytes of its range
-abbrev pub ref_in_range : List ℕ → TextRange → TextRef
-ref_in_range bytes (Known number) = ByNumber number
-ref_in_range bytes (Full range) = InFull (ranged bytes range)
 
 -- the product whose parts are at these ranges of bytes
 abbrev pub product_in_ranges : List ℕ → ProductRanges → ProductDraft
@@ -43,26 +21,3 @@ request_in_ranges bytes draft = record { name = record { library = ranged bytes 
 abbrev pub payload_in_ranges : List ℕ → PayloadRanges → RequestPayload
 payload_in_ranges bytes (ranges.OfProduct draft) = OfProduct (product_in_ranges bytes draft)
 payload_in_ranges bytes (ranges.OfRequest draft) = OfRequest (request_in_ranges bytes draft)
-
--- where a range ends
-abbrev pub range_end : ByteRange → ℕ
-range_end range = range.start + range.count
-
--- A range that was found from an offset on, seen by view, is what is read there, and reading goes on after it.
-abbrev pub IsRangeAt : {Y : Type 0} → ℕ → (ByteRange → Y) → List ℕ → Option ByteRange → Option (Y × List ℕ) → Type 0
-IsRangeAt at view bytes None read = read ≡ None
-IsRangeAt at view bytes (Some range) read = (read ≡ Some (view range, drop (range_end range) bytes)) × (at ≤ range_end range) × (range_end range ≤ length bytes)
-
--- What was found from an offset on, with the offset after it, seen by view, is what is read there, and reading goes on after it.
-abbrev pub IsReadAt : {X Y : Type 0} → ℕ → (X → Y) → List ℕ → Option (X × ℕ) → Option (Y × List ℕ) → Type 0
-IsReadAt at view bytes None read = read ≡ None
-IsReadAt at view bytes (Some found) read = (read ≡ Some (view found.0, drop found.1 bytes)) × (at ≤ found.1) × (found.1 ≤ length bytes)
-
--- so many numbers of eight bytes each
-unfoldable pub long_numbers : ℕ → List ℕ → List ℕ
-long_numbers zero bytes = []
-long_numbers (suc n) bytes = from_le_bytes w64 (take 8 bytes) ∷ long_numbers n (drop 8 bytes)
-
--- all of the numbers in some bytes
-abbrev pub all_numbers : List ℕ → List ℕ
-all_numbers bytes = long_numbers (length bytes / 8) bytes

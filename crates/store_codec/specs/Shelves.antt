@@ -6,10 +6,11 @@ use Rattle.std.specs.Str.{bytes_eq}
 use Rattle.base.specs.Names.{FitsCommand, FitsName, is_same_name}
 use Rattle.base.specs.declared.file.FileName.{FileName}
 use Rattle.base.specs.declared.graph.BuiltFile.{BuiltFile}
-use Rattle.base.specs.declared.limits.TheConstants.{ARTEFACT_LIMIT, COMMAND_LIMIT, FILE_LIMIT, LIBRARY_LIMIT, PATH_LIMIT, TEXT_LIMIT, WORD_LIMIT}
+use Rattle.base.specs.declared.limits.TheConstants.{ARTEFACT_LIMIT, FILE_LIMIT, TEXT_LIMIT}
 use Rattle.outside.specs.Records.{Record as RequestRecord}
-use Rattle.store_codec.specs.Forms.{ProductDraft, RequestDraft, RequestPayload, TextRef, request_payload_in}
-use Rattle.store_codec.specs.Forms.TextRef.{ByNumber, InFull}
+use Rattle.base_ranges.specs.Sizes.{has_command_sizes, has_name_sizes}
+use Rattle.base_ranges.specs.TextRefs.{is_text_ref, told_text, with_text}
+use Rattle.store_codec.specs.Forms.{ProductDraft, RequestDraft, RequestPayload, request_payload_in}
 use Rattle.store_codec.specs.Forms.RequestPayload.{OfProduct, OfRequest}
 
 -- texts and products, numbered from 0, and records
@@ -21,33 +22,6 @@ pub record RequestShelf : Type 0 where
 -- what no payloads stand for
 abbrev pub bare_shelf : RequestShelf
 bare_shelf = record { texts = []; products = []; records = [] }
-
--- a number from low to high, both included
-abbrev pub is_within : ℕ → ℕ → ℕ → Bool
-is_within low high n = nat_le low n && nat_le n high
-
--- a library of 1 to 64 bytes, and a path of 1 to 1,024
-abbrev pub has_name_sizes : FileName → Bool
-has_name_sizes name = is_within 1 LIBRARY_LIMIT (length name.library) && is_within 1 PATH_LIMIT (length name.path)
-
--- 1 to 64 words of at most 1,024 bytes each
-abbrev pub has_command_sizes : List (List ℕ) → Bool
-has_command_sizes command = is_within 1 COMMAND_LIMIT (length command) && list_all (λ word. nat_le (length word) WORD_LIMIT) command
-
--- a number is that of a text; a new text isn't there yet
-abbrev pub is_text_ref : List (List ℕ) → TextRef → Bool
-is_text_ref texts (ByNumber number) = nat_lt number (length texts)
-is_text_ref texts (InFull text) = not (list_any (bytes_eq text) texts)
-
--- the text that is meant
-abbrev pub told_text : List (List ℕ) → TextRef → List ℕ
-told_text texts (ByNumber number) = slice_index_or texts number []
-told_text texts (InFull text) = text
-
--- the texts with one that may be new
-abbrev pub with_text : List (List ℕ) → TextRef → List (List ℕ)
-with_text texts (ByNumber number) = texts
-with_text texts (InFull text) = texts ++ text ∷ []
 
 -- the same name and the same artefact
 abbrev pub is_same_built : BuiltFile → BuiltFile → Bool

@@ -5,8 +5,9 @@ use Rattle.base.specs.declared.limits.TheConstants.{FILE_LIMIT, TEXT_LIMIT}
 use Rattle.store_codec.specs.declared.writing.TextPart.{TextPart}
 use Rattle.store_codec.specs.declared.writing.ProductParts.{ProductParts}
 use Rattle.store_codec.specs.declared.writing.RequestParts.{RequestParts}
-use Rattle.store_codec.specs.Forms.{ProductDraft, RequestDraft, TextRef}
-use Rattle.store_codec.specs.Forms.TextRef.{ByNumber, InFull}
+use Rattle.store_codec.specs.Forms.{ProductDraft, RequestDraft}
+use Rattle.base_ranges.specs.TextRefs.{TextRef}
+use Rattle.base_ranges.specs.TextRefs.TextRef.{ByNumber, InFull}
 
 -- a text that has a number, or a new one
 abbrev pub ref_or : Option ℕ → List ℕ → TextRef

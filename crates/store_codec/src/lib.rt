@@ -3,18 +3,11 @@
 #![tactic(auto)]
 
 mod laws;
-mod numbers;
 mod reading;
-mod words;
 mod writing;
 
 pub use laws::{laws_of_request_payloads, laws_of_request_shelves};
-pub use numbers::{Numbers, numbers_of};
-pub use reading::{
-    ByteRange, PayloadRanges, ProductRanges, RequestRanges, TextRange, bytes_in, name_in,
-    read_request_payload,
-};
-pub use words::{has_word_sizes, has_words};
+pub use reading::{PayloadRanges, ProductRanges, RequestRanges, read_request_payload};
 pub use writing::{
     ProductParts, RequestParts, TextPart, product_payload, request_payload, spelled_words,
 };

@@ -18,7 +18,8 @@ use Rattle.base_numbering.specs.Numbers.{IsPlaceOf}
 use Rattle.store_codec.specs.Forms.{HasRefSpelling, HasRequestSpelling, RequestDraft, RequestPayload, request_payload_bytes, request_payload_in}
 use Rattle.store_codec.specs.Forms.RequestPayload.{OfProduct, OfRequest}
 use Rattle.outside.specs.Records.{Record as RequestRecord, built_of_record, latest as latest_request}
-use Rattle.store_codec.specs.Shelves.{IsRequest, RequestShelf, drafted_record, is_text_ref, no_product, product_at, told_text, with_text}
+use Rattle.store_codec.specs.Shelves.{IsRequest, RequestShelf, drafted_record, no_product, product_at}
+use Rattle.base_ranges.specs.TextRefs.{is_text_ref, told_text, with_text}
 use Rattle.store_codec.specs.Writing.{ref_or}
 use Rattle.store_codec.proofs.Spelling.{payload_again}
 use Rattle.store_shelf.proofs.Finding.{new_is}

@@ -11,7 +11,8 @@ use Rattle.outside.specs.Records.{Record as RequestRecord, asked_of, latest as l
 use Rattle.store_codec.specs.Writing.{ref_or}
 use Rattle.store_codec.specs.Forms.RequestPayload.{OfRequest}
 use Rattle.store_codec.specs.Ranges.{request_in_ranges}
-use Rattle.store_codec.specs.Shelves.{IsRequest, RequestShelf, drafted_record, product_at, request_shelf_of, with_text}
+use Rattle.store_codec.specs.Shelves.{IsRequest, RequestShelf, drafted_record, product_at, request_shelf_of}
+use Rattle.base_ranges.specs.TextRefs.{with_text}
 use Rattle.store_shelf.specs.Checked.{AreTextNumbers, IsNameNumber, ref_number}
 use Rattle.store_holdings.specs.declared.additions.RequestAddition.{RequestAddition}
 use Rattle.store_holdings.specs.declared.asking.TextRefs.{TextRefs}

@@ -4,7 +4,7 @@ use Rattle.std.specs.Vec.{vec_len, vec_capacity}
 use Rattle.base.specs.declared.file.FileName.{FileName}
 use Rattle.base.specs.declared.graph.Entry.{Entry}
 use Rattle.outside.specs.Records.{Record as RequestRecord, latest as latest_request}
-use Rattle.store_codec.specs.Ranges.{counted_words}
+use Rattle.base_ranges.specs.Ranges.{counted_words}
 use Rattle.store_codec.specs.Shelves.{request_shelf_of}
 use Rattle.store_shelf.specs.declared.shelf.PlacedShelf.{PlacedShelf}
 use Rattle.store_shelf.specs.declared.shelf.RecordRow.{RecordRow}

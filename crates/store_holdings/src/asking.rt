@@ -5,7 +5,7 @@ ghost use Rattle.base_numbering.specs.Numbers.{IsPlaceOf};
 ghost use Rattle.store_codec.specs.Forms.{RequestDraft, request_payload_in};
 ghost use Rattle.store_codec.specs.Forms.RequestPayload.{OfRequest};
 ghost use Rattle.store_codec.specs.Ranges.{request_in_ranges};
-ghost use Rattle.store_codec.specs.Shelves.{with_text};
+ghost use Rattle.base_ranges.specs.TextRefs.{with_text};
 ghost use Rattle.store_codec.specs.Writing.{ref_or};
 ghost use Rattle.store_shelf.specs.Placed.{AreTextsPlaced, placed_texts};
 ghost use Rattle.store_holdings.specs.Additions.{AreRefs, HasAskedSizes, asked_draft};

@@ -7,7 +7,7 @@ ghost use Rattle.store_holdings.specs.Held.{IsAskedRow};
 
 use crate::Seats;
 use base::Entry;
-use store_codec::{Numbers, has_words, numbers_of};
+use base_ranges::{Numbers, has_words, numbers_of};
 use store_shelf::{HeldPayloads, PlacedShelf, PlacedTexts, RecordRow, text_at};
 
 /// Whether a position has a seat with this product.

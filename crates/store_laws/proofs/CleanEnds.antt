@@ -13,7 +13,7 @@ use Rattle.base.specs.declared.child.Exit.{Exit}
 use Rattle.base.specs.Graphs.{IsGraph}
 use Rattle.base.specs.Jobs.{compile_request}
 use Rattle.base.specs.View.{view}
-use Rattle.store_record_codec.specs.declared.kept_view.Record.{Record as ViewRecord}
+use Rattle.store_node_codec.specs.declared.kept_view.Record.{Record as ViewRecord}
 use Rattle.run_spec.specs.CleanBuild.{Result, Made, Refused, Blocked, built_below, result_of, is_free, next_result, clean_build}
 use Rattle.project_views.proofs.ViewLaws.{viewed_of}
 use Rattle.run_laws.proofs.CleanPlaces.{filter_map-cons, clean_at}

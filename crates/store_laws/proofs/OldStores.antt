@@ -8,7 +8,7 @@ use Rattle.std.proofs.lemmas.Bool.Decides.{nat_tests}
 use Rattle.std.proofs.lemmas.List.Elements.{All-nil, All-push}
 use Rattle.base.specs.Graphs.{IsGraph}
 use Rattle.outside.specs.Disks.{Image}
-use Rattle.store_record_codec.specs.declared.kept_view.Record.{Record as ViewRecord}
+use Rattle.store_node_codec.specs.declared.kept_view.Record.{Record as ViewRecord}
 use Rattle.store_node_codec.specs.Forms.{NodePayload, node_payload_in}
 use Rattle.store_node_codec.specs.Forms.NodePayload.{OfNode, OfDraft, DraftAlone}
 use Rattle.store_node_codec.specs.Nodes.{unfolded}

@@ -12,7 +12,7 @@ use Rattle.base.specs.declared.child.Exit.{Exit}
 use Rattle.base.specs.Graphs.{IsGraph}
 use Rattle.base.specs.Jobs.{compile_request}
 use Rattle.outside.specs.Records.{Record}
-use Rattle.store_record_codec.specs.declared.kept_view.Record.{Record as ViewRecord}
+use Rattle.store_node_codec.specs.declared.kept_view.Record.{Record as ViewRecord}
 use Rattle.run_spec.specs.CleanBuild.{Result, Made, Refused, Blocked, built_of, built_below, result_of, is_free, next_result, clean_build}
 use Rattle.run_spec.specs.Faithful.{IsTrueRecord}
 use Rattle.run_spec.proofs.Places.{slice_get-pushed}

@@ -4,7 +4,7 @@ ghost use Rattle.std.specs.Prelude.{◌≡◌, true, List, All};
 ghost use Rattle.base.specs.declared.child.Request.{Request};
 ghost use Rattle.base.specs.declared.child.Exit.{Exit};
 ghost use Rattle.base.specs.Graphs.{IsGraph};
-ghost use Rattle.store_record_codec.specs.declared.kept_view.Record.{Record as ViewRecord};
+ghost use Rattle.store_node_codec.specs.declared.kept_view.Record.{Record as ViewRecord};
 ghost use Rattle.store_migration.specs.Migrating.{migrated_requests};
 ghost use Rattle.run_spec.specs.Faithful.{IsFaithful, IsTrueRecord};
 ghost use Rattle.outside.specs.Disks.{Image};

@@ -6,7 +6,7 @@ use Rattle.std.proofs.lemmas.Option.{none-some, cond_some}
 use Rattle.base.specs.declared.graph.BuiltFile.{BuiltFile}
 use Rattle.base.specs.declared.graph.Entry.{Entry}
 use Rattle.base.specs.View.{view}
-use Rattle.store_record_codec.specs.declared.kept_view.Record.{Record as ViewRecord}
+use Rattle.store_node_codec.specs.declared.kept_view.Record.{Record as ViewRecord}
 use Rattle.store_migration.specs.ViewRecords.{is_same_view, latest_view}
 use Rattle.store_migration.specs.Migrating.{built_in, built_where}
 use Rattle.store_migration.proofs.SameViews.{same_views}

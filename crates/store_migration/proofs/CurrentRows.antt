@@ -8,7 +8,7 @@ use Rattle.std.proofs.lemmas.Option.{none-some}
 use Rattle.std.proofs.lemmas.List.Elements.{All-drop, All-nil, All-push, filter_map-append}
 use Rattle.std.proofs.lemmas.Bool.{and_parts}
 use Rattle.outside.specs.Records.{Record}
-use Rattle.store_record_codec.specs.declared.kept_view.Record.{Record as ViewRecord}
+use Rattle.store_node_codec.specs.declared.kept_view.Record.{Record as ViewRecord}
 use Rattle.store_node_codec.specs.Nodes.{AreNodes, Node, node_file}
 use Rattle.store_node_shelf.specs.Rows.{NodesByNumber}
 use Rattle.store_migration.specs.ViewRecords.{is_followed, latest_views}

@@ -14,7 +14,7 @@ use Rattle.outside.specs.Records.{Record, built_of_record}
 use Rattle.project_views.proofs.ViewLaws.{viewed_of}
 use Rattle.project_views.proofs.Parts.{no_entry}
 use Rattle.std.proofs.lemmas.List.Elements.{Contains-append_left}
-use Rattle.store_record_codec.specs.declared.kept_view.Record.{Record as ViewRecord}
+use Rattle.store_node_codec.specs.declared.kept_view.Record.{Record as ViewRecord}
 use Rattle.store_migration.specs.ViewRecords.{latest_views}
 use Rattle.store_migration.specs.Migrating.{built_in, each_of, migrated_requests, request_for, request_over}
 use Rattle.store_migration.proofs.Picking.{All-filter_map, AllPairs-head, length_each, picked_each}

@@ -9,7 +9,7 @@ use Rattle.std.proofs.lemmas.List.Elements.{All-nil, All-cons, All-head, All-tai
 use Rattle.base.specs.declared.file.FileName.{FileName}
 use Rattle.base.specs.declared.graph.Entry.{Entry}
 use Rattle.base.specs.Names.{is_same_name}
-use Rattle.store_record_codec.specs.declared.kept_view.Record.{Record as ViewRecord}
+use Rattle.store_node_codec.specs.declared.kept_view.Record.{Record as ViewRecord}
 use Rattle.store_migration.specs.ViewRecords.{ends_in, is_followed, last_file, latest_view, latest_views}
 use Rattle.store_migration.proofs.SameViews.{same_names}
 

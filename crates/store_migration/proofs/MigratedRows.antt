@@ -12,7 +12,7 @@ use Rattle.std.proofs.lemmas.List.Sorted.{All-permutation, IsPermutation-map}
 use Rattle.base.specs.declared.file.FileName.{FileName}
 use Rattle.base.specs.declared.graph.BuiltFile.{BuiltFile}
 use Rattle.outside.specs.Records.{Record}
-use Rattle.store_record_codec.specs.declared.kept_view.Record.{Record as ViewRecord}
+use Rattle.store_node_codec.specs.declared.kept_view.Record.{Record as ViewRecord}
 use Rattle.store_node_codec.specs.Nodes.{Node, node_file}
 use Rattle.project_views.proofs.Parts.{map_map}
 use Rattle.store_migration.specs.ByNumber.{NodeRecord, built_node, named_by, node_request, numbered_node, unfolded_record}

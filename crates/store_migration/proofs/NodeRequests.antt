@@ -14,7 +14,7 @@ use Rattle.base.specs.Names.{is_same_name}
 use Rattle.base.specs.View.{place_in, renumbered, viewed, view}
 use Rattle.project_views.proofs.Parts.{map_map, map_same, no_entry}
 use Rattle.project_views.proofs.ViewLaws.{viewed_of}
-use Rattle.store_record_codec.specs.declared.kept_view.Record.{Record as ViewRecord}
+use Rattle.store_node_codec.specs.declared.kept_view.Record.{Record as ViewRecord}
 use Rattle.store_node_codec.specs.Nodes.{AreNodes, Node, node_file, node_files, unfolded}
 use Rattle.store_node_codec.proofs.Closed.{IsClosed, Unfolds, file_of_part, get_or-place, length-closed, place_of, view_within}
 use Rattle.store_node_codec.proofs.Growing.{file_at, files_length, no_node}

@@ -12,7 +12,7 @@ use Rattle.base.specs.declared.graph.BuiltFile.{BuiltFile}
 use Rattle.base.specs.declared.graph.Entry.{Entry}
 use Rattle.base.specs.Names.{is_same_name}
 use Rattle.outside.specs.Records.{Record}
-use Rattle.store_record_codec.specs.declared.kept_view.Record.{Record as ViewRecord}
+use Rattle.store_node_codec.specs.declared.kept_view.Record.{Record as ViewRecord}
 use Rattle.store_migration.specs.ViewRecords.{ends_in, is_followed, last_file, latest_views}
 use Rattle.store_migration.specs.Migrating.{built_in, each_of, migrated_requests, request_for, request_over}
 use Rattle.store_migration.proofs.Picking.{All-filter_map}

@@ -11,7 +11,7 @@ use Rattle.base.specs.Graphs.{IsBuiltFile, IsEntryAt, IsGraph}
 use Rattle.base.specs.Names.{FitsCommand, FitsName}
 use Rattle.outside.specs.Records.{Record}
 use Rattle.project_views.proofs.Rising.{few}
-use Rattle.store_record_codec.specs.declared.kept_view.Record.{Record as ViewRecord}
+use Rattle.store_node_codec.specs.declared.kept_view.Record.{Record as ViewRecord}
 use Rattle.store_migration.specs.ViewRecords.{latest_views}
 use Rattle.store_migration.specs.Migrating.{built_in, migrated_requests, request_for, request_over}
 use Rattle.store_migration.proofs.Picking.{All-filter_map, AllPairs-filter_map, length_each, picked_each}

@@ -15,7 +15,7 @@ use Rattle.project_views.proofs.Numbering.{place_within, get_or-place, place_low
 use Rattle.project_views.proofs.Parts.{no_entry, length-part, at_place}
 use Rattle.project_views.proofs.Rising.{few}
 use Rattle.project_views.proofs.ViewLaws.{viewed_of, viewed_is_part, view_of_view}
-use Rattle.store_record_codec.specs.declared.kept_view.Record.{Record as ViewRecord}
+use Rattle.store_node_codec.specs.declared.kept_view.Record.{Record as ViewRecord}
 use Rattle.store_migration.specs.ViewRecords.{last_file, latest_view}
 use Rattle.store_migration.specs.Migrating.{built_in, built_where}
 

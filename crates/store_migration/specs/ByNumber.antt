@@ -5,7 +5,7 @@ use Rattle.base.specs.declared.file.FileName.{FileName}
 use Rattle.base.specs.declared.graph.BuiltFile.{BuiltFile}
 use Rattle.base.specs.Names.{is_same_name}
 use Rattle.outside.specs.Records.{Record}
-use Rattle.store_record_codec.specs.declared.kept_view.Record.{Record as ViewRecord}
+use Rattle.store_node_codec.specs.declared.kept_view.Record.{Record as ViewRecord}
 use Rattle.store_node_codec.specs.Nodes.{Node, node_file, unfolded}
 use Rattle.store_migration.specs.Migrating.{each_of, request_over}
 

@@ -9,7 +9,7 @@ use Rattle.base.specs.declared.graph.BuiltFile.{BuiltFile}
 use Rattle.base.specs.declared.graph.Entry.{Entry}
 use Rattle.base.specs.View.{view}
 use Rattle.outside.specs.Records.{Record, asked_of}
-use Rattle.store_record_codec.specs.declared.kept_view.Record.{Record as ViewRecord}
+use Rattle.store_node_codec.specs.declared.kept_view.Record.{Record as ViewRecord}
 use Rattle.store_migration.specs.ViewRecords.{is_same_view, last_file, latest_view, latest_views}
 
 -- a file as a record built it, where that record is of this view

@@ -4,7 +4,7 @@ use Rattle.base.specs.declared.file.FileName.{FileName}
 use Rattle.base.specs.declared.graph.BuiltFile.{BuiltFile}
 use Rattle.base.specs.declared.graph.Entry.{Entry}
 use Rattle.outside.specs.Records.{Record}
-use Rattle.store_record_codec.specs.declared.kept_view.Record.{Record as ViewRecord}
+use Rattle.store_node_codec.specs.declared.kept_view.Record.{Record as ViewRecord}
 
 -- a file of the library lib, by the code of its letter: 97 is a.vhd
 abbrev pub vhd_name : ℕ → FileName

@@ -7,7 +7,7 @@ use Rattle.std.specs.Cmp.Lexicographic.{pointwise}
 use Rattle.base.specs.declared.file.FileName.{FileName}
 use Rattle.base.specs.declared.graph.Entry.{Entry}
 use Rattle.base.specs.Names.{is_same_name}
-use Rattle.store_record_codec.specs.declared.kept_view.Record.{Record as ViewRecord}
+use Rattle.store_node_codec.specs.declared.kept_view.Record.{Record as ViewRecord}
 
 -- the file that a view is of: its last
 abbrev pub last_file : List Entry → Option Entry

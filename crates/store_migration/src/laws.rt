@@ -5,7 +5,7 @@ ghost use Rattle.base.specs.declared.limits.TheConstants.{ARTEFACT_LIMIT, FILE_L
 ghost use Rattle.base.specs.Graphs.{IsBuiltFile, IsGraph};
 ghost use Rattle.base.specs.Names.{FitsCommand, FitsName};
 ghost use Rattle.outside.specs.Records.{Record, built_of_record};
-ghost use Rattle.store_record_codec.specs.declared.kept_view.Record.{Record as ViewRecord};
+ghost use Rattle.store_node_codec.specs.declared.kept_view.Record.{Record as ViewRecord};
 ghost use Rattle.store_node_codec.specs.Nodes.{AreNodes, Node};
 ghost use Rattle.store_migration.specs.ByNumber.{NodeRecord, node_request, unfolded_record};
 ghost use Rattle.store_migration.specs.Migrating.{migrated_requests, request_for};

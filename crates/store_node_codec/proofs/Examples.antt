@@ -3,12 +3,13 @@
 use Rattle.std.proofs.Common.{◌≡◌, ℕ, List, [], ◌∷◌, refl}
 use Rattle.base.specs.declared.graph.Entry.{Entry}
 use Rattle.base.specs.View.{part, viewed}
-use Rattle.store_record_codec.specs.declared.kept_view.Record.{Record}
+use Rattle.store_node_codec.specs.declared.kept_view.Record.{Record}
 use Rattle.base_bytes.specs.Reading.{counted_at, many_at, text_at}
 use Rattle.base_bytes.specs.Names.{name_at}
-use Rattle.store_record_codec.specs.Found.{all_pairs, fit_deps, is_graph, is_whole, stands}
+use Rattle.store_node_codec.specs.Views.{all_pairs, fit_deps, is_graph, is_whole, stands}
 use Rattle.store_node_codec.specs.Nodes.{node_files}
-use Rattle.store_node_codec.specs.Forms.{draft_alone_in, draft_at, known_at, new_at, node_payload_by, node_payload_in, of_draft_in, of_node_in, source_at, source_by}
+use Rattle.store_node_codec.specs.Forms.{draft_alone_in, draft_at, node_payload_by, node_payload_in, of_draft_in, of_node_in}
+use Rattle.base_ranges.specs.TextRefs.{ref_by_number_at, ref_in_full_at, text_ref_at, text_ref_by}
 use Rattle.store_node_codec.specs.Shelves.{after_payload, are_same_by, is_draft, is_same_node, shelf_of, with_payload}
 
 -- lib, the path, and cc
@@ -35,15 +36,15 @@ abbrev two : Record
 two = record { view = entry 97 [] ∷ entry 98 (0 ∷ []) ∷ []; artefact = 122 ∷ [] }
 
 pub both : (shelf_of (first ∷ second ∷ [])).records ≡ one ∷ two ∷ []
-unfolding shelf_of after_payload with_payload is_draft is_same_node are_same_by node_payload_in node_payload_by of_node_in of_draft_in draft_alone_in draft_at source_at source_by known_at new_at node_files part viewed name_at text_at counted_at many_at is_graph is_whole stands fit_deps all_pairs
+unfolding shelf_of after_payload with_payload is_draft is_same_node are_same_by node_payload_in node_payload_by of_node_in of_draft_in draft_alone_in draft_at text_ref_at text_ref_by ref_by_number_at ref_in_full_at node_files part viewed name_at text_at counted_at many_at is_graph is_whole stands fit_deps all_pairs
 both = refl
 
 -- a payload that repeats a node stands for no record
 pub repeated : (shelf_of (first ∷ first ∷ [])).records ≡ one ∷ []
-unfolding shelf_of after_payload with_payload is_draft is_same_node are_same_by node_payload_in node_payload_by of_node_in of_draft_in draft_alone_in draft_at source_at source_by known_at new_at node_files part viewed name_at text_at counted_at many_at is_graph is_whole stands fit_deps all_pairs
+unfolding shelf_of after_payload with_payload is_draft is_same_node are_same_by node_payload_in node_payload_by of_node_in of_draft_in draft_alone_in draft_at text_ref_at text_ref_by ref_by_number_at ref_in_full_at node_files part viewed name_at text_at counted_at many_at is_graph is_whole stands fit_deps all_pairs
 repeated = refl
 
 -- byte 2 adds the node alone
 pub alone : (shelf_of ((2 ∷ append (head 97) (1 ∷ 1 ∷ 0 ∷ 0 ∷ 0 ∷ 120 ∷ 0 ∷ 0 ∷ 0 ∷ 0 ∷ [])) ∷ second ∷ [])).records ≡ two ∷ []
-unfolding shelf_of after_payload with_payload is_draft is_same_node are_same_by node_payload_in node_payload_by of_node_in of_draft_in draft_alone_in draft_at source_at source_by known_at new_at node_files part viewed name_at text_at counted_at many_at is_graph is_whole stands fit_deps all_pairs
+unfolding shelf_of after_payload with_payload is_draft is_same_node are_same_by node_payload_in node_payload_by of_node_in of_draft_in draft_alone_in draft_at text_ref_at text_ref_by ref_by_number_at ref_in_full_at node_files part viewed name_at text_at counted_at many_at is_graph is_whole stands fit_deps all_pairs
 alone = refl

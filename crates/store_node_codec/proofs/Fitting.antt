@@ -8,7 +8,7 @@ use Rattle.std.proofs.lemmas.List.Sums.{fails_before_first, passes_at_first, pos
 use Rattle.base.specs.declared.graph.Entry.{Entry}
 use Rattle.base.specs.Graphs.{IsEntryAt, IsGraph}
 use Rattle.base.specs.View.{IsView, part, place_in, renumbered, view, viewed}
-use Rattle.store_record_codec.proofs.Standing.{is_whole}
+use Rattle.store_node_codec.proofs.Standing.{is_whole}
 use Rattle.project_views.proofs.Parts.{map_same, no_entry, part_is}
 use Rattle.project_views.proofs.Rising.{before_later}
 use Rattle.project_views.proofs.ViewLaws.{viewed_is}

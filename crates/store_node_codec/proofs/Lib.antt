@@ -5,5 +5,6 @@ pub mod Taking
 pub mod Closed
 pub mod Once
 pub mod Fitting
-pub mod Spanning
 pub mod NodeFits
+pub mod Standing
+pub mod Deciding

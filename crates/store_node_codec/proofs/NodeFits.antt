@@ -11,10 +11,11 @@ use Rattle.base.specs.View.{IsView, view}
 use Rattle.project_views.proofs.Parts.{no_entry}
 use Rattle.store_node_codec.specs.Fitting.{FitsNew, IsListed}
 use Rattle.store_node_codec.specs.Nodes.{AreNodes, AreOnce, Node, node_file, node_files, unfolded}
-use Rattle.store_record_codec.specs.Found.{is_view}
-use Rattle.store_record_codec.proofs.Deciding.{is_view-Decides}
+use Rattle.store_node_codec.specs.Views.{is_view}
+use Rattle.store_node_codec.proofs.Deciding.{is_view-Decides}
 use Rattle.store_node_codec.specs.Forms.{Draft}
-use Rattle.store_node_codec.specs.Shelves.{Shelf, draft_node, is_draft, is_same_node, is_source, with_source}
+use Rattle.store_node_codec.specs.Shelves.{Shelf, draft_node, is_draft, is_same_node}
+use Rattle.base_ranges.specs.TextRefs.{is_text_ref, with_text}
 use Rattle.store_node_codec.proofs.Closed.{Unfolds}
 use Rattle.store_node_codec.proofs.Fitting.{fits_graph, graph_fits, graph_whole, listed_through, sum_alike}
 use Rattle.store_node_codec.proofs.Growing.{file_at, files_append, files_grown, files_length, no_node, texts_there}
@@ -107,13 +108,13 @@ all_true n (x ∷ xs) all =
     rw (here, all_true n xs (All-tail (λ x. x < n) x xs all)) refl
 
 -- A draft of a text that is there or new, whose node is new and whose dependencies are there, is one exactly where it fits them.
-pub draft_fits : (shelf : Shelf) (draft : Draft) (other : Entry) → AreNodes shelf.texts shelf.nodes → is_source shelf.texts draft.source ≡ true → list_any (is_same_node (draft_node shelf.texts draft)) shelf.nodes ≡ false → All (λ dep. dep < length shelf.nodes) draft.deps → (is_draft shelf draft ≡ true) ↔ FitsNew (node_files shelf.texts shelf.nodes) (node_file (with_source shelf.texts draft.source) (draft_node shelf.texts draft)) other
+pub draft_fits : (shelf : Shelf) (draft : Draft) (other : Entry) → AreNodes shelf.texts shelf.nodes → is_text_ref shelf.texts draft.source ≡ true → list_any (is_same_node (draft_node shelf.texts draft)) shelf.nodes ≡ false → All (λ dep. dep < length shelf.nodes) draft.deps → (is_draft shelf draft ≡ true) ↔ FitsNew (node_files shelf.texts shelf.nodes) (node_file (with_text shelf.texts draft.source) (draft_node shelf.texts draft)) other
 unfolding is_draft
 draft_fits shelf draft other are source new there =
     let texts : List (List ℕ) = shelf.texts in
     let nodes : List Node = shelf.nodes in
     let node : Node = draft_node texts draft in
-    let all : List (List ℕ) = with_source texts draft.source in
+    let all : List (List ℕ) = with_text texts draft.source in
     let more : all ≡ texts ++ more_of draft.source = source_more texts draft.source in
     let view_of : List (List ℕ) → List Entry = λ ts. unfolded ts (nodes ++ node ∷ []) (length nodes) in
     let both = new_fits texts (more_of draft.source) nodes node other are there in

@@ -10,12 +10,13 @@ use Rattle.std.proofs.lemmas.List.{append-nil, get_or_append_left, get_or_at}
 use Rattle.std.proofs.lemmas.List.Folds.{list_all_at, list_any_at}
 use Rattle.std.proofs.lemmas.Slice.Eq.{bytes_eq-Decides}
 use Rattle.base.specs.Graphs.{IsGraph}
-use Rattle.store_record_codec.proofs.Deciding.{is_view-Decides}
+use Rattle.store_node_codec.proofs.Deciding.{is_view-Decides}
 use Rattle.store_node_codec.specs.Nodes.{AreNodes, AreOnce, Node, unfolded}
-use Rattle.store_node_codec.specs.Forms.{Draft, NodePayload, TextSource, node_payload_in}
-use Rattle.store_node_codec.specs.Forms.TextSource.{Known, New}
+use Rattle.store_node_codec.specs.Forms.{Draft, NodePayload, node_payload_in}
+use Rattle.base_ranges.specs.TextRefs.{TextRef, is_text_ref, with_text}
+use Rattle.base_ranges.specs.TextRefs.TextRef.{ByNumber, InFull}
 use Rattle.store_node_codec.specs.Forms.NodePayload.{OfNode, OfDraft, DraftAlone}
-use Rattle.store_node_codec.specs.Shelves.{Shelf, after_payload, are_same_by, draft_node, empty_shelf, is_artefact, is_draft, is_same_node, is_source, shelf_of, source_number, with_draft, with_node_record, with_payload, with_source}
+use Rattle.store_node_codec.specs.Shelves.{Shelf, after_payload, are_same_by, draft_node, empty_shelf, is_artefact, is_draft, is_same_node, shelf_of, source_number, with_draft, with_node_record, with_payload}
 use Rattle.store_node_codec.proofs.Growing.{unfolded_grown}
 
 -- an item is the same as itself
@@ -57,7 +58,7 @@ once_more test each xs new once none i j other l m e =
 
 -- What a draft that is a new node has.
 pub record IsNew (shelf : Shelf) (draft : Draft) : Type 0 where
-  pub source : is_source shelf.texts draft.source ≡ true
+  pub source : is_text_ref shelf.texts draft.source ≡ true
   pub node : list_any (is_same_node (draft_node shelf.texts draft)) shelf.nodes ≡ false
   pub deps : All (λ dep. dep < length shelf.nodes) draft.deps
   pub graph : IsGraph (unfolded (with_draft shelf draft).texts (with_draft shelf draft).nodes (length shelf.nodes))
@@ -87,27 +88,27 @@ is_new shelf draft e =
     }
 
 -- the texts of a source, and its number
-source_once : (texts : List (List ℕ)) (source : TextSource) → AreOnce texts → is_source texts source ≡ true → AreOnce (with_source texts source)
-source_once texts (Known number) once e = once
-source_once texts (New text) once e = once_more bytes_eq same_bytes texts text once (not_true _ e)
+source_once : (texts : List (List ℕ)) (source : TextRef) → AreOnce texts → is_text_ref texts source ≡ true → AreOnce (with_text texts source)
+source_once texts (ByNumber number) once e = once
+source_once texts (InFull text) once e = once_more bytes_eq same_bytes texts text once (not_true _ e)
 
-source_there : (texts : List (List ℕ)) (source : TextSource) → is_source texts source ≡ true → source_number texts source < length (with_source texts source)
-source_there texts (Known number) e = grind (arith, nat_tests)
-source_there texts (New text) e = omega (arith, length-append texts (text ∷ []))
+source_there : (texts : List (List ℕ)) (source : TextRef) → is_text_ref texts source ≡ true → source_number texts source < length (with_text texts source)
+source_there texts (ByNumber number) e = grind (arith, nat_tests)
+source_there texts (InFull text) e = omega (arith, length-append texts (text ∷ []))
 
 -- the texts after a source are those before it, and more
-abbrev pub more_of : TextSource → List (List ℕ)
-more_of (Known number) = []
-more_of (New text) = text ∷ []
+abbrev pub more_of : TextRef → List (List ℕ)
+more_of (ByNumber number) = []
+more_of (InFull text) = text ∷ []
 
-pub source_more : (texts : List (List ℕ)) (source : TextSource) → with_source texts source ≡ texts ++ more_of source
-source_more texts (Known number) = sym (append-nil texts)
-source_more texts (New text) = refl
+pub source_more : (texts : List (List ℕ)) (source : TextRef) → with_text texts source ≡ texts ++ more_of source
+source_more texts (ByNumber number) = sym (append-nil texts)
+source_more texts (InFull text) = refl
 
 pub taken_draft : (shelf : Shelf) (draft : Draft) → AreNodes shelf.texts shelf.nodes → is_draft shelf draft ≡ true → AreNodes (with_draft shelf draft).texts (with_draft shelf draft).nodes
 taken_draft shelf draft are e =
     let new = is_new shelf draft e in
-    let texts : List (List ℕ) = with_source shelf.texts draft.source in
+    let texts : List (List ℕ) = with_text shelf.texts draft.source in
     let node : Node = draft_node shelf.texts draft in
     let nodes : List Node = shelf.nodes ++ node ∷ [] in
     let more : List (List ℕ) = more_of draft.source in

@@ -1,4 +1,6 @@
 -- The definitions.
+pub mod Views
+pub mod Validity
 pub mod Nodes
 pub mod Forms
 pub mod Spans

@@ -5,11 +5,12 @@ use Rattle.std.specs.Option.{option_map_or}
 use Rattle.std.specs.Str.{bytes_eq}
 use Rattle.base.specs.Names.{is_same_name}
 use Rattle.base.specs.declared.limits.TheConstants.{ARTEFACT_LIMIT}
-use Rattle.store_record_codec.specs.declared.kept_view.Record.{Record}
-use Rattle.store_record_codec.specs.Found.{is_view}
+use Rattle.store_node_codec.specs.declared.kept_view.Record.{Record}
+use Rattle.store_node_codec.specs.Views.{is_view}
 use Rattle.store_node_codec.specs.Nodes.{Node, unfolded}
-use Rattle.store_node_codec.specs.Forms.{Draft, NodePayload, TextSource, node_payload_in}
-use Rattle.store_node_codec.specs.Forms.TextSource.{Known, New}
+use Rattle.base_ranges.specs.TextRefs.{TextRef, is_text_ref, with_text}
+use Rattle.base_ranges.specs.TextRefs.TextRef.{ByNumber, InFull}
+use Rattle.store_node_codec.specs.Forms.{Draft, NodePayload, node_payload_in}
 use Rattle.store_node_codec.specs.Forms.NodePayload.{OfNode, OfDraft, DraftAlone}
 
 -- texts and nodes, numbered from 0, and records
@@ -33,20 +34,10 @@ are_same_by test (x ∷ xs) (y ∷ ys) = test x y && are_same_by test xs ys
 unfoldable pub is_same_node : Node → Node → Bool
 is_same_node a b = is_same_name a.name b.name && (are_same_by bytes_eq a.command b.command && (a.text == b.text && are_same_by (λ n m. n == m) a.deps b.deps))
 
--- the number of a known text is one of a text; a new text isn't there yet
-abbrev pub is_source : List (List ℕ) → TextSource → Bool
-is_source texts (Known number) = nat_lt number (length texts)
-is_source texts (New text) = not (list_any (bytes_eq text) texts)
-
--- the texts with one that may be new
-abbrev pub with_source : List (List ℕ) → TextSource → List (List ℕ)
-with_source texts (Known number) = texts
-with_source texts (New text) = texts ++ text ∷ []
-
 -- the number of a text, or the one that a new text will have
-abbrev pub source_number : List (List ℕ) → TextSource → ℕ
-source_number texts (Known number) = number
-source_number texts (New text) = length texts
+abbrev pub source_number : List (List ℕ) → TextRef → ℕ
+source_number texts (ByNumber number) = number
+source_number texts (InFull text) = length texts
 
 -- the node of a draft, by the number that its text has or will have
 abbrev pub draft_node : List (List ℕ) → Draft → Node
@@ -54,12 +45,12 @@ draft_node texts draft = record { name = draft.name; command = draft.command; te
 
 -- one more node, with its text where that is new; no record is added
 abbrev pub with_draft : Shelf → Draft → Shelf
-with_draft shelf draft = record { texts = with_source shelf.texts draft.source; nodes = shelf.nodes ++ draft_node shelf.texts draft ∷ []; records = shelf.records }
+with_draft shelf draft = record { texts = with_text shelf.texts draft.source; nodes = shelf.nodes ++ draft_node shelf.texts draft ∷ []; records = shelf.records }
 
 -- A draft is a new node, of a text that is there or is new, whose dependencies are there, and which unfolds to a view.
 unfoldable pub is_draft : Shelf → Draft → Bool
 is_draft shelf draft =
-    is_source shelf.texts draft.source && (not (list_any (is_same_node (draft_node shelf.texts draft)) shelf.nodes) && (list_all (λ dep. nat_lt dep (length shelf.nodes)) draft.deps && is_view (unfolded (with_draft shelf draft).texts (with_draft shelf draft).nodes (length shelf.nodes))))
+    is_text_ref shelf.texts draft.source && (not (list_any (is_same_node (draft_node shelf.texts draft)) shelf.nodes) && (list_all (λ dep. nat_lt dep (length shelf.nodes)) draft.deps && is_view (unfolded (with_draft shelf draft).texts (with_draft shelf draft).nodes (length shelf.nodes))))
 
 -- an artefact has at most 262,144 bytes
 abbrev pub is_artefact : List ℕ → Bool

@@ -7,7 +7,8 @@ ghost use Rattle.base.specs.Graphs.{IsGraph};
 ghost use Rattle.store_node_codec.specs.Nodes.{Node, AreNodes, AreOnce, node_file, node_files, unfolded};
 ghost use Rattle.store_node_codec.specs.Forms.{Draft};
 ghost use Rattle.store_node_codec.specs.Fitting.{FitsNew, IsListed};
-ghost use Rattle.store_node_codec.specs.Shelves.{Shelf, draft_node, is_draft, is_same_node, is_source, shelf_of, with_source};
+ghost use Rattle.store_node_codec.specs.Shelves.{Shelf, draft_node, is_draft, is_same_node, shelf_of};
+ghost use Rattle.base_ranges.specs.TextRefs.{is_text_ref, with_text};
 
 /// What holds of the nodes of a store.
 pub fn laws_of_nodes()
@@ -29,12 +30,12 @@ pub fn laws_of_new_nodes()
         ↔ IsGraph (unfolded (texts ++ more) (nodes ++ node ∷ []) (length nodes)) }
     // So a draft of a new node, whose text and dependencies are there, is one exactly where it fits them.
     ensures draft { (shelf : Shelf) (draft : Draft) (other : Entry) →
-        AreNodes shelf.texts shelf.nodes → is_source shelf.texts draft.source ≡ true →
+        AreNodes shelf.texts shelf.nodes → is_text_ref shelf.texts draft.source ≡ true →
         list_any (is_same_node (draft_node shelf.texts draft)) shelf.nodes ≡ false →
         All (λ dep. dep < length shelf.nodes) draft.deps →
         (is_draft shelf draft ≡ true)
         ↔ FitsNew (node_files shelf.texts shelf.nodes)
-        (node_file (with_source shelf.texts draft.source) (draft_node shelf.texts draft)) other }
+        (node_file (with_text shelf.texts draft.source) (draft_node shelf.texts draft)) other }
     // A dependency that a listed one lists is listed, so it needs no test of its own.
     ensures listed { (texts : List (List ℕ)) (nodes : List Node) (deps : List ℕ) (other : Node) →
         (k j : ℕ) → AreNodes texts nodes → All (λ dep. dep < length nodes) deps →

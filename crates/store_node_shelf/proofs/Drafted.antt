@@ -3,7 +3,8 @@ use Rattle.std.proofs.Common.{◌≡◌, ℕ, ◌<◌, Bool, true, false, true�
 use Rattle.std.specs.Prelude.{All, Contains}
 use Rattle.std.proofs.lemmas.Option.{get_or_from_slice_get, slice_get_within}
 use Rattle.store_node_codec.specs.Forms.{Draft}
-use Rattle.store_node_codec.specs.Shelves.{Shelf, draft_node, is_draft, is_source}
+use Rattle.store_node_codec.specs.Shelves.{Shelf, draft_node, is_draft}
+use Rattle.base_ranges.specs.TextRefs.{is_text_ref}
 use Rattle.store_node_codec.proofs.Taking.{IsNew, is_new}
 use Rattle.base_numbering.specs.Numbers.{IsPlaceOf}
 use Rattle.store_node_shelf.proofs.SameNodes.{any_decides, nodes_decide}
@@ -16,7 +17,7 @@ no_draft shelf draft never = by (is_draft shelf draft) refl
     by true e = absurd (never (is_new shelf draft e))
     by false e = refl
 
-pub no_source : (shelf : Shelf) (draft : Draft) → is_source shelf.texts draft.source ≡ false → is_draft shelf draft ≡ false
+pub no_source : (shelf : Shelf) (draft : Draft) → is_text_ref shelf.texts draft.source ≡ false → is_draft shelf draft ≡ false
 no_source shelf draft e = no_draft shelf draft (λ new. true≢false (sym new.source ∙ e))
 
 pub no_deps : (shelf : Shelf) (draft : Draft) → ¬ (All (λ dep. dep < length shelf.nodes) draft.deps) → is_draft shelf draft ≡ false

@@ -2,7 +2,7 @@
 use Rattle.std.proofs.Common.{◌≡◌, ℕ, ◌<◌, List, length, map, get_or, Some, sym, ap, subst, ◌∙◌}
 use Rattle.std.specs.Prelude.{All, slice_get}
 use Rattle.base.specs.declared.file.FileName.{FileName}
-use Rattle.store_record_codec.specs.declared.kept_view.Record.{Record}
+use Rattle.store_node_codec.specs.declared.kept_view.Record.{Record}
 use Rattle.base_mark_index.specs.Marks.{mark_of}
 use Rattle.store_node_codec.specs.Nodes.{Node}
 use Rattle.store_node_codec.specs.Shelves.{Shelf}

@@ -11,12 +11,13 @@ use Rattle.std.proofs.lemmas.Option.{get_or_from_slice_get, slice_get-get_or, sl
 use Rattle.base.specs.declared.file.FileName.{FileName}
 use Rattle.base.specs.declared.memory.NoMemory.{NoMemory}
 use Rattle.base.specs.declared.limits.TheConstants.{ARTEFACT_LIMIT}
-use Rattle.store_record_codec.specs.declared.kept_view.Record.{Record}
+use Rattle.store_node_codec.specs.declared.kept_view.Record.{Record}
 use Rattle.project_views.proofs.Parts.{map_same}
 use Rattle.store_node_codec.specs.Forms.{Draft, NodePayload, node_payload_in}
 use Rattle.store_node_codec.specs.Forms.NodePayload.{DraftAlone, OfDraft, OfNode}
 use Rattle.store_node_codec.specs.Nodes.{AreNodes, Node}
-use Rattle.store_node_codec.specs.Shelves.{Shelf, after_payload, draft_node, empty_shelf, is_artefact, is_draft, shelf_of, with_draft, with_node_record, with_payload, with_source}
+use Rattle.store_node_codec.specs.Shelves.{Shelf, after_payload, draft_node, empty_shelf, is_artefact, is_draft, shelf_of, with_draft, with_node_record, with_payload}
+use Rattle.base_ranges.specs.TextRefs.{with_text}
 use Rattle.store_node_codec.proofs.Growing.{unfolded_grown}
 use Rattle.store_node_codec.proofs.Taking.{more_of, source_more}
 use Rattle.store_node_shelf.specs.Rows.{NodesByNumber, no_name}
@@ -101,9 +102,9 @@ took_node payloads old new lengths draft true is are took names records =
     let texts : List (List ℕ) = texts_in payloads old.texts in
     let nodes : List Node = old.table.nodes in
     let node : Node = draft_node texts draft in
-    let more : with_source texts draft.source ≡ texts ++ more_of draft.source = source_more texts draft.source in
+    let more : with_text texts draft.source ≡ texts ++ more_of draft.source = source_more texts draft.source in
     let places : List RecordPlace = old.records.places.items in
-    let records_same : map (record_in payloads (with_source texts draft.source) (nodes ++ node ∷ [])) places ≡ map (record_in payloads texts nodes) places =
+    let records_same : map (record_in payloads (with_text texts draft.source) (nodes ++ node ∷ [])) places ≡ map (record_in payloads texts nodes) places =
     ap (λ (ts : List (List ℕ)). map (record_in payloads ts (nodes ++ node ∷ [])) places) more ∙ records_still payloads texts (more_of draft.source) nodes (node ∷ []) places are is.records.kept in
     record {
       answer = took.answer (shelf_in payloads old).records;
@@ -114,8 +115,8 @@ took_node payloads old new lengths draft true is are took names records =
       is =
           ap (λ (rs : RecordPlaces). shelf_by (texts_in payloads new.texts) new.table.nodes (map (record_in payloads (texts_in payloads new.texts) new.table.nodes) rs.places.items)) records
           ∙ ap (λ (ts : List (List ℕ)). shelf_by ts new.table.nodes (map (record_in payloads ts new.table.nodes) places)) took.texts_are.is
-          ∙ ap (λ (ns : List Node). shelf_by (with_source texts draft.source) ns (map (record_in payloads (with_source texts draft.source) ns) places)) took.nodes_are
-          ∙ ap (shelf_by (with_source texts draft.source) (nodes ++ node ∷ [])) records_same;
+          ∙ ap (λ (ns : List Node). shelf_by (with_text texts draft.source) ns (map (record_in payloads (with_text texts draft.source) ns) places)) took.nodes_are
+          ∙ ap (shelf_by (with_text texts draft.source) (nodes ++ node ∷ [])) records_same;
       lengths_are = ap (map length) took.texts_are.is ∙ took.texts_are.lengths_are;
     }
 took_node payloads old new lengths draft false is are took names records =

@@ -6,13 +6,14 @@ use Rattle.std.proofs.lemmas.List.{map-append}
 use Rattle.std.proofs.lemmas.List.Elements.{All-push}
 use Rattle.std.proofs.lemmas.Option.{get_or_from_slice_get}
 use Rattle.base.specs.declared.file.FileName.{FileName}
-use Rattle.store_record_codec.specs.declared.kept_view.Record.{Record}
+use Rattle.store_node_codec.specs.declared.kept_view.Record.{Record}
 use Rattle.project_views.proofs.Parts.{no_entry}
 use Rattle.base_mark_index.specs.Marks.{mark_of}
 use Rattle.store_node_codec.specs.Fitting.{FitsNew}
 use Rattle.store_node_codec.specs.Forms.{Draft}
 use Rattle.store_node_codec.specs.Nodes.{AreNodes, Node, node_file, node_files, numbered_text}
-use Rattle.store_node_codec.specs.Shelves.{Shelf, draft_node, is_draft, source_number, with_source}
+use Rattle.store_node_codec.specs.Shelves.{Shelf, draft_node, is_draft, source_number}
+use Rattle.base_ranges.specs.TextRefs.{with_text}
 use Rattle.store_node_codec.proofs.NodeFits.{draft_fits}
 use Rattle.store_node_codec.proofs.Taking.{more_of, source_more}
 use Rattle.store_node_shelf.specs.declared.rows.Row.{Row}
@@ -44,11 +45,11 @@ text_added payloads old new place mark count before lengths text are low places 
     }
 
 -- the test of the row of a draft tells whether it is one
-pub told : (lengths : List ℕ) (texts : List (List ℕ)) (table : NodesByNumber) (draft : Draft) (row : Row) (own : ℕ) (fits : Bool) → IsRowOfDraft texts table draft row → AreNodes texts table.nodes → map length texts ≡ lengths → own ≡ length (numbered_text (with_source texts draft.source) (source_number texts draft.source)) → TellsFit lengths table row own fits → (records : List Record) → fits ≡ is_draft (record { texts = texts; nodes = table.nodes; records = records }) draft
+pub told : (lengths : List ℕ) (texts : List (List ℕ)) (table : NodesByNumber) (draft : Draft) (row : Row) (own : ℕ) (fits : Bool) → IsRowOfDraft texts table draft row → AreNodes texts table.nodes → map length texts ≡ lengths → own ≡ length (numbered_text (with_text texts draft.source) (source_number texts draft.source)) → TellsFit lengths table row own fits → (records : List Record) → fits ≡ is_draft (record { texts = texts; nodes = table.nodes; records = records }) draft
 told lengths texts table draft row own fits is are lengths_are own_is tells records =
     let shelf : Shelf = record { texts = texts; nodes = table.nodes; records = records } in
     let more = more_of draft.source in
-    let all : with_source texts draft.source ≡ texts ++ more = source_more texts draft.source in
+    let all : with_text texts draft.source ≡ texts ++ more = source_more texts draft.source in
     let node : Node = draft_node texts draft in
     let row_text : row.text ≡ source_number texts draft.source = ap (λ (n : Node). n.text) is.row_is.node_is in
     let own_here : length (numbered_text (texts ++ more) row.text) ≡ own =
@@ -56,8 +57,8 @@ told lengths texts table draft row own fits is are lengths_are own_is tells reco
     let P : Node → List (List ℕ) → Type 0 = λ n ts. FitsNew (node_files texts table.nodes) (node_file ts n) no_entry in
     let by_row = tells texts more no_entry are lengths_are own_here in
     let by_draft = draft_fits shelf draft no_entry are is.source is.new is.there in
-    let to : P (node_in table row) (texts ++ more) → P node (with_source texts draft.source) = λ p. subst (P node) (sym all) (subst (λ (n : Node). P n (texts ++ more)) is.row_is.node_is p) in
-    let from : P node (with_source texts draft.source) → P (node_in table row) (texts ++ more) = λ p. subst (λ (n : Node). P n (texts ++ more)) (sym is.row_is.node_is) (subst (P node) all p) in
+    let to : P (node_in table row) (texts ++ more) → P node (with_text texts draft.source) = λ p. subst (P node) (sym all) (subst (λ (n : Node). P n (texts ++ more)) is.row_is.node_is p) in
+    let from : P node (with_text texts draft.source) → P (node_in table row) (texts ++ more) = λ p. subst (λ (n : Node). P n (texts ++ more)) (sym is.row_is.node_is) (subst (P node) all p) in
     one_answer fits (is_draft shelf draft) (λ e. to (by_row.0 e), λ p. by_row.1 (from p)) (by_draft.0, by_draft.1)
 
 -- the node of the row is new

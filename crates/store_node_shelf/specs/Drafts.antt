@@ -2,10 +2,11 @@
 use Rattle.std.specs.Prelude.{◌≡◌, ℕ, ◌<◌, ◌++◌, true, false, List, length, All, Option, None, Some}
 use Rattle.std.specs.List.{list_any}
 use Rattle.base.specs.declared.file.FileName.{FileName}
-use Rattle.store_record_codec.specs.declared.kept_view.Record.{Record}
+use Rattle.store_node_codec.specs.declared.kept_view.Record.{Record}
 use Rattle.store_node_codec.specs.Forms.{Draft}
 use Rattle.store_node_codec.specs.Nodes.{Node}
-use Rattle.store_node_codec.specs.Shelves.{draft_node, is_draft, is_same_node, is_source}
+use Rattle.store_node_codec.specs.Shelves.{draft_node, is_draft, is_same_node}
+use Rattle.base_ranges.specs.TextRefs.{is_text_ref}
 use Rattle.store_node_shelf.specs.declared.rows.Row.{Row}
 use Rattle.store_node_shelf.specs.Rows.{IsRowIn, NodesByNumber, node_in}
 
@@ -26,7 +27,7 @@ pub record IsDraftRow (table : NodesByNumber) (node : Node) (row : Row) : Type 0
 -- A row is the node of a draft: its text is there or new, the node is new, and its dependencies are there.
 pub record IsRowOfDraft (texts : List (List ℕ)) (table : NodesByNumber) (draft : Draft) (row : Row) : Type 0 where
   pub row_is : IsDraftRow table (draft_node texts draft) row
-  pub source : is_source texts draft.source ≡ true
+  pub source : is_text_ref texts draft.source ≡ true
   pub new : list_any (is_same_node (draft_node texts draft)) table.nodes ≡ false
   pub there : All (λ dep. dep < length table.nodes) draft.deps
 

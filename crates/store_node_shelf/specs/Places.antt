@@ -2,12 +2,12 @@
 use Rattle.std.specs.Prelude.{◌≡◌, ◌≢◌, ℕ, ◌<◌, ◌≤◌, List, [], length, map, All, Option, Some, slice_get, slice_index, slice_index_or}
 use Rattle.std.specs.Vec.{vec_len, vec_capacity}
 use Rattle.base.specs.declared.limits.TheConstants.{ARTEFACT_LIMIT}
-use Rattle.store_record_codec.specs.declared.kept_view.Record.{Record}
+use Rattle.store_node_codec.specs.declared.kept_view.Record.{Record}
 use Rattle.base_mark_index.specs.Indexes.{IsLastWith}
 use Rattle.base_mark_index.specs.Marks.{mark_of}
 use Rattle.store_node_codec.specs.Nodes.{Node, unfolded}
 use Rattle.store_node_codec.specs.Shelves.{Shelf}
-use Rattle.store_node_codec.specs.Spans.{spanned}
+use Rattle.base_ranges.specs.Ranges.{ranged}
 use Rattle.store_node_shelf.specs.Rows.{NodesByNumber}
 use Rattle.store_node_shelf.specs.Fits.{blank_node}
 use Rattle.store_node_shelf.specs.declared.texts.TextPlace.{TextPlace}
@@ -26,7 +26,7 @@ payload_at payloads number = slice_index_or payloads number []
 
 -- the text at a span of a payload
 abbrev pub text_in : List (List ℕ) → TextPlace → List ℕ
-text_in payloads place = spanned (payload_at payloads place.payload) place.span
+text_in payloads place = ranged (payload_at payloads place.payload) place.span
 
 -- the texts at all places, in the order of their numbers
 abbrev pub texts_in : List (List ℕ) → TextPlaces → List (List ℕ)
@@ -39,7 +39,7 @@ pub record AreTexts (payloads : List (List ℕ)) (texts : TextPlaces) : Type 0 w
 
 -- the artefact of a record, at its span of a payload
 abbrev pub artefact_in : List (List ℕ) → RecordPlace → List ℕ
-artefact_in payloads place = spanned (payload_at payloads place.payload) place.artefact
+artefact_in payloads place = ranged (payload_at payloads place.payload) place.artefact
 
 -- the record of a place: the view that its node unfolds to, and its artefact
 abbrev pub record_in : List (List ℕ) → List (List ℕ) → List Node → RecordPlace → Record

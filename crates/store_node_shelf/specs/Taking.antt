@@ -1,9 +1,10 @@
 -- What is there after a payload was taken up.
 use Rattle.std.specs.Prelude.{◌≡◌, ℕ, ◌++◌, ◌∷◌, [], Bool, List, length, map, if◌then◌else◌}
-use Rattle.store_record_codec.specs.declared.kept_view.Record.{Record}
+use Rattle.store_node_codec.specs.declared.kept_view.Record.{Record}
 use Rattle.store_node_codec.specs.Forms.{Draft}
 use Rattle.store_node_codec.specs.Nodes.{Node}
-use Rattle.store_node_codec.specs.Shelves.{after_payload, draft_node, is_draft, with_draft, with_source}
+use Rattle.store_node_codec.specs.Shelves.{after_payload, draft_node, is_draft, with_draft}
+use Rattle.base_ranges.specs.TextRefs.{with_text}
 use Rattle.store_node_shelf.specs.declared.texts.TextPlaces.{TextPlaces}
 use Rattle.store_node_shelf.specs.declared.shelf.ShelfPlaces.{ShelfPlaces}
 use Rattle.store_node_shelf.specs.Places.{AreTexts, IsShelf, shelf_in, texts_in}
@@ -17,7 +18,7 @@ pub record TextsAre (payloads : List (List ℕ)) (places : TextPlaces) (lengths 
 -- A draft of a new node was taken up, or it isn't one and nothing was.
 pub record TookDraft (payloads : List (List ℕ)) (texts : List (List ℕ)) (nodes : List Node) (places : TextPlaces) (now : List Node) (lengths : List ℕ) (draft : Draft) (taken : Bool) : Type 0 where
   pub answer : (records : List Record) → taken ≡ is_draft (record { texts = texts; nodes = nodes; records = records }) draft
-  pub texts_are : TextsAre payloads places lengths (if taken then with_source texts draft.source else texts)
+  pub texts_are : TextsAre payloads places lengths (if taken then with_text texts draft.source else texts)
   pub nodes_are : now ≡ (if taken then nodes ++ draft_node texts draft ∷ [] else nodes)
 
 -- A payload was taken up: the places stand for what they stood for and the payload.

@@ -1,16 +1,18 @@
 //! A draft of a new node as a row of the table.
 
 ghost use Rattle.std.specs.Prelude.{◌≡◌, ◌↔◌, ◌<◌, length, All, Contains, IsTrue, IfOk, IfSome, SomeIff, is_some};
-ghost use Rattle.store_node_codec.specs.Shelves.{is_source, source_number};
-ghost use Rattle.store_node_codec.specs.Spans.{draft_in, source_in};
+ghost use Rattle.store_node_codec.specs.Shelves.{source_number};
+ghost use Rattle.base_ranges.specs.TextRefs.{is_text_ref, ref_in_range};
+ghost use Rattle.store_node_codec.specs.Spans.{draft_in};
 ghost use Rattle.store_node_shelf.specs.Places.{AreTexts, texts_in};
 ghost use Rattle.store_node_shelf.specs.Drafts.{HasMoreNames, IsDraftRow, IsNewRow, node_with};
 
 use crate::texts::find_text;
 use crate::{NodeTable, Pieces, Row, TextPlaces};
 use base::NoMemory;
+use base_ranges::{TextRange, bytes_in, copy_numbers, copy_words, name_in};
 use std::alloc::Global;
-use store_node_codec::{DraftSpans, SourceSpan, bytes_of, name_of, numbers_of, words_of};
+use store_node_codec::DraftSpans;
 
 /// The number of a text that is named by its number, if one has it.
 fn known_number(texts: &TextPlaces, number: u64) -> Option<usize>
@@ -40,19 +42,19 @@ fn number_of_source(
     pieces: &Pieces,
     texts: &TextPlaces,
     bytes: &[u8],
-    source: SourceSpan,
+    source: TextRange,
 ) -> Option<usize>
     requires { AreTexts pieces.now.payloads texts.now }
     ensures is { is_some result
-        ≡ is_source (texts_in pieces.now.payloads texts.now) (source_in bytes.now source) }
+        ≡ is_text_ref (texts_in pieces.now.payloads texts.now) (ref_in_range bytes.now source) }
     ensures number { IfSome result
         (λ number.
         number
-        ≡ source_number (texts_in pieces.now.payloads texts.now) (source_in bytes.now source)) }
+        ≡ source_number (texts_in pieces.now.payloads texts.now) (ref_in_range bytes.now source)) }
 {
     match source {
-        SourceSpan::KnownText(number) => known_number(texts, number),
-        SourceSpan::NewText(span) => new_number(pieces, texts, bytes_of(bytes, span)),
+        TextRange::Known(number) => known_number(texts, number),
+        TextRange::Full(span) => new_number(pieces, texts, bytes_in(bytes, span)),
     }
 }
 
@@ -81,9 +83,9 @@ fn row_of(
     ensures nodes { table.new.nodes ≡ table.old.nodes }
     ensures names { HasMoreNames table.old.names table.new.names }
 {
-    let name = table.add_name(name_of(alloc, bytes, draft.library, draft.path)?)?;
-    let command = table.add_command(words_of(alloc, bytes, draft.words)?)?;
-    let deps = numbers_of(alloc, bytes, draft.deps)?;
+    let name = table.add_name(name_in(alloc, bytes, draft.library, draft.path)?)?;
+    let command = table.add_command(copy_words(alloc, bytes, draft.words)?)?;
+    let deps = copy_numbers(alloc, bytes, draft.deps)?;
     Ok(Row {
         name,
         command,

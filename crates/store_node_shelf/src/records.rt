@@ -5,15 +5,15 @@ ghost use Rattle.store_node_shelf.specs.Places.{HasRecordRoom};
 
 use base::NoMemory;
 use base_mark_index::MarkIndex;
+use base_ranges::ByteRange;
 use std::alloc::Global;
-use store_node_codec::Span;
 
 /// A record: the number of its node, and where its artefact is: the number of its payload, and its bytes there.
 #[derive(Clone, Copy)]
 pub struct RecordPlace {
     pub node: usize,
     pub payload: usize,
-    pub artefact: Span,
+    pub artefact: ByteRange,
 }
 
 /// Records in order, and of each the number of the name of its file.

@@ -4,8 +4,10 @@ ghost use Rattle.std.specs.Prelude.{◌≡◌, ◌<◌, ◌≤◌, ◌++◌, ◌
 ghost use Rattle.base.specs.declared.limits.TheConstants.{ARTEFACT_LIMIT};
 ghost use Rattle.store_node_codec.specs.Nodes.{AreNodes, numbered_text};
 ghost use Rattle.store_node_codec.specs.Forms.NodePayload.{OfDraft, OfNode};
-ghost use Rattle.store_node_codec.specs.Shelves.{is_artefact, is_source, shelf_of, source_number, with_node_record, with_payload, with_source};
-ghost use Rattle.store_node_codec.specs.Spans.{draft_in, source_in, spanned};
+ghost use Rattle.store_node_codec.specs.Shelves.{is_artefact, shelf_of, source_number, with_node_record, with_payload};
+ghost use Rattle.base_ranges.specs.TextRefs.{is_text_ref, with_text, ref_in_range};
+ghost use Rattle.store_node_codec.specs.Spans.{draft_in};
+ghost use Rattle.base_ranges.specs.Ranges.{ranged};
 ghost use Rattle.store_node_shelf.specs.Places.{AreTexts, HasRecordRoom, IsShelf, payload_at, shelf_in, texts_in};
 ghost use Rattle.store_node_shelf.specs.Drafts.{HasMoreNames};
 ghost use Rattle.store_node_shelf.specs.Taking.{TextsAre, TookDraft, TookNode, TookUp};
@@ -16,8 +18,9 @@ use crate::{
 };
 use base::{ARTEFACT_LIMIT, NoMemory};
 use base_mark_index::mark_of;
+use base_ranges::{ByteRange, TextRange, bytes_in};
 use std::alloc::Global;
-use store_node_codec::{DraftSpans, PayloadSpans, SourceSpan, Span, bytes_of, read_payload};
+use store_node_codec::{DraftSpans, PayloadSpans, read_payload};
 
 /// The number of bytes of a text that is there.
 fn known_len(pieces: &Pieces, texts: &TextPlaces, number: usize) -> usize
@@ -29,18 +32,18 @@ fn known_len(pieces: &Pieces, texts: &TextPlaces, number: usize) -> usize
 }
 
 /// The number of bytes of the text of a draft.
-fn source_len(pieces: &Pieces, texts: &TextPlaces, bytes: &[u8], source: SourceSpan) -> usize
+fn source_len(pieces: &Pieces, texts: &TextPlaces, bytes: &[u8], source: TextRange) -> usize
     requires texts { AreTexts pieces.now.payloads texts.now }
-    requires source { is_source (texts_in pieces.now.payloads texts.now)
-        (source_in bytes.now source)
+    requires source { is_text_ref (texts_in pieces.now.payloads texts.now)
+        (ref_in_range bytes.now source)
         ≡ true }
     ensures { let texts = texts_in pieces.now.payloads texts.now in
-        let source = source_in bytes.now source in
-        result ≡ length (numbered_text (with_source texts source) (source_number texts source)) }
+        let source = ref_in_range bytes.now source in
+        result ≡ length (numbered_text (with_text texts source) (source_number texts source)) }
 {
     match source {
-        SourceSpan::KnownText(number) => known_len(pieces, texts, number as usize),
-        SourceSpan::NewText(span) => bytes_of(bytes, span).len(),
+        TextRange::Known(number) => known_len(pieces, texts, number as usize),
+        TextRange::Full(span) => bytes_in(bytes, span).len(),
     }
 }
 
@@ -50,7 +53,7 @@ fn add_text(
     test: &mut NodeTest,
     pieces: &Pieces,
     at: usize,
-    span: Span,
+    span: ByteRange,
 ) -> Result<(), NoMemory>
     requires at { at < length pieces.now.payloads }
     requires texts { AreTexts pieces.now.payloads texts.old }
@@ -58,7 +61,7 @@ fn add_text(
     ensures { OnOk result
         (TextsAre pieces.now.payloads texts.new test.new
         (texts_in pieces.now.payloads texts.old
-        ++ spanned (payload_at pieces.now.payloads at) span ∷ [])) }
+        ++ ranged (payload_at pieces.now.payloads at) span ∷ [])) }
 {
     let place = TextPlace { payload: at, span };
     let text = text_at(pieces, place);
@@ -74,19 +77,19 @@ fn add_source(
     test: &mut NodeTest,
     pieces: &Pieces,
     at: usize,
-    source: SourceSpan,
+    source: TextRange,
 ) -> Result<(), NoMemory>
     requires at { at < length pieces.now.payloads }
     requires texts { AreTexts pieces.now.payloads texts.old }
     requires lengths { map length (texts_in pieces.now.payloads texts.old) ≡ test.old }
     ensures { OnOk result
         (TextsAre pieces.now.payloads texts.new test.new
-        (with_source (texts_in pieces.now.payloads texts.old)
-        (source_in (payload_at pieces.now.payloads at) source))) }
+        (with_text (texts_in pieces.now.payloads texts.old)
+        (ref_in_range (payload_at pieces.now.payloads at) source))) }
 {
     match source {
-        SourceSpan::KnownText(_number) => Ok(()),
-        SourceSpan::NewText(span) => add_text(texts, test, pieces, at, span),
+        TextRange::Known(_number) => Ok(()),
+        TextRange::Full(span) => add_text(texts, test, pieces, at, span),
     }
 }
 
@@ -126,17 +129,17 @@ fn take_draft(
 }
 
 /// Puts a record of a node, whose artefact is in a payload, at the end.
-fn put_record(shelf: &mut ShelfPlaces, pieces: &Pieces, node: usize, at: usize, artefact: Span)
+fn put_record(shelf: &mut ShelfPlaces, pieces: &Pieces, node: usize, at: usize, artefact: ByteRange)
     requires room { HasRecordRoom shelf.old.records }
     requires node { node < length shelf.old.table.nodes }
     requires at { at < length pieces.now.payloads }
-    requires small { length (spanned (payload_at pieces.now.payloads at) artefact)
+    requires small { length (ranged (payload_at pieces.now.payloads at) artefact)
         ≤ ARTEFACT_LIMIT }
     requires shelf { IsShelf pieces.now.payloads shelf.old }
     ensures are { IsShelf pieces.now.payloads shelf.new }
     ensures is { shelf_in pieces.now.payloads shelf.new
         ≡ with_node_record (shelf_in pieces.now.payloads shelf.old) node
-        (spanned (payload_at pieces.now.payloads at) artefact) }
+        (ranged (payload_at pieces.now.payloads at) artefact) }
     ensures table { shelf.new.table ≡ shelf.old.table }
     ensures texts { shelf.new.texts ≡ shelf.old.texts }
 {
@@ -157,18 +160,18 @@ fn add_record(
     pieces: &Pieces,
     node: usize,
     at: usize,
-    artefact: Span,
+    artefact: ByteRange,
 ) -> Result<(), NoMemory>
     requires node { node < length shelf.old.table.nodes }
     requires at { at < length pieces.now.payloads }
-    requires small { length (spanned (payload_at pieces.now.payloads at) artefact)
+    requires small { length (ranged (payload_at pieces.now.payloads at) artefact)
         ≤ ARTEFACT_LIMIT }
     requires shelf { IsShelf pieces.now.payloads shelf.old }
     ensures are { OnOk result (IsShelf pieces.now.payloads shelf.new) }
     ensures is { OnOk result
         (shelf_in pieces.now.payloads shelf.new
         ≡ with_node_record (shelf_in pieces.now.payloads shelf.old) node
-        (spanned (payload_at pieces.now.payloads at) artefact)) }
+        (ranged (payload_at pieces.now.payloads at) artefact)) }
     ensures texts { shelf.new.texts ≡ shelf.old.texts }
 {
     shelf.records.reserve()?;
@@ -177,10 +180,10 @@ fn add_record(
 }
 
 /// Whether an artefact in a payload is small enough for a record.
-fn is_artefact(bytes: &[u8], artefact: Span) -> bool
-    ensures { result ≡ is_artefact (spanned bytes.now artefact) }
+fn is_artefact(bytes: &[u8], artefact: ByteRange) -> bool
+    ensures { result ≡ is_artefact (ranged bytes.now artefact) }
 {
-    bytes_of(bytes, artefact).len() <= ARTEFACT_LIMIT
+    bytes_in(bytes, artefact).len() <= ARTEFACT_LIMIT
 }
 
 /// Takes up one more record of a node that is there.
@@ -189,7 +192,7 @@ fn take_record(
     pieces: &Pieces,
     at: usize,
     number: u64,
-    artefact: Span,
+    artefact: ByteRange,
 ) -> Result<(), NoMemory>
     requires at { at < length pieces.now.payloads }
     requires shelf { IsShelf pieces.now.payloads shelf.old }
@@ -197,7 +200,7 @@ fn take_record(
     ensures is { OnOk result
         (shelf_in pieces.now.payloads shelf.new
         ≡ with_payload (shelf_in pieces.now.payloads shelf.old)
-        (OfNode number (spanned (payload_at pieces.now.payloads at) artefact))) }
+        (OfNode number (ranged (payload_at pieces.now.payloads at) artefact))) }
     ensures texts { shelf.new.texts ≡ shelf.old.texts }
 {
     if number >= shelf.table.len() as u64 {
@@ -246,7 +249,7 @@ fn take_both(
     pieces: &Pieces,
     at: usize,
     draft: DraftSpans,
-    artefact: Span,
+    artefact: ByteRange,
 ) -> Result<(), NoMemory>
     requires at { at < length pieces.now.payloads }
     requires shelf { IsShelf pieces.now.payloads shelf.old }
@@ -258,7 +261,7 @@ fn take_both(
         (shelf_in pieces.now.payloads shelf.new
         ≡ with_payload (shelf_in pieces.now.payloads shelf.old)
         (OfDraft (draft_in (payload_at pieces.now.payloads at) draft)
-        (spanned (payload_at pieces.now.payloads at) artefact))) }
+        (ranged (payload_at pieces.now.payloads at) artefact))) }
     ensures lengths { OnOk result
         (map length (texts_in pieces.now.payloads shelf.new.texts) ≡ test.new) }
 {

@@ -11,9 +11,9 @@ use crate::sums::are_small;
 use crate::{NodeTable, Row};
 use base::{FILE_LIMIT, NoMemory, TEXT_LIMIT};
 use base_numbering::NumberSet;
+use base_ranges::fits_command;
 use std::alloc::Global;
 use std::marker::Model;
-use store_record_codec::fits_command;
 
 /// Room to test new nodes in, with the lengths of the texts so far. Contracts see these lengths.
 #[derive(Drop)]

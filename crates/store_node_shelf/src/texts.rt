@@ -7,14 +7,14 @@ ghost use Rattle.store_node_shelf.specs.Places.{AreTexts, HasTextRoom, text_in, 
 use crate::Pieces;
 use base::NoMemory;
 use base_mark_index::{MarkIndex, mark_of};
+use base_ranges::{ByteRange, bytes_in};
 use std::alloc::Global;
-use store_node_codec::{Span, bytes_of};
 
 /// Where a text is: the number of its payload, and its bytes there.
 #[derive(Clone, Copy)]
 pub struct TextPlace {
     pub payload: usize,
-    pub span: Span,
+    pub span: ByteRange,
 }
 
 /// Texts, each once, numbered from 0 in the order in which they came, and found by their marks.
@@ -62,7 +62,7 @@ pub fn text_at(pieces: &Pieces, place: TextPlace) -> &[u8]
     requires { place.payload < length pieces.now.payloads }
     ensures { result.now ≡ text_in pieces.now.payloads place }
 {
-    bytes_of(pieces.get(place.payload), place.span)
+    bytes_in(pieces.get(place.payload), place.span)
 }
 
 /// The number of a text, if it is there. Only texts of the same mark are compared with it.

@@ -1,11 +1,13 @@
 -- The parts of a record whose text was cut from its payload.
 use Rattle.std.proofs.Common.{◌≡◌, ℕ, List, sym, ap, ◌∙◌}
-use Rattle.store_codec.specs.declared.reading.ByteRange.{ByteRange}
+use Rattle.base_ranges.specs.declared.ranges.ByteRange.{ByteRange}
 use Rattle.store_codec.specs.declared.reading.RequestRanges.{RequestRanges}
-use Rattle.store_codec.specs.declared.reading.TextRange.TheVariants.{Known, Full}
-use Rattle.store_codec.specs.Forms.{RequestDraft, TextRef}
-use Rattle.store_codec.specs.Forms.TextRef.{ByNumber, InFull}
-use Rattle.store_codec.specs.Ranges.{counted_words, ranged, ref_in_range, request_in_ranges}
+use Rattle.base_ranges.specs.declared.text_refs.TextRange.TheVariants.{Known, Full}
+use Rattle.store_codec.specs.Forms.{RequestDraft}
+use Rattle.base_ranges.specs.TextRefs.{TextRef, ref_in_range}
+use Rattle.base_ranges.specs.TextRefs.TextRef.{ByNumber, InFull}
+use Rattle.store_codec.specs.Ranges.{request_in_ranges}
+use Rattle.base_ranges.specs.Ranges.{counted_words, ranged}
 use Rattle.store_shelf.specs.Cuts.{AreSameParts, with_source}
 
 -- a draft of its parts

@@ -1,11 +1,12 @@
 -- A record whose payload was put without its text.
 use Rattle.std.proofs.Common.{◌≡◌, ℕ, ◌<◌, List, [], ◌∷◌, ◌++◌, length, sym, ap, ◌∙◌}
 use Rattle.std.proofs.lemmas.List.{get_or_append_left, get_or_at}
-use Rattle.store_codec.specs.declared.reading.ByteRange.{ByteRange}
+use Rattle.base_ranges.specs.declared.ranges.ByteRange.{ByteRange}
 use Rattle.store_codec.specs.declared.reading.RequestRanges.{RequestRanges}
-use Rattle.store_codec.specs.declared.reading.TextRange.TheVariants.{Full}
-use Rattle.store_codec.specs.Forms.TextRef.{InFull}
-use Rattle.store_codec.specs.Ranges.{ranged, request_in_ranges}
+use Rattle.base_ranges.specs.declared.text_refs.TextRange.TheVariants.{Full}
+use Rattle.base_ranges.specs.TextRefs.TextRef.{InFull}
+use Rattle.store_codec.specs.Ranges.{request_in_ranges}
+use Rattle.base_ranges.specs.Ranges.{ranged}
 use Rattle.store_shelf.specs.declared.cutting.CutRequest.{CutRequest}
 use Rattle.store_shelf.specs.Cuts.{IsCutOf, with_source}
 use Rattle.store_shelf.specs.Placed.{nth_payload, with_cut}

@@ -2,8 +2,8 @@
 use Rattle.std.proofs.Common.{◌≡◌, ℕ, ◌+◌, ◌-◌, ◌≤◌, List, ◌++◌, length, take, drop, sym, ap, ◌∙◌, arith}
 use Rattle.std.proofs.Math.Seq.{drop-append-add}
 use Rattle.std.proofs.lemmas.List.{drop-append-le, drop-drop, drop_at, length-drop, length-take-le, take-append-drop, take-append-le, take_at}
-use Rattle.store_codec.specs.declared.reading.ByteRange.{ByteRange}
-use Rattle.store_codec.specs.Ranges.{range_end, ranged}
+use Rattle.base_ranges.specs.declared.ranges.ByteRange.{ByteRange}
+use Rattle.base_ranges.specs.Ranges.{range_end, ranged}
 use Rattle.store_shelf.specs.Cuts.{IsWithout}
 
 -- a range of the first of two parts

@@ -14,9 +14,8 @@ use Rattle.std.proofs.lemmas.Slice.Eq.{bytes_eq-Decides}
 use Rattle.base_text_index.specs.declared.splits.Split.{Split}
 use Rattle.base_text_index.specs.Splits.{AreSplit, reached}
 use Rattle.base_text_index.proofs.Reaching.{first_split}
-use Rattle.store_codec.specs.Forms.{TextRef}
-use Rattle.store_codec.specs.Forms.TextRef.{ByNumber, InFull}
-use Rattle.store_codec.specs.Shelves.{is_text_ref, told_text, with_text}
+use Rattle.base_ranges.specs.TextRefs.{TextRef, is_text_ref, told_text, with_text}
+use Rattle.base_ranges.specs.TextRefs.TextRef.{ByNumber, InFull}
 use Rattle.store_shelf.specs.Checked.{IsRefNumber, ref_number}
 
 -- a test that decides whether two things are the same finds what is there

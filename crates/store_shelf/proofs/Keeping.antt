@@ -4,11 +4,11 @@ use Rattle.std.specs.Prelude.{All}
 use Rattle.std.proofs.lemmas.List.{get_or_append_left}
 use Rattle.base.specs.declared.file.FileName.{FileName}
 use Rattle.base.specs.declared.graph.BuiltFile.{BuiltFile}
-use Rattle.store_codec.specs.Forms.{TextRef}
-use Rattle.store_codec.specs.Forms.TextRef.{ByNumber, InFull}
+use Rattle.base_ranges.specs.TextRefs.{TextRef, with_text}
+use Rattle.base_ranges.specs.TextRefs.TextRef.{ByNumber, InFull}
 use Rattle.outside.specs.Records.{Record as RequestRecord}
-use Rattle.store_codec.specs.Ranges.{counted_numbers, counted_words}
-use Rattle.store_codec.specs.Shelves.{no_product, product_at, with_text}
+use Rattle.base_ranges.specs.Ranges.{counted_numbers, counted_words}
+use Rattle.store_codec.specs.Shelves.{no_product, product_at}
 use Rattle.store_shelf.specs.declared.products.ProductRow.{ProductRow}
 use Rattle.store_shelf.specs.declared.shelf.RecordRow.{RecordRow}
 use Rattle.store_shelf.specs.Placed.{AreRowsPlaced, IsProductRow, IsRecordRow, no_name, no_row, nth_payload, row_deps, row_product, row_products, row_record}

@@ -3,7 +3,7 @@ use Rattle.std.proofs.Common.{◌≡◌, ℕ, List, [], get_or, sym, ap, subst, 
 use Rattle.std.proofs.lemmas.List.{length-map}
 use Rattle.base_text_index.specs.Splits.{AreSplit}
 use Rattle.outside.specs.Records.{Record as RequestRecord}
-use Rattle.store_codec.specs.Ranges.{ranged}
+use Rattle.base_ranges.specs.Ranges.{ranged}
 use Rattle.store_shelf.specs.declared.shelf.PlacedShelf.{PlacedShelf}
 use Rattle.store_shelf.specs.declared.texts.PlacedText.{PlacedText}
 use Rattle.store_shelf.specs.declared.texts.PlacedTexts.{PlacedTexts}

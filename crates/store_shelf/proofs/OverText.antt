@@ -3,11 +3,12 @@ use Rattle.std.proofs.Common.{◌≡◌, ℕ, ◌≤◌, List, [], ◌∷◌, �
 use Rattle.std.proofs.lemmas.Bool.Decides.{nat_tests}
 use Rattle.std.proofs.lemmas.List.{get_or_at, length-map}
 use Rattle.store_codec.specs.Forms.{RequestDraft}
-use Rattle.store_codec.specs.Forms.TextRef.{ByNumber, InFull}
+use Rattle.base_ranges.specs.TextRefs.TextRef.{ByNumber, InFull}
 use Rattle.outside.specs.Records.{Record as RequestRecord}
 use Rattle.base.specs.declared.graph.BuiltFile.{BuiltFile}
 use Rattle.base.specs.declared.limits.TheConstants.{TEXT_LIMIT}
-use Rattle.store_codec.specs.Shelves.{IsRequest, RequestShelf, with_built, with_request, told_text, with_text}
+use Rattle.store_codec.specs.Shelves.{IsRequest, RequestShelf, with_built, with_request}
+use Rattle.base_ranges.specs.TextRefs.{told_text, with_text}
 use Rattle.store_shelf.specs.declared.checking.TextNumbers.{TextNumbers}
 use Rattle.store_shelf.specs.declared.shelf.PlacedShelf.{PlacedShelf}
 use Rattle.store_shelf.specs.declared.texts.PlacedTexts.{PlacedTexts}

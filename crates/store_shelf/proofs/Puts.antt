@@ -9,10 +9,11 @@ use Rattle.base.specs.declared.file.FileName.{FileName}
 use Rattle.base.specs.declared.graph.BuiltFile.{BuiltFile}
 use Rattle.base_text_index.specs.declared.splits.Split.{Split}
 use Rattle.base_text_index.specs.Splits.{AreSplit}
-use Rattle.store_codec.specs.Forms.{ProductDraft, RequestDraft, TextRef}
+use Rattle.store_codec.specs.Forms.{ProductDraft, RequestDraft}
+use Rattle.base_ranges.specs.TextRefs.{TextRef, is_text_ref, told_text, with_text}
 use Rattle.outside.specs.Records.{Record as RequestRecord}
-use Rattle.store_codec.specs.Ranges.{counted_numbers, counted_words}
-use Rattle.store_codec.specs.Shelves.{IsNewProduct, IsRequest, RequestShelf, drafted_artefact, drafted_product, drafted_record, is_text_ref, no_product, product_at, told_text, with_built, with_product, with_request, with_text}
+use Rattle.base_ranges.specs.Ranges.{counted_numbers, counted_words}
+use Rattle.store_codec.specs.Shelves.{IsNewProduct, IsRequest, RequestShelf, drafted_artefact, drafted_product, drafted_record, no_product, product_at, with_built, with_product, with_request}
 use Rattle.store_shelf.specs.declared.products.ProductRow.{ProductRow}
 use Rattle.store_shelf.specs.declared.shelf.RecordRow.{RecordRow}
 use Rattle.store_shelf.specs.ProductRows.{is_same_product_row}

@@ -10,9 +10,9 @@ use Rattle.base.specs.declared.file.FileName.{FileName}
 use Rattle.base.specs.declared.graph.BuiltFile.{BuiltFile}
 use Rattle.base_text_index.specs.declared.splits.Split.{Split}
 use Rattle.base_text_index.specs.Splits.{AreSplit}
-use Rattle.store_codec.specs.Forms.{TextRef}
-use Rattle.store_codec.specs.Forms.TextRef.{ByNumber, InFull}
-use Rattle.store_codec.specs.Shelves.{is_same_built, is_text_ref, told_text}
+use Rattle.base_ranges.specs.TextRefs.{TextRef, is_text_ref, told_text}
+use Rattle.base_ranges.specs.TextRefs.TextRef.{ByNumber, InFull}
+use Rattle.store_codec.specs.Shelves.{is_same_built}
 use Rattle.store_codec.proofs.Deciding.{same_built-Decides}
 use Rattle.store_shelf.specs.declared.products.ProductRow.{ProductRow}
 use Rattle.store_shelf.specs.Checked.{IsNameNumber, PutsProduct, ref_number}

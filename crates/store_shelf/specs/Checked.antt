@@ -2,9 +2,10 @@
 use Rattle.std.specs.Prelude.{◌≡◌, ◌≢◌, ℕ, ◌<◌, ◌≤◌, true, List, [], ◌∷◌, ◌++◌, if◌then◌else◌, length, map, All, AllPairs, slice_get, slice_index_or, Option, None, Some}
 use Rattle.base.specs.declared.file.FileName.{FileName}
 use Rattle.base.specs.declared.limits.TheConstants.{ARTEFACT_LIMIT, FILE_LIMIT, TEXT_LIMIT}
-use Rattle.store_codec.specs.Forms.{ProductDraft, RequestDraft, RequestPayload, TextRef}
-use Rattle.store_codec.specs.Forms.TextRef.{ByNumber, InFull}
-use Rattle.store_codec.specs.Shelves.{IsNewProduct, IsRequest, RequestShelf, drafted_artefact, is_text_ref, told_text, with_request_payload, with_text}
+use Rattle.store_codec.specs.Forms.{ProductDraft, RequestDraft, RequestPayload}
+use Rattle.base_ranges.specs.TextRefs.{TextRef, is_text_ref, told_text, with_text}
+use Rattle.base_ranges.specs.TextRefs.TextRef.{ByNumber, InFull}
+use Rattle.store_codec.specs.Shelves.{IsNewProduct, IsRequest, RequestShelf, drafted_artefact, with_request_payload}
 use Rattle.store_shelf.specs.declared.products.ProductRow.{ProductRow}
 use Rattle.store_shelf.specs.declared.checking.TextNumbers.{TextNumbers}
 use Rattle.std.specs.List.{list_any}

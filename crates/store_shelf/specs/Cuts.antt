@@ -1,11 +1,13 @@
 -- Payloads that are taken up without the text of a file.
 use Rattle.std.specs.Prelude.{◌≡◌, ℕ, ◌≤◌, Bool, true, false, List, [], ◌∷◌, ◌++◌, length, take, drop}
-use Rattle.store_codec.specs.declared.reading.ByteRange.{ByteRange}
+use Rattle.base_ranges.specs.declared.ranges.ByteRange.{ByteRange}
 use Rattle.store_codec.specs.declared.reading.RequestRanges.{RequestRanges}
-use Rattle.store_codec.specs.declared.reading.TextRange.TheVariants.{Known}
-use Rattle.store_codec.specs.Forms.{RequestDraft, TextRef}
-use Rattle.store_codec.specs.Forms.TextRef.{ByNumber}
-use Rattle.store_codec.specs.Ranges.{counted_numbers, range_end, ranged, ref_in_range, request_in_ranges}
+use Rattle.base_ranges.specs.declared.text_refs.TextRange.TheVariants.{Known}
+use Rattle.store_codec.specs.Forms.{RequestDraft}
+use Rattle.base_ranges.specs.TextRefs.{TextRef, ref_in_range}
+use Rattle.base_ranges.specs.TextRefs.TextRef.{ByNumber}
+use Rattle.store_codec.specs.Ranges.{request_in_ranges}
+use Rattle.base_ranges.specs.Ranges.{counted_numbers, range_end, ranged}
 use Rattle.store_codec.specs.Shelves.{RequestShelf}
 use Rattle.store_shelf.specs.declared.cutting.CutRequest.{CutRequest}
 use Rattle.store_shelf.specs.declared.shelf.PlacedShelf.{PlacedShelf}

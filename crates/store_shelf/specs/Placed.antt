@@ -6,7 +6,7 @@ use Rattle.base.specs.declared.graph.BuiltFile.{BuiltFile}
 use Rattle.base.specs.declared.graph.Entry.{Entry}
 use Rattle.base_text_index.specs.Splits.{AreSplit}
 use Rattle.outside.specs.Records.{Record as RequestRecord}
-use Rattle.store_codec.specs.Ranges.{counted_numbers, counted_words, ranged}
+use Rattle.base_ranges.specs.Ranges.{counted_numbers, counted_words, ranged}
 use Rattle.store_codec.specs.Shelves.{RequestShelf, product_at, request_shelf_of}
 use Rattle.store_shelf.specs.declared.held.CutPayload.{CutPayload}
 use Rattle.store_shelf.specs.declared.held.HeldPayload.{HeldPayload}

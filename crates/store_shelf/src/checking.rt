@@ -2,17 +2,16 @@
 
 ghost use Rattle.std.specs.Prelude.{◌≡◌, ◌≢◌, ◌↔◌, ◌<◌, ◌+◌, ◌++◌, ◌∷◌, [], true, length, slice_index_or, All, AllPairs, Contains, IsTrue, IfOk, SomeIff};
 ghost use Rattle.base.specs.Names.{FitsName};
-ghost use Rattle.store_codec.specs.Ranges.{product_in_ranges, ref_in_range, request_in_ranges};
-ghost use Rattle.store_codec.specs.Shelves.{is_text_ref, told_text, with_text};
+ghost use Rattle.store_codec.specs.Ranges.{product_in_ranges, request_in_ranges};
+ghost use Rattle.base_ranges.specs.TextRefs.{ref_in_range, is_text_ref, told_text, with_text};
 ghost use Rattle.store_shelf.specs.Placed.{AreTextsPlaced, IsShelfPlaced, nth_payload, placed_shelf, placed_texts};
 ghost use Rattle.store_shelf.specs.Checked.{AreRequestTexts, HasRowDeps, dep_names, IsCheckedProduct, IsCheckedRequest, IsNameNumber, IsRefNumber};
 
 use crate::{HeldPayloads, PlacedShelf, PlacedTexts, ProductRow, find_text, text_at};
 use base::{ARTEFACT_LIMIT, FILE_LIMIT, NoMemory, TEXT_LIMIT};
 use base_numbering::{NumberSet, Numbered};
-use store_codec::{
-    Numbers, ProductRanges, RequestRanges, TextRange, bytes_in, has_word_sizes, numbers_of,
-};
+use base_ranges::{Numbers, TextRange, bytes_in, has_word_sizes, numbers_of};
+use store_codec::{ProductRanges, RequestRanges};
 
 /// The numbers of the text and of the artefact of a record.
 #[derive(Clone, Copy)]

@@ -2,11 +2,13 @@
 
 ghost use Rattle.std.specs.Prelude.{◌≡◌, ◌≤◌, ◌<◌, ◌+◌, ◌++◌, ◌∷◌, [], ℕ, List, Some, true, length, take, drop, Contains, IsTrue, IfOk, IfSome, OnOk};
 ghost use Rattle.base.specs.Names.{FitsName};
-ghost use Rattle.store_codec.specs.declared.reading.TextRange.TheVariants.{Known, Full};
+ghost use Rattle.base_ranges.specs.declared.text_refs.TextRange.TheVariants.{Known, Full};
 ghost use Rattle.store_codec.specs.Forms.{request_payload_in};
 ghost use Rattle.store_codec.specs.Forms.RequestPayload.{OfRequest};
-ghost use Rattle.store_codec.specs.Forms.TextRef.{ByNumber, InFull};
-ghost use Rattle.store_codec.specs.Ranges.{counted_numbers, counted_words, range_end, ranged, ref_in_range, request_in_ranges};
+ghost use Rattle.base_ranges.specs.TextRefs.TextRef.{ByNumber, InFull};
+ghost use Rattle.store_codec.specs.Ranges.{request_in_ranges};
+ghost use Rattle.base_ranges.specs.Ranges.{counted_numbers, counted_words, range_end, ranged};
+ghost use Rattle.base_ranges.specs.TextRefs.{ref_in_range};
 ghost use Rattle.store_codec.specs.Shelves.{IsRequest, with_request};
 ghost use Rattle.store_shelf.specs.Checked.{AreTextNumbers, IsNameNumber};
 ghost use Rattle.store_shelf.specs.Cuts.{AreSameParts, HasTaken, IsCutOf, IsWithout, TookOrLeft, with_new_text, with_source};
@@ -20,11 +22,9 @@ use crate::texts::put_text;
 use crate::{HeldPayloads, PlacedShelf, TextNumbers, number_name};
 use base::{NoMemory, Text, TextList};
 use base_numbering::NumberSet;
+use base_ranges::{ByteRange, TextRange, bytes_in, has_words, name_in};
 use std::alloc::Global;
-use store_codec::{
-    ByteRange, PayloadRanges, RequestRanges, TextRange, bytes_in, has_words, name_in,
-    read_request_payload,
-};
+use store_codec::{PayloadRanges, RequestRanges, read_request_payload};
 
 /// The payload of a record without its text, and where the parts of the record are in what is left, its text by its number.
 #[derive(Drop)]

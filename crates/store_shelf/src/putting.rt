@@ -2,8 +2,9 @@
 
 ghost use Rattle.std.specs.Prelude.{◌≡◌, ◌≤◌, ◌<◌, ◌+◌, ◌∷◌, ◌++◌, [], true, length};
 ghost use Rattle.base_numbering.specs.Numbers.{IsPlaceOf};
-ghost use Rattle.store_codec.specs.Ranges.{product_in_ranges, ref_in_range, request_in_ranges};
-ghost use Rattle.store_codec.specs.Shelves.{IsNewProduct, IsRequest, is_text_ref, with_product, with_request, with_text};
+ghost use Rattle.store_codec.specs.Ranges.{product_in_ranges, request_in_ranges};
+ghost use Rattle.base_ranges.specs.TextRefs.{ref_in_range, is_text_ref, with_text};
+ghost use Rattle.store_codec.specs.Shelves.{IsNewProduct, IsRequest, with_product, with_request};
 ghost use Rattle.store_shelf.specs.Placed.{AreTextsPlaced, HasRowRoom, IsShelfPlaced, nth_payload, placed_shelf, placed_texts, text_room};
 ghost use Rattle.store_shelf.specs.Checked.{AreTextNumbers, IsNameNumber, PutsProduct, ref_number};
 
@@ -11,7 +12,8 @@ use crate::checking::TextNumbers;
 use crate::texts::put_text;
 use crate::{HeldPayloads, PlacedShelf, PlacedTexts, ProductRow, RecordRow};
 use base_numbering::Numbered;
-use store_codec::{ProductRanges, RequestRanges, TextRange};
+use base_ranges::TextRange;
+use store_codec::{ProductRanges, RequestRanges};
 
 /// Puts a text at the end, where it is new.
 fn put_ref(texts: &mut PlacedTexts, held: &HeldPayloads<'_>, at: usize, source: TextRange)

@@ -8,8 +8,8 @@ use crate::{PlacedTexts, ProductRow};
 use base::{FileName, NoMemory};
 use base_mark_index::MarkIndex;
 use base_numbering::Numbered;
+use base_ranges::ByteRange;
 use std::alloc::Global;
-use store_codec::ByteRange;
 
 /// A record: the number of its payload, and there its words and the products that it depends on; and the numbers of its
 /// name, its text and its own product.

@@ -13,8 +13,9 @@ use crate::putting::{put_product, put_request};
 use crate::{HeldPayloads, PlacedShelf};
 use base::{Entry, FileName, NoMemory};
 use base_numbering::NumberSet;
+use base_ranges::name_in;
 use std::alloc::Global;
-use store_codec::{PayloadRanges, ProductRanges, RequestRanges, name_in, read_request_payload};
+use store_codec::{PayloadRanges, ProductRanges, RequestRanges, read_request_payload};
 
 /// The number of a name, which is added where it has none. What is placed stands for what it stood for.
 pub fn number_name(shelf: &mut PlacedShelf, name: FileName) -> Result<usize, NoMemory>

@@ -3,14 +3,14 @@
 ghost use Rattle.std.specs.Prelude.{◌≡◌, ◌<◌, ◌≤◌, ◌+◌, ◌++◌, ◌∷◌, [], length, Contains, IsTrue, OnOk, slice_index_or};
 ghost use Rattle.base_numbering.specs.Numbers.{IsPlaceOf};
 ghost use Rattle.base_text_index.specs.Splits.{AreSplit};
-ghost use Rattle.store_codec.specs.Ranges.{ranged};
+ghost use Rattle.base_ranges.specs.Ranges.{ranged};
 ghost use Rattle.store_shelf.specs.Placed.{AreTextsPlaced, nth_payload, placed_text, placed_texts, text_room};
 
 use crate::HeldPayloads;
 use base::NoMemory;
+use base_ranges::{ByteRange, bytes_in};
 use base_text_index::{Split, TextIndex, split_between};
 use std::alloc::Global;
-use store_codec::{ByteRange, bytes_in};
 
 /// Where a text is: the number of its payload, and its bytes there.
 #[derive(Clone, Copy)]

@@ -10,7 +10,7 @@ use Rattle.base.specs.declared.limits.TheConstants.{ARTEFACT_LIMIT}
 use Rattle.base.specs.Graphs.{IsGraph}
 use Rattle.outside.specs.Records.{Record, is_of, latest_alone}
 use Rattle.base_numbering.specs.NameLaws.{names_decide}
-use Rattle.store_record_codec.specs.declared.kept_view.Record.{Record as ViewRecord}
+use Rattle.store_node_codec.specs.declared.kept_view.Record.{Record as ViewRecord}
 use Rattle.store_node_codec.specs.Nodes.{AreNodes}
 use Rattle.store_node_shelf.specs.Rows.{IsTable}
 use Rattle.store_node_shelf.specs.declared.records.RecordPlace.{RecordPlace}

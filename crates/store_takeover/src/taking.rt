@@ -12,11 +12,11 @@ ghost use Rattle.store_takeover.specs.Taking.{AreEachNext, IsNext, request_at, t
 
 use crate::parts::{entry_of, products_of, record_nodes};
 use base::NoMemory;
+use base_ranges::bytes_in;
 use std::alloc::Global;
 use store_holdings::RequestHoldings;
 use store_journal::{Journal, Payloads};
 use store_migration::migrated_rows;
-use store_node_codec::bytes_of;
 use store_node_shelf::{Pieces, ShelfPlaces, shelf_of};
 
 /// Adds the request that stands for a record.
@@ -42,7 +42,7 @@ fn add_row(
     let row = shelf.table.row(place.node);
     let entry = entry_of(alloc, shelf, pieces, row)?;
     let deps = products_of(alloc, held, &shelf.table, row.deps.as_slice())?;
-    let artefact = bytes_of(pieces.get(place.payload), place.artefact);
+    let artefact = bytes_in(pieces.get(place.payload), place.artefact);
     held.add(alloc, journal, &entry, deps.as_slice(), artefact)
 }
 

@@ -7,7 +7,8 @@ use Rattle.base_bytes.specs.Names.{name_at}
 use Rattle.base_bytes.specs.Reading.{counted_at, many_at, text_at}
 use Rattle.store_journal.specs.Payloads.{block}
 use Rattle.store_codec.specs.Carrying.{carried_from, carry_own, carry_product, carry_request, compacted_requests}
-use Rattle.store_codec.specs.Forms.{command_bytes, product_draft_bytes, product_in, product_numbers_bytes, ref_by_number_at, ref_in_full_at, request_draft_bytes, request_in, request_payload_by, request_payload_bytes, request_payload_in, text_ref_at, text_ref_by, text_ref_bytes}
+use Rattle.store_codec.specs.Forms.{command_bytes, product_draft_bytes, product_in, product_numbers_bytes, request_draft_bytes, request_in, request_payload_by, request_payload_bytes, request_payload_in, text_ref_bytes}
+use Rattle.base_ranges.specs.TextRefs.{ref_by_number_at, ref_in_full_at, text_ref_at, text_ref_by}
 use Rattle.store_codec.specs.Shelves.{after_request_payload, are_apart, is_new_product, is_request, request_shelf_of, with_request_payload}
 use Rattle.tests_examples.specs.StoredRequests.{CompactedRequests, ShelvedRequests}
 

@@ -5,7 +5,8 @@ use Rattle.base.specs.declared.graph.BuiltFile.{BuiltFile}
 use Rattle.base.specs.declared.graph.Entry.{Entry}
 use Rattle.outside.specs.Records.{Record, latest_alone}
 use Rattle.store_codec.specs.Carrying.{carried_from, compacted_requests, none_carried}
-use Rattle.store_codec.specs.Forms.{ByNumber, InFull, RequestDraft, TextRef}
+use Rattle.base_ranges.specs.TextRefs.{ByNumber, InFull, TextRef}
+use Rattle.store_codec.specs.Forms.{RequestDraft}
 use Rattle.store_codec.specs.Shelves.{bare_shelf, is_request, request_shelf_of, requests_among}
 use Rattle.store_carry.specs.Plans.{blocks_length}
 use Rattle.tests_examples.specs.Example.{a_file, a_name, b_name, built, command, file, recorded}

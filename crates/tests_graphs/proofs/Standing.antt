@@ -8,7 +8,7 @@ use Rattle.base.specs.declared.graph.Entry.{Entry}
 use Rattle.base.specs.Graphs.{IsEntryAt}
 use Rattle.base.specs.View.{IsView}
 use Rattle.project_views.proofs.Rising.{before_later, few}
-use Rattle.store_record_codec.specs.Validity.{StandsAt, StandBelow}
+use Rattle.store_node_codec.specs.Validity.{StandsAt, StandBelow}
 use Rattle.tests_graphs.specs.Validity.{FitsFile, HasClosedDeps}
 
 -- a file that passes each test stands where it is

@@ -7,4 +7,5 @@ mod reading;
 mod sizes;
 mod views;
 
-pub use reading::{Record, read_record};
+pub use reading::read_record;
+pub use store_node_codec::Record;

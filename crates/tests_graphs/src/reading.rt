@@ -12,15 +12,9 @@ ghost use Rattle.tests_graphs.specs.Spelling.{record_bytes, IsRecord};
 use crate::views::is_view;
 use base::{ARTEFACT_LIMIT, Entry, Graph, Items, NoMemory, Positions, Text};
 use base_bytes::ByteReader;
+use base_ranges::read_words;
 use std::alloc::Global;
-use store_record_codec::read_words;
-
-/// What was compiled, the file last, and what the compiler gave for it.
-#[derive(Drop)]
-pub struct Record {
-    pub view: Graph,
-    pub artefact: Text,
-}
+use store_node_codec::Record;
 
 /// The files and the artefact that some bytes spell. The files may be no view.
 #[derive(Drop)]

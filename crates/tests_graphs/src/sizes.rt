@@ -5,7 +5,7 @@ ghost use Rattle.std.specs.List.Sorted.{IsStrictlyIncreasing};
 ghost use Rattle.tests_graphs.specs.Validity.{FitsFile};
 
 use base::{Entry, TEXT_LIMIT};
-use store_record_codec::fits_command;
+use base_ranges::fits_command;
 
 /// Whether the name, the words and the text of a file are of the sizes of a graph.
 pub fn fits_file(entry: &Entry) -> bool

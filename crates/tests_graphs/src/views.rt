@@ -3,7 +3,7 @@
 ghost use Rattle.std.specs.Prelude.{◌≡◌, ◌↔◌, ◌<◌, ◌≤◌, length, sum_by, IsTrue, IfOk};
 ghost use Rattle.base.specs.Graphs.{IsGraph};
 ghost use Rattle.base.specs.View.{IsView};
-ghost use Rattle.store_record_codec.specs.Validity.{StandsAt, StandBelow};
+ghost use Rattle.store_node_codec.specs.Validity.{StandsAt, StandBelow};
 
 use crate::closed::is_closed;
 use crate::names::are_distinct;

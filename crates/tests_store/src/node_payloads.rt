@@ -1,7 +1,8 @@
 //! Tests of payloads of the earlier form, byte for byte.
 
+use base_ranges::{ByteRange, TextRange};
 use std::test::Fail;
-use store_node_codec::{PayloadSpans, SourceSpan, Span, read_payload};
+use store_node_codec::{PayloadSpans, read_payload};
 
 /// The file `a.vhd` of library `lib`, compiled by `cc`, with the new text `x` and the artefact `y`; and one byte more.
 const NEW: [u8; 43] = [
@@ -19,7 +20,7 @@ const NEW: [u8; 43] = [
 const AGAIN: [u8; 14] = [0, 7, 0, 0, 0, 0, 0, 0, 0, 1, 0, 0, 0, b'z'];
 
 /// Whether a span of bytes has these bytes.
-fn has(bytes: &[u8], span: Span, expected: &[u8]) -> bool {
+fn has(bytes: &[u8], span: ByteRange, expected: &[u8]) -> bool {
     match bytes.get(span.start..) {
         Some(rest) => rest.starts_with(expected) && span.count == expected.len(),
         None => false,
@@ -33,7 +34,7 @@ fn a_new_node_is_read(rt: HostRuntime) -> Result<(), Fail> {
         return Err(Fail::from("the bytes are a new node and its record"));
     };
     assert!(rt; has(bytes, draft.library, b"lib") && has(bytes, draft.path, b"a.vhd"));
-    assert!(rt; matches!(draft.source, SourceSpan::NewText(text) if has(bytes, text, b"x")));
+    assert!(rt; matches!(draft.source, TextRange::Full(text) if has(bytes, text, b"x")));
     assert!(rt; has(bytes, draft.deps, &[0, 0, 0, 0]) && has(bytes, artefact, b"y"));
     Ok(())
 }

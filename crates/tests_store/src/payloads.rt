@@ -1,7 +1,8 @@
 //! Tests of payloads byte for byte.
 
+use base_ranges::{TextRange, bytes_in, numbers_of};
 use std::test::Fail;
-use store_codec::{PayloadRanges, TextRange, bytes_in, numbers_of, read_request_payload};
+use store_codec::{PayloadRanges, read_request_payload};
 
 /// The file `b.vhd` of library `lib`, compiled by `cc`, with the text of number 0, over product 0, and the artefact `z`;
 /// and one byte more.

@@ -5,11 +5,11 @@ ghost use Rattle.store_shelf.specs.Placed.{AreTextsPlaced};
 
 use crate::changes::{Change, both, disk_of, full_disk, mark, seen_on};
 use base::NoMemory;
+use base_ranges::{Numbers, numbers_of};
 use memory_outside::MemDisk;
 use outside::{Disk, Side, StoreFault};
 use std::alloc::Global;
 use std::test::Fail;
-use store_codec::{Numbers, numbers_of};
 use store_journal::{Journal, Opened, Payloads};
 use store_shelf::{HeldPayloads, PlacedShelf, RecordRow, taken_up, text_at};
 

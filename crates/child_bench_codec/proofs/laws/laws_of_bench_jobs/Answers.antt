@@ -1,4 +1,7 @@
-use Rattle.child_bench_codec.proofs.BenchFields.{bench_takes, bench_again, same_bench_job}
+use Rattle.test_spec.specs.BenchJobs.{IsBenchJob, bench_input}
+use Rattle.child_bench_codec.specs.Reading.{bench_at}
+use Rattle.child_job_codec.proofs.Spelled.{same_spelled}
+use Rattle.child_bench_codec.proofs.BenchFields.{bench_takes, bench_again}
 use Rattle.child_bench_codec.proofs.Sizes.{run_is_job}
 use Rattle.child_bench_codec.proofs.laws.laws_of_bench_jobs.Goals as goal
 
@@ -9,7 +12,7 @@ pub returns-clause-again : goal.returns-clause-again
 returns-clause-again c = bench_again
 
 pub returns-clause-same : goal.returns-clause-same
-returns-clause-same c = same_bench_job
+returns-clause-same c = same_spelled bench_at bench_input IsBenchJob bench_again
 
 pub returns-clause-runs : goal.returns-clause-runs
 returns-clause-runs c = run_is_job

@@ -1,4 +1,7 @@
-use Rattle.child_job_codec.proofs.Jobs.{job_takes, job_again, same_job}
+use Rattle.child_job_codec.specs.Jobs.{IsJob, job_bytes}
+use Rattle.child_job_codec.specs.Reading.{job_at}
+use Rattle.child_job_codec.proofs.Spelled.{same_spelled}
+use Rattle.child_job_codec.proofs.Jobs.{job_takes, job_again}
 use Rattle.child_job_codec.proofs.laws.laws_of_jobs.Goals as goal
 
 pub returns-clause-takes : goal.returns-clause-takes
@@ -8,4 +11,4 @@ pub returns-clause-again : goal.returns-clause-again
 returns-clause-again c = job_again
 
 pub returns-clause-same : goal.returns-clause-same
-returns-clause-same c = same_job
+returns-clause-same c = same_spelled job_at job_bytes IsJob job_again

@@ -1,7 +1,7 @@
 use Rattle.std.proofs.Common.{◌≡◌, ◌<◌, ℕ, List, [], length, map, get_or, sym, ap, ◌∙◌, arith}
 use Rattle.std.proofs.lemmas.List.{length-map}
 use Rattle.std.proofs.lemmas.Option.{get_or_from_slice_get}
-use Rattle.store_codec.specs.Ranges.{counted_numbers}
+use Rattle.base_ranges.specs.Ranges.{counted_numbers}
 use Rattle.store_codec.specs.Shelves.{product_at}
 use Rattle.store_shelf.specs.Placed.{nth_payload, placed_shelf, row_deps}
 use Rattle.store_shelf.proofs.Puts.{no_record}

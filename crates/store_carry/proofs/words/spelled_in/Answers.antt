@@ -1,7 +1,7 @@
 use Rattle.std.proofs.Common.{◌≡◌, ◌≤◌, ℕ, List, drop, length, ap, subst, sym, ◌∙◌, arith, length-drop}
 use Rattle.std.proofs.lemmas.List.{take_all}
 use Rattle.store_codec.specs.Forms.{command_bytes}
-use Rattle.store_codec.specs.Ranges.{counted_words}
+use Rattle.base_ranges.specs.Ranges.{counted_words}
 use Rattle.store_codec.proofs.Sized.{words_small}
 use Rattle.store_carry.specs.Words.{first_words}
 use Rattle.store_carry.proofs.words.spelled_in.Goals as goal

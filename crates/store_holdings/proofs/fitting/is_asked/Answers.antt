@@ -1,6 +1,6 @@
 use Rattle.std.proofs.Common.{◌≡◌, ℕ, List, [], Some, map, sym, ap, ◌∙◌}
 use Rattle.std.proofs.lemmas.Option.{get_or_from_slice_get}
-use Rattle.store_codec.specs.Ranges.{counted_numbers, counted_words}
+use Rattle.base_ranges.specs.Ranges.{counted_numbers, counted_words}
 use Rattle.store_shelf.specs.Placed.{nth_payload, row_deps}
 use Rattle.store_holdings.specs.Seated.{seated_product}
 use Rattle.store_holdings.proofs.fitting.is_asked.Goals as goal

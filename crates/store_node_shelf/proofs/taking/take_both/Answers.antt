@@ -1,7 +1,8 @@
 use Rattle.std.proofs.Common.{◌≡◌, ◌∙◌, List, ℕ, Bool, ap, sym, if◌then◌else◌}
 use Rattle.store_node_codec.specs.Forms.{Draft}
 use Rattle.store_node_codec.specs.Shelves.{Shelf, is_artefact, with_draft, with_node_record}
-use Rattle.store_node_codec.specs.Spans.{draft_in, spanned}
+use Rattle.store_node_codec.specs.Spans.{draft_in}
+use Rattle.base_ranges.specs.Ranges.{ranged}
 use Rattle.store_node_shelf.specs.Places.{payload_at, shelf_in}
 use Rattle.store_node_shelf.proofs.Shelved.{draft_record, no_artefact_of, no_draft_of, small}
 use Rattle.store_node_shelf.proofs.Taken.{payload_is}
@@ -10,7 +11,7 @@ use Rattle.store_node_shelf.proofs.taking.take_both.Goals as goal
 pub returns-then-not-is_artefact-clause-is : goal.returns-then-not-is_artefact-clause-is
 returns-then-not-is_artefact-clause-is c =
     let bytes = payload_is c.args.pieces.now.payloads c.args.at c.get.result.now c.get.ensures in
-    sym (no_artefact_of _ _ _ (ap (λ (b : List ℕ). is_artefact (spanned b c.args.artefact)) bytes ∙ sym c.is_artefact.ensures ∙ c.if-not-is_artefact.true))
+    sym (no_artefact_of _ _ _ (ap (λ (b : List ℕ). is_artefact (ranged b c.args.artefact)) bytes ∙ sym c.is_artefact.ensures ∙ c.if-not-is_artefact.true))
 
 pub returns-then-not-taken-clause-is : goal.returns-then-not-taken-clause-is
 returns-then-not-taken-clause-is c =
@@ -24,16 +25,16 @@ returns-then-not-taken-clause-is c =
 pub add_record-requires-clause-small : goal.add_record-requires-clause-small
 add_record-requires-clause-small c =
     let bytes = payload_is c.args.pieces.now.payloads c.args.at c.get.result.now c.get.ensures in
-    small _ (ap (λ (b : List ℕ). is_artefact (spanned b c.args.artefact)) bytes ∙ sym c.is_artefact.ensures ∙ c.if-not-is_artefact.false)
+    small _ (ap (λ (b : List ℕ). is_artefact (ranged b c.args.artefact)) bytes ∙ sym c.is_artefact.ensures ∙ c.if-not-is_artefact.false)
 
 pub returns-clause-is : goal.returns-clause-is
 returns-clause-is c =
     let payloads = c.args.pieces.now.payloads in
     let shelf : Shelf = shelf_in payloads c.args.shelf.now in
     let draft : Draft = draft_in (payload_at payloads c.args.at) c.args.draft in
-    let artefact : List ℕ = spanned (payload_at payloads c.args.at) c.args.artefact in
+    let artefact : List ℕ = ranged (payload_at payloads c.args.at) c.args.artefact in
     let bytes = payload_is payloads c.args.at c.get.result.now c.get.ensures in
-    let fits = ap (λ (b : List ℕ). is_artefact (spanned b c.args.artefact)) bytes ∙ sym c.is_artefact.ensures ∙ c.if-not-is_artefact.false in
+    let fits = ap (λ (b : List ℕ). is_artefact (ranged b c.args.artefact)) bytes ∙ sym c.is_artefact.ensures ∙ c.if-not-is_artefact.false in
     let mid : shelf_in payloads c.take_node.new.shelf ≡ with_draft shelf draft = c.in_ok-taken.ensures.is ∙ ap (λ (t : Bool). if t then with_draft shelf draft else shelf) c.if-not-taken.false in
     c.in_ok-add_record.ensures.is
     ∙ ap (λ (s : Shelf). with_node_record s c.len-number.result artefact) mid

@@ -1,7 +1,7 @@
 use Rattle.std.proofs.Common.{◌≡◌, ℕ, List, ap, sym, subst, ◌∙◌, arith}
 use Rattle.std.specs.Prelude.{OnOk}
 use Rattle.store_node_codec.specs.Shelves.{is_artefact}
-use Rattle.store_node_codec.specs.Spans.{spanned}
+use Rattle.base_ranges.specs.Ranges.{ranged}
 use Rattle.store_node_shelf.specs.Places.{payload_at, shelf_in}
 use Rattle.store_node_shelf.proofs.Shelved.{no_artefact, no_node, node_record, small}
 use Rattle.store_node_shelf.proofs.Taken.{payload_is}
@@ -13,16 +13,16 @@ returns-then-number-len-clause-is c = sym (no_node _ _ _ (omega (arith, c.if-num
 pub returns-then-not-is_artefact-clause-is : goal.returns-then-not-is_artefact-clause-is
 returns-then-not-is_artefact-clause-is c =
     let bytes = payload_is c.args.pieces.now.payloads c.args.at c.get.result.now c.get.ensures in
-    sym (no_artefact _ _ _ (ap (λ (b : List ℕ). is_artefact (spanned b c.args.artefact)) bytes ∙ sym c.is_artefact.ensures ∙ c.if-not-is_artefact.true))
+    sym (no_artefact _ _ _ (ap (λ (b : List ℕ). is_artefact (ranged b c.args.artefact)) bytes ∙ sym c.is_artefact.ensures ∙ c.if-not-is_artefact.true))
 
 pub add_record-requires-clause-small : goal.add_record-requires-clause-small
 add_record-requires-clause-small c =
     let bytes = payload_is c.args.pieces.now.payloads c.args.at c.get.result.now c.get.ensures in
-    small _ (ap (λ (b : List ℕ). is_artefact (spanned b c.args.artefact)) bytes ∙ sym c.is_artefact.ensures ∙ c.if-not-is_artefact.false)
+    small _ (ap (λ (b : List ℕ). is_artefact (ranged b c.args.artefact)) bytes ∙ sym c.is_artefact.ensures ∙ c.if-not-is_artefact.false)
 
 pub returns-clause-is : goal.returns-clause-is
 returns-clause-is c =
     let bytes = payload_is c.args.pieces.now.payloads c.args.at c.get.result.now c.get.ensures in
-    let fits = ap (λ (b : List ℕ). is_artefact (spanned b c.args.artefact)) bytes ∙ sym c.is_artefact.ensures ∙ c.if-not-is_artefact.false in
-    let same = node_record (shelf_in c.args.pieces.now.payloads c.args.shelf.now) c.args.number (spanned (payload_at c.args.pieces.now.payloads c.args.at) c.args.artefact) (omega (arith, c.if-number-len.false, c.len.ensures.len)) fits in
+    let fits = ap (λ (b : List ℕ). is_artefact (ranged b c.args.artefact)) bytes ∙ sym c.is_artefact.ensures ∙ c.if-not-is_artefact.false in
+    let same = node_record (shelf_in c.args.pieces.now.payloads c.args.shelf.now) c.args.number (ranged (payload_at c.args.pieces.now.payloads c.args.at) c.args.artefact) (omega (arith, c.if-number-len.false, c.len.ensures.len)) fits in
     subst (λ s. OnOk c.add_record.result (shelf_in c.args.pieces.now.payloads c.add_record.new.shelf ≡ s)) (sym same) c.add_record.ensures.is

@@ -2,8 +2,7 @@ use Rattle.std.proofs.Common.{◌≡◌, ℕ, ◌≤◌, List, [], true≢false,
 use Rattle.std.proofs.lemmas.Option.{get_or_from_slice_get, slice_get_within}
 use Rattle.base.specs.declared.limits.TheConstants.{ARTEFACT_LIMIT}
 use Rattle.base_numbering.specs.Numbers.{IsPlaceOf}
-use Rattle.store_codec.specs.Ranges.{ref_in_range}
-use Rattle.store_codec.specs.Shelves.{told_text}
+use Rattle.base_ranges.specs.TextRefs.{ref_in_range, told_text}
 use Rattle.store_shelf.specs.declared.products.ProductRow.{ProductRow}
 use Rattle.store_shelf.specs.Checked.{IsRefNumber}
 use Rattle.store_shelf.specs.Placed.{nth_payload, placed_texts}

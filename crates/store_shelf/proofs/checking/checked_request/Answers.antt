@@ -1,7 +1,8 @@
 use Rattle.std.proofs.Common.{◌≡◌, ◌<◌, ℕ, List, true≢false, length, sym, subst, ◌∙◌, arith}
 use Rattle.std.specs.Prelude.{All}
 use Rattle.std.proofs.lemmas.List.{length-map}
-use Rattle.store_codec.specs.Ranges.{counted_numbers, request_in_ranges}
+use Rattle.store_codec.specs.Ranges.{request_in_ranges}
+use Rattle.base_ranges.specs.Ranges.{counted_numbers}
 use Rattle.store_shelf.specs.Checked.{AreRequestTexts, HasRowDeps}
 use Rattle.store_shelf.specs.Placed.{placed_texts, row_product}
 use Rattle.store_shelf.proofs.Deps.{names_apart, names_other, numbers_apart}

@@ -1,7 +1,7 @@
 use Rattle.std.proofs.Common.{ℕ, List, length, sym, subst}
 use Rattle.std.specs.Prelude.{Contains, SomeIff}
 use Rattle.std.proofs.lemmas.List.{length-map}
-use Rattle.store_codec.specs.Ranges.{ranged}
+use Rattle.base_ranges.specs.Ranges.{ranged}
 use Rattle.store_shelf.specs.Placed.{placed_text, placed_texts}
 use Rattle.store_shelf.proofs.Finding.{new_ref}
 use Rattle.store_shelf.proofs.checking.number_of_ref.Goals as goal

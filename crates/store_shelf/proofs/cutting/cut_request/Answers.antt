@@ -1,5 +1,5 @@
 use Rattle.std.proofs.Common.{◌≡◌, ℕ, List, sym, ap, refl, ◌∙◌}
-use Rattle.store_codec.specs.Ranges.{counted_words}
+use Rattle.base_ranges.specs.Ranges.{counted_words}
 use Rattle.store_shelf.specs.Cuts.{AreSameParts, IsWithout}
 use Rattle.store_shelf.proofs.CutParts.{same_parts}
 use Rattle.store_shelf.proofs.Cuts.{whole_again}

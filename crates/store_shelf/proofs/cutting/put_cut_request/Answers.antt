@@ -1,6 +1,6 @@
 use Rattle.std.proofs.Common.{ℕ, List, length, sym, ap, subst, ◌∙◌}
 use Rattle.store_codec.specs.Forms.{RequestDraft}
-use Rattle.store_codec.specs.Forms.TextRef.{InFull}
+use Rattle.base_ranges.specs.TextRefs.TextRef.{InFull}
 use Rattle.store_codec.specs.Ranges.{request_in_ranges}
 use Rattle.store_codec.specs.Shelves.{IsRequest, RequestShelf, with_request}
 use Rattle.store_shelf.specs.Cuts.{with_new_text, with_source}

@@ -1,7 +1,7 @@
 use Rattle.std.proofs.Common.{◌≡◌, ℕ, List, [], ◌∷◌, ◌++◌, length, take, sym, ap, ◌∙◌}
 use Rattle.std.proofs.Math.Seq.{take-length}
 use Rattle.std.proofs.lemmas.Option.{get_or_from_slice_get}
-use Rattle.store_codec.specs.Ranges.{ranged}
+use Rattle.base_ranges.specs.Ranges.{ranged}
 use Rattle.store_codec.specs.Shelves.{RequestShelf}
 use Rattle.store_shelf.specs.Cuts.{with_new_text}
 use Rattle.store_shelf.specs.Placed.{IsShelfPlaced, nth_payload, placed_texts}

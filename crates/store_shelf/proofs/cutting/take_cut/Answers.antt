@@ -1,7 +1,7 @@
 use Rattle.std.proofs.Common.{◌≡◌, ℕ, List, [], ◌∷◌, ◌++◌, sym, ap, subst, ◌∙◌}
 use Rattle.store_codec.specs.Forms.{RequestDraft}
 use Rattle.store_codec.specs.Forms.RequestPayload.{OfRequest}
-use Rattle.store_codec.specs.Forms.TextRef.{InFull}
+use Rattle.base_ranges.specs.TextRefs.TextRef.{InFull}
 use Rattle.store_codec.specs.Ranges.{request_in_ranges}
 use Rattle.store_codec.specs.Shelves.{IsRequest, RequestShelf, request_shelf_of, with_request}
 use Rattle.store_shelf.specs.Checked.{AreTextNumbers}

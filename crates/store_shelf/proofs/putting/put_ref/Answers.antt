@@ -1,8 +1,8 @@
 use Rattle.std.proofs.Common.{◌≡◌, true, subst}
-use Rattle.store_codec.specs.Ranges.{ranged, ref_in_range}
-use Rattle.store_codec.specs.Shelves.{is_text_ref}
+use Rattle.base_ranges.specs.Ranges.{ranged}
+use Rattle.base_ranges.specs.TextRefs.{ref_in_range, is_text_ref}
 use Rattle.store_shelf.specs.Placed.{nth_payload, placed_texts}
-use Rattle.store_codec.specs.declared.reading.TextRange.{TextRange}
+use Rattle.base_ranges.specs.declared.text_refs.TextRange.{TextRange}
 use Rattle.store_shelf.proofs.Finding.{is_new}
 use Rattle.store_shelf.proofs.putting.put_ref.Goals as goal
 

@@ -2,7 +2,8 @@ use Rattle.std.proofs.Common.{ℕ, List, [], ◌∷◌, ◌++◌, map, refl, sym
 use Rattle.std.proofs.lemmas.List.{map-append}
 use Rattle.store_codec.specs.Forms.{RequestDraft}
 use Rattle.store_codec.specs.Ranges.{request_in_ranges}
-use Rattle.store_codec.specs.Shelves.{IsRequest, with_text}
+use Rattle.store_codec.specs.Shelves.{IsRequest}
+use Rattle.base_ranges.specs.TextRefs.{with_text}
 use Rattle.base_text_index.specs.Splits.{AreSplit}
 use Rattle.store_shelf.specs.declared.shelf.RecordRow.{RecordRow}
 use Rattle.store_shelf.specs.Placed.{AreRowsPlaced, nth_payload, placed_shelf, placed_texts, shelf_by}

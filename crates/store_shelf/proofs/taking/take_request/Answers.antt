@@ -3,7 +3,8 @@ use Rattle.std.proofs.lemmas.Option.{get_or_from_slice_get}
 use Rattle.base.specs.declared.file.FileName.{FileName}
 use Rattle.base.specs.Names.{FitsName}
 use Rattle.store_codec.specs.Forms.{RequestDraft}
-use Rattle.store_codec.specs.Ranges.{request_in_ranges, ranged}
+use Rattle.store_codec.specs.Ranges.{request_in_ranges}
+use Rattle.base_ranges.specs.Ranges.{ranged}
 use Rattle.store_codec.specs.Shelves.{RequestShelf}
 use Rattle.store_shelf.specs.Checked.{IsNameNumber}
 use Rattle.store_shelf.specs.Placed.{nth_payload, placed_shelf}

@@ -5,7 +5,7 @@ use Rattle.std.proofs.lemmas.List.{get_or-map, get_or_default}
 use Rattle.std.proofs.lemmas.Option.{get_or_from_slice_get, same_Some, slice_get_within}
 use Rattle.outside.specs.Records.{Record, built_of_record, latest}
 use Rattle.store_node_codec.specs.Nodes.{Node, node_file}
-use Rattle.store_node_codec.specs.Spans.{spanned}
+use Rattle.base_ranges.specs.Ranges.{ranged}
 use Rattle.store_node_shelf.specs.declared.records.RecordPlace.{RecordPlace}
 use Rattle.store_node_shelf.specs.declared.shelf.ShelfPlaces.{ShelfPlaces}
 use Rattle.store_node_shelf.specs.Places.{artefact_in, texts_in}
@@ -33,8 +33,8 @@ parts_at payloads shelf number place low place_is new is =
     (ap (node_request (texts_in payloads shelf.texts) shelf.table.nodes (node_records payloads shelf)) (sym (found payloads shelf.records.places.items number place low place_is)) ∙ is)
 
 -- its artefact
-artefact_is : (payloads : List (List ℕ)) (place : RecordPlace) (bytes payload : List ℕ) → bytes ≡ spanned payload place.artefact → slice_get payloads place.payload ≡ Some payload → bytes ≡ artefact_in payloads place
-artefact_is payloads place bytes payload is at = is ∙ ap (λ (p : List ℕ). spanned p place.artefact) (sym (get_or_from_slice_get payloads place.payload payload [] at))
+artefact_is : (payloads : List (List ℕ)) (place : RecordPlace) (bytes payload : List ℕ) → bytes ≡ ranged payload place.artefact → slice_get payloads place.payload ≡ Some payload → bytes ≡ artefact_in payloads place
+artefact_is payloads place bytes payload is at = is ∙ ap (λ (p : List ℕ). ranged p place.artefact) (sym (get_or_from_slice_get payloads place.payload payload [] at))
 
 pub products_of-requires-clause-within : goal.products_of-requires-clause-within
 products_of-requires-clause-within c = λ k d l.
@@ -66,12 +66,12 @@ add-requires c =
     let same : numbered_node c.args.shelf.now.table.nodes c.index-place.result.now.node ≡ node = node_is nodes c.index-place.result.now.node node c.row-row.ensures.node in
     let deps : c.as_slice.result.now ≡ (numbered_node c.args.shelf.now.table.nodes c.index-place.result.now.node).deps = c.as_slice.ensures ∙ ap (λ (n : Node). n.deps) (sym same) in
     let shelf = request_shelf_of c.args.held.now.payloads in
-    subst (λ (ns : List ℕ). IsRequestOver (request_shelf_of c.args.held.now.payloads) c.in_ok-entry.entry ns c.bytes_of-artefact.result.now) (sym c.as_slice-2.ensures)
+    subst (λ (ns : List ℕ). IsRequestOver (request_shelf_of c.args.held.now.payloads) c.in_ok-entry.entry ns c.bytes_in-artefact.result.now) (sym c.as_slice-2.ensures)
     (over_products texts nodes (node_records payloads c.args.shelf.now) (record_at_place payloads c.index-place.result.now) c.requires.next.0
     (parts_at payloads c.args.shelf.now c.args.number c.index-place.result.now c.requires.number c.index-place.ensures c.requires.next.0 c.requires.next.1) shelf.records c.requires.next.2 shelf c.in_ok-deps.deps
     (c.in_ok-deps.ensures.built ∙ ap (map (λ n. option_map built_of_record (latest (named_by nodes n) shelf.records))) deps)
-    c.in_ok-entry.entry c.bytes_of-artefact.result.now (c.in_ok-entry.ensures ∙ ap (λ (n : Node). alone (node_file texts n)) (sym same))
-    (artefact_is payloads c.index-place.result.now c.bytes_of-artefact.result.now c.get.result.now c.bytes_of-artefact.ensures c.get.ensures) c.in_ok-deps.ensures.there)
+    c.in_ok-entry.entry c.bytes_in-artefact.result.now (c.in_ok-entry.ensures ∙ ap (λ (n : Node). alone (node_file texts n)) (sym same))
+    (artefact_is payloads c.index-place.result.now c.bytes_in-artefact.result.now c.get.result.now c.bytes_in-artefact.ensures c.get.ensures) c.in_ok-deps.ensures.there)
 
 pub returns : goal.returns
 returns c = λ new is.
@@ -82,12 +82,12 @@ returns c = λ new is.
     let same : numbered_node c.args.shelf.now.table.nodes c.index-place.result.now.node ≡ node = node_is nodes c.index-place.result.now.node node c.row-row.ensures.node in
     let deps : c.as_slice.result.now ≡ (numbered_node c.args.shelf.now.table.nodes c.index-place.result.now.node).deps = c.as_slice.ensures ∙ ap (λ (n : Node). n.deps) (sym same) in
     let shelf = request_shelf_of c.args.held.now.payloads in
-    let own : record_over (request_shelf_of c.args.held.now.payloads) c.in_ok-entry.entry c.in_ok-deps.deps c.bytes_of-artefact.result.now ≡ c.requires.next.0 =
+    let own : record_over (request_shelf_of c.args.held.now.payloads) c.in_ok-entry.entry c.in_ok-deps.deps c.bytes_in-artefact.result.now ≡ c.requires.next.0 =
     is_new texts nodes (node_records payloads c.args.shelf.now) (record_at_place payloads c.index-place.result.now) c.requires.next.0
     (parts_at payloads c.args.shelf.now c.args.number c.index-place.result.now c.requires.number c.index-place.ensures c.requires.next.0 c.requires.next.1) shelf.records c.requires.next.2 shelf c.in_ok-deps.deps
     (c.in_ok-deps.ensures.built ∙ ap (map (λ n. option_map built_of_record (latest (named_by nodes n) shelf.records))) deps)
-    c.in_ok-entry.entry c.bytes_of-artefact.result.now (c.in_ok-entry.ensures ∙ ap (λ (n : Node). alone (node_file texts n)) (sym same))
-    (artefact_is payloads c.index-place.result.now c.bytes_of-artefact.result.now c.get.result.now c.bytes_of-artefact.ensures c.get.ensures) c.in_ok-deps.ensures.there in
-    let made : record_over (request_shelf_of c.args.held.now.payloads) c.in_ok-entry.entry c.as_slice-2.result.now c.bytes_of-artefact.result.now ≡ new =
-    ap (λ (ns : List ℕ). record_over (request_shelf_of c.args.held.now.payloads) c.in_ok-entry.entry ns c.bytes_of-artefact.result.now) c.as_slice-2.ensures ∙ own ∙ same_Some c.requires.next.0 new (sym c.requires.next.1 ∙ is) in
+    c.in_ok-entry.entry c.bytes_in-artefact.result.now (c.in_ok-entry.ensures ∙ ap (λ (n : Node). alone (node_file texts n)) (sym same))
+    (artefact_is payloads c.index-place.result.now c.bytes_in-artefact.result.now c.get.result.now c.bytes_in-artefact.ensures c.get.ensures) c.in_ok-deps.ensures.there in
+    let made : record_over (request_shelf_of c.args.held.now.payloads) c.in_ok-entry.entry c.as_slice-2.result.now c.bytes_in-artefact.result.now ≡ new =
+    ap (λ (ns : List ℕ). record_over (request_shelf_of c.args.held.now.payloads) c.in_ok-entry.entry ns c.bytes_in-artefact.result.now) c.as_slice-2.ensures ∙ own ∙ same_Some c.requires.next.0 new (sym c.requires.next.1 ∙ is) in
     subst (λ (r : Record). OnOk c.add.result ((request_shelf_of c.add.new.self.payloads).records ≡ (request_shelf_of c.args.held.now.payloads).records ++ r ∷ [])) made c.add.ensures

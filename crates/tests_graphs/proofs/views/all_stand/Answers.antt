@@ -1,6 +1,6 @@
 use Rattle.std.proofs.Common.{◌≡◌, sym, subst, arith, inl, inr}
 use Rattle.std.proofs.lemmas.Bool.{cases_lt}
-use Rattle.store_record_codec.specs.Validity.{StandsAt}
+use Rattle.store_node_codec.specs.Validity.{StandsAt}
 use Rattle.tests_graphs.proofs.views.all_stand.Goals as goal
 
 pub loop-place-preserved : goal.loop-place-preserved

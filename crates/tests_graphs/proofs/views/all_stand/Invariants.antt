@@ -1,4 +1,4 @@
-use Rattle.store_record_codec.specs.Validity.{StandBelow}
+use Rattle.store_node_codec.specs.Validity.{StandBelow}
 use Rattle.tests_graphs.proofs.views.all_stand.Given as goal
 
 abbrev pub invariant-loop-place : goal.invariant-loop-place

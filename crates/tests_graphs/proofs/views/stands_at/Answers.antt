@@ -1,6 +1,6 @@
 use Rattle.std.proofs.Common.{◌↔◌, IsTrue, Bool}
 use Rattle.std.proofs.lemmas.Result.{IfOk-weaker}
-use Rattle.store_record_codec.specs.Validity.{StandsAt}
+use Rattle.store_node_codec.specs.Validity.{StandsAt}
 use Rattle.tests_graphs.specs.Validity.{HasClosedDeps}
 use Rattle.tests_graphs.proofs.Standing.{stands, is_closed}
 use Rattle.tests_graphs.proofs.views.stands_at.Goals as goal

@@ -1,0 +1,5 @@
+-- The lemmas.
+pub mod Ranging
+pub mod LongNumbers
+pub mod CountedWords
+pub mod Sized

@@ -1,0 +1,4 @@
+-- The definitions.
+pub mod Ranges
+pub mod TextRefs
+pub mod Sizes

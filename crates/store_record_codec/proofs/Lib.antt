@@ -1,3 +1,0 @@
--- The lemmas.
-pub mod Standing
-pub mod Deciding

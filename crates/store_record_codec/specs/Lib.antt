@@ -1,3 +1,0 @@
--- The definitions.
-pub mod Validity
-pub mod Found
