@@ -7,3 +7,4 @@ pub mod Once
 pub mod Sized
 pub mod LongNumbers
 pub mod CountedWords
+pub mod Layouts

@@ -3,12 +3,14 @@
 #![tactic(auto)]
 
 mod laws;
+mod layout;
 mod numbers;
 mod reading;
 mod words;
 mod writing;
 
 pub use laws::{laws_of_request_payloads, laws_of_request_shelves};
+pub use layout::{RequestLayout, request_layout};
 pub use numbers::{Numbers, numbers_of};
 pub use reading::{
     ByteRange, PayloadRanges, ProductRanges, RequestRanges, TextRange, bytes_in, name_in,
@@ -17,4 +19,5 @@ pub use reading::{
 pub use words::{has_word_sizes, has_words};
 pub use writing::{
     ProductParts, RequestParts, TextPart, product_payload, request_payload, spelled_words,
+    write_request,
 };
