@@ -1,6 +1,6 @@
 //! Writing numbers, texts and names as bytes, one after the other.
 
-ghost use Rattle.std.specs.Prelude.{◌≡◌, ◌<◌, ◌^◌, ◌++◌, [], length, OnOk};
+ghost use Rattle.std.specs.Prelude.{◌≡◌, ◌<◌, ◌^◌, ◌++◌, [], length, IfOk, OnOk};
 ghost use Rattle.std.specs.Int.{w64, to_le_bytes};
 ghost use Rattle.base.specs.Bytes.{number_bytes, text_bytes};
 ghost use Rattle.base.specs.Jobs.{name_bytes};
@@ -31,6 +31,15 @@ impl ByteWriter {
         ByteWriter {
             bytes: Vec::new(alloc),
         }
+    }
+
+    /// Nothing is written yet, in room for so many bytes.
+    pub fn with_room(alloc: Global, size: usize) -> Result<ByteWriter, NoMemory>
+        ensures { IfOk result (λ out. out ≡ []) }
+    {
+        Ok(ByteWriter {
+            bytes: Vec::with_capacity(alloc, size)?,
+        })
     }
 
     /// Writes a number as four bytes, the low one first.

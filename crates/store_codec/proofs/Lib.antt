@@ -4,3 +4,4 @@ pub mod Spelling
 pub mod Deciding
 pub mod Once
 pub mod Sized
+pub mod Layouts

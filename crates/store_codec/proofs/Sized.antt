@@ -14,10 +14,10 @@ use Rattle.store_codec.specs.Forms.{command_bytes, product_draft_bytes, product_
 use Rattle.store_codec.specs.Forms.RequestPayload.{OfProduct}
 use Rattle.store_codec.specs.Writing.{ref_or}
 
-length-long : (n : ℕ) → length (to_le_bytes w64 n) ≡ 8
+pub length-long : (n : ℕ) → length (to_le_bytes w64 n) ≡ 8
 length-long n = refl
 
-length-short : (n : ℕ) → length (number_bytes n) ≡ 4
+pub length-short : (n : ℕ) → length (number_bytes n) ≡ 4
 length-short n = refl
 
 pub length-text : (text : List ℕ) → length (text_bytes text) ≡ length text + 4
@@ -53,7 +53,7 @@ numbers_small numbers few =
       few,
     )
 
-ref_small : (known : Option ℕ) (text : List ℕ) → length text ≤ TEXT_LIMIT → length (text_ref_bytes (ref_or known text)) ≤ 13 + TEXT_LIMIT
+pub ref_small : (known : Option ℕ) (text : List ℕ) → length text ≤ TEXT_LIMIT → length (text_ref_bytes (ref_or known text)) ≤ 13 + TEXT_LIMIT
 unfolding text_ref_bytes
 ref_small (Some number) text few = omega (arith, length-long number)
 ref_small None text few = omega (arith, length-text text, few)

@@ -4,3 +4,4 @@ pub mod Shelves
 pub mod Ranges
 pub mod Writing
 pub mod Carrying
+pub mod Layouts

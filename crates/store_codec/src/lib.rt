@@ -3,11 +3,14 @@
 #![tactic(auto)]
 
 mod laws;
+mod layout;
 mod reading;
 mod writing;
 
 pub use laws::{laws_of_request_payloads, laws_of_request_shelves};
+pub use layout::{RequestLayout, request_layout};
 pub use reading::{PayloadRanges, ProductRanges, RequestRanges, read_request_payload};
 pub use writing::{
     ProductParts, RequestParts, TextPart, product_payload, request_payload, spelled_words,
+    write_request,
 };

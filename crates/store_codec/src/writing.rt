@@ -1,11 +1,12 @@
 //! Writing payloads.
 
-ghost use Rattle.std.specs.Prelude.{◌≡◌, ◌<◌, ◌≤◌, ◌^◌, ◌++◌, ℕ, List, length, All, IfOk, OnOk};
+ghost use Rattle.std.specs.Prelude.{◌≡◌, ◌<◌, ◌≤◌, ◌^◌, ◌+◌, ◌++◌, ℕ, List, length, All, IfOk, OnOk};
 ghost use Rattle.base.specs.Names.{FitsCommand};
 ghost use Rattle.store_codec.specs.Forms.{command_bytes, product_numbers_bytes, text_ref_bytes, request_payload_bytes};
 ghost use Rattle.store_codec.specs.Forms.RequestPayload.{OfProduct, OfRequest};
 ghost use Rattle.store_codec.specs.Writing.{HasPartSizes, HasProductSizes, HasRequestSizes, part_ref, product_of_parts, request_of_parts};
 
+use crate::layout::request_layout;
 use base::{FileName, NoMemory, Text, TextList};
 use base_bytes::ByteWriter;
 use std::alloc::Global;
@@ -97,8 +98,28 @@ pub fn product_payload(alloc: Global, parts: ProductParts<'_>) -> Result<Text, N
     Ok(out.into_text())
 }
 
-/// The payload of a record.
+/// Writes the payload of a record.
 #[tactic(auto, unfolding(crate::specs::Forms::request_payload_bytes, crate::specs::Forms::request_draft_bytes))]
+pub fn write_request(out: &mut ByteWriter, parts: RequestParts<'_>) -> Result<(), NoMemory>
+    requires { HasRequestSizes parts }
+    ensures bytes { (command : List (List ℕ)) →
+        parts.entry.words.now ≡ command_bytes command →
+        OnOk result
+        (out.new
+        ≡ out.old
+        ++ request_payload_bytes (OfRequest (request_of_parts command parts.entry))) }
+    ensures small { OnOk result (length out.new < length out.old + 2 ^ 32) }
+{
+    out.plain(&[1])?;
+    out.name(parts.name)?;
+    out.plain(parts.words)?;
+    put_part(out, parts.source)?;
+    put_numbers(out, parts.deps)?;
+    put_part(out, parts.artefact)?;
+    Ok(())
+}
+
+/// The payload of a record, in room of just its size.
 pub fn request_payload(alloc: Global, parts: RequestParts<'_>) -> Result<Text, NoMemory>
     requires { HasRequestSizes parts }
     ensures bytes { (command : List (List ℕ)) →
@@ -108,12 +129,7 @@ pub fn request_payload(alloc: Global, parts: RequestParts<'_>) -> Result<Text, N
         bytes ≡ request_payload_bytes (OfRequest (request_of_parts command parts.entry))) }
     ensures small { IfOk result (λ bytes. length bytes < 2 ^ 32) }
 {
-    let mut out = ByteWriter::new(alloc);
-    out.plain(&[1])?;
-    out.name(parts.name)?;
-    out.plain(parts.words)?;
-    put_part(&mut out, parts.source)?;
-    put_numbers(&mut out, parts.deps)?;
-    put_part(&mut out, parts.artefact)?;
+    let mut out = ByteWriter::with_room(alloc, request_layout(parts).size)?;
+    write_request(&mut out, parts)?;
     Ok(out.into_text())
 }

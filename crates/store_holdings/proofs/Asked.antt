@@ -8,20 +8,18 @@ use Rattle.std.proofs.lemmas.Bool.Decides.{nat_tests}
 use Rattle.std.proofs.lemmas.List.{get_or-map, get_or_append_left, get_or_default, length-map}
 use Rattle.std.proofs.lemmas.List.Elements.{Contains-push_cases}
 use Rattle.std.proofs.lemmas.List.Kept.{AllPairs-from_increasing}
-use Rattle.std.proofs.lemmas.Option.{get_or_from_slice_get, same_Some, slice_get-get_or, slice_get_within}
+use Rattle.std.proofs.lemmas.Option.{get_or_from_slice_get, slice_get-get_or, slice_get_within}
 use Rattle.base.specs.Graphs.{IsEntryAt, IsGraph}
 use Rattle.base.specs.declared.graph.BuiltFile.{BuiltFile}
 use Rattle.base.specs.declared.graph.Entry.{Entry}
 use Rattle.base.specs.declared.limits.TheConstants.{ARTEFACT_LIMIT}
 use Rattle.outside.specs.Records.{deps_at}
 use Rattle.base_numbering.specs.Numbers.{IsPlaceOf}
-use Rattle.store_codec.specs.Forms.{HasRefSpelling, HasRequestSpelling, RequestDraft, RequestPayload, request_payload_bytes, request_payload_in}
-use Rattle.store_codec.specs.Forms.RequestPayload.{OfProduct, OfRequest}
+use Rattle.store_codec.specs.Forms.{HasRefSpelling, HasRequestSpelling}
 use Rattle.outside.specs.Records.{Record as RequestRecord, built_of_record, latest as latest_request}
 use Rattle.store_codec.specs.Shelves.{IsRequest, RequestShelf, drafted_record, no_product, product_at}
 use Rattle.base_ranges.specs.TextRefs.{is_text_ref, told_text, with_text}
 use Rattle.store_codec.specs.Writing.{ref_or}
-use Rattle.store_codec.proofs.Spelling.{payload_again}
 use Rattle.store_shelf.proofs.Finding.{new_is}
 use Rattle.store_holdings.specs.declared.asking.TextRefs.{TextRefs}
 use Rattle.store_holdings.specs.Additions.{AreDeps, AreRefs, HasAskedSizes, IsRequestOver, asked_draft, record_over}
@@ -51,27 +49,17 @@ ref_fits : (known : Option ℕ) (text : List ℕ) → IfSome known (λ (n : ℕ)
 ref_fits None text fits small = small
 ref_fits (Some n) text fits small = fits
 
--- what was spelled is read
-pub asked_read : (bytes : List ℕ) (entry : Entry) (source : Option ℕ) (deps : List ℕ) (known : Option ℕ) (artefact : List ℕ) → bytes ≡ request_payload_bytes (OfRequest (asked_draft entry source deps known artefact)) → HasAskedSizes entry deps artefact → IfSome source (λ (n : ℕ). n < 2 ^ 64) → IfSome known (λ (n : ℕ). n < 2 ^ 64) → ((i : ℕ) → get_or deps i 0 < 2 ^ 64) → request_payload_in bytes ≡ Some (OfRequest (asked_draft entry source deps known artefact))
-asked_read bytes entry source deps known artefact e sizes source_low known_low deps_low =
-    let spelled : HasRequestSpelling (asked_draft entry source deps known artefact) = record {
-      name = record { library = omega (arith, sizes.name.library.at_most); path = omega (arith, sizes.name.path.at_most) };
-      count = omega (arith, sizes.command.count.at_most);
-      words = λ k d l. (let fits = sizes.command.words k d l in omega (arith, fits));
-      source = ref_fits source entry.text source_low (omega (arith, sizes.text));
-      few = omega (arith, sizes.few);
-      deps = λ k d l. rw (sym (get_or_default deps k 0 d l)) (deps_low k);
-      artefact = ref_fits known artefact known_low (omega (arith, sizes.small));
-    } in
-    ap request_payload_in e ∙ payload_again (OfRequest (asked_draft entry source deps known artefact)) spelled
-
-draft_or : RequestDraft → RequestPayload → RequestDraft
-draft_or draft (OfProduct other) = draft
-draft_or draft (OfRequest other) = other
-
-pub same_draft : (bytes : List ℕ) (a b : RequestDraft) → request_payload_in bytes ≡ Some (OfRequest a) → request_payload_in bytes ≡ Some (OfRequest b) → a ≡ b
-unfolding draft_or
-same_draft bytes a b e f = ap (draft_or a) (same_Some (OfRequest a) (OfRequest b) (sym e ∙ f))
+-- what would be asked for a file can be spelled
+pub asked_spelled : (entry : Entry) (source : Option ℕ) (deps : List ℕ) (known : Option ℕ) (artefact : List ℕ) → HasAskedSizes entry deps artefact → IfSome source (λ (n : ℕ). n < 2 ^ 64) → IfSome known (λ (n : ℕ). n < 2 ^ 64) → ((i : ℕ) → get_or deps i 0 < 2 ^ 64) → HasRequestSpelling (asked_draft entry source deps known artefact)
+asked_spelled entry source deps known artefact sizes source_low known_low deps_low = record {
+  name = record { library = omega (arith, sizes.name.library.at_most); path = omega (arith, sizes.name.path.at_most) };
+  count = omega (arith, sizes.command.count.at_most);
+  words = λ k d l. (let fits = sizes.command.words k d l in omega (arith, fits));
+  source = ref_fits source entry.text source_low (omega (arith, sizes.text));
+  few = omega (arith, sizes.few);
+  deps = λ k d l. rw (sym (get_or_default deps k 0 d l)) (deps_low k);
+  artefact = ref_fits known artefact known_low (omega (arith, sizes.small));
+}
 
 module _ (positions : List ℕ) (rising : IsStrictlyIncreasing positions) where
   pub before_later : (i j : ℕ) → i < j → j < length positions → get_or positions i 0 < get_or positions j 0

@@ -15,6 +15,7 @@ use Rattle.store_codec.specs.Shelves.{IsRequest, RequestShelf, drafted_record, p
 use Rattle.base_ranges.specs.TextRefs.{with_text}
 use Rattle.store_shelf.specs.Checked.{AreTextNumbers, IsNameNumber, ref_number}
 use Rattle.store_holdings.specs.declared.additions.RequestAddition.{RequestAddition}
+use Rattle.store_holdings.specs.declared.asking.AskedPayload.{AskedPayload}
 use Rattle.store_holdings.specs.declared.asking.TextRefs.{TextRefs}
 use Rattle.outside.specs.Records.{HasLatest, latest_built}
 
@@ -45,6 +46,11 @@ pub record AreRefs (texts : List (List ℕ)) (text artefact : List ℕ) (refs : 
   pub known_fits : IfSome refs.known (λ n. n < 2 ^ 64)
   pub text_is : refs.numbers.text ≡ ref_number texts (ref_or refs.source text)
   pub artefact_is : refs.numbers.artefact ≡ ref_number (with_text texts (ref_or refs.source text)) (ref_or refs.known artefact)
+
+-- A payload spells a record, whose parts stand at its ranges.
+pub record SpellsRequest (draft : RequestDraft) (asked : AskedPayload) : Type 0 where
+  pub read : request_payload_in asked.piece ≡ Some (OfRequest draft)
+  pub parts : request_in_ranges asked.piece asked.draft ≡ draft
 
 -- The sizes of what is spelled of a file.
 pub record HasAskedSizes (entry : Entry) (deps artefact : List ℕ) : Type 0 where

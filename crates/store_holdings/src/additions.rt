@@ -4,7 +4,6 @@ ghost use Rattle.std.specs.Prelude.{◌≡◌, ◌<◌, ◌≤◌, ◌++◌, ◌
 ghost use Rattle.store_shelf.specs.Placed.{HasRowRoom, IsHeld};
 ghost use Rattle.store_holdings.specs.Additions.{AddsRequest};
 
-use base::Text;
 use store_codec::RequestRanges;
 use store_journal::Ready;
 use store_shelf::{HeldPayloads, PlacedShelf, TextNumbers, put_request};
@@ -22,7 +21,7 @@ pub struct RequestAddition {
 /// A payload that is ready to be added, and what it adds.
 #[derive(Drop)]
 pub struct NextRequest {
-    pub bytes: Text,
+    pub piece: Ready,
     pub addition: RequestAddition,
 }
 

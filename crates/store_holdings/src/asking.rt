@@ -2,22 +2,21 @@
 
 ghost use Rattle.std.specs.Prelude.{◌≡◌, ◌≢◌, ◌<◌, ◌≤◌, ◌^◌, ◌++◌, ◌∷◌, [], ℕ, List, None, Some, length, map, All, IfOk, IfSome};
 ghost use Rattle.base_numbering.specs.Numbers.{IsPlaceOf};
-ghost use Rattle.store_codec.specs.Forms.{RequestDraft, request_payload_in};
+ghost use Rattle.store_codec.specs.Forms.{IsSpellable, command_bytes};
 ghost use Rattle.store_codec.specs.Forms.RequestPayload.{OfRequest};
-ghost use Rattle.store_codec.specs.Ranges.{request_in_ranges};
 ghost use Rattle.base_ranges.specs.TextRefs.{with_text};
-ghost use Rattle.store_codec.specs.Writing.{ref_or};
+ghost use Rattle.store_codec.specs.Writing.{HasRequestSizes, ref_or, request_of_parts};
 ghost use Rattle.store_shelf.specs.Placed.{AreTextsPlaced, placed_texts};
-ghost use Rattle.store_holdings.specs.Additions.{AreRefs, HasAskedSizes, asked_draft};
+ghost use Rattle.store_holdings.specs.Additions.{AreRefs, HasAskedSizes, SpellsRequest, asked_draft};
 ghost use Rattle.store_holdings.specs.Seated.{seated_product};
 
 use crate::Seats;
 use base::{Entry, Items, NoMemory, Text};
 use std::alloc::Global;
 use store_codec::{
-    PayloadRanges, RequestParts, RequestRanges, TextPart, read_request_payload, request_payload,
-    spelled_words,
+    RequestParts, RequestRanges, TextPart, request_layout, spelled_words, write_request,
 };
+use store_journal::Ready;
 use store_shelf::{HeldPayloads, PlacedTexts, TextNumbers, find_text};
 
 /// The numbers of a text and of an artefact, where they have one, and those that they will have.
@@ -118,6 +117,34 @@ pub fn text_refs(
     }
 }
 
+/// A payload that is ready to be written, and where the parts of its record stand in it.
+#[derive(Drop)]
+pub struct AskedPayload {
+    pub piece: Ready,
+    pub draft: RequestRanges,
+}
+
+/// What is written of a record, straight into its frame, and where its parts stand in the payload.
+fn framed_request(alloc: Global, parts: RequestParts<'_>) -> Result<AskedPayload, NoMemory>
+    requires sizes { HasRequestSizes parts }
+    requires spelled { (command : List (List ℕ))
+        × (parts.words.now ≡ command_bytes command)
+        × IsSpellable (OfRequest (request_of_parts command parts)) }
+    ensures { (command : List (List ℕ)) →
+        parts.entry.words.now ≡ command_bytes command →
+        IsSpellable (OfRequest (request_of_parts command parts.entry)) →
+        IfOk result (SpellsRequest (request_of_parts command parts.entry)) }
+{
+    let layout = request_layout(parts);
+    let mut frame = Ready::begin(alloc, layout.size)?;
+    write_request(&mut frame, parts)?;
+    let piece = Ready::of(frame)?;
+    Ok(AskedPayload {
+        piece,
+        draft: layout.ranges,
+    })
+}
+
 /// The payload of a file as a record, by the numbers of its texts, where they have one, and of the products that it depends on.
 pub fn asked_payload(
     alloc: Global,
@@ -125,19 +152,15 @@ pub fn asked_payload(
     refs: TextRefs,
     deps: &[usize],
     artefact: &[u8],
-) -> Result<Text, NoMemory>
+) -> Result<AskedPayload, NoMemory>
     requires sizes { HasAskedSizes entry.now deps.now artefact.now }
     requires source { IfSome refs.source (λ number. number < 2 ^ 64) }
     requires known { IfSome refs.known (λ number. number < 2 ^ 64) }
-    ensures read { IfOk result
-        (λ bytes.
-        request_payload_in bytes
-        ≡ Some
-        (OfRequest (asked_draft entry.now refs.source deps.now refs.known artefact.now))) }
-    ensures small { IfOk result (λ bytes. length bytes < 2 ^ 32) }
+    ensures { IfOk result
+        (SpellsRequest (asked_draft entry.now refs.source deps.now refs.known artefact.now)) }
 {
     let words = spelled_words(alloc, &entry.command)?;
-    let bytes = request_payload(
+    let asked = framed_request(
         alloc,
         RequestParts {
             name: &entry.name,
@@ -153,17 +176,5 @@ pub fn asked_payload(
             },
         },
     )?;
-    Ok(bytes)
-}
-
-/// Where the parts of a record are in its payload.
-pub fn spelled_ranges(bytes: &[u8]) -> RequestRanges
-    requires { (draft : RequestDraft) × (request_payload_in bytes.now ≡ Some (OfRequest draft)) }
-    ensures { request_payload_in bytes.now ≡ Some (OfRequest (request_in_ranges bytes.now result)) }
-{
-    match read_request_payload(bytes) {
-        Some(PayloadRanges::OfRequest(ranges)) => ranges,
-        Some(PayloadRanges::OfProduct(_product)) => unreachable!(),
-        None => unreachable!(),
-    }
+    Ok(asked)
 }

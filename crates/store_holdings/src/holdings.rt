@@ -18,14 +18,14 @@ ghost use Rattle.store_holdings.specs.Additions.{AddsAsked, AddsRequest, AreDeps
 ghost use Rattle.store_holdings.specs.Held.{AreLentBy, IsLatestRow, latest_held};
 
 use crate::additions::put_held;
-use crate::asking::{asked_payload, seated_products, spelled_ranges, text_refs};
+use crate::asking::{AskedPayload, asked_payload, seated_products, text_refs};
 use crate::fitting::is_asked;
 use crate::{NextRequest, RequestAddition, Seat, Seats};
 use base::{Entry, FileName, Graph, Items, NoMemory, Text};
 use std::alloc::Global;
 use std::marker::Model;
 use store_carry::{CarryPlan, carried_payloads, plan_latest};
-use store_journal::{Journal, Payloads, Ready};
+use store_journal::{Payloads, Ready};
 use store_shelf::{HeldPayloads, PlacedShelf, is_lent_from, number_name, taken_up, text_at};
 
 /// Payloads, in order, with what they stand for. Contracts see the payloads, the names that are numbered, the texts of files that
@@ -266,20 +266,18 @@ impl<'g> RequestHoldings<'g> {
         requires name { IsNameNumber self.now.names entry.now.name name }
         requires over { IsRequestOver (request_shelf_of self.now.payloads) entry.now deps.now artefact.now }
         ensures adds { IfOk result
-            (λ next. AddsRequest self.now.payloads self.now.names next.bytes next.addition) }
+            (λ next. AddsRequest self.now.payloads self.now.names next.piece next.addition) }
         ensures is { let shelf = request_shelf_of self.now.payloads in
             IfOk result
             (λ next.
-            drafted_record shelf (request_in_ranges next.bytes next.addition.draft)
+            drafted_record shelf (request_in_ranges next.piece next.addition.draft)
             ≡ record_over shelf entry.now deps.now artefact.now) }
         ensures at { IfOk result (λ next. next.addition.at ≡ at) }
-        ensures small { IfOk result (λ next. length next.bytes < 2 ^ 32) }
     {
         let refs = text_refs(&self.held, &self.shelf.texts, entry.text.bytes(), artefact);
-        let bytes = asked_payload(alloc, entry, refs, deps, artefact)?;
-        let draft = spelled_ranges(bytes.bytes());
+        let AskedPayload { piece, draft } = asked_payload(alloc, entry, refs, deps, artefact)?;
         Ok(NextRequest {
-            bytes,
+            piece,
             addition: RequestAddition {
                 at,
                 draft,
@@ -305,13 +303,12 @@ impl<'g> RequestHoldings<'g> {
         requires artefact { length artefact.now ≤ ARTEFACT_LIMIT }
         requires deps { AreDeps (request_shelf_of self.now.payloads) graph.now at deps.now }
         ensures adds { IfOk result
-            (λ next. AddsRequest self.now.payloads self.now.names next.bytes next.addition) }
+            (λ next. AddsRequest self.now.payloads self.now.names next.piece next.addition) }
         ensures is { IfOk result
             (λ next.
-            AddsAsked (request_shelf_of self.now.payloads) graph.now at artefact.now next.bytes
+            AddsAsked (request_shelf_of self.now.payloads) graph.now at artefact.now next.piece
             next.addition) }
         ensures at { IfOk result (λ next. next.addition.at ≡ at) }
-        ensures small { IfOk result (λ next. length next.bytes < 2 ^ 32) }
     {
         let entry = graph.get(at as u64);
         let next = self.next_over(alloc, entry, at, name, deps.as_slice(), artefact.bytes())?;
@@ -336,13 +333,12 @@ impl<'g> RequestHoldings<'g> {
         ensures payloads { self.new.payloads ≡ self.old.payloads }
         ensures room { OnOk result (0 < self.new.room) }
         ensures adds { IfOk result
-            (λ next. AddsRequest self.new.payloads self.new.names next.bytes next.addition) }
+            (λ next. AddsRequest self.new.payloads self.new.names next.piece next.addition) }
         ensures is { IfOk result
             (λ next.
-            AddsAsked (request_shelf_of self.old.payloads) graph.now at artefact.now next.bytes
+            AddsAsked (request_shelf_of self.old.payloads) graph.now at artefact.now next.piece
             next.addition) }
         ensures at { IfOk result (λ next. next.addition.at ≡ at) }
-        ensures small { IfOk result (λ next. length next.bytes < 2 ^ 32) }
     {
         let entry = graph.get(at as u64);
         let deps = seated_products(alloc, seats, entry.deps.as_slice())?;
@@ -388,7 +384,6 @@ impl<'g> RequestHoldings<'g> {
     pub fn add(
         &mut self,
         alloc: Global,
-        journal: &Journal,
         entry: &Entry,
         deps: &[usize],
         artefact: &[u8],
@@ -403,9 +398,10 @@ impl<'g> RequestHoldings<'g> {
         let copied = entry.name.copy(alloc)?;
         let name = self.number_of_name(copied)?;
         self.reserve()?;
-        let next = self.next_over(alloc, entry, 0, name, deps, artefact)?;
-        let piece = journal.prepare(alloc, next.bytes.bytes())?;
-        put_held(&mut self.held, &mut self.shelf, next.addition, piece);
+        let NextRequest { piece, addition } = self.next_over(
+            alloc, entry, 0, name, deps, artefact,
+        )?;
+        put_held(&mut self.held, &mut self.shelf, addition, piece);
         Ok(())
     }
 }

@@ -1,13 +1,14 @@
 //! A payload and a side that are ready to be written, so that writing them takes no memory.
 
-ghost use Rattle.std.specs.Prelude.{◌≡◌, ◌^◌, ◌<◌, ◌≤◌, ◌++◌, ◌∷◌, [], length, All, IfOk};
-ghost use Rattle.base.specs.Bytes.{text_bytes};
+ghost use Rattle.std.specs.Prelude.{◌≡◌, ◌^◌, ◌<◌, ◌≤◌, ◌++◌, ◌∷◌, [], length, drop, All, IfOk};
+ghost use Rattle.base.specs.Bytes.{number_bytes, text_bytes};
 ghost use Rattle.store_journal.specs.Payloads.{side_bytes};
 ghost use Rattle.store_journal.specs.Journals.{payload_within};
 
 use crate::Payloads;
 use crate::layout::full_side;
 use base::{NoMemory, Text};
+use base_bytes::ByteWriter;
 use std::alloc::Global;
 use std::marker::Model;
 
@@ -29,15 +30,37 @@ impl Model for Ready {
 }
 
 impl Ready {
+    /// Begins what is written of a payload of so many bytes with its length, in room for all of it.
+    pub fn begin(alloc: Global, size: usize) -> Result<ByteWriter, NoMemory>
+        requires { size < 2 ^ 32 }
+        ensures { IfOk result (λ frame. frame ≡ number_bytes size) }
+    {
+        let mut frame = ByteWriter::with_room(alloc, size + 5)?;
+        frame.u32(size as u32)?;
+        Ok(frame)
+    }
+
+    /// The payload that was written after its length, which is moved in, with a closed gate after it.
+    pub fn of(frame: ByteWriter) -> Result<Ready, NoMemory>
+        requires length { frame ≡ text_bytes (drop 4 frame) }
+        requires small { length (drop 4 frame) < 2 ^ 32 }
+        ensures { IfOk result (λ ready. ready ≡ drop 4 frame) }
+    {
+        let mut frame = frame;
+        frame.plain(&[0])?;
+        Ok(Ready {
+            bytes: frame.into_text(),
+        })
+    }
+
     /// A copy of the payload, with its length first and a closed gate after, in no more memory than that.
     pub(crate) fn new(alloc: Global, payload: &[u8]) -> Result<Ready, NoMemory>
         requires { length payload.now < 2 ^ 32 }
         ensures { IfOk result (λ ready. ready ≡ payload.now) }
     {
-        let bytes = framed(alloc, payload)?;
-        Ok(Ready {
-            bytes: Text::from_vec(bytes),
-        })
+        let mut frame = Ready::begin(alloc, payload.len())?;
+        frame.plain(payload)?;
+        Ready::of(frame)
     }
 
     /// The payload, lent from what is written.
@@ -54,20 +77,6 @@ impl Ready {
     {
         self.bytes.bytes()
     }
-}
-
-/// A payload after its length and before a closed gate, in a buffer of just these bytes.
-#[tactic(auto, unfolding(base::specs::Bytes::text_bytes))]
-fn framed(alloc: Global, payload: &[u8]) -> Result<Vec<u8>, NoMemory>
-    requires { length payload.now < 2 ^ 32 }
-    ensures { IfOk result (λ bytes. bytes.items ≡ text_bytes payload.now ++ 0 ∷ []) }
-{
-    let length = payload.len() as u32;
-    let mut bytes = Vec::with_capacity(alloc, payload.len() + 5)?;
-    bytes.extend_from_slice(&length.to_le_bytes())?;
-    bytes.extend_from_slice(payload)?;
-    bytes.push(0)?;
-    Ok(bytes)
 }
 
 /// What is between a length of four bytes and the gate at the end.

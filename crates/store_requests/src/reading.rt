@@ -138,7 +138,7 @@ fn take_over<'g, D: Disk>(
     ensures cause { StoreCounts result (D.failed_disk_calls disk.old)
         (D.failed_disk_calls disk.new) }
 {
-    let taken = taken_over(alloc, &journal, opened)?;
+    let taken = taken_over(alloc, opened)?;
     let side = Journal::first_side(alloc, FORM, &taken)?;
     let held = RequestHoldings::of(alloc, taken)?;
     match journal.change_form(disk, side) {

@@ -220,9 +220,11 @@ impl<'g> RequestStore<'g> {
             prepared.payload prepared.addition) }
         ensures at { IfOk result (IsPreparedAt graph.now at) }
     {
-        let NextRequest { bytes, addition } = self.held.prepare(alloc, seats, graph, at, artefact)?;
-        let ready = self.journal.prepare(alloc, bytes.bytes())?;
-        Ok(PreparedRequest { ready, addition })
+        let NextRequest { piece, addition } = self.held.prepare(alloc, seats, graph, at, artefact)?;
+        Ok(PreparedRequest {
+            ready: piece,
+            addition,
+        })
     }
 
     /// Adds a prepared record, and seats it in the place of the one before. It takes no memory.

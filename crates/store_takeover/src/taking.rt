@@ -15,14 +15,13 @@ use base::NoMemory;
 use base_ranges::bytes_in;
 use std::alloc::Global;
 use store_holdings::RequestHoldings;
-use store_journal::{Journal, Payloads};
+use store_journal::Payloads;
 use store_migration::migrated_rows;
 use store_node_shelf::{Pieces, ShelfPlaces, shelf_of};
 
 /// Adds the request that stands for a record.
 fn add_row(
     alloc: Global,
-    journal: &Journal,
     held: &mut RequestHoldings<'_>,
     pieces: &Pieces,
     shelf: &ShelfPlaces,
@@ -43,13 +42,12 @@ fn add_row(
     let entry = entry_of(alloc, shelf, pieces, row)?;
     let deps = products_of(alloc, held, &shelf.table, row.deps.as_slice())?;
     let artefact = bytes_in(pieces.get(place.payload), place.artefact);
-    held.add(alloc, journal, &entry, deps.as_slice(), artefact)
+    held.add(alloc, &entry, deps.as_slice(), artefact)
 }
 
 /// The requests that stand for some records, one after the other.
 fn requests_of<'g>(
     alloc: Global,
-    journal: &Journal,
     pieces: &Pieces,
     shelf: &ShelfPlaces,
     rows: &[usize],
@@ -68,7 +66,7 @@ fn requests_of<'g>(
 {
     let mut held = RequestHoldings::of(alloc, Payloads::new(alloc))?;
     for number in rows {
-        add_row(alloc, journal, &mut held, pieces, shelf, *number)?;
+        add_row(alloc, &mut held, pieces, shelf, *number)?;
     }
     Ok(held)
 }
@@ -76,7 +74,6 @@ fn requests_of<'g>(
 /// The requests that stand for the latest records of a shelf of nodes.
 fn shelf_requests<'g>(
     alloc: Global,
-    journal: &Journal,
     pieces: &Pieces,
     shelf: &ShelfPlaces,
 ) -> Result<RequestHoldings<'g>, NoMemory>
@@ -90,7 +87,7 @@ fn shelf_requests<'g>(
     let _nodes = shelf.table.len();
     let nodes = record_nodes(alloc, shelf.records.places.as_slice())?;
     let rows = migrated_rows(alloc, &shelf.table, &shelf.records.names, nodes.as_slice())?;
-    let held = requests_of(alloc, journal, pieces, shelf, rows.as_slice())?;
+    let held = requests_of(alloc, pieces, shelf, rows.as_slice())?;
     Ok(held)
 }
 
@@ -110,37 +107,33 @@ fn payloads_of(alloc: Global, held: &RequestHoldings<'_>) -> Result<Payloads, No
 }
 
 /// The requests that stand for the latest records of payloads of the earlier form.
-fn requests_from<'g>(
-    alloc: Global,
-    journal: &Journal,
-    pieces: &Pieces,
-) -> Result<RequestHoldings<'g>, NoMemory>
+fn requests_from<'g>(alloc: Global, pieces: &Pieces) -> Result<RequestHoldings<'g>, NoMemory>
     ensures { IfOk result
         (λ held.
         (request_shelf_of held.payloads).records
         ≡ migrated_requests (node_shelf_of pieces.now.payloads).records) }
 {
     let shelf = shelf_of(alloc, pieces)?;
-    let held = shelf_requests(alloc, journal, pieces, &shelf)?;
+    let held = shelf_requests(alloc, pieces, &shelf)?;
     Ok(held)
 }
 
 /// The payloads that take the place of those of the earlier form.
-fn taken_from(alloc: Global, journal: &Journal, pieces: &Pieces) -> Result<Payloads, NoMemory>
+fn taken_from(alloc: Global, pieces: &Pieces) -> Result<Payloads, NoMemory>
     ensures is { IfOk result (λ payloads. payloads ≡ taken_payloads pieces.now.payloads) }
     ensures records { IfOk result
         (λ payloads.
         (request_shelf_of payloads).records
         ≡ migrated_requests (node_shelf_of pieces.now.payloads).records) }
 {
-    let held = requests_from(alloc, journal, pieces)?;
+    let held = requests_from(alloc, pieces)?;
     let payloads = payloads_of(alloc, &held)?;
     Ok(payloads)
 }
 
 /// The payloads that take the place of those of the earlier form: they keep the requests that stand for the latest records, and
-/// nothing else. The journal is only asked for buffers.
-pub fn taken_over(alloc: Global, journal: &Journal, opened: Payloads) -> Result<Payloads, NoMemory>
+/// nothing else.
+pub fn taken_over(alloc: Global, opened: Payloads) -> Result<Payloads, NoMemory>
     ensures is { IfOk result (λ payloads. payloads ≡ taken_payloads opened) }
     ensures records { IfOk result
         (λ payloads.
@@ -148,6 +141,6 @@ pub fn taken_over(alloc: Global, journal: &Journal, opened: Payloads) -> Result<
         ≡ migrated_requests (node_shelf_of opened).records) }
 {
     let pieces = Pieces::of(opened);
-    let payloads = taken_from(alloc, journal, &pieces)?;
+    let payloads = taken_from(alloc, &pieces)?;
     Ok(payloads)
 }

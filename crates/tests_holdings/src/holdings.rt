@@ -5,6 +5,7 @@ use base::{Graph, NoMemory, Text};
 use std::alloc::Global;
 use std::test::Fail;
 use store_holdings::RequestHoldings;
+use store_journal::Ready;
 use tests_graphs::{Record, read_record};
 
 /// The graph of `a.vhd` and of `b.vhd` over it, both of `lib`, with the words `cc` and the text `x`, as a record of a view;
@@ -99,7 +100,7 @@ fn prepared_in(
     held: &mut RequestHoldings<'_>,
     graph: &Graph,
     letter: u8,
-) -> Result<Option<Text>, NoMemory> {
+) -> Result<Option<Ready>, NoMemory> {
     if graph.len() != 2 {
         return Ok(None);
     }
@@ -109,11 +110,11 @@ fn prepared_in(
     }
     let artefact = Text::from_slice(alloc, &[letter])?;
     let next = held.prepare(alloc, &seats, graph, 1, &artefact)?;
-    Ok(Some(next.bytes))
+    Ok(Some(next.piece))
 }
 
 /// The same after two payloads. This function alone owns what is held.
-fn prepared(alloc: Global, graph: &Graph, letter: u8) -> Result<Option<Text>, NoMemory> {
+fn prepared(alloc: Global, graph: &Graph, letter: u8) -> Result<Option<Ready>, NoMemory> {
     let mut held = RequestHoldings::of(alloc, opened(alloc, &A, &B, &[])?)?;
     prepared_in(alloc, &mut held, graph, letter)
 }
@@ -124,7 +125,7 @@ fn is_prepared(alloc: Global, letter: u8, bytes: &[u8]) -> Result<bool, Fail> {
     let Some(payload) = prepared(alloc, &graph, letter)? else {
         return Ok(false);
     };
-    Ok(payload.bytes() == bytes)
+    Ok(payload.payload() == bytes)
 }
 
 #[test]

@@ -22,9 +22,9 @@ returns-clause-is c = λ other found.
     let shelf : RequestShelf = request_shelf_of c.args.self.now.payloads in
     let entry : Entry = c.get-entry.result.now in
     let are : AreDeps (request_shelf_of c.args.self.now.payloads) c.args.graph.now c.args.at c.args.deps.now = record { there = c.requires.deps.there; built = c.requires.deps.built; latest = c.requires.deps.latest } in
-    let is : drafted_record (request_shelf_of c.args.self.now.payloads) (request_in_ranges c.in_ok-next.next.bytes c.in_ok-next.next.addition.draft) ≡ record { asked = asked_of c.get-entry.result.now (map (latest_built (λ name. latest_request name (request_shelf_of c.args.self.now.payloads).records) c.args.graph.now) c.get-entry.result.now.deps); artefact = c.args.artefact.now } =
+    let is : drafted_record (request_shelf_of c.args.self.now.payloads) (request_in_ranges c.in_ok-next.next.piece c.in_ok-next.next.addition.draft) ≡ record { asked = asked_of c.get-entry.result.now (map (latest_built (λ name. latest_request name (request_shelf_of c.args.self.now.payloads).records) c.args.graph.now) c.get-entry.result.now.deps); artefact = c.args.artefact.now } =
     c.in_ok-next.ensures.is
     ∙ ap (λ (ds : List ℕ). record { asked = asked_of entry (map (product_at shelf.products) ds); artefact = c.bytes.result.now }) c.as_slice.ensures
     ∙ ap (λ (bs : List ℕ). record { asked = asked_of entry (map (product_at shelf.products) c.args.deps.now); artefact = bs }) c.bytes.ensures
     ∙ ap (λ (built : List BuiltFile). record { asked = asked_of entry built; artefact = c.args.artefact.now }) (below shelf c.args.graph.now c.get-entry.ensures.graph c.args.at entry c.get-entry.ensures.entry c.args.deps.now are) in
-    subst (λ (e : Entry). drafted_record (request_shelf_of c.args.self.now.payloads) (request_in_ranges c.in_ok-next.next.bytes c.in_ok-next.next.addition.draft) ≡ record { asked = asked_of e (map (latest_built (λ name. latest_request name (request_shelf_of c.args.self.now.payloads).records) c.args.graph.now) e.deps); artefact = c.args.artefact.now }) (same_Some c.get-entry.result.now other (sym c.get-entry.ensures.entry ∙ found)) is
+    subst (λ (e : Entry). drafted_record (request_shelf_of c.args.self.now.payloads) (request_in_ranges c.in_ok-next.next.piece c.in_ok-next.next.addition.draft) ≡ record { asked = asked_of e (map (latest_built (λ name. latest_request name (request_shelf_of c.args.self.now.payloads).records) c.args.graph.now) e.deps); artefact = c.args.artefact.now }) (same_Some c.get-entry.result.now other (sym c.get-entry.ensures.entry ∙ found)) is

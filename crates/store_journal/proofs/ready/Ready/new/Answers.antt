@@ -1,21 +1,15 @@
-use Rattle.std.proofs.Common.{◌≡◌, ◌^◌, ◌<◌, List, ℕ, [], ◌∷◌, ◌++◌, length, ap, subst, sym, ◌∙◌, arith}
-use Rattle.base.specs.Bytes.{text_bytes}
-use Rattle.store_journal.specs.Journals.{IsReady, payload_within}
-use Rattle.store_journal.proofs.Framed.{within}
+use Rattle.std.proofs.Common.{◌≡◌, List, ℕ, ◌++◌, length, drop, ap, subst, refl, ◌∙◌, arith}
+use Rattle.std.specs.Prelude.{IfOk}
+use Rattle.store_journal.proofs.Framed.{framed, unframed}
 use Rattle.store_journal.proofs.ready.Ready.new.Goals as goal
 
-ready : (payload : List ℕ) → length payload < 2 ^ 32 → IsReady (text_bytes payload ++ 0 ∷ [])
-ready payload small = record {
-  parts = ap (λ (p : List ℕ). text_bytes p ++ 0 ∷ []) (sym (within payload));
-  small = omega (arith, ap length (within payload));
-}
+pub of-requires-clause-length : goal.of-requires-clause-length
+of-requires-clause-length c = framed c.plain.new.self c.args.payload.now (length c.args.payload.now) (c.in_ok-plain.ensures ∙ ap (λ (bs : List ℕ). bs ++ c.args.payload.now) c.in_ok-frame.ensures) refl
 
-pub invariant_of-result : goal.invariant_of-result
-invariant_of-result c =
-    let is : c.from_vec.result ≡ text_bytes c.args.payload.now ++ 0 ∷ [] = c.from_vec.ensures ∙ c.in_ok-bytes.ensures in
-    subst IsReady (sym is) (ready c.args.payload.now c.requires)
+pub of-requires-clause-small : goal.of-requires-clause-small
+of-requires-clause-small c = omega (arith, ap length (unframed c.plain.new.self c.args.payload.now (length c.args.payload.now) (c.in_ok-plain.ensures ∙ ap (λ (bs : List ℕ). bs ++ c.args.payload.now) c.in_ok-frame.ensures)), c.requires)
 
 pub returns : goal.returns
 returns c =
-    let is : c.from_vec.result ≡ text_bytes c.args.payload.now ++ 0 ∷ [] = c.from_vec.ensures ∙ c.in_ok-bytes.ensures in
-    ap payload_within is ∙ within c.args.payload.now
+    let payload : drop 4 c.plain.new.self ≡ c.args.payload.now = unframed c.plain.new.self c.args.payload.now (length c.args.payload.now) (c.in_ok-plain.ensures ∙ ap (λ (bs : List ℕ). bs ++ c.args.payload.now) c.in_ok-frame.ensures) in
+    subst (λ (p : List ℕ). IfOk c.of.result (λ ready. ready ≡ p)) payload c.of.ensures
