@@ -1,5 +1,5 @@
 -- What is committed and acknowledged, event after event, and what the disk holds of it.
-use Rattle.std.proofs.Common.{◌≡◌, ℕ, ◌+◌, ◌≤◌, Bool, true, false, List, [], ◌∷◌, ◌++◌, length, take, Option, sym, ap, subst, ◌∙◌, arith}
+use Rattle.std.proofs.Common.{◌≡◌, ℕ, ◌+◌, ◌≤◌, Bool, true, false, List, [], ◌∷◌, ◌++◌, length, take, Option, refl, sym, ap, subst, ◌∙◌, arith}
 use Rattle.std.specs.Bool.{OnFalse}
 use Rattle.std.proofs.Math.Seq.{take-append-add, take-length}
 use Rattle.std.proofs.lemmas.Bool.{OnTrue_at, OnTrue_from}
@@ -66,7 +66,12 @@ pub holds_left : (acknowledged : ℕ) (broken : Bool) (more rest : List Record) 
 holds_left acknowledged broken more rest records_of old new few holds = record {
   reads = reads_left broken holds.reads;
   images = commits_longer acknowledged broken (records_of (reads_of old.now)) records_of old new more rest holds.images;
+  untouched = λ none. holds.untouched (nothing_first more none);
 } where
+  nothing_first : (more : List Record) → more ++ rest ≡ [] → more ≡ []
+  nothing_first [] none = refl
+  nothing_first (first ∷ others) none = let nothing : ⊥ = cc in absurd nothing
+
   reads_left : (b : Bool) → OnFalse b (records_of (reads_of new.now) ≡ records_of (reads_of old.now) ++ take acknowledged more) → OnFalse b (records_of (reads_of new.now) ≡ records_of (reads_of old.now) ++ take acknowledged (more ++ rest))
   reads_left true h = tt
   reads_left false h = h ∙ ap (λ (l : List Record). records_of (reads_of old.now) ++ l) (sym (take-append-le acknowledged more rest few))
@@ -85,7 +90,12 @@ holds_one acknowledged ok broken more one records_of old middle new count first 
           (commits_then (one_if ok) false broken base more (one ∷ []) records_of old middle new
           (subst (λ (n : ℕ). CommitsFirst n false base more records_of old middle) count first.images)
           (subst (λ (l : List Record). CommitsFirst (one_if ok) broken l (one ∷ []) records_of middle new) there second.images));
+      untouched = λ none. let nothing : ⊥ = one_more more none in absurd nothing;
     } where
+      one_more : (more : List Record) → more ++ one ∷ [] ≡ [] → ⊥
+      one_more [] none = cc
+      one_more (first ∷ others) none = cc
+
       reads_one : (b : Bool) → records_of (reads_of middle.now) ≡ records_of (reads_of old.now) ++ more → take (acknowledged + one_if ok) (more ++ one ∷ []) ≡ more ++ take (one_if ok) (one ∷ []) →
           OnFalse b (records_of (reads_of new.now) ≡ records_of (reads_of middle.now) ++ take (one_if ok) (one ∷ [])) → OnFalse b (records_of (reads_of new.now) ≡ records_of (reads_of old.now) ++ take (acknowledged + one_if ok) (more ++ one ∷ []))
       reads_one true there all h = tt

@@ -90,6 +90,7 @@ holds_nothing broken more records_of moments usable durable = record {
   reads = on_false broken (sym (append-nil (records_of (reads_of moments.now))));
   images = subst (λ (b : Bool). CommitsFirst 0 b (records_of (reads_of moments.now)) more records_of moments moments) (sym usable)
       (commits_nothing (records_of (reads_of moments.now)) more records_of moments (λ image is. ap records_of (durable image is)));
+  untouched = λ none. refl;
 }
 
 pub no_commits : (s : Work) → commits s [] ≡ []

@@ -23,7 +23,9 @@ pub record Acknowledges (setting : Work) (events : List Event) (all : Bool) (bef
   pub latest : (name : FileName) → now name ≡ latest_after (take acknowledged (commits setting events)) before name
 
 -- What the disk holds of more records, of which the first so many are acknowledged: reads give these after those from
--- before while the store is usable, and at any moment a stop can leave some first ones.
+-- before while the store is usable, and at any moment a stop can leave some first ones. Where there are none, nothing is
+-- done to the disk.
 pub record HoldsFirst (acknowledged : ℕ) (broken : Bool) (more : List Record) (records_of : Image → List Record) (old new : Moments) : Type 0 where
   pub reads : OnFalse broken (records_of (reads_of new.now) ≡ records_of (reads_of old.now) ++ take acknowledged more)
   pub images : CommitsFirst acknowledged broken (records_of (reads_of old.now)) more records_of old new
+  pub untouched : more ≡ [] → new ≡ old

@@ -1,5 +1,5 @@
 -- What a stop can leave of the two sides of a disk, and the moments of a run of calls.
-use Rattle.std.specs.Prelude.{◌≡◌, ◌⊎◌, ℕ, ◌+◌, ◌^◌, ◌<◌, ◌≤◌, nat_le, nat_lt, max, Bool, false, ◌&&◌, ◌||◌, List, [], ◌∷◌, ◌++◌, length, take, drop, slice_index, if◌then◌else◌}
+use Rattle.std.specs.Prelude.{◌≡◌, ◌⊎◌, ℕ, ◌+◌, ◌^◌, ◌<◌, ◌≤◌, nat_le, nat_lt, max, Bool, false, ◌&&◌, ◌||◌, List, [], ◌∷◌, ◌++◌, length, take, drop, slice_index, Result, OnOk, if◌then◌else◌}
 use Rattle.std.specs.List.{AllByRecursion}
 use Rattle.outside.specs.declared.disk.Side.{Side}
 use Rattle.outside.specs.declared.disk.Side.TheVariants.{A, B}
@@ -154,6 +154,11 @@ pub record Goes (during : DiskState) (old new : Moments) : Type 0 where
   pub added : all_of new ≡ all_of old ++ inside
   pub shrinks : Shrinks during inside
   pub within : IsWithin during new.now
+
+-- Nothing was written: no image was added at any moment, and a call that answered Ok left what reads gave.
+pub record Rests {T E : Type 0} (result : Result T E) (old new : Moments) : Type 0 where
+  pub goes : Goes old.now old new
+  pub same : OnOk result (new.now ≡ settled_disk (reads_of old.now))
 
 -- the moments of a run after its first one
 abbrev pub added_since : (old new : Moments) → List DiskState

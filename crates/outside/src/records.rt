@@ -4,7 +4,7 @@ ghost use Rattle.base.specs.declared.file.FileName.{FileName};
 ghost use Rattle.base.specs.declared.graph.Entry.{Entry};
 ghost use Rattle.base.specs.Graphs.{IsGraph};
 ghost use Rattle.outside.specs.Counts.{DiskCounts, StoreCounts};
-ghost use Rattle.outside.specs.Disks.{DiskState, Image, reads_of, IsDurable, IsEither, AtAnyMoment, NeverLoses, OpensWith};
+ghost use Rattle.outside.specs.Disks.{DiskState, Image, reads_of, IsDurable, IsEither, AtAnyMoment, NeverLoses, OpensWith, Rests};
 ghost use Rattle.outside.specs.Records.{Record, latest, deps_at, asked_now, HasLatest, IsRecorded, HasRecordsOf, IsAllOrLatest, after_commit};
 ghost use Rattle.outside.specs.declared.records.StoreFault.TheVariants as fault;
 
@@ -63,6 +63,9 @@ pub trait Records: Sized {
     /// The records that an image of a disk holds, in order.
     ghost records_of: { Image → List Record };
 
+    /// What opening leaves as it is: an image with nothing that is due to be written.
+    ghost is_resting: { Image → Type 0 };
+
     /// The latest record of a name.
     ghost latest_of: { Self → FileName → Option Record };
 
@@ -98,6 +101,10 @@ pub trait Records: Sized {
         ensures records { D.tells →
             let before = records_of (reads_of (D.moments disk.old).now) in
             OnOk result (IsAllOrLatest before (records_of (reads_of (D.moments disk.new).now))) }
+        // Where reads give an image that opening leaves as it is, nothing is written.
+        ensures rests { D.tells →
+            is_resting (reads_of (D.moments disk.old).now) →
+            Rests result (D.moments disk.old) (D.moments disk.new) }
         ensures in_step { D.tells → IfOk result (λ store. in_step store (D.moments disk.new).now) }
         ensures usable { IfOk result (λ store. broken store ≡ false) }
         ensures cause { StoreCounts result (D.failed_disk_calls disk.old)

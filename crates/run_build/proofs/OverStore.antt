@@ -19,7 +19,7 @@ use Rattle.base.specs.Graphs.{IsGraph}
 use Rattle.base.specs.PresentGraph.{below}
 use Rattle.base.proofs.Below.{get_or-below, length-below}
 use Rattle.outside.specs.Counts.{Rose}
-use Rattle.outside.specs.Disks.{DiskState, Image, EachImage, Moments, AreSound, IsDurable, Follows, IsEither, OpensWith, added_since, reads_of}
+use Rattle.outside.specs.Disks.{DiskState, Image, EachImage, Moments, AreSound, IsDurable, Follows, Goes, IsEither, OpensWith, Rests, added_since, reads_of}
 use Rattle.outside.specs.Commits.{HasFirst, most_committed}
 use Rattle.outside.specs.Records.{Record, latest, IsAllOrLatest, IsRecorded}
 use Rattle.outside.specs.declared.records.StoreFault.{StoreFault}
@@ -81,6 +81,17 @@ on_ok_any (Err why) holds = tt
 pub if_ok_any : {A B P : Type 0} (result : Result A B) → P → IfOk result (λ given. P)
 if_ok_any (Ok given) holds = holds
 if_ok_any (Err why) holds = tt
+
+-- where opening wrote nothing and nothing is done after it, nothing is written
+pub rests_still : {K T E F : Type 0} (store : K) (result : Result T F) (old middle new : Moments) → Rests {T = K} {E = E} (Ok store) old middle → new ≡ middle → Rests result old new
+rests_still store result old middle new rests same = record {
+  goes = subst (Goes old.now old) (sym same) rests.goes;
+  same = on_ok_any result (ap (λ (moments : Moments). moments.now) same ∙ rests.same);
+}
+
+-- and so where it answered a fault
+pub rests_failed : {K T E F : Type 0} (why : E) (fault : F) (old new : Moments) → Rests {T = K} (Err why) old new → Rests {T = T} (Err fault) old new
+rests_failed why fault old new rests = record { goes = rests.goes; same = tt }
 
 -- a build whose store could not be opened starts nothing
 pub not_opened : (records_of : Image → List Record) (answer : Request → Exit) (order : Order) (why : BuildFault) (failed : Bool) (old new : Moments) (events : List Event) → events ≡ [] → IsGraph order.graph → AreSound new → Follows old new
@@ -222,6 +233,15 @@ module _ (records_of : Image → List Record) (answer : Request → Exit) (order
       }) where
         both : {a b : Bool} → a ≡ false → b ≡ false → (not a && not b) ≡ true
         both x y = rw (x, y) refl
+
+  -- where it commits nothing, the disk is as its store was opened
+  untouched_over : Ran (latest_over records_of order.clean old.now) → commits (work_over records_of order old.now) (since old_journal journal) ≡ [] → new ≡ mid
+  untouched_over ran none =
+      let s : Work = work_over records_of order old.now in
+      (ran.images d).untouched (ap (commits s) (sym (ap (since old_journal) (ran.journal t) ∙ since-added old_journal ran.events)) ∙ none)
+
+  pub opened_untouched : Ran before → commits (work_over records_of order old.now) (since old_journal journal) ≡ [] → new ≡ mid
+  opened_untouched ran none = untouched_over (subst Ran latest_is ran) none
 
   -- where all files are made, the store lends what was built
   lent_over : (ran : Ran (latest_over records_of order.clean old.now)) → is_all_committed (fault_of result) broken ≡ true → (marks : List Mark) → marks ≡ marks_of (work_over records_of order old.now) ran.events → list_all is_made marks ≡ true

@@ -1,5 +1,5 @@
 -- What opening a store and a build over its records do.
-use Rattle.std.specs.Prelude.{◌≡◌, ℕ, ◌+◌, ◌-◌, ◌^◌, ◌<◌, nat_le, min, Bool, true, false, List, length, Result, Ok, Err, is_some, IfOk, OnOk}
+use Rattle.std.specs.Prelude.{◌≡◌, ℕ, ◌+◌, ◌-◌, ◌^◌, ◌<◌, nat_le, min, Bool, true, false, List, length, [], Result, Ok, Err, is_some, IfOk, OnOk}
 use Rattle.std.specs.List.{AllByRecursion}
 use Rattle.base.specs.declared.child.Request.{Request}
 use Rattle.base.specs.declared.child.Exit.{Exit}
@@ -8,7 +8,7 @@ use Rattle.run_spec.specs.declared.marks.Mark.{Mark}
 use Rattle.base.specs.Graphs.{IsGraph}
 use Rattle.outside.specs.Records.{Record}
 use Rattle.outside.specs.declared.records.StoreFault.{StoreFault}
-use Rattle.outside.specs.Disks.{Image, Moments, EachImage, Follows, added_since, reads_of}
+use Rattle.outside.specs.Disks.{Image, Moments, EachImage, Follows, Rests, added_since, reads_of}
 use Rattle.outside.specs.Phases.{IsOpening, IsBase, HasPhases}
 use Rattle.run_spec.specs.ChildJournal.{Lawful, Answered, IsWhole, artefact_after}
 use Rattle.run_spec.specs.Commits.{commits, Waits}
@@ -35,6 +35,11 @@ pub record OpensStore {K : Type 0} (records_of : Image → List Record) (clean :
   pub phases : (more : List Record) → HasPhases records_of clean 0 more old.now (added_since old new)
   pub opening : OnOk result (IsOpening records_of clean old.now (added_since old new))
   pub base : OnOk result (IsBase records_of clean old.now (records_of (reads_of new.now)))
+
+-- A build that keeps the records of its store and commits none writes nothing, where reads gave an image that opening leaves
+-- as it is.
+abbrev pub RestsOver : {T E : Type 0} → (records_of : Image → List Record) → (is_resting : Image → Type 0) → Order → Result T E → (old new : Moments) → List Event → Type 0
+RestsOver records_of is_resting order result old new events = order.clean ≡ false → is_resting (reads_of old.now) → commits (work_over records_of order old.now) events ≡ [] → Rests result old new
 
 -- The build is that of the records that reads of the disk gave before it, or of none where the store is emptied. Its moments
 -- go through the phases of a store to which its commits are added, so many of which are acknowledged: all of them where

@@ -4,6 +4,7 @@ ghost use Rattle.std.specs.Prelude.{◌≡◌, ◌<◌, ◌≤◌, ◌++◌, [],
 ghost use Rattle.std.specs.List.{filter_map, list_all};
 ghost use Rattle.base.specs.PresentGraph.{below};
 ghost use Rattle.outside.specs.Counts.{StoreCounts};
+ghost use Rattle.outside.specs.Disks.{Rests, reads_of};
 ghost use Rattle.outside.specs.Records.{IsRecorded};
 ghost use Rattle.run_spec.specs.declared.marks.Mark.{Mark};
 ghost use Rattle.run_spec.specs.ChildJournal.{since};
@@ -12,7 +13,7 @@ ghost use Rattle.run_spec.specs.JournalParts.{test_part};
 ghost use Rattle.build_loop.specs.Ran.{built_by, is_made};
 ghost use Rattle.build_loop.specs.Requests.{lent_at};
 ghost use Rattle.build_loop.specs.Faults.{Explains, NoneFell, fault_of};
-ghost use Rattle.run_build.specs.Building.{OpensStore, BuildsOver, has_risen, marks_in};
+ghost use Rattle.run_build.specs.Building.{OpensStore, BuildsOver, RestsOver, has_risen, marks_in};
 ghost use Rattle.run_build.specs.Orders.{order_by};
 
 use crate::opener::{Opener, SeatedStore, seated};
@@ -48,6 +49,9 @@ fn open_store<'g, K: Records + Drop, O: Opener<'g, K>, D: Disk>(
 ) -> Result<SeatedStore<K, K::Seats>, StoreFault>
     ensures opens { D.tells →
         OpensStore K.records_of clean result (D.moments disk.old) (D.moments disk.new) }
+    ensures rests { D.tells → clean ≡ false →
+        K.is_resting (reads_of (D.moments disk.old).now) →
+        Rests result (D.moments disk.old) (D.moments disk.new) }
     ensures in_step { D.tells →
         IfOk result (λ opened. K.in_step opened.store (D.moments disk.new).now) }
     ensures usable { IfOk result (λ opened. K.broken opened.store ≡ false) }
@@ -96,6 +100,11 @@ pub fn build_kept<'g, K: Records + Drop, O: Opener<'g, K>, D: Disk, P: Procs>(
     ensures told { D.tells → P.tells →
         BuildsOver K.records_of (P.answer procs.old) (order_by options graph.now) (marks_in result)
         (has_risen (D.failed_disk_calls disk.old) (D.failed_disk_calls disk.new))
+        (D.moments disk.old) (D.moments disk.new)
+        (since (P.journal procs.old) (P.journal procs.new)) }
+    // Where it commits nothing, over a disk that opening leaves as it is, nothing is written.
+    ensures rests { D.tells → P.tells →
+        RestsOver K.records_of K.is_resting (order_by options graph.now) result
         (D.moments disk.old) (D.moments disk.new)
         (since (P.journal procs.old) (P.journal procs.new)) }
     ensures fell { NoneFell
@@ -168,6 +177,11 @@ pub fn build_over<'g, K: Records + Drop, O: Opener<'g, K>, D: Disk, P: Procs>(
     ensures told { D.tells → P.tells →
         BuildsOver K.records_of (P.answer procs.old) (order_by options graph.now) result
         (has_risen (D.failed_disk_calls disk.old) (D.failed_disk_calls disk.new))
+        (D.moments disk.old) (D.moments disk.new)
+        (since (P.journal procs.old) (P.journal procs.new)) }
+    // Where it commits nothing, over a disk that opening leaves as it is, nothing is written.
+    ensures rests { D.tells → P.tells →
+        RestsOver K.records_of K.is_resting (order_by options graph.now) result
         (D.moments disk.old) (D.moments disk.new)
         (since (P.journal procs.old) (P.journal procs.new)) }
     ensures fell { NoneFell

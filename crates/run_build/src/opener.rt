@@ -2,7 +2,7 @@
 
 ghost use Rattle.std.specs.Prelude.{◌≡◌, ℕ, false, IfOk, OnOk};
 ghost use Rattle.outside.specs.Counts.{StoreCounts};
-ghost use Rattle.outside.specs.Disks.{DiskState, reads_of, AtAnyMoment, OpensWith};
+ghost use Rattle.outside.specs.Disks.{DiskState, reads_of, AtAnyMoment, OpensWith, Rests};
 ghost use Rattle.outside.specs.Records.{HasRecordsOf, IsAllOrLatest};
 
 use base::{Graph, NoMemory};
@@ -38,6 +38,10 @@ pub trait Opener<'g, K: Records> {
         ensures records { D.tells →
             let before = K.records_of (reads_of (D.moments disk.old).now) in
             OnOk result (IsAllOrLatest before (K.records_of (reads_of (D.moments disk.new).now))) }
+        // Where reads give an image that opening leaves as it is, nothing is written.
+        ensures rests { D.tells →
+            K.is_resting (reads_of (D.moments disk.old).now) →
+            Rests result (D.moments disk.old) (D.moments disk.new) }
         ensures in_step { D.tells →
             IfOk result (λ opened. K.in_step opened.store (D.moments disk.new).now) }
         ensures usable { IfOk result (λ opened. K.broken opened.store ≡ false) }

@@ -141,11 +141,11 @@ module _ (records_of : Image → List Record) (answer : Request → Exit) (order
   abbrev work : Work
   work = work_over records_of order first.now
 
-  -- a build that ended by itself, and then its tests
-  pub tested_after : (marks : List Mark) (result : Result Tested BuildFault) (files : List BuiltFile) → middle ≡ old ++ since old middle → BuildsOver records_of answer order (Ok marks) failed first last (since old middle) →
+  -- a build that ended by itself, and then its tests: the events of its compilers are those of the build
+  after_build : (marks : List Mark) (result : Result Tested BuildFault) (files : List BuiltFile) → middle ≡ old ++ since old middle → BuildsOver records_of answer order (Ok marks) failed first last (since old middle) →
       (list_all is_made marks ≡ true → files ≡ built_by work (since old middle)) → (tells : Type 0) → tells → RanBuilt tells answer (record { plan = plan; built = files; slots = order.slots }) marks result middle new →
-      TestsOver records_of answer order plan result failed first last (since old new)
-  tested_after marks result files follows builds lent tells t ran =
+      (over : TestsOver records_of answer order plan result failed first last (since old new)) × (over.compiled ≡ since old middle)
+  after_build marks result files follows builds lent tells t ran =
       let compiled : List Event = since old middle in
       let tests : List Event = ran.events in
       let before : TestSetting = record { plan = plan; built = files; slots = order.slots } in
@@ -161,21 +161,35 @@ module _ (records_of : Image → List Record) (answer : Request → Exit) (order
               gives = left_out before setting marks result tests left (ran.gives t);
             }
       ] in
-      let parts = both_parts work setting compiled tests builds.lawful known.lawful (all_alone old compiled tests (subst (λ (l : List Event). EachAfter HasFreshTicket l tests) follows (ran.fresh t))) in
-      record {
-        compiled = compiled;
-        tests = tests;
-        parted = events;
-        compilers = ap compile_part events ∙ parts.0;
-        simulators = ap test_part events ∙ parts.1;
-        build = Ok marks;
-        builds = builds;
-        made = λ some. ap (list_all is_made) (sym builds.marks) ∙ ran.made some;
-        lawful = known.lawful;
-        answered = ran.answered t;
-        gives = said_after order plan work compiled tests marks result known.gives;
-        stops = λ fault is. let no : ⊥ = cc in absurd no;
-      }
+      let parts = both_parts work setting compiled tests builds.lawful known.lawful (all_alone old compiled tests (subst (λ (l : List Event). EachAfter HasFreshTicket l tests) follows (ran.fresh t))) in (
+        record {
+          compiled = compiled;
+          tests = tests;
+          parted = events;
+          compilers = ap compile_part events ∙ parts.0;
+          simulators = ap test_part events ∙ parts.1;
+          build = Ok marks;
+          builds = builds;
+          made = λ some. ap (list_all is_made) (sym builds.marks) ∙ ran.made some;
+          lawful = known.lawful;
+          answered = ran.answered t;
+          gives = said_after order plan work compiled tests marks result known.gives;
+          stops = λ fault is. let no : ⊥ = cc in absurd no;
+        },
+        refl,
+      )
+
+  pub tested_after : (marks : List Mark) (result : Result Tested BuildFault) (files : List BuiltFile) → middle ≡ old ++ since old middle → BuildsOver records_of answer order (Ok marks) failed first last (since old middle) →
+      (list_all is_made marks ≡ true → files ≡ built_by work (since old middle)) → (tells : Type 0) → tells → RanBuilt tells answer (record { plan = plan; built = files; slots = order.slots }) marks result middle new →
+      TestsOver records_of answer order plan result failed first last (since old new)
+  tested_after marks result files follows builds lent tells t ran = (after_build marks result files follows builds lent tells t ran).0
+
+  pub compilers_after : (marks : List Mark) (result : Result Tested BuildFault) (files : List BuiltFile) → middle ≡ old ++ since old middle → BuildsOver records_of answer order (Ok marks) failed first last (since old middle) →
+      (list_all is_made marks ≡ true → files ≡ built_by work (since old middle)) → (tells : Type 0) → tells → RanBuilt tells answer (record { plan = plan; built = files; slots = order.slots }) marks result middle new →
+      compile_part (since old new) ≡ since old middle
+  compilers_after marks result files follows builds lent tells t ran =
+      let after = after_build marks result files follows builds lent tells t ran in
+      after.0.compilers ∙ after.1
 
   -- a build that a fault ended
   pub build_failed : (fault : BuildFault) → BuildsOver records_of answer order (Err fault) failed first last (since old new) → test_part (since old new) ≡ [] → TestsOver records_of answer order plan (Err fault) failed first last (since old new)

@@ -5,9 +5,10 @@ ghost use Rattle.std.specs.List.{list_all};
 ghost use Rattle.outside.specs.Records.{IsRecorded};
 ghost use Rattle.run_spec.specs.declared.marks.Mark.{Mark};
 ghost use Rattle.run_spec.specs.ChildJournal.{since};
+ghost use Rattle.run_spec.specs.JournalParts.{compile_part};
 ghost use Rattle.build_loop.specs.Ran.{is_made};
 ghost use Rattle.build_loop.specs.Faults.{Explains, NoneFell, fault_of};
-ghost use Rattle.run_build.specs.Building.{has_risen};
+ghost use Rattle.run_build.specs.Building.{RestsOver, has_risen};
 ghost use Rattle.run_build.specs.Orders.{order_by};
 ghost use Rattle.test_spec.specs.Runs.{FitsRun};
 ghost use Rattle.test_loop.specs.Requests.{lent_files};
@@ -146,6 +147,11 @@ pub fn test_over<'g, K: Records + Drop, O: Opener<'g, K>, D: Disk, P: Procs>(
         (has_risen (D.failed_disk_calls disk.old) (D.failed_disk_calls disk.new))
         (D.moments disk.old) (D.moments disk.new)
         (since (P.journal procs.old) (P.journal procs.new)) }
+    // Where its build commits nothing, over a disk that opening leaves as it is, nothing is written.
+    ensures rests { D.tells → P.tells →
+        RestsOver K.records_of K.is_resting (order_by options graph.now) result
+        (D.moments disk.old) (D.moments disk.new)
+        (compile_part (since (P.journal procs.old) (P.journal procs.new))) }
     ensures fell { NoneFell
         (record {
           starts = P.failed_starts procs.old;

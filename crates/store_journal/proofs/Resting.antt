@@ -4,10 +4,10 @@ use Rattle.std.specs.Prelude.{Result, Ok, Err, OnOk}
 use Rattle.std.specs.List.{flat_map}
 use Rattle.std.proofs.lemmas.List.{append-nil}
 use Rattle.outside.specs.declared.disk.Side.{Side}
-use Rattle.outside.specs.Disks.{AtAnyMoment, DiskState, EachImage, Goes, Image, Moments, all_of, image_side, reads_of, settled_disk}
+use Rattle.outside.specs.Disks.{AtAnyMoment, DiskState, EachImage, Goes, Image, Moments, all_of, image_side, reads_of, settled_disk, Rests}
 use Rattle.outside.proofs.MomentLaws.{call_moments, goes_then, joined_moments}
 use Rattle.store_journal.specs.Payloads.{block, counting, payloads}
-use Rattle.store_journal.specs.Journals.{IsHealthy, Rests}
+use Rattle.store_journal.specs.Journals.{IsHealthy}
 use Rattle.store_journal.proofs.Gates.{gate_is}
 use Rattle.store_journal.proofs.Openings.{Ends, ends_payloads}
 use Rattle.store_journal.proofs.Settled.{settled_each}

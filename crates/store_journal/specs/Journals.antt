@@ -1,10 +1,10 @@
 -- What a journal knows of its disk.
-use Rattle.std.specs.Prelude.{◌≡◌, ◌≢◌, ℕ, ◌+◌, ◌<◌, ◌^◌, Bool, List, [], ◌∷◌, ◌++◌, ◌-◌, length, take, drop, All, Option, Some, None, Result, OnOk}
+use Rattle.std.specs.Prelude.{◌≡◌, ◌≢◌, ℕ, ◌+◌, ◌<◌, ◌^◌, Bool, List, [], ◌∷◌, ◌++◌, ◌-◌, length, take, drop, All, Option, Some, None}
 use Rattle.std.specs.List.{flat_map}
 use Rattle.base.specs.Bytes.{text_bytes}
 use Rattle.outside.specs.declared.disk.Side.{Side}
 use Rattle.outside.specs.declared.disk.Side.TheVariants.{A, B}
-use Rattle.outside.specs.Disks.{DiskState, Goes, Image, IsImage, Moments, image_side, reads_of, settled_disk}
+use Rattle.outside.specs.Disks.{DiskState, Image, IsImage, image_side, reads_of, settled_disk}
 use Rattle.store_journal.specs.Payloads.{counting, generation_of, block, payload_at, payloads, payloads_in, side_bytes}
 
 -- A journal: its form, the side that counts with its generation, the number of its bytes up to and with the closed
@@ -62,11 +62,6 @@ pub record IsHealthy (form : ℕ) (image : Image) : Type 0 where
   pub counts : counting form image ≡ Some live
   pub count : ℕ
   pub closed : HasClosedGateAt count (payloads form image) (image_side live image)
-
--- Nothing was written: no image was added at any moment, and a call that answered Ok left what reads gave.
-pub record Rests {T E : Type 0} (result : Result T E) (old new : Moments) : Type 0 where
-  pub goes : Goes old.now old new
-  pub same : OnOk result (new.now ≡ settled_disk (reads_of old.now))
 
 -- a journal of this side and this generation
 pub record CountsAs (side : Side) (generation : ℕ) (journal : JournalState) : Type 0 where

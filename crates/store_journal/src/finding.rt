@@ -2,11 +2,11 @@
 
 ghost use Rattle.std.specs.Prelude.{◌≡◌, ◌≢◌, ◌≤◌, [], false, IfOk, IfSome, OnOk};
 ghost use Rattle.outside.specs.Counts.{StoreCounts};
-ghost use Rattle.outside.specs.Disks.{reads_of, settled_disk, AtAnyMoment, OpensWith};
+ghost use Rattle.outside.specs.Disks.{reads_of, settled_disk, AtAnyMoment, OpensWith, Rests};
 ghost use Rattle.store_journal.specs.Finds.{found_journal, found_taken, IsOfFoundForm, LendsStill};
 ghost use Rattle.store_journal.specs.Forms.{HoldsForms, HoldsFormsOf, found_form, has_form};
 ghost use Rattle.store_journal.specs.Headers.{headers_in};
-ghost use Rattle.store_journal.specs.Journals.{IsInStep, IsHealthy, Rests, OpensAs};
+ghost use Rattle.store_journal.specs.Journals.{IsInStep, IsHealthy, OpensAs};
 ghost use Rattle.store_journal.specs.Payloads.{payloads, side_bytes};
 
 use crate::layout::{FormHeaders, is_older};

@@ -2,11 +2,11 @@
 
 ghost use Rattle.std.specs.Prelude.{◌≡◌, ◌≢◌, ◌≤◌, ◌-◌, ◌↔◌, ℕ, [], true, false, None, slice_index, IsTrue, IfOk, IfSome, OnOk};
 ghost use Rattle.outside.specs.Counts.{StoreCounts};
-ghost use Rattle.outside.specs.Disks.{reads_of, settled_disk, image_side, AtAnyMoment, OpensWith};
+ghost use Rattle.outside.specs.Disks.{reads_of, settled_disk, image_side, AtAnyMoment, OpensWith, Rests};
 ghost use Rattle.outside.specs.declared.disk.Side.TheVariants.{A};
 ghost use Rattle.store_journal.specs.Forms.{HoldsSame, has_form};
 ghost use Rattle.store_journal.specs.Payloads.{payloads, counting, generation_of, side_bytes};
-ghost use Rattle.store_journal.specs.Journals.{EndsAt, IsInStep, HasPayloadsOf, IsHealthy, Rests, OpensAs, CountsAs};
+ghost use Rattle.store_journal.specs.Journals.{EndsAt, IsInStep, HasPayloadsOf, IsHealthy, OpensAs, CountsAs};
 ghost use Rattle.store_journal.specs.Headers.{headers_in, IsLiveOf};
 
 use crate::layout::{Headers, Live, empty_side, live_side};

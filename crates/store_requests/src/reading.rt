@@ -2,9 +2,9 @@
 
 ghost use Rattle.std.specs.Prelude.{◌≡◌, ◌↔◌, [], false, IfOk, OnOk};
 ghost use Rattle.outside.specs.Counts.{StoreCounts};
-ghost use Rattle.outside.specs.Disks.{AtAnyMoment, OpensWith, reads_of};
+ghost use Rattle.outside.specs.Disks.{AtAnyMoment, OpensWith, reads_of, Rests};
 ghost use Rattle.store_journal.specs.Forms.{has_form};
-ghost use Rattle.store_journal.specs.Journals.{IsHealthy, IsInStep, Rests};
+ghost use Rattle.store_journal.specs.Journals.{IsHealthy, IsInStep};
 ghost use Rattle.store_journal.specs.Payloads.{payloads};
 ghost use Rattle.store_codec.specs.Carrying.{compacted_requests};
 ghost use Rattle.store_codec.specs.Shelves.{requests_among};

@@ -3,7 +3,7 @@
 ghost use Rattle.store_codec.specs.Shelves.{request_shelf_of};
 ghost use Rattle.store_holdings.specs.Held.{latest_held};
 ghost use Rattle.store_holdings.specs.Seated.{AreSeats};
-ghost use Rattle.store_requests.specs.Stored.{IsRequestReady, IsRequestStoreInStep, prepared_record, requests_in};
+ghost use Rattle.store_requests.specs.Stored.{IsRequestReady, IsRequestStoreInStep, IsResting, prepared_record, requests_in};
 ghost use Rattle.store_requests.specs.StoreLaws.{request_store_durable, request_store_held};
 
 use crate::store::{PreparedRequest, RequestStore};
@@ -18,6 +18,8 @@ impl<'g> Records for RequestStore<'g> {
     type Seats = Seats;
 
     ghost records_of = { requests_in };
+
+    ghost is_resting = { λ image. IsResting image };
 
     ghost latest_of = { λ store. latest_held store.held.payloads };
 

@@ -12,9 +12,9 @@ use Rattle.base_outcomes.specs.declared.outcome.Refusal.TheVariants as refusal
 use Rattle.base_outcomes.specs.declared.outcome.Outcome.{Outcome}
 use Rattle.base_outcomes.specs.declared.outcome.Outcome.TheVariants as outcome
 use Rattle.base.specs.Graphs.{IsGraph}
-use Rattle.outside.specs.Disks.{DiskState, EachImage, Moments, IsSound, AreSound, added_since}
+use Rattle.outside.specs.Disks.{DiskState, EachImage, Moments, IsSound, AreSound, Rests, Shrinks, added_since, reads_of, settled_disk}
 use Rattle.outside.specs.Commits.{last_state}
-use Rattle.outside.proofs.MomentLaws.{last_is}
+use Rattle.outside.proofs.MomentLaws.{added_is, last_is}
 use Rattle.outside.proofs.PhaseLaws.{nothing_added}
 use Rattle.run_spec.specs.Moves.{LawfulMoves, GreedyMoves, next_start, first_from}
 use Rattle.run_spec.specs.ChildJournal.{Work, AreRequested, EachAfter, moves_after, after_all, Lawful, Answered, IsWhole, artefact_after, since}
@@ -32,13 +32,14 @@ use Rattle.build_loop.specs.declared.faults.BuildFault.{BuildFault}
 use Rattle.build_loop.specs.declared.faults.BuildFault.TheVariants as fault
 use Rattle.report_run.specs.Outcomes.{build_outcome}
 use Rattle.vhdl_spec.specs.Scans.{Finding}
-use Rattle.vunit_top.specs.Store.{records_in_image}
+use Rattle.vunit_top.specs.Store.{IsRestingDisk, records_in_image}
 use Rattle.run_build.specs.Orders.{IsDurablyRecorded}
+use Rattle.store_requests.specs.Stored.{IsResting}
 use Rattle.store_requests.proofs.RequestsAdded.{none_in_empty}
 use Rattle.vunit_top.specs.Reading.{Reading, Builds}
 use Rattle.vunit_top.specs.Said.{IsSaid, HasEnded, HasBuilt, no_order, order_of, order_in}
-use Rattle.run_build.specs.Building.{BuildsOver}
-use Rattle.vunit_top.specs.Runs.{world_of, run_of, RunsAs}
+use Rattle.run_build.specs.Building.{BuildsOver, RestsOver}
+use Rattle.vunit_top.specs.Runs.{world_of, run_of, RestsFrom, RunsAs, WritesNothing}
 use Rattle.run_build.proofs.OverStore.{since_itself}
 
 sound_last : (past : List DiskState) (now : DiskState) → AllByRecursion IsSound (past ++ now ∷ []) → IsSound now
@@ -84,6 +85,13 @@ right_step : (scan : List ℕ → Finding) (answer : Request → Exit) (order : 
     IsRightStep (world_of scan answer) order run first
 right_step scan answer order run first readable step faithful = run_right (world_of scan answer) order run first readable faithful step
 
+-- moments to which nothing was written, in a run that ended only after an answer
+pub writes_nothing : {T F : Type 0} (result : Result T F) (old new : Moments) (ended : Type 0) → (ended → (value : T) × (result ≡ Ok value)) → Rests result old new → WritesNothing ended old.now (added_since old new) new.now
+writes_nothing {T} {F} result old new ended ends rests = record {
+  fewer = subst (Shrinks old.now) (sym (added_is old new rests.goes.inside rests.goes.added)) rests.goes.shrinks;
+  same = λ is. subst (λ (r : Result T F). OnOk r (new.now ≡ settled_disk (reads_of old.now))) (ends is).1 rests.same;
+}
+
 module _ (scan : List ℕ → Finding) (answer : Request → Exit) (order : Order) (warnings : List ℕ) (result : Result (List Mark) BuildFault) (failed : Bool) (old new : Moments) (sound : AreSound old) (events : List Event)
     (over : BuildsOver records_in_image answer order result failed old new events) (words : List (List ℕ)) (said : Outcome) where
   abbrev s : Work
@@ -112,8 +120,9 @@ module _ (scan : List ℕ → Finding) (answer : Request → Exit) (order : Orde
       all = λ disk memory. moved (λ l. over.acknowledged ≡ length (commits s l)) (over.all disk (λ is. memory (no_memory is)));
     })
 
-    pub runs_over : (HasEnded said → (marks : List Mark) × (result ≡ Ok marks)) → (HasBuilt said → list_any is_refused (marks_of s events) ≡ false) → RunsAs scan answer (Builds order warnings) run old.now new.now
-    runs_over ends done =
+    pub runs_over : (HasEnded said → (marks : List Mark) × (result ≡ Ok marks)) → (HasBuilt said → list_any is_refused (marks_of s events) ≡ false) →
+        (order.clean ≡ false → IsRestingDisk old.now → commits s events ≡ [] → WritesNothing (HasEnded said) old.now (added_since old new) new.now) → RunsAs scan answer (Builds order warnings) run old.now new.now
+    runs_over ends done rests =
         let whole : HasEnded said → IsWhole s events = λ is. subst (λ (r : Result (List Mark) BuildFault). OnOk r (IsWhole s events)) (ends is).1 over.whole in
         record {
           step = build_step;
@@ -123,6 +132,7 @@ module _ (scan : List ℕ → Finding) (answer : Request → Exit) (order : Orde
               (subst (λ (r : Result (List Mark) BuildFault). OnOk r ((position : ℕ) → position < length order.graph → is_some (artefact_after s events position) ≡ true → IsDurablyRecorded records_in_image new.now order.graph position)) (ends is).1 over.recorded);
           emptied = λ is. moved (λ l. order.clean ≡ true → EachImage (λ image. records_in_image image ≡ commits s l) new.now)
               (subst (λ (r : Result (List Mark) BuildFault). OnOk r (order.clean ≡ true → EachImage (λ image. records_in_image image ≡ commits s events) new.now)) (ends is).1 over.emptied);
+          rests = λ clean resting none. rests clean resting (ap (commits s) (sym compiled) ∙ none);
           right = right_step scan answer (Some order) run old.now (readable_now old sound) build_step;
           exact = λ is none. record {
             started = all_started answer s over.graph_form (compile_part events) (moved (λ l. IsWhole s l) (whole is)) (moved (λ l. Answered answer l) over.answered) none;
@@ -138,16 +148,18 @@ marked_over answer order marks failed old new events over = over.marks ∙ ap (m
 
 -- a run whose build ended by itself
 pub ended_over : (scan : List ℕ → Finding) (answer : Request → Exit) (order : Order) (warnings : List ℕ) (marks : List Mark) (failed : Bool) (old new : Moments) → AreSound old → (events : List Event) → BuildsOver records_in_image answer order (Ok marks) failed old new events → (words : List (List ℕ)) (said : Outcome)
-    → (IsSaid said → said ≡ build_outcome order.graph marks) → RunsAs scan answer (Builds order warnings) (run_of words said failed events (added_since old new)) old.now new.now
-ended_over scan answer order warnings marks failed old new sound events over words said answered =
+    → (IsSaid said → said ≡ build_outcome order.graph marks) → RestsOver {T = List Mark} {E = BuildFault} records_in_image (λ image. IsResting image) order (Ok marks) old new events → RunsAs scan answer (Builds order warnings) (run_of words said failed events (added_since old new)) old.now new.now
+ended_over scan answer order warnings marks failed old new sound events over words said answered rests =
     runs_over scan answer order warnings (Ok marks) failed old new sound events over words said (λ is. let nothing : ⊥ = cc in absurd nothing) (λ is. (marks, refl)) (λ is.
     subst (λ (m : List Mark). list_any is_refused m ≡ false) over.marks (built_refuses_none order.graph marks said is (answered (built_said said is))))
+    (λ clean resting none. writes_nothing {T = List Mark} {F = BuildFault} (Ok marks) old new (HasEnded said) (λ is. (marks, refl)) (rests clean resting none))
 
 -- a run whose build had a fault
 pub faulted_over : (scan : List ℕ → Finding) (answer : Request → Exit) (order : Order) (warnings : List ℕ) (why : BuildFault) (failed : Bool) (old new : Moments) → AreSound old → (events : List Event) → BuildsOver records_in_image answer order (Err why) failed old new events → (words : List (List ℕ)) (said : Outcome)
-    → (HasEnded said → ⊥) → (why ≡ fault.NoMemory → said ≡ outcome.NoMemory) → RunsAs scan answer (Builds order warnings) (run_of words said failed events (added_since old new)) old.now new.now
-faulted_over scan answer order warnings why failed old new sound events over words said fails memory =
-    runs_over scan answer order warnings (Err why) failed old new sound events over words said (λ is. memory (same_fault why is)) (λ is. absurd (fails is)) (λ is. absurd (fails (built_ended said is))) where
+    → (HasEnded said → ⊥) → (why ≡ fault.NoMemory → said ≡ outcome.NoMemory) → RestsOver {T = List Mark} records_in_image (λ image. IsResting image) order (Err why) old new events → RunsAs scan answer (Builds order warnings) (run_of words said failed events (added_since old new)) old.now new.now
+faulted_over scan answer order warnings why failed old new sound events over words said fails memory rests =
+    runs_over scan answer order warnings (Err why) failed old new sound events over words said (λ is. memory (same_fault why is)) (λ is. absurd (fails is)) (λ is. absurd (fails (built_ended said is)))
+    (λ clean resting none. writes_nothing {T = List Mark} (Err why) old new (HasEnded said) (λ is. absurd (fails is)) (rests clean resting none)) where
       same_fault : (why : BuildFault) → ◌≡◌ {A = Result (List Mark) BuildFault} (Err why) (Err fault.NoMemory) → why ≡ fault.NoMemory
       same_fault why is = cc
 
@@ -168,6 +180,14 @@ module _ (scan : List ℕ → Finding) (answer : Request → Exit) (r : Reading)
 
   idle : IsIdleRun rest
   idle = record { events = nothing; later = nothing_added moments }
+
+  -- nothing is written
+  idle_rests : (order : Option Order) → (HasEnded said → order ≡ None) → RestsFrom order rest moments.now moments.now
+  idle_rests None unordered = tt
+  idle_rests (Some order) unordered = λ clean resting none. record {
+    fewer = subst (Shrinks moments.now) (sym (nothing_added moments)) tt;
+    same = λ is. let nothing : ⊥ = cc (unordered is) in absurd nothing;
+  }
 
   -- where nothing is to be built, or after a fault or out of memory
   pub runs_idle : (HasEnded said → order_of r ≡ None) → RunsAs scan answer r rest moments.now moments.now
@@ -191,6 +211,7 @@ module _ (scan : List ℕ → Finding) (answer : Request → Exit) (r : Reading)
         whole = λ is. subst (IsWhole s) (sym nothing) (whole is);
         recorded = λ is position inside. absurd (no_file is position inside);
         emptied = λ is clean. absurd (false≢true (sym (ap (λ (o : Option Order). (unwrap_or o no_order).clean) (unordered is)) ∙ clean));
+        rests = idle_rests (order_of r) unordered;
         right = right_step scan answer (order_of r) rest moments.now (readable_now moments sound) step;
         exact = λ is halts. record {
           started = all_started answer s (empty is) (compile_part (since journal journal)) (subst (IsWhole s) (sym nothing) (whole is)) (subst (Answered answer) (sym nothing) tt) halts;

@@ -13,9 +13,10 @@ use Rattle.run_spec.specs.declared.marks.Mark.{Mark}
 use Rattle.run_spec.specs.declared.marks.Mark.TheVariants as mark
 use Rattle.base_outcomes.specs.declared.outcome.Outcome.{Outcome}
 use Rattle.base_outcomes.specs.declared.outcome.Outcome.TheVariants as outcome
-use Rattle.outside.specs.Disks.{Moments, AreSound, added_since}
+use Rattle.outside.specs.Disks.{Moments, AreSound, Rests, added_since, reads_of}
 use Rattle.run_spec.specs.ChildJournal.{Work, since}
 use Rattle.run_spec.specs.JournalParts.{compile_part, test_part}
+use Rattle.run_spec.specs.Commits.{commits}
 use Rattle.run_spec.specs.Faithful.{IsFaithfulDisk}
 use Rattle.run_spec.specs.Marks.{marks_of, is_refused}
 use Rattle.run_spec.proofs.Parts.{build_parts}
@@ -31,6 +32,7 @@ use Rattle.test_spec.specs.declared.ends.TestEnd.{TestEnd}
 use Rattle.test_spec.specs.declared.ends.RunEnd.{RunEnd}
 use Rattle.test_journal.specs.TestJournal.{TestSetting, IsWholeTests}
 use Rattle.test_loop.specs.Results.{test_ends}
+use Rattle.run_build.specs.Building.{RestsOver}
 use Rattle.run_tested.specs.declared.testing.Tested.{Tested}
 use Rattle.run_tested.specs.Tested.{SaysTests, TestsOver, setting_after}
 use Rattle.run_tested_laws.specs.Histories.{HasTested}
@@ -39,13 +41,14 @@ use Rattle.run_tested_laws.proofs.TestedRights.{tests_right}
 use Rattle.report_tested.specs.declared.said.RunSaid.{RunSaid}
 use Rattle.report_tested.specs.declared.said.TestWords.{TestWords}
 use Rattle.report_tested.specs.Said.{run_said}
+use Rattle.store_requests.specs.Stored.{IsResting}
 use Rattle.vunit_top.specs.Store.{records_in_image}
 use Rattle.vunit_top.specs.Acts.{Object, Disk, Children, Out, Reports, Seen, RunsTests, marks_between, setting_between, tests_since, said_between}
 use Rattle.vunit_top.specs.Ends.{WritesReport}
 use Rattle.vunit_top.specs.Reading.{Testing, Builds, Runs}
-use Rattle.vunit_top.specs.Runs.{RunsAs, run_of}
+use Rattle.vunit_top.specs.Runs.{RunsAs, WritesNothing, run_of}
 use Rattle.vunit_top.specs.Said.{Causes, IsAccounted, IsSaid, HasEnded, HasBuilt, SaysRun, Said, fault_counts, fault_outcome, plain_run}
-use Rattle.vunit_top.proofs.RunTruths.{built_refuses_none, built_said, readable_now, runs_over}
+use Rattle.vunit_top.proofs.RunTruths.{built_refuses_none, built_said, readable_now, runs_over, writes_nothing}
 
 -- files that are made aren't refused
 made_refuses_none : (marks : List Mark) → list_all is_made marks ≡ true → list_any is_refused marks ≡ false
@@ -128,6 +131,7 @@ as_run scan answer asked run first last did = record {
   whole = did.whole;
   recorded = did.recorded;
   emptied = did.emptied;
+  rests = did.rests;
   right = did.right;
   exact = did.exact;
   made = did.made;
@@ -146,24 +150,29 @@ module _ (scan : List ℕ → Finding) (answer : Request → Exit) (asked : Test
   abbrev Over : Result Tested BuildFault → Type 0
   Over result = TestsOver records_in_image answer asked.order asked.plan result failed old new events
 
+  -- it keeps the records, and has none to commit
+  abbrev Quiet : Result Tested BuildFault → Type 0
+  Quiet result = RestsOver records_in_image (λ image. IsResting image) asked.order result old new (compile_part events)
+
   ran_over : (result : Result Tested BuildFault) (over : Over result) (words : List (List ℕ)) (said : Outcome) → (over.build ≡ Err fault.NoMemory → said ≡ outcome.NoMemory) → (HasEnded said → (marks : List Mark) × (over.build ≡ Ok marks)) →
-      (HasBuilt said → list_any is_refused (marks_of work over.compiled) ≡ false) → RunsAs scan answer (Runs asked) (run_of words said failed events (added_since old new)) old.now new.now
-  ran_over result over words said memory ends none =
+      (HasBuilt said → list_any is_refused (marks_of work over.compiled) ≡ false) → Quiet result → (HasEnded said → (tested : Tested) × (result ≡ Ok tested)) → RunsAs scan answer (Runs asked) (run_of words said failed events (added_since old new)) old.now new.now
+  ran_over result over words said memory ends none rests answers =
       as_run scan answer asked (run_of words said failed events (added_since old new)) old.now new.now
       (subst (λ (l : List Event). RunsAs scan answer (Builds asked.order asked.warnings) (record { words = words; outcome = said; disk_failed = failed; events = l; later = added_since old new }) old.now new.now)
       ((build_parts work over.compiled over.builds.lawful).0 ∙ sym over.compilers)
-      (runs_over scan answer asked.order asked.warnings over.build failed old new sound over.compiled over.builds words said memory ends none))
+      (runs_over scan answer asked.order asked.warnings over.build failed old new sound over.compiled over.builds words said memory ends none
+      (λ clean resting nothing. writes_nothing result old new (HasEnded said) answers (rests clean resting (ap (commits work) over.compilers ∙ nothing)))))
 
-  pub ran_ended : (tested : Tested) → Over (Ok tested) → (words : List (List ℕ)) (said : Outcome) → (IsSaid said → said ≡ (run_said asked.warnings asked.order.graph tested.marks asked.plan.runs asked.words tested.tests).outcome) →
+  pub ran_ended : (tested : Tested) → Over (Ok tested) → (words : List (List ℕ)) (said : Outcome) → (IsSaid said → said ≡ (run_said asked.warnings asked.order.graph tested.marks asked.plan.runs asked.words tested.tests).outcome) → Quiet (Ok tested) →
       RunsAs scan answer (Runs asked) (run_of words said failed events (added_since old new)) old.now new.now
-  ran_ended tested over words said answered =
+  ran_ended tested over words said answered rests =
       ran_over (Ok tested) over words said (λ is. let nothing : Ok tested.marks ≡ Err fault.NoMemory = sym over.gives.0 ∙ is in absurd cc) (λ is. (tested.marks, over.gives.0))
       (λ is. subst (λ (m : List Mark). list_any is_refused m ≡ false) (marked answer asked failed old new events tested over)
-      (none_refused (setting_after asked.order asked.plan work over.compiled) asked.warnings asked.order.graph tested.marks asked.plan.runs asked.words tested.tests over.tests said over.gives.1 is (answered (built_said said is))))
+      (none_refused (setting_after asked.order asked.plan work over.compiled) asked.warnings asked.order.graph tested.marks asked.plan.runs asked.words tested.tests over.tests said over.gives.1 is (answered (built_said said is)))) rests (λ is. (tested, refl))
 
-  pub ran_faulted : (why : BuildFault) → Over (Err why) → (words : List (List ℕ)) → RunsAs scan answer (Runs asked) (run_of words (fault_outcome why) failed events (added_since old new)) old.now new.now
-  ran_faulted why over words =
-      ran_over (Err why) over words (fault_outcome why) (λ is. ap fault_outcome (same_fault why fault.NoMemory (over.stops fault.NoMemory is).0)) (λ is. absurd (never_ended why is)) (λ is. absurd (never_built why is)) where
+  pub ran_faulted : (why : BuildFault) → Over (Err why) → (words : List (List ℕ)) → Quiet (Err why) → RunsAs scan answer (Runs asked) (run_of words (fault_outcome why) failed events (added_since old new)) old.now new.now
+  ran_faulted why over words rests =
+      ran_over (Err why) over words (fault_outcome why) (λ is. ap fault_outcome (same_fault why fault.NoMemory (over.stops fault.NoMemory is).0)) (λ is. absurd (never_ended why is)) (λ is. absurd (never_built why is)) rests (λ is. absurd (never_ended why is)) where
         same_fault : (why other : BuildFault) → ◌≡◌ {A = Result Tested BuildFault} (Err why) (Err other) → why ≡ other
         same_fault why other is = cc
 

@@ -1,22 +1,22 @@
 -- What a run of the program did: a step of a history, and what follows of it.
-use Rattle.std.specs.Prelude.{◌≡◌, ◌↔◌, ℕ, ◌<◌, Bool, true, List, length, Some, is_some, Contains}
+use Rattle.std.specs.Prelude.{◌≡◌, ◌↔◌, ℕ, ◌<◌, Bool, true, false, List, [], length, Option, Some, None, is_some, Contains}
 use Rattle.base.specs.declared.child.Request.{Request}
 use Rattle.base.specs.declared.child.Exit.{Exit}
 use Rattle.base.specs.declared.child.Event.{Event}
 use Rattle.base_outcomes.specs.declared.outcome.Outcome.{Outcome}
-use Rattle.outside.specs.Disks.{DiskState, EachImage}
+use Rattle.outside.specs.Disks.{DiskState, EachImage, Shrinks, reads_of, settled_disk}
 use Rattle.outside.specs.Commits.{last_state}
 use Rattle.run_spec.specs.ChildJournal.{Work, IsWhole, book_of, artefact_after}
 use Rattle.run_spec.specs.Settled.{request_unless}
 use Rattle.run_spec.specs.Commits.{commits}
 use Rattle.run_spec.specs.Faithful.{IsFaithfulDisk}
-use Rattle.run_histories.specs.Histories.{World, ProgramRun, RunStep, work_over}
+use Rattle.run_histories.specs.Histories.{Order, World, ProgramRun, RunStep, work_over}
 use Rattle.run_spec.specs.JournalParts.{compile_part}
 use Rattle.run_spec.specs.Marks.{marks_of, steady_marks, NoRefusalHalts}
 use Rattle.run_laws.specs.Rights.{IsRightStep}
 use Rattle.vhdl_spec.specs.Scans.{Finding}
 use Rattle.run_tested_laws.specs.Histories.{TestedWorld}
-use Rattle.vunit_top.specs.Store.{records_in_image}
+use Rattle.vunit_top.specs.Store.{IsRestingDisk, records_in_image}
 use Rattle.run_build.specs.Orders.{IsDurablyRecorded}
 use Rattle.vunit_top.specs.Reading.{Reading, reading}
 use Rattle.vunit_top.specs.Said.{HasEnded, HasBuilt, order_of, order_in, plan_in}
@@ -39,18 +39,30 @@ pub record IsExact (answer : Request → Exit) (setting : Work) (events : List E
   pub started : (position : ℕ) → Contains (book_of setting events).taken position ↔ ((request : Request) × (request_unless answer setting.graph setting.current position ≡ Some request))
   pub steady : marks_of setting events ≡ steady_marks answer setting.graph setting.current
 
+-- Nothing was written to a disk from its first moment through later ones: no image was added at any moment; and a run that
+-- has ended left what reads gave before it, synced.
+pub record WritesNothing (ended : Type 0) (first : DiskState) (later : List DiskState) (last : DiskState) : Type 0 where
+  pub fewer : Shrinks first later
+  pub same : ended → last ≡ settled_disk (reads_of first)
+
+-- A run that builds over the records of a disk that opening leaves as it is, and commits none, writes nothing.
+abbrev pub RestsFrom : Option Order → ProgramRun → (first last : DiskState) → Type 0
+RestsFrom None run first last = Unit {0}
+RestsFrom (Some order) run first last = order.clean ≡ false → IsRestingDisk first → commits (work_over records_in_image order first) run.events ≡ [] → WritesNothing (HasEnded run.outcome) first run.later last
+
 -- What a run did, over the moment of the disk before it and the last one. It is the step of a history, which goes on from
 -- that last moment. Where it has ended its build did so by itself, and each file that is made has a record of its present
 -- view in whatever a stop can leave; with a store that is to be emptied that has the records of this build alone. Where it
--- has ended and no refusal halted it, it is exact; and where it is done, or its tests failed, each file is made. From a disk
--- of true records it is right: at each of its moments a stop can leave true records alone, and each compiler is asked what a
--- clean build asks it.
+-- has ended and no refusal halted it, it is exact; and where it is done, or its tests failed, each file is made. Where nothing
+-- is due to be written, it writes nothing. From a disk of true records it is right: at each of its moments a stop can leave
+-- true records alone, and each compiler is asked what a clean build asks it.
 pub record RunsAs (scan : List ℕ → Finding) (answer : Request → Exit) (r : Reading) (run : ProgramRun) (first last : DiskState) : Type 0 where
   pub step : RunStep (world_of scan answer) (order_of r) run first
   pub ends : last_state first run.later ≡ last
   pub whole : HasEnded run.outcome → IsWhole (work_over records_in_image (order_in r) first) run.events
   pub recorded : HasEnded run.outcome → (position : ℕ) → position < length (order_in r).graph → is_some (artefact_after (work_over records_in_image (order_in r) first) run.events position) ≡ true → IsDurablyRecorded records_in_image last (order_in r).graph position
   pub emptied : HasEnded run.outcome → (order_in r).clean ≡ true → EachImage (λ image. records_in_image image ≡ commits (work_over records_in_image (order_in r) first) run.events) last
+  pub rests : RestsFrom (order_of r) run first last
   pub right : IsFaithfulDisk answer records_in_image first → IsRightStep (world_of scan answer) (order_of r) run first
   pub exact : HasEnded run.outcome → NoRefusalHalts (work_over records_in_image (order_in r) first) run.events → IsExact answer (work_over records_in_image (order_in r) first) run.events
   pub made : HasBuilt run.outcome → (position : ℕ) → position < length (order_in r).graph → is_some (artefact_after (work_over records_in_image (order_in r) first) run.events position) ≡ true

@@ -1,9 +1,14 @@
--- The store of the program: which records an image of its disk holds.
+-- The store of the program: which records an image of its disk holds, and which disks opening leaves as they are.
 use Rattle.std.specs.Prelude.{List}
 use Rattle.outside.specs.Records.{Record}
-use Rattle.outside.specs.Disks.{Image}
-use Rattle.store_requests.specs.Stored.{requests_in}
+use Rattle.outside.specs.Disks.{DiskState, Image, reads_of}
+use Rattle.store_requests.specs.Stored.{IsResting, requests_in}
 
 -- the records that an image holds
 abbrev pub records_in_image : Image → List Record
 records_in_image = requests_in
+
+-- Opening leaves a disk as it is: reads give a side of the present form that counts, its last gate is closed, and what it holds
+-- asks for no compaction.
+abbrev pub IsRestingDisk : DiskState → Type 0
+IsRestingDisk disk = IsResting (reads_of disk)

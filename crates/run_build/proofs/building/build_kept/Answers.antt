@@ -1,6 +1,7 @@
 -- Answers to the goals of `build_kept`.
 use Rattle.std.proofs.Common.{Ok, Err, false, not, ap}
-use Rattle.run_build.proofs.OverStore.{since_itself, no_test_since, not_opened, opened_over, opened_lent, none_tested, knows_if, usable_if}
+use Rattle.run_build.proofs.OverStore.{since_itself, no_test_since, not_opened, opened_over, opened_lent, opened_untouched, none_tested, knows_if, usable_if, rests_failed, rests_still}
+use Rattle.run_build.specs.Orders.{order_by}
 use Rattle.run_build.proofs.building.build_kept.Goals as goal
 
 pub returns-in-Ok-build_marks-clause-told : goal.returns-in-Ok-build_marks-clause-told
@@ -69,3 +70,33 @@ returns-in-Err-NoMemory-clause-no_tests g c = λ runs. no_test_since (g.P.Procs.
 
 pub returns-in-Err-DiskFailed-clause-no_tests : goal.returns-in-Err-DiskFailed-clause-no_tests
 returns-in-Err-DiskFailed-clause-no_tests g c = λ runs. no_test_since (g.P.Procs.journal c.args.procs.now)
+
+pub returns-in-Ok-build_marks-clause-rests : goal.returns-in-Ok-build_marks-clause-rests
+returns-in-Ok-build_marks-clause-rests g c = λ tells runs clean resting none.
+    let made = c.in-Ok-build_marks.ensures in
+    let opened = c.in-Ok.ensures.opens tells in
+    let opening = c.in-Ok.ensures.in_step tells in
+    rests_still _ _ _ _ _ (c.in-Ok.ensures.rests tells clean resting)
+    (opened_untouched g.K.Records.records_of (g.P.Procs.answer c.args.procs.now) (order_by c.args.options c.args.graph.now) c.len.ensures.graph (g.D.Disk.moments c.args.disk.now) (g.D.Disk.moments c.open_store.new.disk) (g.D.Disk.moments c.build_marks.new.disk)
+    (g.met.D.Disk.sound c.build_marks.new.disk) opened.follows opened.opening opened.base
+    (g.K.Records.latest_of c.in-Ok.field-0.store) (g.K.Records.latest_of c.build_marks.new.store) (record { durable = g.met.K.Records.durable _ _ opening; held = λ name. g.met.K.Records.held _ _ name opening })
+    _ _ runs tells (Ok c.in-Ok-build_marks.marks) (g.P.Procs.journal c.args.procs.now) (g.P.Procs.journal c.build_marks.new.procs) _ false
+    made.ran none)
+
+pub returns-in-Err-clause-rests : goal.returns-in-Err-clause-rests
+returns-in-Err-clause-rests g c = λ tells runs clean resting none.
+    let made = c.in-Err.ensures in
+    let opened = c.in-Ok.ensures.opens tells in
+    let opening = c.in-Ok.ensures.in_step tells in
+    rests_still _ _ _ _ _ (c.in-Ok.ensures.rests tells clean resting)
+    (opened_untouched g.K.Records.records_of (g.P.Procs.answer c.args.procs.now) (order_by c.args.options c.args.graph.now) c.len.ensures.graph (g.D.Disk.moments c.args.disk.now) (g.D.Disk.moments c.open_store.new.disk) (g.D.Disk.moments c.build_marks.new.disk)
+    (g.met.D.Disk.sound c.build_marks.new.disk) opened.follows opened.opening opened.base
+    (g.K.Records.latest_of c.in-Ok.field-0.store) (g.K.Records.latest_of c.build_marks.new.store) (record { durable = g.met.K.Records.durable _ _ opening; held = λ name. g.met.K.Records.held _ _ name opening })
+    _ _ runs tells (Err c.in-Err.fault) (g.P.Procs.journal c.args.procs.now) (g.P.Procs.journal c.build_marks.new.procs) _ false
+    made.ran none)
+
+pub returns-in-Err-NoMemory-clause-rests : goal.returns-in-Err-NoMemory-clause-rests
+returns-in-Err-NoMemory-clause-rests g c = λ tells runs clean resting none. rests_failed _ _ _ _ (c.in-Err-NoMemory.ensures.rests tells clean resting)
+
+pub returns-in-Err-DiskFailed-clause-rests : goal.returns-in-Err-DiskFailed-clause-rests
+returns-in-Err-DiskFailed-clause-rests g c = λ tells runs clean resting none. rests_failed _ _ _ _ (c.in-Err-DiskFailed.ensures.rests tells clean resting)

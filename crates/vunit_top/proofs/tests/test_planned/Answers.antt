@@ -8,6 +8,7 @@ use Rattle.vunit_top.proofs.tests.test_planned.Goals as goal
 pub returns-in-Ok-clause-ran : goal.returns-in-Ok-clause-ran
 returns-in-Ok-clause-ran g c = λ scan words tells runs.
     ran_ended scan _ (testing_with c.args.options.now c.args.read.now c.args.planned.runs c.args.planned.warnings) _ (g.D.Disk.moments c.args.disk.now) _ (g.met.D.Disk.sound c.args.disk.now) _ c.in-Ok.tested (c.in-Ok.ensures.told tells runs) words c.say_tested.result c.say_tested.ensures.answer
+    (c.in-Ok.ensures.rests tells runs)
 
 pub returns-in-Ok-clause-runs : goal.returns-in-Ok-clause-runs
 returns-in-Ok-clause-runs g c =
@@ -22,7 +23,7 @@ returns-in-Ok-clause-runs g c =
 pub returns-in-Err-clause-ran : goal.returns-in-Err-clause-ran
 returns-in-Err-clause-ran g c = λ scan words tells runs.
     rw c.fault_outcome.ensures
-    (ran_faulted scan _ (testing_with c.args.options.now c.args.read.now c.args.planned.runs c.args.planned.warnings) _ (g.D.Disk.moments c.args.disk.now) _ (g.met.D.Disk.sound c.args.disk.now) _ c.in-Err.fault (c.in-Err.ensures.told tells runs) words)
+    (ran_faulted scan _ (testing_with c.args.options.now c.args.read.now c.args.planned.runs c.args.planned.warnings) _ (g.D.Disk.moments c.args.disk.now) _ (g.met.D.Disk.sound c.args.disk.now) _ c.in-Err.fault (c.in-Err.ensures.told tells runs) words (c.in-Err.ensures.rests tells runs))
 
 pub returns-in-Err-clause-runs : goal.returns-in-Err-clause-runs
 returns-in-Err-clause-runs g c =
