@@ -21,6 +21,7 @@ use Rattle.outside.specs.Children.{started_with}
 use Rattle.outside.specs.Disks.{Image, Moments, IsDurable, reads_of}
 use Rattle.outside.specs.Commits.{CommitsFirst}
 use Rattle.outside.proofs.CommitLaws.{commits_nothing}
+use Rattle.outside.specs.FaultCounts.{BuildFaultCounts}
 use Rattle.run_spec.specs.Moves.{Core, empty_core, is_taken, is_made_so_far, LawfulMoves, GreedyMoves, IsFinished}
 use Rattle.run_spec.specs.ChildJournal.{Work, Run, End, artefact_so_far, job_of, core_of, after_all, book_of, moves_after, AreRequested, EachAfter, Lawful, exit_at, artefact_after, files_below}
 use Rattle.run_spec.specs.Marks.{mark_of, mark_at, marks_of}
@@ -32,7 +33,7 @@ use Rattle.build_loop.specs.Marks.{waiting_mark, known_mark, known_marks}
 use Rattle.build_loop.specs.declared.faults.BuildFault.{BuildFault}
 use Rattle.build_loop.specs.declared.faults.BuildFault.TheVariants.{NoMemory}
 use Rattle.build_loop.specs.Commits.{Acknowledges, HoldsFirst}
-use Rattle.build_loop.specs.Faults.{is_all_committed, FaultCounts, CountsBy}
+use Rattle.build_loop.specs.Faults.{is_all_committed, CountsBy}
 use Rattle.build_loop.specs.UnderWay.{Origin, BuildState, with_machine, Told, work_from, IsUnderWay, IsJournalled, GoesOn, Goes}
 use Rattle.run_steps.specs.Steps.{halted_if}
 use Rattle.build_loop.specs.Ran.{BuildObjects, BuildRan, is_made}
@@ -194,9 +195,9 @@ module _ (tells told : Type 0) (answer : Request → Exit) (records_of : Image �
       }
 
 -- no fault was counted yet
-pub counts_at_first : (broken : Bool) (first : FaultCounts) → broken ≡ false → CountsBy None broken first first
+pub counts_at_first : (broken : Bool) (first : BuildFaultCounts) → broken ≡ false → CountsBy None broken first first
 counts_at_first broken first usable = record {
-  none_fell = record { starts = omega arith; losses = omega arith; disks = omega arith };
+  none_fell = record { children = record { starts = omega arith; losses = omega arith }; disks = omega arith };
   explains = refl;
   start_first = tt;
   breaks = λ b. absurd (false≢true (sym usable ∙ b));

@@ -3,6 +3,7 @@ use Rattle.std.specs.Prelude.{◌≡◌, ℕ, ◌<◌, ◌≤◌, Bool, true, fa
 use Rattle.std.specs.List.{list_any, take_while}
 use Rattle.base.specs.declared.child.Event.{Event}
 use Rattle.outside.specs.Counts.{Rose, Counted}
+use Rattle.outside.specs.FaultCounts.{BuildFaultCounts, NoBuildCountFell}
 use Rattle.run_spec.specs.ChildJournal.{Work, is_gone}
 use Rattle.run_spec.specs.Commits.{commits}
 use Rattle.build_loop.specs.declared.faults.BuildFault.{BuildFault}
@@ -44,38 +45,26 @@ abbrev pub fault_of : {T : Type 0} → Result T BuildFault → Option BuildFault
 fault_of (Ok value) = None
 fault_of (Err fault) = Some fault
 
--- how often starts have failed, children were lost, and calls of the disk have failed
-pub record FaultCounts : Type 0 where
-  pub starts : ℕ
-  pub losses : ℕ
-  pub disks : ℕ
-
--- no count has fallen
-pub record NoneFell (first now : FaultCounts) : Type 0 where
-  pub starts : first.starts ≤ now.starts
-  pub losses : first.losses ≤ now.losses
-  pub disks : first.disks ≤ now.disks
-
 -- where no fault is answered all counts are unchanged; else the count of that fault rose, and others may have
-abbrev pub Explains : Option BuildFault → FaultCounts → FaultCounts → Type 0
+abbrev pub Explains : Option BuildFault → BuildFaultCounts → BuildFaultCounts → Type 0
 Explains None first now = now ≡ first
 Explains (Some NoMemory) first now = Unit {0}
-Explains (Some StartFailed) first now = Rose first.starts now.starts
-Explains (Some ChildLost) first now = Rose first.losses now.losses
+Explains (Some StartFailed) first now = Rose first.children.starts now.children.starts
+Explains (Some ChildLost) first now = Rose first.children.losses now.children.losses
 Explains (Some DiskFailed) first now = Rose first.disks now.disks
 
 -- a lost child or a failed call of the disk is answered only where no start has failed: after either none is tried
-abbrev pub NoStartFailed : Option BuildFault → FaultCounts → FaultCounts → Type 0
+abbrev pub NoStartFailed : Option BuildFault → BuildFaultCounts → BuildFaultCounts → Type 0
 NoStartFailed None first now = Unit {0}
 NoStartFailed (Some NoMemory) first now = Unit {0}
 NoStartFailed (Some StartFailed) first now = Unit {0}
-NoStartFailed (Some ChildLost) first now = now.starts ≡ first.starts
-NoStartFailed (Some DiskFailed) first now = now.starts ≡ first.starts
+NoStartFailed (Some ChildLost) first now = now.children.starts ≡ first.children.starts
+NoStartFailed (Some DiskFailed) first now = now.children.starts ≡ first.children.starts
 
 -- What the counts say of a build: they explain its fault, a failed start is answered before a lost child and before the
 -- disk, none fell, and the store is broken only where the disk failed.
-pub record CountsBy (noted : Option BuildFault) (broken : Bool) (first now : FaultCounts) : Type 0 where
-  pub none_fell : NoneFell first now
+pub record CountsBy (noted : Option BuildFault) (broken : Bool) (first now : BuildFaultCounts) : Type 0 where
+  pub none_fell : NoBuildCountFell first now
   pub explains : Explains noted first now
   pub start_first : NoStartFailed noted first now
   pub breaks : broken ≡ true → Rose first.disks now.disks

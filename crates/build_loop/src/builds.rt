@@ -6,6 +6,7 @@ ghost use Rattle.std.specs.Result.{is_ok};
 ghost use Rattle.base.specs.Graphs.{IsGraph};
 ghost use Rattle.run_spec.specs.declared.marks.Mark.{Mark};
 ghost use Rattle.outside.specs.Records.{IsRecorded};
+ghost use Rattle.outside.specs.FaultCounts.{build_counts};
 ghost use Rattle.run_spec.specs.Moves.{empty_core};
 ghost use Rattle.build_slots.specs.Machines.{IsMachineOf, is_stopped_in, tickets_of, files_of};
 ghost use Rattle.run_spec.specs.Marks.{marks_of};
@@ -111,16 +112,8 @@ pub fn build_marks<K: Records, D: Disk, P: Procs>(
         OnFalse (K.broken store.new) (K.in_step store.new (D.moments disk.new).now) }
     ensures usable { OnOk result (K.broken store.new ≡ false) }
     ensures counts { CountsBy (fault_of result) (K.broken store.new)
-        (record {
-          starts = P.failed_starts procs.old;
-          losses = P.lost_children procs.old;
-          disks = D.failed_disk_calls disk.old;
-        })
-        (record {
-          starts = P.failed_starts procs.new;
-          losses = P.lost_children procs.new;
-          disks = D.failed_disk_calls disk.new;
-        }) }
+        (build_counts P.Procs D.Disk procs.old disk.old)
+        (build_counts P.Procs D.Disk procs.new disk.new) }
 {
     let Ok(
         Begun {

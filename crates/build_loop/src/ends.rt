@@ -12,13 +12,14 @@ ghost use Rattle.outside.specs.Children.{FitsExit, without, ended_ticket, end_ev
 ghost use Rattle.outside.specs.Counts.{ChildCounts};
 ghost use Rattle.run_spec.specs.Moves.{Job, Core, is_running};
 ghost use Rattle.outside.specs.Disks.{Moments};
+ghost use Rattle.outside.specs.FaultCounts.{BuildFaultCounts, ChildFaultCounts, build_counts};
 ghost use Rattle.run_steps.specs.declared.step.Step.TheVariants.{Wait};
 ghost use Rattle.build_slots.specs.declared.step.BuildStep.TheVariants.{Run};
 ghost use Rattle.build_slots.specs.Machines.{IsMachineOf, next_of, tickets_of, files_of, to_come};
 ghost use Rattle.run_spec.specs.Commits.{commits};
 ghost use Rattle.build_loop.specs.Commits.{HoldsFirst};
 ghost use Rattle.build_loop.specs.Requests.{AreRecorded, KeepsFirst};
-ghost use Rattle.build_loop.specs.Faults.{FaultCounts, CountsBy, noted_with, is_of_disk};
+ghost use Rattle.build_loop.specs.Faults.{CountsBy, noted_with, is_of_disk};
 ghost use Rattle.build_loop.specs.UnderWay.{Origin, BuildState, with_machine, work_from, IsUnderWay, IsGoing, TakesEnd, Goes};
 
 use crate::commits::commit_made;
@@ -61,14 +62,11 @@ fn lose_by(slots: &mut Slots, noted: &mut Option<BuildFault>, fault: WaitFault)
         IsUnderWay graph from events acknowledged (with_machine slots.old noted.old state) →
         IsUnderWay graph from (events ++ end_event (Err fault) ∷ []) acknowledged
         (with_machine slots.new noted.new state) }
-    ensures counts { (first now : FaultCounts) (losses : ℕ) (broken : Bool) →
-        ChildCounts {T = Ended} (Err fault) now.losses losses →
+    ensures counts { (first now : BuildFaultCounts) (losses : ℕ) (broken : Bool) →
+        ChildCounts {T = Ended} (Err fault) now.children.losses losses →
         CountsBy noted.old broken first now →
-        CountsBy noted.new broken first (record {
-          starts = now.starts;
-          losses = losses;
-          disks = now.disks;
-        }) }
+        CountsBy noted.new broken first
+        (record now { children = record now.children { losses = losses } }) }
 {
     match fault {
         WaitFault::NoMemory { ticket } => lose(slots, noted, ticket, BuildFault::NoMemory),
@@ -136,17 +134,11 @@ fn take_exit<K: Records, D: Disk>(
         (D.moments disk.old)) →
         TakesEnd D.tells K.records_of graph.now from (events ++ event.Ended ticket exit ∷ []) after
         (D.moments disk.new) }
-    ensures counts { (first : FaultCounts) (starts losses : ℕ) →
-        CountsBy noted.old (K.broken store.old) first (record {
-          starts = starts;
-          losses = losses;
-          disks = D.failed_disk_calls disk.old;
-        }) →
-        CountsBy noted.new (K.broken store.new) first (record {
-          starts = starts;
-          losses = losses;
-          disks = D.failed_disk_calls disk.new;
-        }) }
+    ensures counts { (first : BuildFaultCounts) (children : ChildFaultCounts) →
+        CountsBy noted.old (K.broken store.old) first
+        (record { children = children; disks = D.failed_disk_calls disk.old }) →
+        CountsBy noted.new (K.broken store.new) first
+        (record { children = children; disks = D.failed_disk_calls disk.new }) }
 {
     let Exit {
         code,
@@ -223,19 +215,11 @@ pub(crate) fn end_one<K: Records, D: Disk, P: Procs>(
         (record { journal = P.journal procs.old; moments = D.moments disk.old }) →
         Goes P.tells D.tells (P.answer procs.old) K.records_of graph.now from after
         (record { journal = P.journal procs.new; moments = D.moments disk.new }) }
-    ensures counts { (first : FaultCounts) →
+    ensures counts { (first : BuildFaultCounts) →
         CountsBy noted.old (K.broken store.old) first
-        (record {
-          starts = P.failed_starts procs.old;
-          losses = P.lost_children procs.old;
-          disks = D.failed_disk_calls disk.old;
-        }) →
+        (build_counts P.Procs D.Disk procs.old disk.old) →
         CountsBy noted.new (K.broken store.new) first
-        (record {
-          starts = P.failed_starts procs.new;
-          losses = P.lost_children procs.new;
-          disks = D.failed_disk_calls disk.new;
-        }) }
+        (build_counts P.Procs D.Disk procs.new disk.new) }
 {
     match procs.wait_any(alloc) {
         Ok(Ended { ticket, exit }) => {

@@ -9,12 +9,13 @@ ghost use Rattle.base.specs.declared.child.Request.{Request};
 ghost use Rattle.run_spec.specs.declared.marks.Mark.{Mark};
 ghost use Rattle.outside.specs.Children.{IsFresh, without};
 ghost use Rattle.outside.specs.Records.{Record, IsRecorded, deps_at};
+ghost use Rattle.outside.specs.FaultCounts.{BuildFaultCounts, child_counts};
 ghost use Rattle.run_spec.specs.Moves.{Job, Core};
 ghost use Rattle.run_steps.specs.declared.step.Step.TheVariants.{Start};
 ghost use Rattle.build_slots.specs.declared.step.BuildStep.TheVariants.{Run};
 ghost use Rattle.build_slots.specs.Machines.{IsMachineOf, is_checked, is_stopped_in, next_of, tickets_of, files_of, to_come};
 ghost use Rattle.build_loop.specs.Requests.{lent_request, IsGathered};
-ghost use Rattle.build_loop.specs.Faults.{FaultCounts, CountsBy, CountsStart, noted_with};
+ghost use Rattle.build_loop.specs.Faults.{CountsBy, CountsStart, noted_with};
 ghost use Rattle.build_loop.specs.UnderWay.{Origin, BuildState, with_machine, work_from, IsUnderWay, IsJournalled, GoesOn};
 ghost use Rattle.run_steps.specs.Steps.{halted_if};
 
@@ -117,17 +118,11 @@ pub(crate) fn start_one<K: Records, P: Procs>(
         from.journal (P.journal procs.old)) →
         GoesOn P.tells (P.answer procs.old) graph.now from events acknowledged
         (with_machine slots.new noted.new before) (P.journal procs.new) }
-    ensures counts { (first : FaultCounts) (disks : ℕ) (broken : Bool) →
-        CountsBy noted.old broken first (record {
-          starts = P.failed_starts procs.old;
-          losses = P.lost_children procs.old;
-          disks = disks;
-        }) →
-        CountsBy noted.new broken first (record {
-          starts = P.failed_starts procs.new;
-          losses = P.lost_children procs.new;
-          disks = disks;
-        }) }
+    ensures counts { (first : BuildFaultCounts) (disks : ℕ) (broken : Bool) →
+        CountsBy noted.old broken first
+        (record { children = child_counts P.Procs procs.old; disks = disks }) →
+        CountsBy noted.new broken first
+        (record { children = child_counts P.Procs procs.new; disks = disks }) }
 {
     match try_start(alloc, graph, at, store, seats, gathered, procs) {
         Ok(ticket) => slots.started(at, ticket),

@@ -1,5 +1,5 @@
 -- What was done with the generated project, from its parts.
-use Rattle.std.proofs.Common.{◌≡◌, ℕ, true, false, List, [], ◌++◌, Result, Ok, Err, OnOk, IfOk, refl, sym, ap, subst, ◌∙◌, arith}
+use Rattle.std.proofs.Common.{◌≡◌, ℕ, true, false, List, [], ◌++◌, Result, Ok, Err, OnOk, IfOk, refl, sym, ap, subst, ◌∙◌}
 use Rattle.std.specs.Prelude.{count_by}
 use Rattle.std.specs.List.{list_all}
 use Rattle.std.proofs.lemmas.Bool.{cond-true, cond-false, false≢true}
@@ -17,7 +17,6 @@ use Rattle.run_spec.specs.Marks.{is_compiled, marks_of}
 use Rattle.run_spec.proofs.Journal.{since-added}
 use Rattle.run_spec.proofs.Prefixes.{lawful_none}
 use Rattle.build_loop.specs.declared.faults.BuildFault.{BuildFault}
-use Rattle.build_loop.specs.Faults.{FaultCounts, NoneFell}
 use Rattle.build_loop.specs.Ran.{is_made}
 use Rattle.test_journal.specs.TestJournal.{TestSetting, LawfulTests, test_moves, AreTestsRequested}
 use Rattle.run_tested.specs.declared.testing.Tested.{Tested}
@@ -44,14 +43,6 @@ pub grown_twice : (old middle new : List Event) → middle ≡ old ++ since old 
 grown_twice old middle new first second =
     ap (since old) (second ∙ ap (λ (l : List Event). l ++ since middle new) first ∙ append_assoc old (since old middle) (since middle new))
     ∙ since-added old (since old middle ++ since middle new)
-
--- counts that don't fall twice
-pub fell_both : {first middle now : FaultCounts} → NoneFell first middle → NoneFell middle now → NoneFell first now
-fell_both one two = record {
-  starts = omega (arith, one.starts, two.starts);
-  losses = omega (arith, one.losses, two.losses);
-  disks = omega (arith, one.disks, two.disks);
-}
 
 same_read : (a b : ReadProject) → Found a ≡ Found b → a ≡ b
 same_read a b is = cc

@@ -1,9 +1,10 @@
 //! The first build of the generated project, over an empty disk.
 
 ghost use Rattle.std.specs.Prelude.{◌≡◌, ◌≤◌, ◌++◌, [], ℕ, Some, length, IfOk};
+ghost use Rattle.outside.specs.FaultCounts.{BuildFaultCounts, NoBuildCountFell, child_counts};
 ghost use Rattle.memory_outside.specs.Disks.{moments_of};
 ghost use Rattle.run_spec.specs.ChildJournal.{since};
-ghost use Rattle.build_loop.specs.Faults.{Explains, FaultCounts, NoneFell, fault_of};
+ghost use Rattle.build_loop.specs.Faults.{Explains, fault_of};
 ghost use Rattle.build_loop.specs.declared.faults.BuildFault.TheVariants as fault;
 ghost use Rattle.generated_runs.specs.Sources.{first_work};
 ghost use Rattle.generated_runs.specs.Ran.{RanFirst};
@@ -20,10 +21,10 @@ use store_requests::RequestStore;
 
 /// Why a build over a disk in memory ended, which fails for want of memory alone.
 pub fn own_fault(fault: BuildFault) -> BuildFault
-    ensures same { (first now : FaultCounts) (disks : ℕ) → Explains (Some fault) first now →
+    ensures same { (first now : BuildFaultCounts) (disks : ℕ) → Explains (Some fault) first now →
         Explains (Some result)
-        (record { starts = first.starts; losses = first.losses; disks = disks })
-        (record { starts = now.starts; losses = now.losses; disks = disks }) }
+        (record first { disks = disks })
+        (record now { disks = disks }) }
 {
     match fault {
         BuildFault::NoMemory => BuildFault::NoMemory,
@@ -52,28 +53,12 @@ pub fn build_first<P: Procs>(
     ensures ran { P.tells →
         RanFirst (P.answer procs.old) (first_work options graph.now) result
         (moments_of disk.new.log).now (since (P.journal procs.old) (P.journal procs.new)) }
-    ensures fell { (disks : ℕ) → NoneFell
-        (record {
-          starts = P.failed_starts procs.old;
-          losses = P.lost_children procs.old;
-          disks = disks;
-        })
-        (record {
-          starts = P.failed_starts procs.new;
-          losses = P.lost_children procs.new;
-          disks = disks;
-        }) }
+    ensures fell { (disks : ℕ) → NoBuildCountFell
+        (record { children = child_counts P.Procs procs.old; disks = disks })
+        (record { children = child_counts P.Procs procs.new; disks = disks }) }
     ensures explains { (disks : ℕ) → Explains (fault_of result)
-        (record {
-          starts = P.failed_starts procs.old;
-          losses = P.lost_children procs.old;
-          disks = disks;
-        })
-        (record {
-          starts = P.failed_starts procs.new;
-          losses = P.lost_children procs.new;
-          disks = disks;
-        }) }
+        (record { children = child_counts P.Procs procs.old; disks = disks })
+        (record { children = child_counts P.Procs procs.new; disks = disks }) }
 {
     let orders = BuildOptions {
         slots: options.slots,

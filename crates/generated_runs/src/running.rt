@@ -3,9 +3,10 @@
 ghost use Rattle.std.specs.Prelude.{◌≡◌, ◌≤◌, ◌++◌, [], ℕ, List, All, length, count_by, IfOk};
 ghost use Rattle.std.specs.List.{list_all};
 ghost use Rattle.outside.specs.Records.{Record};
+ghost use Rattle.outside.specs.FaultCounts.{NoBuildCountFell, child_counts};
 ghost use Rattle.memory_outside.specs.Disks.{moments_of};
 ghost use Rattle.run_spec.specs.ChildJournal.{since};
-ghost use Rattle.build_loop.specs.Faults.{Explains, NoneFell, fault_of};
+ghost use Rattle.build_loop.specs.Faults.{Explains, fault_of};
 ghost use Rattle.vhdl_spec.specs.Scans.{Finding, IsScanner};
 ghost use Rattle.test_spec.specs.Runs.{FitsRun};
 ghost use Rattle.project_reading.specs.Reading.{Found};
@@ -57,28 +58,12 @@ fn test_planned<P: Procs>(
         RanEdited (P.answer procs.old) options (Found read.now) records first result
         (since (P.journal procs.old) (P.journal procs.new)) }
     ensures plain { IfOk result (λ said. IsAnswer said.outcome) }
-    ensures fell { (disks : ℕ) → NoneFell
-        (record {
-          starts = P.failed_starts procs.old;
-          losses = P.lost_children procs.old;
-          disks = disks;
-        })
-        (record {
-          starts = P.failed_starts procs.new;
-          losses = P.lost_children procs.new;
-          disks = disks;
-        }) }
+    ensures fell { (disks : ℕ) → NoBuildCountFell
+        (record { children = child_counts P.Procs procs.old; disks = disks })
+        (record { children = child_counts P.Procs procs.new; disks = disks }) }
     ensures explains { (disks : ℕ) → Explains (fault_of result)
-        (record {
-          starts = P.failed_starts procs.old;
-          losses = P.lost_children procs.old;
-          disks = disks;
-        })
-        (record {
-          starts = P.failed_starts procs.new;
-          losses = P.lost_children procs.new;
-          disks = disks;
-        }) }
+        (record { children = child_counts P.Procs procs.old; disks = disks })
+        (record { children = child_counts P.Procs procs.new; disks = disks }) }
 {
     match test_second(alloc, read, runs, options, disk, procs) {
         Ok(tested) => match tested_said(alloc, options, first, read, &tested) {
@@ -111,28 +96,12 @@ fn test_read<P: Procs>(
         RanEdited (P.answer procs.old) options (Found read.now) records first result
         (since (P.journal procs.old) (P.journal procs.new)) }
     ensures plain { IfOk result (λ said. IsAnswer said.outcome) }
-    ensures fell { (disks : ℕ) → NoneFell
-        (record {
-          starts = P.failed_starts procs.old;
-          losses = P.lost_children procs.old;
-          disks = disks;
-        })
-        (record {
-          starts = P.failed_starts procs.new;
-          losses = P.lost_children procs.new;
-          disks = disks;
-        }) }
+    ensures fell { (disks : ℕ) → NoBuildCountFell
+        (record { children = child_counts P.Procs procs.old; disks = disks })
+        (record { children = child_counts P.Procs procs.new; disks = disks }) }
     ensures explains { (disks : ℕ) → Explains (fault_of result)
-        (record {
-          starts = P.failed_starts procs.old;
-          losses = P.lost_children procs.old;
-          disks = disks;
-        })
-        (record {
-          starts = P.failed_starts procs.new;
-          losses = P.lost_children procs.new;
-          disks = disks;
-        }) }
+        (record { children = child_counts P.Procs procs.old; disks = disks })
+        (record { children = child_counts P.Procs procs.new; disks = disks }) }
 {
     match all_runs(alloc, read) {
         Ok(runs) => test_planned(alloc, read, &runs, options, first, disk, procs),
@@ -160,28 +129,12 @@ fn run_edited<P: Procs>(
         RanEdited (P.answer procs.old) options (second_reading scan options) records first result
         (since (P.journal procs.old) (P.journal procs.new)) }
     ensures plain { IfOk result (λ said. IsAnswer said.outcome) }
-    ensures fell { (disks : ℕ) → NoneFell
-        (record {
-          starts = P.failed_starts procs.old;
-          losses = P.lost_children procs.old;
-          disks = disks;
-        })
-        (record {
-          starts = P.failed_starts procs.new;
-          losses = P.lost_children procs.new;
-          disks = disks;
-        }) }
+    ensures fell { (disks : ℕ) → NoBuildCountFell
+        (record { children = child_counts P.Procs procs.old; disks = disks })
+        (record { children = child_counts P.Procs procs.new; disks = disks }) }
     ensures explains { (disks : ℕ) → Explains (fault_of result)
-        (record {
-          starts = P.failed_starts procs.old;
-          losses = P.lost_children procs.old;
-          disks = disks;
-        })
-        (record {
-          starts = P.failed_starts procs.new;
-          losses = P.lost_children procs.new;
-          disks = disks;
-        }) }
+        (record { children = child_counts P.Procs procs.old; disks = disks })
+        (record { children = child_counts P.Procs procs.new; disks = disks }) }
 {
     let edited = edited_package(options.packages);
     match read_generated(alloc, options.packages, edited, Extent::Tests) {
@@ -212,28 +165,12 @@ fn run_read<P: Procs>(
         RanGenerated (P.answer procs.old) options (Found read.now) (second_reading scan options)
         result (since (P.journal procs.old) (P.journal procs.new)) }
     ensures plain { IfOk result (λ said. IsAnswer said.outcome) }
-    ensures fell { (disks : ℕ) → NoneFell
-        (record {
-          starts = P.failed_starts procs.old;
-          losses = P.lost_children procs.old;
-          disks = disks;
-        })
-        (record {
-          starts = P.failed_starts procs.new;
-          losses = P.lost_children procs.new;
-          disks = disks;
-        }) }
+    ensures fell { (disks : ℕ) → NoBuildCountFell
+        (record { children = child_counts P.Procs procs.old; disks = disks })
+        (record { children = child_counts P.Procs procs.new; disks = disks }) }
     ensures explains { (disks : ℕ) → Explains (fault_of result)
-        (record {
-          starts = P.failed_starts procs.old;
-          losses = P.lost_children procs.old;
-          disks = disks;
-        })
-        (record {
-          starts = P.failed_starts procs.new;
-          losses = P.lost_children procs.new;
-          disks = disks;
-        }) }
+        (record { children = child_counts P.Procs procs.old; disks = disks })
+        (record { children = child_counts P.Procs procs.new; disks = disks }) }
 {
     match build_first(alloc, &read.graph, options, disk, procs) {
         Ok(marks) => {
@@ -273,28 +210,12 @@ pub fn run_generated<P: Procs>(
         (second_reading scan options) result
         (since (P.journal procs.old) (P.journal procs.new)) }
     ensures plain { IfOk result (λ said. IsAnswer said.outcome) }
-    ensures fell { (disks : ℕ) → NoneFell
-        (record {
-          starts = P.failed_starts procs.old;
-          losses = P.lost_children procs.old;
-          disks = disks;
-        })
-        (record {
-          starts = P.failed_starts procs.new;
-          losses = P.lost_children procs.new;
-          disks = disks;
-        }) }
+    ensures fell { (disks : ℕ) → NoBuildCountFell
+        (record { children = child_counts P.Procs procs.old; disks = disks })
+        (record { children = child_counts P.Procs procs.new; disks = disks }) }
     ensures explains { (disks : ℕ) → Explains (fault_of result)
-        (record {
-          starts = P.failed_starts procs.old;
-          losses = P.lost_children procs.old;
-          disks = disks;
-        })
-        (record {
-          starts = P.failed_starts procs.new;
-          losses = P.lost_children procs.new;
-          disks = disks;
-        }) }
+        (record { children = child_counts P.Procs procs.old; disks = disks })
+        (record { children = child_counts P.Procs procs.new; disks = disks }) }
 {
     match read_generated(alloc, options.packages, UNEDITED, Extent::Graph) {
         Ok(read) => {

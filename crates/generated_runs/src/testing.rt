@@ -2,9 +2,10 @@
 
 ghost use Rattle.std.specs.Prelude.{◌≡◌, ◌≤◌, ◌++◌, [], ℕ, List, All, length, IfOk};
 ghost use Rattle.outside.specs.Records.{Record};
+ghost use Rattle.outside.specs.FaultCounts.{NoBuildCountFell, child_counts};
 ghost use Rattle.memory_outside.specs.Disks.{moments_of};
 ghost use Rattle.run_spec.specs.ChildJournal.{since};
-ghost use Rattle.build_loop.specs.Faults.{Explains, NoneFell, fault_of};
+ghost use Rattle.build_loop.specs.Faults.{Explains, fault_of};
 ghost use Rattle.test_spec.specs.Runs.{FitsRun};
 ghost use Rattle.project_reading.specs.Sources.{IsReadProject};
 ghost use Rattle.generated_runs.specs.Sources.{runs_in, second_work, wish_for};
@@ -61,28 +62,12 @@ pub fn test_second<P: Procs>(
         P.tells →
         RanTested (P.answer procs.old) (second_work options records read.now.graph) options
         read.now result (since (P.journal procs.old) (P.journal procs.new)) }
-    ensures fell { (disks : ℕ) → NoneFell
-        (record {
-          starts = P.failed_starts procs.old;
-          losses = P.lost_children procs.old;
-          disks = disks;
-        })
-        (record {
-          starts = P.failed_starts procs.new;
-          losses = P.lost_children procs.new;
-          disks = disks;
-        }) }
+    ensures fell { (disks : ℕ) → NoBuildCountFell
+        (record { children = child_counts P.Procs procs.old; disks = disks })
+        (record { children = child_counts P.Procs procs.new; disks = disks }) }
     ensures explains { (disks : ℕ) → Explains (fault_of result)
-        (record {
-          starts = P.failed_starts procs.old;
-          losses = P.lost_children procs.old;
-          disks = disks;
-        })
-        (record {
-          starts = P.failed_starts procs.new;
-          losses = P.lost_children procs.new;
-          disks = disks;
-        }) }
+        (record { children = child_counts P.Procs procs.old; disks = disks })
+        (record { children = child_counts P.Procs procs.new; disks = disks }) }
 {
     let orders = BuildOptions {
         slots: options.slots,

@@ -3,3 +3,4 @@ pub mod MomentLaws
 pub mod ImageLaws
 pub mod CommitLaws
 pub mod PhaseLaws
+pub mod FaultCountLaws

@@ -1,6 +1,7 @@
 -- The definitions.
 pub mod Reports
 pub mod Counts
+pub mod FaultCounts
 pub mod Trees
 pub mod Children
 pub mod Streams

@@ -6,13 +6,14 @@ ghost use Rattle.base.specs.PresentGraph.{below};
 ghost use Rattle.outside.specs.Counts.{StoreCounts};
 ghost use Rattle.outside.specs.Disks.{Rests, reads_of};
 ghost use Rattle.outside.specs.Records.{IsRecorded};
+ghost use Rattle.outside.specs.FaultCounts.{NoBuildCountFell, build_counts};
 ghost use Rattle.run_spec.specs.declared.marks.Mark.{Mark};
 ghost use Rattle.run_spec.specs.ChildJournal.{since};
 ghost use Rattle.run_histories.specs.Histories.{work_over};
 ghost use Rattle.run_spec.specs.JournalParts.{test_part};
 ghost use Rattle.build_loop.specs.Ran.{built_by, is_made};
 ghost use Rattle.build_loop.specs.Requests.{lent_at};
-ghost use Rattle.build_loop.specs.Faults.{Explains, NoneFell, fault_of};
+ghost use Rattle.build_loop.specs.Faults.{Explains, fault_of};
 ghost use Rattle.run_build.specs.Building.{OpensStore, BuildsOver, RestsOver, has_risen, marks_in};
 ghost use Rattle.run_build.specs.Orders.{order_by};
 
@@ -107,28 +108,12 @@ pub fn build_kept<'g, K: Records + Drop, O: Opener<'g, K>, D: Disk, P: Procs>(
         RestsOver K.records_of K.is_resting (order_by options graph.now) result
         (D.moments disk.old) (D.moments disk.new)
         (since (P.journal procs.old) (P.journal procs.new)) }
-    ensures fell { NoneFell
-        (record {
-          starts = P.failed_starts procs.old;
-          losses = P.lost_children procs.old;
-          disks = D.failed_disk_calls disk.old;
-        })
-        (record {
-          starts = P.failed_starts procs.new;
-          losses = P.lost_children procs.new;
-          disks = D.failed_disk_calls disk.new;
-        }) }
+    ensures fell { NoBuildCountFell
+        (build_counts P.Procs D.Disk procs.old disk.old)
+        (build_counts P.Procs D.Disk procs.new disk.new) }
     ensures explains { Explains (fault_of result)
-        (record {
-          starts = P.failed_starts procs.old;
-          losses = P.lost_children procs.old;
-          disks = D.failed_disk_calls disk.old;
-        })
-        (record {
-          starts = P.failed_starts procs.new;
-          losses = P.lost_children procs.new;
-          disks = D.failed_disk_calls disk.new;
-        }) }
+        (build_counts P.Procs D.Disk procs.old disk.old)
+        (build_counts P.Procs D.Disk procs.new disk.new) }
 {
     prove!(graph.len() <= FILE_LIMIT as u64);
     match open_store::<K, O, D>(alloc, opener, disk, graph, options.clean) {
@@ -184,28 +169,12 @@ pub fn build_over<'g, K: Records + Drop, O: Opener<'g, K>, D: Disk, P: Procs>(
         RestsOver K.records_of K.is_resting (order_by options graph.now) result
         (D.moments disk.old) (D.moments disk.new)
         (since (P.journal procs.old) (P.journal procs.new)) }
-    ensures fell { NoneFell
-        (record {
-          starts = P.failed_starts procs.old;
-          losses = P.lost_children procs.old;
-          disks = D.failed_disk_calls disk.old;
-        })
-        (record {
-          starts = P.failed_starts procs.new;
-          losses = P.lost_children procs.new;
-          disks = D.failed_disk_calls disk.new;
-        }) }
+    ensures fell { NoBuildCountFell
+        (build_counts P.Procs D.Disk procs.old disk.old)
+        (build_counts P.Procs D.Disk procs.new disk.new) }
     ensures explains { Explains (fault_of result)
-        (record {
-          starts = P.failed_starts procs.old;
-          losses = P.lost_children procs.old;
-          disks = D.failed_disk_calls disk.old;
-        })
-        (record {
-          starts = P.failed_starts procs.new;
-          losses = P.lost_children procs.new;
-          disks = D.failed_disk_calls disk.new;
-        }) }
+        (build_counts P.Procs D.Disk procs.old disk.old)
+        (build_counts P.Procs D.Disk procs.new disk.new) }
 {
     match build_kept::<K, O, D, P>(alloc, graph, options, opener, disk, procs) {
         Ok(

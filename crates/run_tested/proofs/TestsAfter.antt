@@ -24,7 +24,6 @@ use Rattle.run_spec.proofs.Parts.{all_compiled}
 use Rattle.run_histories.specs.Histories.{Order, work_over}
 use Rattle.build_loop.specs.declared.faults.BuildFault.{BuildFault}
 use Rattle.build_loop.specs.Requests as compiling
-use Rattle.build_loop.specs.Faults.{FaultCounts, NoneFell}
 use Rattle.build_loop.specs.Ran.{built_by, is_made}
 use Rattle.run_build.proofs.LentFiles.{item_at, made_at}
 use Rattle.run_build.specs.Building.{BuildsOver}
@@ -43,14 +42,6 @@ use Rattle.run_tested.proofs.BothParts.{both_parts}
 pub same_lent : (latest_of : FileName → Option Record) (graph : List Entry) → filter_map (compiling.lent_at latest_of graph) (below (length graph)) ≡ lent_files latest_of graph
 unfolding compiling.lent_at testing.lent_at
 same_lent latest_of graph = refl
-
--- counts that don't fall twice
-pub fell_both : {first middle now : FaultCounts} → NoneFell first middle → NoneFell middle now → NoneFell first now
-fell_both one two = record {
-  starts = omega (arith, one.starts, two.starts);
-  losses = omega (arith, one.losses, two.losses);
-  disks = omega (arith, one.disks, two.disks);
-}
 
 -- where all files are made the store has a record of each
 pub all_recorded : (marks : List Mark) (latest_of : FileName → Option Record) (graph : List Entry) → length marks ≡ length graph → list_all is_made marks ≡ true →

@@ -3,11 +3,12 @@
 ghost use Rattle.std.specs.Prelude.{◌≡◌, ◌<◌, ◌≤◌, ◌++◌, [], ℕ, Some, true, All, length, slice_get, IfOk};
 ghost use Rattle.std.specs.List.{list_all};
 ghost use Rattle.outside.specs.Records.{IsRecorded};
+ghost use Rattle.outside.specs.FaultCounts.{NoBuildCountFell, build_counts, child_counts};
 ghost use Rattle.run_spec.specs.declared.marks.Mark.{Mark};
 ghost use Rattle.run_spec.specs.ChildJournal.{since};
 ghost use Rattle.run_spec.specs.JournalParts.{compile_part};
 ghost use Rattle.build_loop.specs.Ran.{is_made};
-ghost use Rattle.build_loop.specs.Faults.{Explains, NoneFell, fault_of};
+ghost use Rattle.build_loop.specs.Faults.{Explains, fault_of};
 ghost use Rattle.run_build.specs.Building.{RestsOver, has_risen};
 ghost use Rattle.run_build.specs.Orders.{order_by};
 ghost use Rattle.test_spec.specs.Runs.{FitsRun};
@@ -76,28 +77,12 @@ fn test_built<K: Records + Drop, P: Procs>(
         (lent_files (K.latest_of kept.store) graph.now) slots fail_fast in
         RanBuilt P.tells (P.answer procs.old) setting kept.marks result
         (P.journal procs.old) (P.journal procs.new) }
-    ensures fell { (disks : ℕ) → NoneFell
-        (record {
-          starts = P.failed_starts procs.old;
-          losses = P.lost_children procs.old;
-          disks = disks;
-        })
-        (record {
-          starts = P.failed_starts procs.new;
-          losses = P.lost_children procs.new;
-          disks = disks;
-        }) }
+    ensures fell { (disks : ℕ) → NoBuildCountFell
+        (record { children = child_counts P.Procs procs.old; disks = disks })
+        (record { children = child_counts P.Procs procs.new; disks = disks }) }
     ensures explains { (disks : ℕ) → Explains (fault_of result)
-        (record {
-          starts = P.failed_starts procs.old;
-          losses = P.lost_children procs.old;
-          disks = disks;
-        })
-        (record {
-          starts = P.failed_starts procs.new;
-          losses = P.lost_children procs.new;
-          disks = disks;
-        }) }
+        (record { children = child_counts P.Procs procs.old; disks = disks })
+        (record { children = child_counts P.Procs procs.new; disks = disks }) }
 {
     let Kept { marks, store } = kept;
     if !are_made(marks.as_slice()) {
@@ -152,28 +137,12 @@ pub fn test_over<'g, K: Records + Drop, O: Opener<'g, K>, D: Disk, P: Procs>(
         RestsOver K.records_of K.is_resting (order_by options graph.now) result
         (D.moments disk.old) (D.moments disk.new)
         (compile_part (since (P.journal procs.old) (P.journal procs.new))) }
-    ensures fell { NoneFell
-        (record {
-          starts = P.failed_starts procs.old;
-          losses = P.lost_children procs.old;
-          disks = D.failed_disk_calls disk.old;
-        })
-        (record {
-          starts = P.failed_starts procs.new;
-          losses = P.lost_children procs.new;
-          disks = D.failed_disk_calls disk.new;
-        }) }
+    ensures fell { NoBuildCountFell
+        (build_counts P.Procs D.Disk procs.old disk.old)
+        (build_counts P.Procs D.Disk procs.new disk.new) }
     ensures explains { Explains (fault_of result)
-        (record {
-          starts = P.failed_starts procs.old;
-          losses = P.lost_children procs.old;
-          disks = D.failed_disk_calls disk.old;
-        })
-        (record {
-          starts = P.failed_starts procs.new;
-          losses = P.lost_children procs.new;
-          disks = D.failed_disk_calls disk.new;
-        }) }
+        (build_counts P.Procs D.Disk procs.old disk.old)
+        (build_counts P.Procs D.Disk procs.new disk.new) }
 {
     match build_kept::<K, O, D, P>(alloc, graph, options, opener, disk, procs) {
         Ok(kept) => test_built(

@@ -1,6 +1,7 @@
 -- The faults of runs of tests: which one is answered, and what the counts say of it.
-use Rattle.std.specs.Prelude.{◌≡◌, ℕ, ◌≤◌, Option, Some, None, Result, Ok, Err}
+use Rattle.std.specs.Prelude.{◌≡◌, ℕ, Option, Some, None, Result, Ok, Err}
 use Rattle.outside.specs.Counts.{Rose, Counted}
+use Rattle.outside.specs.FaultCounts.{ChildFaultCounts, NoChildCountFell}
 use Rattle.test_loop.specs.declared.faults.TestRunFault.{TestRunFault}
 use Rattle.test_loop.specs.declared.faults.TestRunFault.TheVariants.{NoMemory, StartFailed, ChildLost}
 
@@ -20,25 +21,15 @@ abbrev pub test_fault_of : {T : Type 0} → Result T TestRunFault → Option Tes
 test_fault_of (Ok value) = None
 test_fault_of (Err fault) = Some fault
 
--- how often starts have failed, and children were lost
-pub record TestCounts : Type 0 where
-  pub starts : ℕ
-  pub losses : ℕ
-
--- no count has fallen
-pub record NoneFell (first now : TestCounts) : Type 0 where
-  pub starts : first.starts ≤ now.starts
-  pub losses : first.losses ≤ now.losses
-
 -- where no fault is answered both counts are unchanged; else the count of that fault rose, and the other may have
-abbrev pub Explains : Option TestRunFault → TestCounts → TestCounts → Type 0
+abbrev pub Explains : Option TestRunFault → ChildFaultCounts → ChildFaultCounts → Type 0
 Explains None first now = now ≡ first
 Explains (Some NoMemory) first now = Unit {0}
 Explains (Some StartFailed) first now = Rose first.starts now.starts
 Explains (Some ChildLost) first now = Rose first.losses now.losses
 
 -- a lost child is answered only where no start has failed: after it none is tried
-abbrev pub NoStartFailed : Option TestRunFault → TestCounts → TestCounts → Type 0
+abbrev pub NoStartFailed : Option TestRunFault → ChildFaultCounts → ChildFaultCounts → Type 0
 NoStartFailed None first now = Unit {0}
 NoStartFailed (Some NoMemory) first now = Unit {0}
 NoStartFailed (Some StartFailed) first now = Unit {0}
@@ -46,8 +37,8 @@ NoStartFailed (Some ChildLost) first now = now.starts ≡ first.starts
 
 -- What the counts say of runs of tests: they explain the fault, a failed start is answered before a lost child, and none
 -- fell.
-pub record TestsCountBy (noted : Option TestRunFault) (first now : TestCounts) : Type 0 where
-  pub none_fell : NoneFell first now
+pub record TestsCountBy (noted : Option TestRunFault) (first now : ChildFaultCounts) : Type 0 where
+  pub none_fell : NoChildCountFell first now
   pub explains : Explains noted first now
   pub start_first : NoStartFailed noted first now
 

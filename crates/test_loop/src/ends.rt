@@ -8,11 +8,12 @@ ghost use Rattle.base.specs.declared.child.Event.TheVariants as event;
 ghost use Rattle.base.specs.declared.graph.BuiltFile.{BuiltFile};
 ghost use Rattle.outside.specs.Children.{without, ended_ticket, end_event};
 ghost use Rattle.outside.specs.Counts.{ChildCounts};
+ghost use Rattle.outside.specs.FaultCounts.{ChildFaultCounts, child_counts};
 ghost use Rattle.run_steps.specs.declared.step.Step.TheVariants.{Wait};
 ghost use Rattle.test_spec.specs.declared.ends.RunEnd.{RunEnd};
 ghost use Rattle.test_row.specs.Rows.{next_of, tickets_of, run_count, to_come};
 ghost use Rattle.test_journal.specs.TestJournal.{TestSetting};
-ghost use Rattle.test_loop.specs.Faults.{TestCounts, TestsCountBy, noted_with};
+ghost use Rattle.test_loop.specs.Faults.{TestsCountBy, noted_with};
 ghost use Rattle.test_loop.specs.UnderWay.{AreUnderWay, Goes, tests_with};
 
 use crate::faults::TestRunFault;
@@ -48,7 +49,7 @@ fn take_exit(
         AreUnderWay setting events row.old found.old.items (is_some noted.old) →
         AreUnderWay setting (events ++ event.Ended ticket exit.now ∷ []) row.new found.new.items
         (is_some noted.new) }
-    ensures counts { (first now : TestCounts) →
+    ensures counts { (first now : ChildFaultCounts) →
         TestsCountBy noted.old first now → TestsCountBy noted.new first now }
 {
     let at = row.run_of(ticket);
@@ -92,10 +93,10 @@ fn lose_by(row: &mut Row, noted: &mut Option<TestRunFault>, fault: WaitFault)
         AreUnderWay setting events row.old found (is_some noted.old) →
         AreUnderWay setting (events ++ end_event (Err fault) ∷ []) row.new found
         (is_some noted.new) }
-    ensures counts { (first now : TestCounts) (losses : ℕ) →
+    ensures counts { (first now : ChildFaultCounts) (losses : ℕ) →
         ChildCounts {T = Ended} (Err fault) now.losses losses →
         TestsCountBy noted.old first now →
-        TestsCountBy noted.new first (record { starts = now.starts; losses = losses }) }
+        TestsCountBy noted.new first (record now { losses = losses }) }
 {
     match fault {
         WaitFault::NoMemory { ticket } => lose(row, noted, ticket, TestRunFault::NoMemory),
@@ -130,15 +131,9 @@ pub(crate) fn end_one<P: Procs>(
         (P.journal procs.old) →
         Goes P.tells answer setting old row.new found.new.items (is_some noted.new)
         (P.journal procs.new) }
-    ensures counts { (first : TestCounts) →
-        TestsCountBy noted.old first (record {
-          starts = P.failed_starts procs.old;
-          losses = P.lost_children procs.old;
-        }) →
-        TestsCountBy noted.new first (record {
-          starts = P.failed_starts procs.new;
-          losses = P.lost_children procs.new;
-        }) }
+    ensures counts { (first : ChildFaultCounts) →
+        TestsCountBy noted.old first (child_counts P.Procs procs.old) →
+        TestsCountBy noted.new first (child_counts P.Procs procs.new) }
 {
     match procs.wait_any(alloc) {
         Ok(Ended { ticket, exit }) => take_exit(alloc, runs, ticket, &exit, row, found, noted),

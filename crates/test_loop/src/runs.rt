@@ -3,6 +3,7 @@
 ghost use Rattle.std.specs.Prelude.{◌≡◌, ◌<◌, ◌≤◌, [], ℕ, All, length, map, IfOk};
 ghost use Rattle.std.specs.Result.{is_ok};
 ghost use Rattle.outside.specs.Records.{IsRecorded};
+ghost use Rattle.outside.specs.FaultCounts.{child_counts};
 ghost use Rattle.run_spec.specs.Moves.{Job, empty_core};
 ghost use Rattle.test_spec.specs.Runs.{FitsRun};
 ghost use Rattle.test_spec.specs.Verdicts.{unstarted_run};
@@ -89,14 +90,8 @@ pub fn run_tests<K: Records, P: Procs>(
         TestsRan P.tells (P.answer procs.old) setting (P.journal procs.old) (P.journal procs.new) (is_ok result)
         (λ events. IfOk result (λ end. end.runs ≡ test_ends setting events)) }
     ensures counts { TestsCountBy (test_fault_of result)
-        (record {
-          starts = P.failed_starts procs.old;
-          losses = P.lost_children procs.old;
-        })
-        (record {
-          starts = P.failed_starts procs.new;
-          losses = P.lost_children procs.new;
-        }) }
+        (child_counts P.Procs procs.old)
+        (child_counts P.Procs procs.new) }
 {
     let Ok(
         Begun {

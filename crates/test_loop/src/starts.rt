@@ -6,6 +6,7 @@ ghost use Rattle.base.specs.declared.child.Exit.{Exit};
 ghost use Rattle.base.specs.declared.child.Event.{Event};
 ghost use Rattle.base.specs.declared.child.Event.TheVariants.{Started};
 ghost use Rattle.outside.specs.Children.{IsFresh};
+ghost use Rattle.outside.specs.FaultCounts.{ChildFaultCounts, child_counts};
 ghost use Rattle.run_spec.specs.Moves.{Job, Core};
 ghost use Rattle.run_steps.specs.declared.step.Step.TheVariants.{Start};
 ghost use Rattle.run_steps.specs.Steps.{halted_if};
@@ -14,7 +15,7 @@ ghost use Rattle.test_spec.specs.Runs.{FitsRun};
 ghost use Rattle.test_spec.specs.BenchJobs.{bench_request};
 ghost use Rattle.test_row.specs.Rows.{IsRowOf, next_of, tickets_of, run_count, to_come};
 ghost use Rattle.test_loop.specs.Requests.{AreBuilt, lent_files};
-ghost use Rattle.test_loop.specs.Faults.{CountsStart, TestCounts, TestsCountBy, noted_with};
+ghost use Rattle.test_loop.specs.Faults.{CountsStart, TestsCountBy, noted_with};
 ghost use Rattle.test_loop.specs.UnderWay.{Goes, tests_with};
 
 use crate::faults::TestRunFault;
@@ -101,15 +102,9 @@ pub(crate) fn start_one<K: Records, P: Procs>(
         (lent_files (K.latest_of store.now) graph.now) slots fail_fast in
         Goes P.tells answer setting old row.old found (is_some noted.old) (P.journal procs.old) →
         Goes P.tells answer setting old row.new found (is_some noted.new) (P.journal procs.new) }
-    ensures counts { (first : TestCounts) →
-        TestsCountBy noted.old first (record {
-          starts = P.failed_starts procs.old;
-          losses = P.lost_children procs.old;
-        }) →
-        TestsCountBy noted.new first (record {
-          starts = P.failed_starts procs.new;
-          losses = P.lost_children procs.new;
-        }) }
+    ensures counts { (first : ChildFaultCounts) →
+        TestsCountBy noted.old first (child_counts P.Procs procs.old) →
+        TestsCountBy noted.new first (child_counts P.Procs procs.new) }
 {
     let run = runs.get(at as u64);
     match try_start(alloc, graph, store, built, run, simulator, procs) {

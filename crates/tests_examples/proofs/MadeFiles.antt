@@ -25,4 +25,4 @@ unfolding text_bytes all_built_bytes built_bytes compile_input name_bytes after 
 first_of_two_faults = record { loss = let most : 0 ≤ 0 = omega arith in record { lost = refl; before = most }; disk = let least : 0 < 1 = omega arith in record { breaks = refl; before = least } }
 
 pub counted_faults : CountedFaults
-counted_faults = record { lost = record { none_fell = record { starts = omega arith; losses = omega arith; disks = omega arith }; explains = omega arith; start_first = refl; breaks = λ broken. omega arith }; of_disk = record { none_fell = record { starts = omega arith; losses = omega arith; disks = omega arith }; explains = omega arith; start_first = refl; breaks = λ broken. omega arith }; of_start = record { none_fell = record { starts = omega arith; losses = omega arith; disks = omega arith }; explains = omega arith; start_first = tt; breaks = λ broken. omega arith }; of_memory = record { none_fell = record { starts = omega arith; losses = omega arith; disks = omega arith }; explains = tt; start_first = tt; breaks = λ broken. omega arith }; not_of_disk = λ counted. omega (arith, counted.start_first); not_lost = λ counted. omega (arith, counted.start_first) }
+counted_faults = record { lost = record { none_fell = record { children = record { starts = omega arith; losses = omega arith }; disks = omega arith }; explains = omega arith; start_first = refl; breaks = λ broken. omega arith }; of_disk = record { none_fell = record { children = record { starts = omega arith; losses = omega arith }; disks = omega arith }; explains = omega arith; start_first = refl; breaks = λ broken. omega arith }; of_start = record { none_fell = record { children = record { starts = omega arith; losses = omega arith }; disks = omega arith }; explains = omega arith; start_first = tt; breaks = λ broken. omega arith }; of_memory = record { none_fell = record { children = record { starts = omega arith; losses = omega arith }; disks = omega arith }; explains = tt; start_first = tt; breaks = λ broken. omega arith }; not_of_disk = λ counted. omega (arith, counted.start_first); not_lost = λ counted. omega (arith, counted.start_first) }

@@ -2,9 +2,10 @@
 use Rattle.std.specs.Prelude.{◌≡◌, ℕ, ◌++◌, ◌∷◌, true, false, List, [], Some, map, take}
 use Rattle.base.specs.declared.child.Event.{Event}
 use Rattle.base.specs.declared.child.Event.TheVariants.{Ended, Gone, Started}
+use Rattle.outside.specs.FaultCounts.{BuildFaultCounts}
 use Rattle.run_spec.specs.ChildJournal.{Work}
 use Rattle.run_spec.specs.Settled.{none_current}
-use Rattle.build_loop.specs.Faults.{CountsBy, FaultCounts, IsDiskFirst, IsLossFirst, before_loss, given_before_loss, is_all_committed}
+use Rattle.build_loop.specs.Faults.{CountsBy, IsDiskFirst, IsLossFirst, before_loss, given_before_loss, is_all_committed}
 use Rattle.build_loop.specs.Ran.{built_by}
 use Rattle.build_loop.specs.declared.faults.BuildFault.TheVariants.{ChildLost, DiskFailed, StartFailed}
 use Rattle.tests_examples.specs.Example.{a_built, a_request, b_built, b_request, events, exit, file, name, one_slot, with_end_of_b}
@@ -45,8 +46,8 @@ pub record FirstOfTwoFaults : Type 0 where
   pub disk : IsDiskFirst apart (all_start ++ (Ended 1 (exit 0 []) ∷ Gone 2 ∷ Ended 3 (exit 0 []) ∷ [])) 0 true
 
 -- how often starts failed, children were lost, and the disk failed, in this order
-abbrev counts : ℕ → ℕ → ℕ → FaultCounts
-counts starts losses disks = record { starts = starts; losses = losses; disks = disks }
+abbrev counts : ℕ → ℕ → ℕ → BuildFaultCounts
+counts starts losses disks = record { children = record { starts = starts; losses = losses }; disks = disks }
 
 -- the counts of lost children and of the disk rose, and that of failed starts too
 pub record CountedFaults : Type 0 where

@@ -1,10 +1,11 @@
 -- The examples of "What a run of the program did", and of what a run says.
 use Rattle.std.specs.Prelude.{◌≡◌, ℕ, true, false, [], Some, None, codes}
 use Rattle.base.specs.declared.child.MaybeText.TheVariants.{Given}
+use Rattle.outside.specs.FaultCounts.{NoRunCountFell, RunFaultCounts, no_faults}
 use Rattle.run_histories.specs.Histories.{Order}
 use Rattle.run_build.specs.Building.{has_risen}
 use Rattle.vunit_top.specs.Reading.{Bad, Builds, Child, Compiler, Exports, Lists, ListsTests, Over, Stops}
-use Rattle.vunit_top.specs.Said.{Causes, Counts, CountsStand, HasEnded, Said, Says, fault_counts, order_of, plan_in, report_path_of}
+use Rattle.vunit_top.specs.Said.{Causes, HasEnded, Said, Says, order_of, plan_in, report_path_of}
 use Rattle.tests_examples.specs.Example.{files}
 use Rattle.base_outcomes.specs.declared.outcome.Outcome.TheVariants as outcome
 use Rattle.base_outcomes.specs.declared.outcome.Refusal.TheVariants as refusal
@@ -43,8 +44,8 @@ abbrev passed_said : Said
 passed_said = record { outcome = outcome.Done; text = codes "Compile passed\n" }
 
 -- so many faults of the tree, and none of any other object
-abbrev tree_counts : ℕ → Counts
-tree_counts count = fault_counts count 0 0 0 0 0 0
+abbrev tree_counts : ℕ → RunFaultCounts
+tree_counts count = record no_faults { tree = count }
 
 -- how much is printed before a fault, and which risen count is the cause of an answer
 pub record FaultsAnswered : Type 0 where
@@ -52,4 +53,4 @@ pub record FaultsAnswered : Type 0 where
   pub nothing_put : Says (outcome.OutsideFault which.Disk) passed_said (codes "x") (codes "x")
   pub tree_rose : Causes (outcome.OutsideFault which.Tree) (tree_counts 0) (tree_counts 1)
   pub none_rose : Causes outcome.Done (tree_counts 1) (tree_counts 1)
-  pub none_falls : CountsStand (tree_counts 1) (tree_counts 0) → ⊥
+  pub none_falls : NoRunCountFell (tree_counts 1) (tree_counts 0) → ⊥

@@ -10,6 +10,7 @@ use Rattle.base_outcomes.specs.declared.outcome.Outcome.{Outcome}
 use Rattle.base_outcomes.specs.declared.outcome.Outcome.TheVariants as outcome
 use Rattle.base_outcomes.specs.declared.outcome.Which.TheVariants as which
 use Rattle.outside.specs.Disks.{Moments, AreSound}
+use Rattle.outside.specs.FaultCounts.{RunFaultCounts}
 use Rattle.run_spec.specs.ChildJournal.{EachAfter, since}
 use Rattle.run_spec.specs.JournalParts.{compile_part, test_part, is_given}
 use Rattle.run_histories.specs.Histories.{Order, work_over}
@@ -24,14 +25,16 @@ use Rattle.vunit_top.specs.Store.{records_in_image}
 use Rattle.report_run.specs.Outcomes.{build_outcome}
 use Rattle.vhdl_spec.specs.Scans.{Finding}
 use Rattle.project_reading.specs.Reading.{SourceReading}
+use Rattle.project_reading.specs.declared.stops.ReadStop.{ReadStop}
+use Rattle.project_reading.specs.declared.stops.ReadStop.TheVariants as stop
 use Rattle.vunit_top.specs.declared.words.Job.{Job}
 use Rattle.vunit_top.specs.Acts.{Object, Disk, Children, Out, Reports, Seen, seen, run_between, marks_between, said_between, tests_since, Acts, RunsTests}
-use Rattle.vunit_top.specs.Ends.{Writes, WritesReport}
+use Rattle.vunit_top.specs.Ends.{StopCounts, Writes, WritesReport}
 use Rattle.project_reading.specs.declared.wish.Wish.{Wish}
 use Rattle.vunit_top.specs.Reading.{Reading, Testing, Exports, Builds, Runs, full_reading}
 use Rattle.run_build.specs.Building.{has_risen}
 use Rattle.vunit_top.specs.Runs.{RunsAs}
-use Rattle.vunit_top.specs.Said.{Said, Says, SaysRun, IsSaid, HasEnded, Counts, Causes, IsAccounted, order_of, report_path_of, plan_in, plain_said, plain_run, build_said}
+use Rattle.vunit_top.specs.Said.{Said, Says, SaysRun, IsSaid, HasEnded, Causes, IsAccounted, order_of, report_path_of, plan_in, plain_said, plain_run, build_said}
 use Rattle.vunit_top.proofs.Tops.{some_said}
 use Rattle.vunit_top.proofs.RunTruths.{runs_idle}
 use Rattle.vunit_top.proofs.TestTruths.{nothing_written}
@@ -208,6 +211,13 @@ module _ (tells same : Object → Type 0) (scan : List ℕ → Finding) (answer 
   acts_by {words} {result} {before} {after} j k s is acts = subst (λ (i : Result Job Reading). Acts tells same scan answer (full_reading i s) words result before after) (sym is) acts
 
 -- counts that a run leaves at 0 aren't the cause of its answer
-pub no_early : {result : Outcome} {old new : Counts} → IsAccounted result old new → new.tree ≡ 0 → new.input ≡ 0 → (result ≡ outcome.OutsideFault which.Tree) ⊎ (result ≡ outcome.OutsideFault which.Input) → ⊥
+pub no_early : {result : Outcome} {old new : RunFaultCounts} → IsAccounted result old new → new.tree ≡ 0 → new.input ≡ 0 → (result ≡ outcome.OutsideFault which.Tree) ⊎ (result ≡ outcome.OutsideFault which.Input) → ⊥
 no_early {result} {old} {new} accounted tree input (inl is) = let rose : min (old.tree + 1) (2 ^ 64 - 1) ≤ new.tree = subst (λ (o : Outcome). Causes o old new) is accounted.cause in omega (arith, tree)
 no_early {result} {old} {new} accounted tree input (inr is) = let rose : min (old.input + 1) (2 ^ 64 - 1) ≤ new.input = subst (λ (o : Outcome). Causes o old new) is accounted.cause in omega (arith, input)
+
+-- after a reading that stopped the count of the tree hasn't fallen
+pub stop_later : (why : ReadStop) (before now : ℕ) → StopCounts why before now → before ≤ now
+stop_later (stop.Refused reason) before now is = omega (arith, is)
+stop_later (stop.Over limit number) before now is = omega (arith, is)
+stop_later stop.Failed before now is = is.later
+stop_later stop.NoMemory before now is = omega (arith, is)

@@ -22,7 +22,8 @@ use Rattle.run_spec.specs.Marks.{marks_of, is_refused}
 use Rattle.run_spec.proofs.Parts.{build_parts}
 use Rattle.run_histories.specs.Histories.{ProgramRun, work_over}
 use Rattle.outside.specs.Disks.{DiskState}
-use Rattle.build_loop.specs.Faults.{Explains, FaultCounts, NoneFell}
+use Rattle.outside.specs.FaultCounts.{BuildFaultCounts, NoBuildCountFell, RunFaultCounts}
+use Rattle.build_loop.specs.Faults.{Explains}
 use Rattle.build_loop.specs.Ran.{is_made}
 use Rattle.build_loop.specs.declared.faults.BuildFault.{BuildFault}
 use Rattle.build_loop.specs.declared.faults.BuildFault.TheVariants as fault
@@ -47,7 +48,7 @@ use Rattle.vunit_top.specs.Acts.{Object, Disk, Children, Out, Reports, Seen, Run
 use Rattle.vunit_top.specs.Ends.{WritesReport}
 use Rattle.vunit_top.specs.Reading.{Testing, Builds, Runs}
 use Rattle.vunit_top.specs.Runs.{RunsAs, WritesNothing, run_of}
-use Rattle.vunit_top.specs.Said.{Causes, IsAccounted, IsSaid, HasEnded, HasBuilt, SaysRun, Said, fault_counts, fault_outcome, plain_run}
+use Rattle.vunit_top.specs.Said.{Causes, IsAccounted, IsSaid, HasEnded, HasBuilt, SaysRun, Said, fault_outcome, plain_run}
 use Rattle.vunit_top.proofs.RunTruths.{built_refuses_none, built_said, readable_now, runs_over, writes_nothing}
 
 -- files that are made aren't refused
@@ -106,20 +107,20 @@ nothing_written fault.ChildLost (Given path) (Some text) report = refl
 nothing_written fault.DiskFailed (Given path) (Some text) report = refl
 
 -- the counts of a build and of its tests say why
-pub fault_counted : (why : BuildFault) (first now : FaultCounts) (tree out report input : ℕ) → Explains (Some why) first now → NoneFell first now →
-    IsAccounted (fault_outcome why) (fault_counts tree first.disks first.starts first.losses out report input) (fault_counts tree now.disks now.starts now.losses out report input)
-fault_counted why first now tree out report input explains fell = record { cause = cause why explains; stand = record { tree = omega arith; disk = fell.disks; start = fell.starts; child = fell.losses; out = omega arith; report = omega arith; input = omega arith } } where
-  cause : (why : BuildFault) → Explains (Some why) first now → Causes (fault_outcome why) (fault_counts tree first.disks first.starts first.losses out report input) (fault_counts tree now.disks now.starts now.losses out report input)
+pub fault_counted : (why : BuildFault) (first now : BuildFaultCounts) (others : RunFaultCounts) → Explains (Some why) first now → NoBuildCountFell first now →
+    IsAccounted (fault_outcome why) (record others { build = first }) (record others { build = now })
+fault_counted why first now others explains fell = record { cause = cause why explains; stand = record { tree = omega arith; build = fell; out = omega arith; report = omega arith; input = omega arith } } where
+  cause : (why : BuildFault) → Explains (Some why) first now → Causes (fault_outcome why) (record others { build = first }) (record others { build = now })
   cause fault.NoMemory is = tt
   cause fault.StartFailed is = is
   cause fault.ChildLost is = is
   cause fault.DiskFailed is = is
 
 -- and where there is no fault, those of what is said after it count
-pub ended_counted : (first now : FaultCounts) (tree before out reported report input : ℕ) (said : Outcome) → Explains None first now → IsAccounted said (fault_counts tree now.disks now.starts now.losses before reported input) (fault_counts tree now.disks now.starts now.losses out report input) →
-    IsAccounted said (fault_counts tree first.disks first.starts first.losses before reported input) (fault_counts tree now.disks now.starts now.losses out report input)
-ended_counted first now tree before out reported report input said same accounted =
-    subst (λ (f : FaultCounts). IsAccounted said (fault_counts tree f.disks f.starts f.losses before reported input) (fault_counts tree now.disks now.starts now.losses out report input)) same accounted
+pub ended_counted : (first now : BuildFaultCounts) (old new : RunFaultCounts) (said : Outcome) → Explains None first now → IsAccounted said (record old { build = now }) (record new { build = now }) →
+    IsAccounted said (record old { build = first }) (record new { build = now })
+ended_counted first now old new said same accounted =
+    subst (λ (build : BuildFaultCounts). IsAccounted said (record old { build = build }) (record new { build = now })) same accounted
 
 -- ## The run
 

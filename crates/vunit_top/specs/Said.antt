@@ -6,6 +6,7 @@ use Rattle.base_outcomes.specs.declared.outcome.Which.TheVariants as which
 use Rattle.base_outcomes.specs.declared.outcome.Outcome.{Outcome}
 use Rattle.base_outcomes.specs.declared.outcome.Outcome.TheVariants as outcome
 use Rattle.outside.specs.Counts.{Rose}
+use Rattle.outside.specs.FaultCounts.{RunFaultCounts, NoRunCountFell}
 use Rattle.build_loop.specs.declared.faults.BuildFault.{BuildFault}
 use Rattle.build_loop.specs.declared.faults.BuildFault.TheVariants as fault
 use Rattle.outside.specs.Streams.{AddsPrefix}
@@ -138,44 +139,20 @@ fault_outcome fault.StartFailed = outcome.OutsideFault which.Start
 fault_outcome fault.ChildLost = outcome.OutsideFault which.Child
 fault_outcome fault.DiskFailed = outcome.OutsideFault which.Disk
 
--- the counts of faults of the objects that a run is handed
-pub record Counts : Type 0 where
-  pub tree : ℕ
-  pub disk : ℕ
-  pub start : ℕ
-  pub child : ℕ
-  pub out : ℕ
-  pub report : ℕ
-  pub input : ℕ
-
 -- A fault of an object is answered only where its count rose. After any answer but a fault and out of memory
 -- all counts are unchanged.
-abbrev pub Causes : Outcome → Counts → Counts → Type 0
+abbrev pub Causes : Outcome → RunFaultCounts → RunFaultCounts → Type 0
 Causes outcome.NoMemory old new = Unit {0}
 Causes (outcome.OutsideFault which.Tree) old new = Rose old.tree new.tree
-Causes (outcome.OutsideFault which.Disk) old new = Rose old.disk new.disk
-Causes (outcome.OutsideFault which.Start) old new = Rose old.start new.start
-Causes (outcome.OutsideFault which.Child) old new = Rose old.child new.child
+Causes (outcome.OutsideFault which.Disk) old new = Rose old.build.disks new.build.disks
+Causes (outcome.OutsideFault which.Start) old new = Rose old.build.children.starts new.build.children.starts
+Causes (outcome.OutsideFault which.Child) old new = Rose old.build.children.losses new.build.children.losses
 Causes (outcome.OutsideFault which.Out) old new = Rose old.out new.out
 Causes (outcome.OutsideFault which.Report) old new = Rose old.report new.report
 Causes (outcome.OutsideFault which.Input) old new = Rose old.input new.input
 Causes answer old new = new ≡ old
 
--- no count of faults has fallen
-pub record CountsStand (old new : Counts) : Type 0 where
-  pub tree : old.tree ≤ new.tree
-  pub disk : old.disk ≤ new.disk
-  pub start : old.start ≤ new.start
-  pub child : old.child ≤ new.child
-  pub out : old.out ≤ new.out
-  pub report : old.report ≤ new.report
-  pub input : old.input ≤ new.input
-
--- the counts of faults of these objects
-abbrev pub fault_counts : (tree disk start child out report input : ℕ) → Counts
-fault_counts tree disk start child out report input = record { tree = tree; disk = disk; start = start; child = child; out = out; report = report; input = input }
-
 -- Each answer has its cause in a count, and no count has fallen.
-pub record IsAccounted (result : Outcome) (old new : Counts) : Type 0 where
+pub record IsAccounted (result : Outcome) (old new : RunFaultCounts) : Type 0 where
   pub cause : Causes result old new
-  pub stand : CountsStand old new
+  pub stand : NoRunCountFell old new

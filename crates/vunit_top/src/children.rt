@@ -6,9 +6,10 @@ ghost use Rattle.child_benches.specs.Benches.{bench_answer, simulation};
 ghost use Rattle.child_lines.specs.Ends.{bad_request};
 ghost use Rattle.child_tools.specs.Answers.{analysis};
 ghost use Rattle.outside.specs.Reports.{HasWritten};
+ghost use Rattle.outside.specs.FaultCounts.{RunFaultCounts, with_input, with_output, with_reports};
 ghost use Rattle.vhdl_spec.specs.Scans.{Finding, IsScanner};
 ghost use Rattle.vunit_top.specs.Ends.{OutCauses, WritesFirst, WritesResults};
-ghost use Rattle.vunit_top.specs.Said.{Results, Says, IsAccounted, child_results, child_said, exit_said, fault_counts, left_results};
+ghost use Rattle.vunit_top.specs.Said.{Results, Says, IsAccounted, child_results, child_said, exit_said, left_results};
 
 use crate::ends::say;
 use base::{Exit, MaybeText, Text};
@@ -80,11 +81,9 @@ pub fn run_as_compiler<I: Source, O: Sink>(alloc: Global, input: &mut I, out: &m
         (O.contents out.old) (O.contents out.new) }
     ensures silent { (scan : List ℕ → Finding) → IsScanner scan → I.tells →
         (child_said (analysis scan) (I.left input.old)).text ≡ [] → out.new ≡ out.old }
-    ensures counted { (tree disk start child report : ℕ) → IsAccounted result
-        (fault_counts tree disk start child (O.failed_puts out.old) report
-        (I.failed_takes input.old))
-        (fault_counts tree disk start child (O.failed_puts out.new) report
-        (I.failed_takes input.new)) }
+    ensures counted { (others : RunFaultCounts) → IsAccounted result
+        (with_output O.Sink out.old (with_input I.Source input.old others))
+        (with_output O.Sink out.new (with_input I.Source input.new others)) }
 {
     match input.take(alloc, INPUT_BYTES) {
         Ok(TakeEnd::Got(source)) => answer_source(alloc, source.bytes(), out),
@@ -108,11 +107,9 @@ fn leave_results<O: Sink, R: Reports>(
     ensures writes { R.tells →
         let results : Results = record { path = path.now; text = text.now } in
         WritesResults (Some results) result (R.report reports.old) (R.report reports.new) }
-    ensures counted { (tree disk start child input : ℕ) → IsAccounted result
-        (fault_counts tree disk start child (O.failed_puts out.old)
-        (R.failed_reports reports.old) input)
-        (fault_counts tree disk start child (O.failed_puts out.new)
-        (R.failed_reports reports.new) input) }
+    ensures counted { (others : RunFaultCounts) → IsAccounted result
+        (with_output O.Sink out.old (with_reports R.Reports reports.old others))
+        (with_output O.Sink out.new (with_reports R.Reports reports.new others)) }
 {
     match reports.write(path, text.bytes()) {
         Ok(()) => say_exit(exit, out),
@@ -133,11 +130,9 @@ fn leave_exit<O: Sink, R: Reports>(
     ensures writes { R.tells →
         WritesResults (left_results (Some job.now) exit.now.results) result
         (R.report reports.old) (R.report reports.new) }
-    ensures counted { (tree disk start child input : ℕ) → IsAccounted result
-        (fault_counts tree disk start child (O.failed_puts out.old)
-        (R.failed_reports reports.old) input)
-        (fault_counts tree disk start child (O.failed_puts out.new)
-        (R.failed_reports reports.new) input) }
+    ensures counted { (others : RunFaultCounts) → IsAccounted result
+        (with_output O.Sink out.old (with_reports R.Reports reports.old others))
+        (with_output O.Sink out.new (with_reports R.Reports reports.new others)) }
 {
     match &exit.results {
         MaybeText::Given(text) => leave_results(exit, &job.results, text, out, reports),
@@ -158,11 +153,9 @@ fn answer_job<O: Sink, R: Reports>(
     ensures writes { R.tells →
         WritesResults (left_results (Some job.now) (bench_answer job.now).results) result
         (R.report reports.old) (R.report reports.new) }
-    ensures counted { (tree disk start child input : ℕ) → IsAccounted result
-        (fault_counts tree disk start child (O.failed_puts out.old)
-        (R.failed_reports reports.old) input)
-        (fault_counts tree disk start child (O.failed_puts out.new)
-        (R.failed_reports reports.new) input) }
+    ensures counted { (others : RunFaultCounts) → IsAccounted result
+        (with_output O.Sink out.old (with_reports R.Reports reports.old others))
+        (with_output O.Sink out.new (with_reports R.Reports reports.new others)) }
 {
     match run_job(alloc, job) {
         Ok(exit) => leave_exit(&exit, job, out, reports),
@@ -184,11 +177,9 @@ fn answer_bench<O: Sink, R: Reports>(
     ensures writes { R.tells →
         WritesResults (left_results (bench_at input.now) (simulation input.now).results) result
         (R.report reports.old) (R.report reports.new) }
-    ensures counted { (tree disk start child input : ℕ) → IsAccounted result
-        (fault_counts tree disk start child (O.failed_puts out.old)
-        (R.failed_reports reports.old) input)
-        (fault_counts tree disk start child (O.failed_puts out.new)
-        (R.failed_reports reports.new) input) }
+    ensures counted { (others : RunFaultCounts) → IsAccounted result
+        (with_output O.Sink out.old (with_reports R.Reports reports.old others))
+        (with_output O.Sink out.new (with_reports R.Reports reports.new others)) }
 {
     match bench_job(alloc, input) {
         Ok(Some(job)) => answer_job(alloc, &job, out, reports),
@@ -214,11 +205,11 @@ pub fn run_as_simulator<I: Source, O: Sink, R: Reports>(
         (R.report reports.old) (R.report reports.new) }
     ensures placed { (result ≡ Outcome.OutsideFault Which.Tree)
         ⊎ (result ≡ Outcome.OutsideFault Which.Input) → reports.new ≡ reports.old }
-    ensures counted { (tree disk start child : ℕ) → IsAccounted result
-        (fault_counts tree disk start child (O.failed_puts out.old)
-        (R.failed_reports reports.old) (I.failed_takes input.old))
-        (fault_counts tree disk start child (O.failed_puts out.new)
-        (R.failed_reports reports.new) (I.failed_takes input.new)) }
+    ensures counted { (others : RunFaultCounts) → IsAccounted result
+        (with_output O.Sink out.old (with_reports R.Reports reports.old
+        (with_input I.Source input.old others)))
+        (with_output O.Sink out.new (with_reports R.Reports reports.new
+        (with_input I.Source input.new others))) }
 {
     match input.take(alloc, INPUT_BYTES) {
         Ok(TakeEnd::Got(request)) => answer_bench(alloc, request.bytes(), out, reports),

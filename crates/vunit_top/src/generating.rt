@@ -1,13 +1,14 @@
 //! The mode that generates a project: what is done with it, and what is put.
 
 ghost use Rattle.std.specs.Prelude.{◌≡◌, ◌≤◌, ◌<◌, ◌++◌, [], ℕ, List, Err, MatchOption, false};
+ghost use Rattle.outside.specs.FaultCounts.{RunFaultCounts, with_children, with_output};
 ghost use Rattle.run_spec.specs.ChildJournal.{since};
 ghost use Rattle.build_loop.specs.declared.faults.BuildFault.TheVariants as fault;
 ghost use Rattle.vhdl_spec.specs.Scans.{Finding, IsScanner};
 ghost use Rattle.vunit_top.specs.Generated.{GeneratesAs};
 ghost use Rattle.vunit_top.specs.Reading.{Generates, generates, setting_job};
 ghost use Rattle.generated_runs.specs.Said.{IsAnswer};
-ghost use Rattle.vunit_top.specs.Said.{IsAccounted, IsSaid, Says, fault_counts, fault_outcome};
+ghost use Rattle.vunit_top.specs.Said.{IsAccounted, IsSaid, Says, fault_outcome};
 
 use crate::ends::say;
 use crate::tests::fault_outcome;
@@ -50,9 +51,9 @@ fn put_generated<O: Sink>(said: GeneratedSaid, out: &mut O) -> Outcome
     ensures says { O.tells →
         Says result (record { outcome = said.outcome; text = said.text })
         (O.contents out.old) (O.contents out.new) }
-    ensures counted { (tree disk start child report input : ℕ) → IsAccounted result
-        (fault_counts tree disk start child (O.failed_puts out.old) report input)
-        (fault_counts tree disk start child (O.failed_puts out.new) report input) }
+    ensures counted { (others : RunFaultCounts) → IsAccounted result
+        (with_output O.Sink out.old others)
+        (with_output O.Sink out.new others) }
 {
     let GeneratedSaid { outcome, text } = said;
     say(text.bytes(), outcome, out)
@@ -76,11 +77,9 @@ pub fn say_generated<P: Procs, O: Sink>(
         GeneratesAs scan (P.answer procs.old) options result O.tells
         (since (P.journal procs.old) (P.journal procs.new))
         (O.contents out.old) (O.contents out.new) }
-    ensures counted { (tree disk report input : ℕ) → IsAccounted result
-        (fault_counts tree disk (P.failed_starts procs.old) (P.lost_children procs.old)
-        (O.failed_puts out.old) report input)
-        (fault_counts tree disk (P.failed_starts procs.new) (P.lost_children procs.new)
-        (O.failed_puts out.new) report input) }
+    ensures counted { (others : RunFaultCounts) → IsAccounted result
+        (with_children P.Procs procs.old (with_output O.Sink out.old others))
+        (with_children P.Procs procs.new (with_output O.Sink out.new others)) }
 {
     match run_generated(alloc, options, procs) {
         Ok(said) => put_generated(said, out),

@@ -2,11 +2,12 @@
 
 ghost use Rattle.std.specs.Prelude.{◌≡◌, ◌≤◌, ◌++◌, [], ℕ, List, All, length, true, false, IfOk};
 ghost use Rattle.outside.specs.Disks.{added_since};
+ghost use Rattle.outside.specs.FaultCounts.{RunFaultCounts, with_build, with_output, with_reports};
 ghost use Rattle.run_spec.specs.ChildJournal.{since};
 ghost use Rattle.run_spec.specs.JournalParts.{is_given};
 ghost use Rattle.report_run.specs.Texts.{warning_text};
 ghost use Rattle.vhdl_spec.specs.Scans.{Finding};
-ghost use Rattle.build_loop.specs.Faults.{Explains, FaultCounts, NoneFell};
+ghost use Rattle.build_loop.specs.Faults.{Explains};
 ghost use Rattle.run_build.specs.Building.{has_risen};
 ghost use Rattle.run_build.specs.Orders.{order_by};
 ghost use Rattle.project_reading.specs.Sources.{IsReadProject};
@@ -17,7 +18,7 @@ ghost use Rattle.vunit_top.specs.Acts.{RunsTests, of_each, seen};
 ghost use Rattle.vunit_top.specs.Ends.{ReportCauses, WritesLast, WritesReport};
 ghost use Rattle.vunit_top.specs.Reading.{Runs, chosen, testing_with, testing_of};
 ghost use Rattle.vunit_top.specs.Runs.{RunsAs, run_of};
-ghost use Rattle.vunit_top.specs.Said.{IsAccounted, IsSaid, Said, SaysRun, fault_counts, fault_outcome, plain_run};
+ghost use Rattle.vunit_top.specs.Said.{IsAccounted, IsSaid, Said, SaysRun, fault_outcome, plain_run};
 
 use crate::lending::LendsTexts;
 use crate::words::RunOptions;
@@ -102,11 +103,9 @@ fn put_said<O: Sink, R: Reports>(
     ensures writes { R.tells →
         WritesReport path.now said.report result (R.report reports.old) (R.report reports.new) }
     ensures unwritten { is_given path.now ≡ false → reports.new ≡ reports.old }
-    ensures counted { (tree disk start child input : ℕ) → IsAccounted result
-        (fault_counts tree disk start child (O.failed_puts out.old)
-        (R.failed_reports reports.old) input)
-        (fault_counts tree disk start child (O.failed_puts out.new)
-        (R.failed_reports reports.new) input) }
+    ensures counted { (others : RunFaultCounts) → IsAccounted result
+        (with_output O.Sink out.old (with_reports R.Reports reports.old others))
+        (with_output O.Sink out.new (with_reports R.Reports reports.new others)) }
 {
     let RunSaid {
         outcome,
@@ -144,11 +143,9 @@ fn say_tested<O: Sink, R: Reports>(
         tested.now.tests in
         WritesReport path.now said.report result (R.report reports.old) (R.report reports.new) }
     ensures unwritten { is_given path.now ≡ false → reports.new ≡ reports.old }
-    ensures counted { (tree disk start child input : ℕ) → IsAccounted result
-        (fault_counts tree disk start child (O.failed_puts out.old)
-        (R.failed_reports reports.old) input)
-        (fault_counts tree disk start child (O.failed_puts out.new)
-        (R.failed_reports reports.new) input) }
+    ensures counted { (others : RunFaultCounts) → IsAccounted result
+        (with_output O.Sink out.old (with_reports R.Reports reports.old others))
+        (with_output O.Sink out.new (with_reports R.Reports reports.new others)) }
 {
     match said_of_run(
         alloc,
@@ -221,13 +218,11 @@ fn test_planned<D: Disk, P: Procs, O: Sink, R: Reports>(
         (seen (P.journal procs.new) (D.moments disk.new) (D.failed_disk_calls disk.new)
         (O.contents out.new) (R.report reports.new)) }
     ensures unwritten { is_given options.now.report ≡ false → reports.new ≡ reports.old }
-    ensures counted { (tree input : ℕ) → IsAccounted result
-        (fault_counts tree (D.failed_disk_calls disk.old) (P.failed_starts procs.old)
-        (P.lost_children procs.old) (O.failed_puts out.old)
-        (R.failed_reports reports.old) input)
-        (fault_counts tree (D.failed_disk_calls disk.new) (P.failed_starts procs.new)
-        (P.lost_children procs.new) (O.failed_puts out.new)
-        (R.failed_reports reports.new) input) }
+    ensures counted { (others : RunFaultCounts) → IsAccounted result
+        (with_build P.Procs D.Disk procs.old disk.old
+        (with_output O.Sink out.old (with_reports R.Reports reports.old others)))
+        (with_build P.Procs D.Disk procs.new disk.new
+        (with_output O.Sink out.new (with_reports R.Reports reports.new others))) }
 {
     let Planned { warnings, runs } = planned;
     match test_over::<RequestStore<'_>, LendsTexts, D, P>(
@@ -289,13 +284,11 @@ pub fn test_project<D: Disk, P: Procs, O: Sink, R: Reports>(
         (seen (P.journal procs.new) (D.moments disk.new) (D.failed_disk_calls disk.new)
         (O.contents out.new) (R.report reports.new)) }
     ensures unwritten { is_given options.now.report ≡ false → reports.new ≡ reports.old }
-    ensures counted { (tree input : ℕ) → IsAccounted result
-        (fault_counts tree (D.failed_disk_calls disk.old) (P.failed_starts procs.old)
-        (P.lost_children procs.old) (O.failed_puts out.old)
-        (R.failed_reports reports.old) input)
-        (fault_counts tree (D.failed_disk_calls disk.new) (P.failed_starts procs.new)
-        (P.lost_children procs.new) (O.failed_puts out.new)
-        (R.failed_reports reports.new) input) }
+    ensures counted { (others : RunFaultCounts) → IsAccounted result
+        (with_build P.Procs D.Disk procs.old disk.old
+        (with_output O.Sink out.old (with_reports R.Reports reports.old others)))
+        (with_build P.Procs D.Disk procs.new disk.new
+        (with_output O.Sink out.new (with_reports R.Reports reports.new others))) }
 {
     match plan_runs(alloc, read, &options.wish) {
         Ok(planned) => test_planned(alloc, planned, read, options, disk, procs, out, reports),

@@ -2,6 +2,7 @@
 
 ghost use Rattle.std.specs.Prelude.{◌≡◌, ◌≤◌, ◌⊎◌, ◌++◌, [], ℕ, List, codes, Option, Some, None, Ok, Err, true, false, IfOk};
 ghost use Rattle.outside.specs.Disks.{added_since};
+ghost use Rattle.outside.specs.FaultCounts.{RunFaultCounts, run_counts, with_build, with_output, with_reports, with_tree};
 ghost use Rattle.run_spec.specs.ChildJournal.{since};
 ghost use Rattle.run_histories.specs.Histories.{Order, work_over};
 ghost use Rattle.run_spec.specs.JournalParts.{compile_part, test_part};
@@ -27,7 +28,7 @@ ghost use Rattle.run_build.specs.Orders.{order_by};
 ghost use Rattle.vunit_top.specs.Reading.{Reading, Testing, Builds, Exports, Runs, HasSlots, reading, full_reading, job_reading, setting_job, words_job, begins_as_child, begins_as_compiler, begins_as_simulator, chosen, is_build, is_run, may_test, may_write, generates, Generates, wish_of};
 ghost use Rattle.run_build.specs.Building.{has_risen};
 ghost use Rattle.vunit_top.specs.Runs.{RunsAs, run_of};
-ghost use Rattle.vunit_top.specs.Said.{Said, Says, SaysRun, IsSaid, HasEnded, Causes, IsAccounted, fault_counts, report_path_of, order_of, plan_in, plain_said, build_said, child_said, child_results};
+ghost use Rattle.vunit_top.specs.Said.{Said, Says, SaysRun, IsSaid, HasEnded, Causes, IsAccounted, report_path_of, order_of, plan_in, plain_said, build_said, child_said, child_results};
 
 use crate::children::{run_as_compiler, run_as_simulator};
 use crate::ends::{
@@ -86,11 +87,9 @@ fn build_graph<D: Disk, P: Procs, O: Sink>(
         let events = compile_part (since (P.journal procs.old) (P.journal procs.new)) in
         let marks = marks_of (work_over records_in_image order (D.moments disk.old).now) events in
         IsSaid result → result ≡ build_outcome graph.now marks }
-    ensures counted { (tree report input : ℕ) → IsAccounted result
-        (fault_counts tree (D.failed_disk_calls disk.old) (P.failed_starts procs.old)
-        (P.lost_children procs.old) (O.failed_puts out.old) report input)
-        (fault_counts tree (D.failed_disk_calls disk.new) (P.failed_starts procs.new)
-        (P.lost_children procs.new) (O.failed_puts out.new) report input) }
+    ensures counted { (others : RunFaultCounts) → IsAccounted result
+        (with_build P.Procs D.Disk procs.old disk.old (with_output O.Sink out.old others))
+        (with_build P.Procs D.Disk procs.new disk.new (with_output O.Sink out.new others)) }
 {
     match build_over::<RequestStore<'_>, LendsTexts, D, P>(
         alloc,
@@ -146,11 +145,9 @@ fn build_project<D: Disk, P: Procs, O: Sink>(
         let events = compile_part (since (P.journal procs.old) (P.journal procs.new)) in
         let marks = marks_of (work_over records_in_image order (D.moments disk.old).now) events in
         IsSaid result → result ≡ build_outcome read.now.graph marks }
-    ensures counted { (tree report input : ℕ) → IsAccounted result
-        (fault_counts tree (D.failed_disk_calls disk.old) (P.failed_starts procs.old)
-        (P.lost_children procs.old) (O.failed_puts out.old) report input)
-        (fault_counts tree (D.failed_disk_calls disk.new) (P.failed_starts procs.new)
-        (P.lost_children procs.new) (O.failed_puts out.new) report input) }
+    ensures counted { (others : RunFaultCounts) → IsAccounted result
+        (with_build P.Procs D.Disk procs.old disk.old (with_output O.Sink out.old others))
+        (with_build P.Procs D.Disk procs.new disk.new (with_output O.Sink out.new others)) }
 {
     match warning_text(alloc, &read.project, &read.warnings) {
         Ok(warnings) => build_graph(alloc, warnings, &read.graph, options, disk, procs, out),
@@ -241,13 +238,11 @@ fn run_job<D: Disk, P: Procs, O: Sink, R: Reports>(
         (O.contents out.new) (R.report reports.new)) }
     ensures unbuilt { is_build job ≡ false → (disk.new ≡ disk.old) × (procs.new ≡ procs.old) }
     ensures unwritten { may_write job ≡ false → reports.new ≡ reports.old }
-    ensures counted { (tree input : ℕ) → IsAccounted result
-        (fault_counts tree (D.failed_disk_calls disk.old) (P.failed_starts procs.old)
-        (P.lost_children procs.old) (O.failed_puts out.old)
-        (R.failed_reports reports.old) input)
-        (fault_counts tree (D.failed_disk_calls disk.new) (P.failed_starts procs.new)
-        (P.lost_children procs.new) (O.failed_puts out.new)
-        (R.failed_reports reports.new) input) }
+    ensures counted { (others : RunFaultCounts) → IsAccounted result
+        (with_build P.Procs D.Disk procs.old disk.old
+        (with_output O.Sink out.old (with_reports R.Reports reports.old others)))
+        (with_build P.Procs D.Disk procs.new disk.new
+        (with_output O.Sink out.new (with_reports R.Reports reports.new others))) }
 {
     match job {
         Job::ListFiles(_wish) => say_files(alloc, &read.graph, out),
@@ -283,10 +278,11 @@ fn say_stop<O: Sink>(alloc: Global, stop: ReadStop, out: &mut O) -> Outcome
     ensures writes { (job : Job) (found : SourceReading) → LeadsTo found (Err stop) →
         (path text : List ℕ) → job_reading job found ≡ Exports path text →
         (reports : List ℕ → Option (List ℕ)) → Writes result path text reports reports }
-    ensures cause { (before now disk start child report input : ℕ) → StopCounts stop before now →
+    ensures cause { (others : RunFaultCounts) (before now : ℕ) →
+        StopCounts stop before now →
         Causes result
-        (fault_counts before disk start child (O.failed_puts out.old) report input)
-        (fault_counts now disk start child (O.failed_puts out.new) report input) }
+        (with_output O.Sink out.old (record others { tree = before }))
+        (with_output O.Sink out.new (record others { tree = now })) }
     ensures stand { O.failed_puts out.old ≤ O.failed_puts out.new }
 {
     match stop {
@@ -339,13 +335,11 @@ fn run_sources<T: Tree, D: Disk, P: Procs, O: Sink, R: Reports>(
     ensures placed { (result ≡ Outcome.OutsideFault Which.Tree)
         ⊎ (result ≡ Outcome.OutsideFault Which.Input) →
         (disk.new ≡ disk.old) × (procs.new ≡ procs.old) × (reports.new ≡ reports.old) }
-    ensures counted { (input : ℕ) → IsAccounted result
-        (fault_counts (T.failed_reads tree.old) (D.failed_disk_calls disk.old)
-        (P.failed_starts procs.old) (P.lost_children procs.old) (O.failed_puts out.old)
-        (R.failed_reports reports.old) input)
-        (fault_counts (T.failed_reads tree.new) (D.failed_disk_calls disk.new)
-        (P.failed_starts procs.new) (P.lost_children procs.new) (O.failed_puts out.new)
-        (R.failed_reports reports.new) input) }
+    ensures counted { (others : RunFaultCounts) → IsAccounted result
+        (with_tree T.Tree tree.old (with_build P.Procs D.Disk procs.old disk.old
+        (with_output O.Sink out.old (with_reports R.Reports reports.old others))))
+        (with_tree T.Tree tree.new (with_build P.Procs D.Disk procs.new disk.new
+        (with_output O.Sink out.new (with_reports R.Reports reports.new others)))) }
 {
     let wish = wish_of(&job);
     match read_project(alloc, tree, wish) {
@@ -405,13 +399,11 @@ fn run_setting<T: Tree, D: Disk, P: Procs, O: Sink, R: Reports>(
     ensures placed { (result ≡ Outcome.OutsideFault Which.Tree)
         ⊎ (result ≡ Outcome.OutsideFault Which.Input) →
         (disk.new ≡ disk.old) × (procs.new ≡ procs.old) × (reports.new ≡ reports.old) }
-    ensures counted { (input : ℕ) → IsAccounted result
-        (fault_counts (T.failed_reads tree.old) (D.failed_disk_calls disk.old)
-        (P.failed_starts procs.old) (P.lost_children procs.old) (O.failed_puts out.old)
-        (R.failed_reports reports.old) input)
-        (fault_counts (T.failed_reads tree.new) (D.failed_disk_calls disk.new)
-        (P.failed_starts procs.new) (P.lost_children procs.new) (O.failed_puts out.new)
-        (R.failed_reports reports.new) input) }
+    ensures counted { (others : RunFaultCounts) → IsAccounted result
+        (with_tree T.Tree tree.old (with_build P.Procs D.Disk procs.old disk.old
+        (with_output O.Sink out.old (with_reports R.Reports reports.old others))))
+        (with_tree T.Tree tree.new (with_build P.Procs D.Disk procs.new disk.new
+        (with_output O.Sink out.new (with_reports R.Reports reports.new others)))) }
 {
     if setting.num_threads > SLOT_LIMIT as u64 {
         return say_limit(alloc, Limit::Slots, SLOT_LIMIT as u64, out);
@@ -604,12 +596,10 @@ pub fn run_vunit<I: Source, T: Tree, D: Disk, P: Procs, O: Sink, R: Reports>(
     // A fault is answered only where its count rose; after any other answer but out of memory all counts are unchanged.
     // No count falls.
     ensures counted { IsAccounted result
-        (fault_counts (T.failed_reads tree.old) (D.failed_disk_calls disk.old)
-        (P.failed_starts procs.old) (P.lost_children procs.old) (O.failed_puts out.old)
-        (R.failed_reports reports.old) (I.failed_takes input.old))
-        (fault_counts (T.failed_reads tree.new) (D.failed_disk_calls disk.new)
-        (P.failed_starts procs.new) (P.lost_children procs.new) (O.failed_puts out.new)
-        (R.failed_reports reports.new) (I.failed_takes input.new)) }
+        (run_counts I.Source T.Tree D.Disk P.Procs O.Sink R.Reports
+        input.old tree.old disk.old procs.old out.old reports.old)
+        (run_counts I.Source T.Tree D.Disk P.Procs O.Sink R.Reports
+        input.new tree.new disk.new procs.new out.new reports.new) }
 {
     if begins_with(b"child-analyse", words) {
         return run_as_compiler(alloc, input, out);

@@ -1,6 +1,7 @@
 -- Answers to the goals of `build_marks`.
 use Rattle.std.proofs.Common.{ℕ, List, None, [], length, refl, sym, ap, subst, subst₂, ◌∙◌, arith}
 use Rattle.std.specs.Prelude.{is_some, slice_get}
+use Rattle.outside.specs.FaultCounts.{build_counts}
 use Rattle.run_spec.specs.declared.marks.Mark.{Mark}
 use Rattle.run_steps.specs.declared.step.Step.{Step}
 use Rattle.build_slots.specs.declared.step.BuildStep.TheVariants.{Run}
@@ -30,8 +31,8 @@ loop-at-init g c = record {
   seated = c.requires.seated;
   gathered = c.new-gathered.ensures (g.K.Records.latest_of c.args.store.now) c.args.graph.now;
   counts = subst₂ (λ (starts losses : ℕ). CountsBy None (g.K.Records.broken c.args.store.now)
-      (record { starts = g.P.Procs.failed_starts c.args.procs.now; losses = g.P.Procs.lost_children c.args.procs.now; disks = g.D.Disk.failed_disk_calls c.args.disk.now })
-      (record { starts = starts; losses = losses; disks = g.D.Disk.failed_disk_calls c.args.disk.now }))
+      (build_counts g.P.Procs g.D.Disk c.args.procs.now c.args.disk.now)
+      (record { children = record { starts = starts; losses = losses }; disks = g.D.Disk.failed_disk_calls c.args.disk.now }))
       (sym c.expects.ensures.starts) (sym c.expects.ensures.children) (counts_at_first (g.K.Records.broken c.args.store.now) _ c.requires.usable);
 }
 
@@ -145,7 +146,7 @@ loop-at-preserved-then-fresh g c =
       seated = before.seated;
       gathered = before.gathered;
       counts = subst₂ (λ (starts losses : ℕ). CountsBy c.loop-at.noted (g.K.Records.broken c.loop-at.store)
-          (record { starts = g.P.Procs.failed_starts c.args.procs.now; losses = g.P.Procs.lost_children c.args.procs.now; disks = g.D.Disk.failed_disk_calls c.args.disk.now })
-          (record { starts = starts; losses = losses; disks = g.D.Disk.failed_disk_calls c.loop-at.disk }))
+          (build_counts g.P.Procs g.D.Disk c.args.procs.now c.args.disk.now)
+          (record { children = record { starts = starts; losses = losses }; disks = g.D.Disk.failed_disk_calls c.loop-at.disk }))
           (sym c.spares.ensures.starts) (sym c.spares.ensures.children) before.counts;
     }

@@ -1,6 +1,7 @@
 -- What holds at each turn of the loop of `build_marks`: the build is under way.
 use Rattle.std.proofs.Common.{◌≡◌, length}
 use Rattle.std.specs.Bool.{OnFalse}
+use Rattle.outside.specs.FaultCounts.{build_counts}
 use Rattle.build_slots.specs.Machines.{tickets_of, files_of, to_come}
 use Rattle.build_loop.specs.Faults.{CountsBy}
 use Rattle.build_loop.specs.Requests.{IsGathered}
@@ -20,8 +21,8 @@ invariant-loop-at g l = record {
   seated : g.K.Records.is_seated l.store l.graph l.seats;
   gathered : IsGathered (g.K.Records.latest_of l.store) l.graph l.gathered;
   counts : CountsBy l.noted (g.K.Records.broken l.store)
-      (record { starts = g.P.Procs.failed_starts l.fn.procs; losses = g.P.Procs.lost_children l.fn.procs; disks = g.D.Disk.failed_disk_calls l.fn.disk })
-      (record { starts = g.P.Procs.failed_starts l.procs; losses = g.P.Procs.lost_children l.procs; disks = g.D.Disk.failed_disk_calls l.disk });
+      (build_counts g.P.Procs g.D.Disk l.fn.procs l.fn.disk)
+      (build_counts g.P.Procs g.D.Disk l.procs l.disk);
 }
 
 abbrev pub decreases-loop-at : goal.decreases-loop-at

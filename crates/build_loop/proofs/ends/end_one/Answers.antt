@@ -45,5 +45,5 @@ returns-in-Err-clause-goes g c = λ from goes.
 pub returns-in-Err-clause-counts : goal.returns-in-Err-clause-counts
 returns-in-Err-clause-counts g c = λ first counts.
     let cause = subst (λ (r : Result Ended WaitFault). ChildCounts r (g.P.Procs.lost_children c.args.procs.now) (g.P.Procs.lost_children c.wait_any.new.self)) c.in-Err.is c.wait_any.ensures.cause in
-    subst (λ (starts : ℕ). CountsBy c.lose_by.new.noted (g.K.Records.broken c.args.store.now) first (record { starts = starts; losses = g.P.Procs.lost_children c.wait_any.new.self; disks = g.D.Disk.failed_disk_calls c.args.disk.now }))
+    subst (λ (starts : ℕ). CountsBy c.lose_by.new.noted (g.K.Records.broken c.args.store.now) first (record { children = record { starts = starts; losses = g.P.Procs.lost_children c.wait_any.new.self }; disks = g.D.Disk.failed_disk_calls c.args.disk.now }))
     (sym c.wait_any.ensures.starts) (c.lose_by.ensures.counts first _ (g.P.Procs.lost_children c.wait_any.new.self) (g.K.Records.broken c.args.store.now) cause counts)

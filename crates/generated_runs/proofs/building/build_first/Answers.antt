@@ -1,6 +1,6 @@
 -- The first build, from what it did over its disk.
+use Rattle.outside.specs.FaultCounts.{BuildFaultCounts, child_counts}
 use Rattle.run_build.specs.Building.{has_risen}
-use Rattle.build_loop.specs.Faults.{FaultCounts}
 use Rattle.memory_outside.specs.Disks.{moments_of}
 use Rattle.memory_outside.specs.DiskLaws.{now_sound}
 use Rattle.run_spec.specs.ChildJournal.{since}
@@ -19,6 +19,6 @@ returns-in-Err-clause-ran g c = λ tells.
 
 pub returns-in-Err-clause-explains : goal.returns-in-Err-clause-explains
 returns-in-Err-clause-explains g c = λ disks.
-    let first : FaultCounts = record { starts = g.P.Procs.failed_starts c.args.procs.now; losses = g.P.Procs.lost_children c.args.procs.now; disks = c.args.disk.now.calls.failed } in
-    let now : FaultCounts = record { starts = g.P.Procs.failed_starts c.build_over.new.procs; losses = g.P.Procs.lost_children c.build_over.new.procs; disks = c.build_over.new.disk.calls.failed } in
+    let first : BuildFaultCounts = record { children = child_counts g.P.Procs c.args.procs.now; disks = c.args.disk.now.calls.failed } in
+    let now : BuildFaultCounts = record { children = child_counts g.P.Procs c.build_over.new.procs; disks = c.build_over.new.disk.calls.failed } in
     c.own_fault.ensures.same first now disks c.in-Err.ensures.explains

@@ -4,7 +4,9 @@ use Rattle.std.specs.Prelude.{count_by}
 use Rattle.std.specs.List.{list_all}
 use Rattle.base.specs.declared.child.Request.{Request}
 use Rattle.base.specs.declared.child.Exit.{Exit}
-use Rattle.build_loop.specs.Faults.{FaultCounts, Explains, fault_of}
+use Rattle.outside.specs.FaultCounts.{BuildFaultCounts, child_counts}
+use Rattle.outside.proofs.FaultCountLaws.{no_fall_twice}
+use Rattle.build_loop.specs.Faults.{Explains, fault_of}
 use Rattle.build_loop.specs.Ran.{is_made}
 use Rattle.build_loop.specs.declared.faults.BuildFault.TheVariants as fault
 use Rattle.memory_outside.specs.Disks.{moments_of}
@@ -12,7 +14,7 @@ use Rattle.run_spec.specs.Marks.{is_compiled}
 use Rattle.run_spec.specs.ChildJournal.{since}
 use Rattle.generated_runs.specs.Sources.{first_records, second_reading}
 use Rattle.generated_runs.specs.Ran.{RanEdited}
-use Rattle.generated_runs.proofs.Parts.{grown_twice, fell_both, first_fault, first_said, both_ran}
+use Rattle.generated_runs.proofs.Parts.{grown_twice, first_fault, first_said, both_ran}
 use Rattle.generated_runs.proofs.running.run_read.Goals as goal
 
 pub returns-in-Ok-marks_said-clause-ran : goal.returns-in-Ok-marks_said-clause-ran
@@ -47,9 +49,9 @@ returns-then-are_made-clause-ran g c = λ scan is tells.
     next
 
 pub returns-then-are_made-clause-fell : goal.returns-then-are_made-clause-fell
-returns-then-are_made-clause-fell g c = λ disks. fell_both (c.in-Ok.ensures.fell disks) (c.run_edited.ensures.fell disks)
+returns-then-are_made-clause-fell g c = λ disks. no_fall_twice (c.in-Ok.ensures.fell disks) (c.run_edited.ensures.fell disks)
 
 pub returns-then-are_made-clause-explains : goal.returns-then-are_made-clause-explains
 returns-then-are_made-clause-explains g c = λ disks.
-    subst (λ (first : FaultCounts). Explains (fault_of c.run_edited.result) first (record { starts = g.P.Procs.failed_starts c.run_edited.new.procs; losses = g.P.Procs.lost_children c.run_edited.new.procs; disks = disks })) (c.in-Ok.ensures.explains disks)
+    subst (λ (first : BuildFaultCounts). Explains (fault_of c.run_edited.result) first (record { children = child_counts g.P.Procs c.run_edited.new.procs; disks = disks })) (c.in-Ok.ensures.explains disks)
     (c.run_edited.ensures.explains disks)

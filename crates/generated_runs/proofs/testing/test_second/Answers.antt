@@ -1,7 +1,7 @@
 -- The second build and its tests, from what they did over their disk.
 use Rattle.std.proofs.Common.{List, Ok, Err, subst, false}
+use Rattle.outside.specs.FaultCounts.{BuildFaultCounts, child_counts}
 use Rattle.run_build.specs.Building.{has_risen}
-use Rattle.build_loop.specs.Faults.{FaultCounts}
 use Rattle.memory_outside.specs.Disks.{moments_of}
 use Rattle.run_spec.specs.ChildJournal.{since}
 use Rattle.test_spec.specs.declared.runs.TestRun.{TestRun}
@@ -33,6 +33,6 @@ returns-in-Err-clause-ran g c = λ records are tells.
 
 pub returns-in-Err-clause-explains : goal.returns-in-Err-clause-explains
 returns-in-Err-clause-explains g c = λ disks.
-    let first : FaultCounts = record { starts = g.P.Procs.failed_starts c.args.procs.now; losses = g.P.Procs.lost_children c.args.procs.now; disks = c.args.disk.now.calls.failed } in
-    let now : FaultCounts = record { starts = g.P.Procs.failed_starts c.test_over.new.procs; losses = g.P.Procs.lost_children c.test_over.new.procs; disks = c.test_over.new.disk.calls.failed } in
+    let first : BuildFaultCounts = record { children = child_counts g.P.Procs c.args.procs.now; disks = c.args.disk.now.calls.failed } in
+    let now : BuildFaultCounts = record { children = child_counts g.P.Procs c.test_over.new.procs; disks = c.test_over.new.disk.calls.failed } in
     c.own_fault.ensures.same first now disks c.in-Err.ensures.explains

@@ -3,6 +3,7 @@ use Rattle.std.proofs.Common.{List, refl, sym, ap, subst, ◌∙◌}
 use Rattle.base.specs.declared.child.Request.{Request}
 use Rattle.base.specs.declared.child.Exit.{Exit}
 use Rattle.base.specs.declared.child.Event.{Event}
+use Rattle.outside.proofs.FaultCountLaws.{no_fall_twice}
 use Rattle.test_journal.specs.TestJournal.{TestSetting}
 use Rattle.test_loop.specs.Requests.{lent_files}
 use Rattle.test_loop.specs.UnderWay.{tests_with}
@@ -13,7 +14,7 @@ use Rattle.run_histories.specs.Histories.{work_over}
 use Rattle.run_build.specs.Orders.{order_by}
 use Rattle.run_build.proofs.OverStore.{rests_failed, rests_still}
 use Rattle.run_tested.specs.Tested.{RanBuilt}
-use Rattle.run_tested.proofs.TestsAfter.{same_lent, fell_both, tested_after, compilers_after, build_failed}
+use Rattle.run_tested.proofs.TestsAfter.{same_lent, tested_after, compilers_after, build_failed}
 use Rattle.run_tested.proofs.testing.test_over.Goals as goal
 
 pub returns-in-Ok-clause-told : goal.returns-in-Ok-clause-told
@@ -30,7 +31,7 @@ returns-in-Err-clause-told g c = λ tells runs.
     c.in-Err.fault (c.in-Err.ensures.told tells runs) (c.in-Err.ensures.no_tests runs)
 
 pub returns-in-Ok-clause-fell : goal.returns-in-Ok-clause-fell
-returns-in-Ok-clause-fell g c = fell_both c.build_kept.ensures.fell (c.test_built.ensures.fell _)
+returns-in-Ok-clause-fell g c = no_fall_twice c.build_kept.ensures.fell (c.test_built.ensures.fell _)
 
 pub returns-in-Ok-clause-rests : goal.returns-in-Ok-clause-rests
 returns-in-Ok-clause-rests g c = λ tells runs clean resting none.

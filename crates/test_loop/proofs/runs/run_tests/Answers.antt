@@ -2,6 +2,7 @@
 use Rattle.std.proofs.Common.{ℕ, None, length, refl, sym, ap, subst, subst₂, ◌∙◌}
 use Rattle.std.specs.Prelude.{is_some}
 use Rattle.std.proofs.lemmas.List.{length-map}
+use Rattle.outside.specs.FaultCounts.{child_counts}
 use Rattle.test_spec.specs.Verdicts.{unstarted_run}
 use Rattle.test_journal.specs.TestJournal.{TestSetting, test_job}
 use Rattle.test_loop.specs.Requests.{lent_files}
@@ -32,7 +33,7 @@ loop-at-init g c =
       same = c.expects.ensures.same;
       runs = c.in-Ok.ensures.runs;
       found = ap length c.in-Ok.ensures.found ∙ length-map c.args.runs.now unstarted_run;
-      counts = subst₂ (λ (starts losses : ℕ). TestsCountBy None (record { starts = g.P.Procs.failed_starts c.args.procs.now; losses = g.P.Procs.lost_children c.args.procs.now }) (record { starts = starts; losses = losses }))
+      counts = subst₂ (λ (starts losses : ℕ). TestsCountBy None (child_counts g.P.Procs c.args.procs.now) (record { starts = starts; losses = losses }))
           (sym c.expects.ensures.starts) (sym c.expects.ensures.children) (counts_at_first _);
     }
 

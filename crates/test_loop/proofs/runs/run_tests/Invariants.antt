@@ -1,6 +1,7 @@
 -- What holds at each turn of the loop of `run_tests`: the runs are under way.
 use Rattle.std.proofs.Common.{◌≡◌, length}
 use Rattle.std.specs.Prelude.{is_some}
+use Rattle.outside.specs.FaultCounts.{child_counts}
 use Rattle.test_row.specs.Rows.{tickets_of, run_count, to_come}
 use Rattle.test_loop.specs.Requests.{lent_files}
 use Rattle.test_loop.specs.Faults.{TestsCountBy}
@@ -16,8 +17,8 @@ invariant-loop-at g l = record {
   runs : run_count l.row ≡ length l.runs;
   found : length l.found.items ≡ length l.runs;
   counts : TestsCountBy l.noted
-      (record { starts = g.P.Procs.failed_starts l.fn.procs; losses = g.P.Procs.lost_children l.fn.procs })
-      (record { starts = g.P.Procs.failed_starts l.procs; losses = g.P.Procs.lost_children l.procs });
+      (child_counts g.P.Procs l.fn.procs)
+      (child_counts g.P.Procs l.procs);
 }
 
 abbrev pub decreases-loop-at : goal.decreases-loop-at

@@ -8,6 +8,7 @@ use Rattle.base.specs.declared.child.Event.{Event}
 use Rattle.base.specs.declared.child.Event.TheVariants.{Started}
 use Rattle.base.specs.declared.child.Request.{Request}
 use Rattle.base.specs.declared.graph.BuiltFile.{BuiltFile}
+use Rattle.outside.specs.FaultCounts.{child_counts}
 use Rattle.test_spec.specs.declared.runs.TestRun.{TestRun}
 use Rattle.test_spec.specs.Runs.{FitsRun}
 use Rattle.test_spec.specs.BenchJobs.{bench_request}
@@ -59,8 +60,8 @@ returns-in-Ok-clause-counts g c = λ first is.
 
 pub returns-in-Err-clause-counts : goal.returns-in-Err-clause-counts
 returns-in-Err-clause-counts g c = λ first is.
-    subst (λ (o : Option TestRunFault). TestsCountBy o first (record { starts = g.P.Procs.failed_starts c.try_start.new.procs; losses = g.P.Procs.lost_children c.try_start.new.procs }))
+    subst (λ (o : Option TestRunFault). TestsCountBy o first (child_counts g.P.Procs c.try_start.new.procs))
     (sym (c.halt.ensures.noted ∙ ap (λ (o : Option TestRunFault). Some (noted_with o c.in-Err.fault)) c.requires.unnoted))
     (counts_halted c.in-Err.fault first (g.P.Procs.failed_starts c.args.procs.now) (g.P.Procs.failed_starts c.try_start.new.procs) (g.P.Procs.lost_children c.args.procs.now) (g.P.Procs.lost_children c.try_start.new.procs)
     c.in-Err.ensures.starts c.try_start.ensures.losses
-    (subst (λ (o : Option TestRunFault). TestsCountBy o first (record { starts = g.P.Procs.failed_starts c.args.procs.now; losses = g.P.Procs.lost_children c.args.procs.now })) c.requires.unnoted is))
+    (subst (λ (o : Option TestRunFault). TestsCountBy o first (child_counts g.P.Procs c.args.procs.now)) c.requires.unnoted is))

@@ -1,4 +1,5 @@
 use Rattle.std.proofs.Common.{refl, sym, ◌∙◌}
+use Rattle.outside.specs.FaultCounts.{no_faults, with_input}
 use Rattle.child_benches.specs.Benches.{simulation}
 use Rattle.vunit_top.proofs.ActTruths.{no_early}
 use Rattle.vunit_top.proofs.Tops.{long_is_said, no_results, taken_results, taken_said, too_long}
@@ -22,7 +23,7 @@ pub returns-in-Ok-TooLong-clause-writes : goal.returns-in-Ok-TooLong-clause-writ
 returns-in-Ok-TooLong-clause-writes g c = λ tells writes. rw (no_results (g.I.Source.left c.args.input.now) (sym c.in-Ok-TooLong.field-0-is ∙ c.in-Ok-TooLong.ensures.input tells)) refl
 
 pub returns-in-Ok-Got-clause-counted : goal.returns-in-Ok-Got-clause-counted
-returns-in-Ok-Got-clause-counted g c = λ tree disk start child. rw c.in-Ok-Got.ensures.cause (c.answer_bench.ensures.counted tree disk start child _)
+returns-in-Ok-Got-clause-counted g c = λ others. rw c.in-Ok-Got.ensures.cause (c.answer_bench.ensures.counted (with_input g.I.Source c.args.input.now others))
 
 pub returns-in-Ok-Got-clause-placed : goal.returns-in-Ok-Got-clause-placed
-returns-in-Ok-Got-clause-placed g c = λ fault. absurd (no_early (c.answer_bench.ensures.counted 0 0 0 0 0) refl refl fault)
+returns-in-Ok-Got-clause-placed g c = λ fault. absurd (no_early (c.answer_bench.ensures.counted no_faults) refl refl fault)

@@ -1,5 +1,6 @@
 -- What a run did and said that generates a project.
 use Rattle.std.proofs.Common.{Ok, Err, refl}
+use Rattle.outside.specs.FaultCounts.{with_children, with_output}
 use Rattle.vunit_top.proofs.TestTruths.{ended_counted, fault_counted}
 use Rattle.vunit_top.proofs.generating.say_generated.Goals as goal
 
@@ -12,7 +13,9 @@ returns-in-Ok-clause-generated g c = λ scan is p. record {
 }
 
 pub returns-in-Ok-clause-counted : goal.returns-in-Ok-clause-counted
-returns-in-Ok-clause-counted g c = λ tree disk report input. ended_counted _ _ tree _ _ _ _ input _ (c.in-Ok.ensures.explains disk) (c.put_generated.ensures.counted tree disk _ _ report input)
+returns-in-Ok-clause-counted g c = λ others.
+    ended_counted _ _ (with_output g.O.Sink c.args.out.now others) (with_output g.O.Sink c.put_generated.new.out others) _ (c.in-Ok.ensures.explains others.build.disks)
+    (c.put_generated.ensures.counted (with_children g.P.Procs c.run_generated.new.procs others))
 
 pub returns-in-Err-clause-generated : goal.returns-in-Err-clause-generated
 returns-in-Err-clause-generated g c = λ scan is p. record {
@@ -23,4 +26,5 @@ returns-in-Err-clause-generated g c = λ scan is p. record {
 }
 
 pub returns-in-Err-clause-counted : goal.returns-in-Err-clause-counted
-returns-in-Err-clause-counted g c = λ tree disk report input. rw c.fault_outcome.ensures (fault_counted c.in-Err.fault _ _ tree _ report input (c.in-Err.ensures.explains disk) (c.in-Err.ensures.fell disk))
+returns-in-Err-clause-counted g c = λ others. rw c.fault_outcome.ensures
+    (fault_counted c.in-Err.fault _ _ (with_output g.O.Sink c.args.out.now others) (c.in-Err.ensures.explains others.build.disks) (c.in-Err.ensures.fell others.build.disks))

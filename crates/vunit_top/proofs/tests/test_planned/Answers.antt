@@ -1,5 +1,6 @@
 -- A run by what its build and its tests did.
 use Rattle.std.proofs.Common.{refl}
+use Rattle.outside.specs.FaultCounts.{with_build, with_output, with_reports}
 use Rattle.vunit_top.specs.Acts.{of_each, seen}
 use Rattle.vunit_top.specs.Reading.{testing_with}
 use Rattle.vunit_top.proofs.TestTruths.{ran_ended, ran_faulted, tests_ended, tests_faulted, ended_counted, fault_counted}
@@ -36,7 +37,10 @@ returns-in-Err-clause-runs g c =
     c.fault_outcome.ensures refl refl
 
 pub returns-in-Err-clause-counted : goal.returns-in-Err-clause-counted
-returns-in-Err-clause-counted g c = λ tree input. rw c.fault_outcome.ensures (fault_counted c.in-Err.fault _ _ tree _ _ input c.in-Err.ensures.explains c.in-Err.ensures.fell)
+returns-in-Err-clause-counted g c = λ others. rw c.fault_outcome.ensures
+    (fault_counted c.in-Err.fault _ _ (with_output g.O.Sink c.args.out.now (with_reports g.R.Reports c.args.reports.now others)) c.in-Err.ensures.explains c.in-Err.ensures.fell)
 
 pub returns-in-Ok-clause-counted : goal.returns-in-Ok-clause-counted
-returns-in-Ok-clause-counted g c = λ tree input. ended_counted _ _ tree _ _ _ _ input _ c.in-Ok.ensures.explains (c.say_tested.ensures.counted tree _ _ _ input)
+returns-in-Ok-clause-counted g c = λ others.
+    ended_counted _ _ (with_output g.O.Sink c.args.out.now (with_reports g.R.Reports c.args.reports.now others)) (with_output g.O.Sink c.say_tested.new.out (with_reports g.R.Reports c.say_tested.new.reports others)) _ c.in-Ok.ensures.explains
+    (c.say_tested.ensures.counted (with_build g.P.Procs g.D.Disk c.test_over.new.procs c.test_over.new.disk others))

@@ -1,5 +1,6 @@
 -- What a run did with the sources, by its job.
 use Rattle.std.proofs.Common.{◌≡◌, refl}
+use Rattle.outside.specs.FaultCounts.{with_reports}
 use Rattle.report_run.specs.Texts.{warning_text}
 use Rattle.report_lists.specs.Export.{export_text}
 use Rattle.run_build.specs.Orders.{order_by}
@@ -51,7 +52,7 @@ returns-in-Build-clause-acts g c = λ scan words.
     refl (c.build_project.ensures.ran scan words) c.build_project.ensures.says c.build_project.ensures.answers c.build_project.ensures.no_tests)
 
 pub returns-in-Build-clause-counted : goal.returns-in-Build-clause-counted
-returns-in-Build-clause-counted g c = λ tree input. c.build_project.ensures.counted tree _ input
+returns-in-Build-clause-counted g c = λ others. c.build_project.ensures.counted (with_reports g.R.Reports c.args.reports.now others)
 
 pub returns-in-ListFiles-clause-no_tests : goal.returns-in-ListFiles-clause-no_tests
 returns-in-ListFiles-clause-no_tests g c = λ runs none. no_test_since (g.P.Procs.journal c.args.procs.now)

@@ -1,22 +1,35 @@
 -- What a run did, by its job and the sources that it read.
-use Rattle.std.proofs.Common.{◌≡◌, Err, refl, subst, sym}
+use Rattle.std.proofs.Common.{◌≡◌, Err, refl, subst, sym, arith}
+use Rattle.outside.specs.FaultCounts.{no_faults, with_build, with_reports, with_tree}
 use Rattle.project_reading.specs.Reading.{project_reading}
 use Rattle.project_reading.specs.Sources.{LeadsTo}
 use Rattle.project_reading.specs.declared.wish.Wish.{Wish}
 use Rattle.vunit_top.specs.Acts.{of_each}
 use Rattle.vunit_top.specs.Reading.{job_reading, wish_of}
 use Rattle.run_build.proofs.OverStore.{no_test_since}
-use Rattle.vunit_top.proofs.ActTruths.{acts_idle, no_early}
+use Rattle.vunit_top.proofs.ActTruths.{acts_idle, no_early, stop_later}
 use Rattle.vunit_top.proofs.top.run_sources.Goals as goal
 
 pub returns-in-Ok-clause-acts : goal.returns-in-Ok-clause-acts
 returns-in-Ok-clause-acts g c = λ scan is t words. rw (sym c.wish_of-wish.ensures, c.in-Ok.ensures.reading scan is t) (c.run_job.ensures.acts scan words)
 
 pub returns-in-Ok-clause-placed : goal.returns-in-Ok-clause-placed
-returns-in-Ok-clause-placed g c = λ fault. absurd (no_early (c.run_job.ensures.counted 0 0) refl refl fault)
+returns-in-Ok-clause-placed g c = λ fault. absurd (no_early (c.run_job.ensures.counted no_faults) refl refl fault)
 
 pub returns-in-Ok-clause-counted : goal.returns-in-Ok-clause-counted
-returns-in-Ok-clause-counted g c = λ input. rw c.in-Ok.ensures.cause (c.run_job.ensures.counted _ input)
+returns-in-Ok-clause-counted g c = λ others. rw c.in-Ok.ensures.cause (c.run_job.ensures.counted (with_tree g.T.Tree c.args.tree.now others))
+
+pub returns-in-Err-clause-counted : goal.returns-in-Err-clause-counted
+returns-in-Err-clause-counted g c = λ others. record {
+  cause = c.say_stop.ensures.cause (with_build g.P.Procs g.D.Disk c.args.procs.now c.args.disk.now (with_reports g.R.Reports c.args.reports.now others)) _ _ c.in-Err.ensures.cause;
+  stand = record {
+    tree = stop_later c.in-Err.stop _ _ c.in-Err.ensures.cause;
+    build = record { children = record { starts = omega arith; losses = omega arith }; disks = omega arith };
+    out = c.say_stop.ensures.stand;
+    report = omega arith;
+    input = omega arith;
+  };
+}
 
 pub returns-in-Err-clause-acts : goal.returns-in-Err-clause-acts
 returns-in-Err-clause-acts g c = λ scan is t words.

@@ -1,4 +1,5 @@
 use Rattle.std.proofs.Common.{Err, refl, sym, ap, subst, ◌∙◌}
+use Rattle.outside.specs.FaultCounts.{no_faults, run_counts}
 use Rattle.run_command_line.specs.declared.setting.WordsFault.{WordsFault}
 use Rattle.run_command_line.specs.Words.{setting_of, ReadsWords}
 use Rattle.project_reading.specs.Reading.{project_reading}
@@ -20,7 +21,7 @@ returns-then-begins_with-clause-ran g c = λ scan is t d p plain.
     (λ said. nothing_by (words_job c.args.words.now) (Child Compiler) _ (child_job c.args.words.now (sym c.begins_with.ensures ∙ c.if-begins_with.true)) refl)
 
 pub returns-then-begins_with-clause-counted : goal.returns-then-begins_with-clause-counted
-returns-then-begins_with-clause-counted g c = c.run_as_compiler.ensures.counted _ _ _ _ _
+returns-then-begins_with-clause-counted g c = c.run_as_compiler.ensures.counted (run_counts g.I.Source g.T.Tree g.D.Disk g.P.Procs g.O.Sink g.R.Reports c.args.input.now c.args.tree.now c.args.disk.now c.args.procs.now c.args.out.now c.args.reports.now)
 
 pub returns-then-begins_with-2-clause-ran : goal.returns-then-begins_with-2-clause-ran
 returns-then-begins_with-2-clause-ran g c = λ scan is t d p plain.
@@ -64,7 +65,7 @@ returns-in-None-clause-says_words g c = λ puts r is what said.
     c.run_setting.ensures.says_words puts r (sym (setting_read c.args.words.now (sym c.begins_with.ensures ∙ c.if-begins_with.false) (sym c.begins_with-2.ensures ∙ c.if-begins_with-2.false) c.in-Ok.setting c.in-Ok.ensures.read) ∙ is) what said
 
 pub returns-in-None-clause-counted : goal.returns-in-None-clause-counted
-returns-in-None-clause-counted g c = c.run_setting.ensures.counted _
+returns-in-None-clause-counted g c = c.run_setting.ensures.counted (run_counts g.I.Source g.T.Tree g.D.Disk g.P.Procs g.O.Sink g.R.Reports c.args.input.now c.args.tree.now c.args.disk.now c.args.procs.now c.args.out.now c.args.reports.now)
 
 pub returns-in-Err-Bad-clause-ran : goal.returns-in-Err-Bad-clause-ran
 returns-in-Err-Bad-clause-ran g c = λ scan is t d p plain.
@@ -114,7 +115,7 @@ pub returns-in-Err-NoMemory-clause-untested : goal.returns-in-Err-NoMemory-claus
 returns-in-Err-NoMemory-clause-untested g c = λ scan is t p plain none. no_test_since (g.P.Procs.journal c.args.procs.now)
 
 pub returns-then-begins_with-2-clause-counted : goal.returns-then-begins_with-2-clause-counted
-returns-then-begins_with-2-clause-counted g c = c.run_as_simulator.ensures.counted _ _ _ _
+returns-then-begins_with-2-clause-counted g c = c.run_as_simulator.ensures.counted (run_counts g.I.Source g.T.Tree g.D.Disk g.P.Procs g.O.Sink g.R.Reports c.args.input.now c.args.tree.now c.args.disk.now c.args.procs.now c.args.out.now c.args.reports.now)
 
 pub returns-in-Err-NoMemory-clause-runs : goal.returns-in-Err-NoMemory-clause-runs
 returns-in-Err-NoMemory-clause-runs g c = λ scan is t asked reads.
@@ -186,10 +187,10 @@ returns-in-Some-clause-generated g c = λ scan is p options asked.
     (same_options (words_job c.args.words.now) c.in-Some.options (setting_read c.args.words.now (sym c.begins_with.ensures ∙ c.if-begins_with.false) (sym c.begins_with-2.ensures ∙ c.if-begins_with-2.false) c.in-Ok.setting c.in-Ok.ensures.read ∙ c.in-Some.ensures.0) options asked) (c.say_generated.ensures.generated scan is p)
 
 pub returns-in-Some-clause-counted : goal.returns-in-Some-clause-counted
-returns-in-Some-clause-counted g c = c.say_generated.ensures.counted _ _ _ _
+returns-in-Some-clause-counted g c = c.say_generated.ensures.counted (run_counts g.I.Source g.T.Tree g.D.Disk g.P.Procs g.O.Sink g.R.Reports c.args.input.now c.args.tree.now c.args.disk.now c.args.procs.now c.args.out.now c.args.reports.now)
 
 pub returns-in-Some-clause-placed : goal.returns-in-Some-clause-placed
-returns-in-Some-clause-placed g c = λ fault. absurd (no_early (c.say_generated.ensures.counted 0 0 0 0) refl refl fault)
+returns-in-Some-clause-placed g c = λ fault. absurd (no_early (c.say_generated.ensures.counted no_faults) refl refl fault)
 
 -- ## None is generated
 
