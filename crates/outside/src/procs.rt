@@ -92,4 +92,13 @@ pub trait Procs {
         ensures starts { failed_starts self.new ≡ failed_starts self.old }
         ensures children { lost_children self.new ≡ lost_children self.old }
     {}
+
+    /// A start that may come later names this path for its results. Only what warns of names that are too long looks at it.
+    fn announce_results(&mut self, _alloc: Global, _path: &[u8])
+        ensures running { running self.new ≡ running self.old }
+        ensures journal { journal self.new ≡ journal self.old }
+        ensures same { answer self.new ≡ answer self.old }
+        ensures starts { failed_starts self.new ≡ failed_starts self.old }
+        ensures children { lost_children self.new ≡ lost_children self.old }
+    {}
 }

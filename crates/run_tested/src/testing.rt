@@ -22,7 +22,7 @@ use outside::{Disk, Procs, Records};
 use run_build::{BuildOptions, Kept, Opener, build_kept};
 use run_spec::{Mark, MarkList};
 use std::alloc::Global;
-use test_loop::{TestRunFault, run_tests};
+use test_loop::{TestRunFault, announce_long_runs, run_tests};
 use test_spec::{TestEnd, TestRunList};
 
 /// What became of the files of a graph that was built, and of the tests that followed.
@@ -144,6 +144,7 @@ pub fn test_over<'g, K: Records + Drop, O: Opener<'g, K>, D: Disk, P: Procs>(
         (build_counts P.Procs D.Disk procs.old disk.old)
         (build_counts P.Procs D.Disk procs.new disk.new) }
 {
+    announce_long_runs(alloc, runs, procs);
     match build_kept::<K, O, D, P>(alloc, graph, options, opener, disk, procs) {
         Ok(kept) => test_built(
             alloc,

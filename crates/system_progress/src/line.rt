@@ -43,6 +43,18 @@ fn push_part(line: &mut Vec<u8>, part: &[u8]) -> Result<(), NoMemory> {
     Ok(())
 }
 
+/// The line of a folder whose name is longer than a limit.
+pub fn long_name_line(alloc: Global, name: &[u8], limit: usize) -> Result<Vec<u8>, NoMemory> {
+    let length = name.len();
+    let text = format!(in alloc;
+        "vunit_run: a folder's name has at most {limit} bytes, and this has {length}: "
+    )?;
+    let mut line = Vec::from_slice(alloc, text.as_bytes())?;
+    push_visible(&mut line, name)?;
+    end_line(&mut line)?;
+    Ok(line)
+}
+
 /// What is known of the cause of a failure, by the code and the signal that a child ended with.
 pub fn end_cause(alloc: Global, code: u32, signal: Option<i32>) -> Result<Vec<u8>, NoMemory> {
     if let Some(signal) = signal {

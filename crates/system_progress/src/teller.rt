@@ -2,7 +2,9 @@
 
 use crate::asked::{Asked, AskedTests, asked_of};
 use crate::counts::{Counts, add};
-use crate::line::{EMPTY_LINE, Failure, end_cause, failure_line, screen_line, summary_line};
+use crate::line::{
+    EMPTY_LINE, Failure, end_cause, failure_line, long_name_line, screen_line, summary_line,
+};
 use base::{Exit, NoMemory, Request};
 use std::alloc::Global;
 use std::rt::Clock;
@@ -16,6 +18,9 @@ const FIRST_SUMMARY: u64 = 10_000;
 
 /// The milliseconds from one summary to the next.
 const SUMMARY_PERIOD: u64 = 30_000;
+
+/// The bytes that the name of a folder has at most.
+const FOLDER_LIMIT: usize = 255;
 
 /// The milliseconds from one line of a terminal to the next.
 const SCREEN_PERIOD: u64 = 1_000;
@@ -105,6 +110,17 @@ impl<R: Clock + Drop> Teller<R> {
     /// One start isn't needed.
     pub fn note_spared(&mut self) {
         self.counts.due = self.counts.due.saturating_sub(1);
+    }
+
+    /// The results of a run that isn't started yet will lie at a path. A folder whose name is too long is told at once.
+    pub fn note_results(&mut self, alloc: Global, path: &[u8]) {
+        let name = folder_name(path);
+        if name.len() <= FOLDER_LIMIT {
+            return;
+        }
+        if let Ok(line) = long_name_line(alloc, name, FOLDER_LIMIT) {
+            self.messages.say(line.as_slice());
+        }
     }
 
     /// A child was started.
@@ -365,6 +381,18 @@ impl<R: Clock + Drop> Teller<R> {
             Ok(time) => u64::try_from(time.as_millis()).unwrap_or(u64::MAX),
             Err(_) => 0,
         }
+    }
+}
+
+/// The name of the folder that a file lies in: what is between the last slash of its path and the one before.
+fn folder_name(path: &[u8]) -> &[u8] {
+    let folder = match path.iter().rposition(|byte| *byte == b'/') {
+        Some(end) => path.get(..end).unwrap_or(path),
+        None => return b"",
+    };
+    match folder.iter().rposition(|byte| *byte == b'/') {
+        Some(slash) => folder.get(slash.saturating_add(1)..).unwrap_or(folder),
+        None => folder,
     }
 }
 

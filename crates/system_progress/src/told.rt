@@ -88,4 +88,9 @@ impl<P: Turns + Drop, R: Clock + Drop> Procs for ToldProcs<P, R> {
         self.procs.spares();
         self.teller.note_spared();
     }
+
+    fn announce_results(&mut self, alloc: Global, path: &[u8]) {
+        self.procs.announce_results(alloc, path);
+        self.teller.note_results(alloc, path);
+    }
 }

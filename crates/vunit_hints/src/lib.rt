@@ -13,5 +13,5 @@ pub use links::push_linked_folders;
 pub use matching::{Pattern, is_matched, patterns_of};
 pub use patterns::push_pattern_cause;
 pub use project::{ProjectText, project_text};
-pub use tests_of::{push_long_names, push_unmatched, read_again};
+pub use tests_of::{push_unmatched, read_again};
 pub use texts::text_of;

@@ -12,8 +12,7 @@ use run_hints::{
 use system_locks::lock_holder;
 use system_progress::Counts;
 use vunit_hints::{
-    ProjectText, project_text, push_linked_folders, push_long_names, push_pattern_cause,
-    push_unmatched, read_again,
+    ProjectText, project_text, push_linked_folders, push_pattern_cause, push_unmatched, read_again,
 };
 use vunit_sources::push_source_places;
 
@@ -111,12 +110,7 @@ fn push_fault(
     }
     let counts = children.teller.counts();
     match read_again(rt, &setting.patterns) {
-        Some(again) => {
-            if which == Which::Start {
-                push_long_names(alloc, lines, again.long_names.as_slice())?;
-            }
-            push_counts(alloc, lines, &counts, Some(again.tests))
-        }
+        Some(again) => push_counts(alloc, lines, &counts, Some(again.tests)),
         None => push_counts(alloc, lines, &counts, None),
     }
 }
