@@ -3,8 +3,6 @@ pub mod Graphs
 pub mod Builds
 pub mod Recorded
 pub mod Starts
-pub mod LinkedUnits
-pub mod BenchRuns
 pub mod JournalSides
 pub mod StoredRequests
 pub mod SaidTexts
@@ -15,4 +13,3 @@ pub mod RunReadings
 pub mod MadeFiles
 pub mod BuildHistories
 pub mod TestedRuns
-pub mod StoreRecords

@@ -1,19 +1,15 @@
 -- The examples of "Reading: what words and sources say", by computation.
-use Rattle.std.proofs.Common.{arith, refl}
+use Rattle.std.proofs.Common.{refl}
 use Rattle.std.specs.Char.{encode_utf8}
 use Rattle.std.specs.Str.{chars, is_utf8}
 use Rattle.clap.specs.Faults.{defaults_fault, flags_fault, walk_fault}
 use Rattle.clap.specs.Walk.{bundle_met, walked}
 use Rattle.base.specs.PresentGraph.{below, listed_from}
-use Rattle.order_spec.specs.BuildOrder.{file_order, first_free, first_untaken, repeated, taken_after, untaken_dep}
-use Rattle.vhdl_spec.specs.Units.{word_role}
-use Rattle.vhdl_spec.specs.Visibility.{seen_after}
-use Rattle.vhdl_spec.specs.Words.{reserved_words}
 use Rattle.run_command_line.specs.Words.{setting_of}
 use Rattle.project_file.specs.Csv.{added_by, csv_file_of, files_after, name_fault}
 use Rattle.project_reading.specs.Asked.{project_paths}
-use Rattle.project_reading.specs.Reading.{names_at, project_in, project_reading, scanned_reading, scans_of, texts_of, wanted_tests}
-use Rattle.tests_examples.specs.WordsAndSources.{CyclicSources, FittingNames, ReadSources, SettingsOfWords}
+use Rattle.project_reading.specs.Reading.{project_in, project_reading, scanned_reading, scans_of, texts_of, wanted_tests}
+use Rattle.tests_examples.specs.WordsAndSources.{ReadSources, SettingsOfWords}
 
 pub settings_of_words : SettingsOfWords
 unfolding encode_utf8 chars is_utf8 defaults_fault flags_fault walk_fault bundle_met walked setting_of
@@ -22,10 +18,3 @@ settings_of_words = record { compiling = refl; zero = refl; twice = refl; unknow
 pub read_sources : ReadSources
 unfolding encode_utf8 chars is_utf8 below listed_from added_by csv_file_of files_after name_fault project_paths project_in project_reading scanned_reading scans_of texts_of wanted_tests
 read_sources = record { asked = refl; found = refl; absent = refl; second_refused = refl }
-
-pub cyclic_sources : CyclicSources
-unfolding below listed_from file_order first_free first_untaken repeated taken_after untaken_dep word_role seen_after reserved_words names_at scanned_reading wanted_tests
-cyclic_sources = record { linked = refl; in_listed_order = refl }
-
-pub fitting_names : FittingNames
-fitting_names = record { fits = record { library = record { at_least = omega arith; at_most = omega arith }; path = record { at_least = omega arith; at_most = omega arith } }; empty_path = λ fits. omega (arith, fits.path.at_least) }

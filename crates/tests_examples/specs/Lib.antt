@@ -1,12 +1,9 @@
 -- The examples, chapter by chapter.
 pub mod Example
-pub mod Samples
 pub mod Graphs
 pub mod Builds
 pub mod Recorded
 pub mod Starts
-pub mod LinkedUnits
-pub mod BenchRuns
 pub mod JournalSides
 pub mod StoredRequests
 pub mod SaidTexts
@@ -17,4 +14,3 @@ pub mod RunReadings
 pub mod MadeFiles
 pub mod BuildHistories
 pub mod TestedRuns
-pub mod StoreRecords

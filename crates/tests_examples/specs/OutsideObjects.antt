@@ -1,22 +1,11 @@
 -- The examples of "The outside".
-use Rattle.std.specs.Prelude.{◌≡◌, ◌-◌, ◌^◌, ◌∷◌, true, false, [], Some, Ok, Err, filter, codes}
+use Rattle.std.specs.Prelude.{◌≡◌, ◌∷◌, true, false, [], Some, Err, codes}
 use Rattle.base.specs.declared.child.Event.TheVariants.{Gone}
 use Rattle.outside.specs.Children.{IsFresh, end_event, ended_ticket, started_with, without}
-use Rattle.outside.specs.Counts.{Counted}
-use Rattle.outside.specs.Disks.{IsEither, SideState, bytes_at, cut_through, cutting, is_touched, settled, synced, writing, written, written_through}
+use Rattle.outside.specs.Disks.{SideState, bytes_at, cut_through, cutting, is_touched, settled, synced, writing, written, written_through}
 use Rattle.outside.specs.Records.{latest, with_record}
-use Rattle.outside.specs.Streams.{Puts, take_end}
-use Rattle.outside.specs.Trees.{Asks, is_listed, names_end, read_end}
-use Rattle.outside.specs.declared.tree.ReadEnd.{ReadEnd}
-use Rattle.system_causes.specs.Places.{column_after, line_after}
-use Rattle.system_files.specs.Prefixes.{IsPrefix}
 use Rattle.tests_examples.specs.Example.{Ra, Rb, Rw, a_name, b_name, b_request, events}
 use Rattle.outside.specs.declared.procs.WaitFault.TheVariants as wait
-use Rattle.outside.specs.declared.tree.ReadEnd.TheVariants as read
-use Rattle.outside.specs.declared.tree.TreeFault.TheVariants as tree
-use Rattle.outside.specs.declared.streams.SinkFault.TheVariants as sink
-use Rattle.outside.specs.declared.tree.NamesEnd.TheVariants as names
-use Rattle.outside.specs.declared.streams.TakeEnd.TheVariants as take
 
 -- a side of a disk with the four bytes abcd, all of them synced
 abbrev abcd : SideState
@@ -57,30 +46,3 @@ pub record SidesOfDisks : Type 0 where
 pub record LatestAfter : Type 0 where
   pub of_a : with_record Rw (λ it. latest it (Ra ∷ Rb ∷ [])) a_name ≡ Some Rw
   pub of_b : with_record Rw (λ it. latest it (Ra ∷ Rb ∷ [])) b_name ≡ Some Rb
-
--- counts, what is read and taken, and places in a text
-pub record CountsAndReads : Type 0 where
-  pub counted : Counted 0 1
-  pub not_counted : Counted 0 0 → ⊥
-  pub last_count : Counted (2 ^ 64 - 1) (2 ^ 64 - 1)
-  pub too_long : read_end (Some (0 ∷ [])) 0 ≡ read.TooLong
-  pub empty : read_end (Some []) 0 ≡ read.Got []
-  pub listed_paths : filter is_listed (codes "a.vhd" ∷ codes ".git/x" ∷ codes "vunit_out/a" ∷ []) ≡ codes "a.vhd" ∷ []
-  pub all_names : names_end (codes "a" ∷ codes "b" ∷ []) 2 ≡ names.Got (codes "a" ∷ codes "b" ∷ [])
-  pub too_many : names_end (codes "a" ∷ codes "b" ∷ []) 1 ≡ names.TooMany
-  pub input_too_long : take_end (codes "abc") 2 ≡ take.TooLong
-  pub first_two : IsPrefix 2 (Some (codes "abc")) (codes "ab") true
-  pub all_three : IsPrefix 3 (Some (codes "abc")) (codes "abc") false
-  pub line : line_after (codes "ab\nc") ≡ 2
-  pub column : column_after 1 (codes "ab\nc") ≡ 2
-
--- what was asked for, and what was put
-pub record AskedAndPut : Type 0 where
-  pub asked : Asks (Ok read.Absent) (codes "c") (codes "t" ∷ []) (codes "t" ∷ codes "c" ∷ [])
-  pub left_out : Asks {T = ReadEnd} (Err tree.Failed) (codes "d") (codes "t" ∷ codes "c" ∷ []) (codes "t" ∷ codes "c" ∷ [])
-  pub kept_in : Asks {T = ReadEnd} (Err tree.Failed) (codes "d") (codes "t" ∷ codes "c" ∷ []) (codes "t" ∷ codes "c" ∷ codes "d" ∷ [])
-  pub put_none : Puts {T = ReadEnd} (Err sink.Failed) (codes "ab") (codes "x") (codes "x")
-  pub put_one : Puts {T = ReadEnd} (Err sink.Failed) (codes "ab") (codes "x") (codes "xa")
-  pub put_both : Puts {T = ReadEnd} (Err sink.Failed) (codes "ab") (codes "x") (codes "xab")
-  pub none_or : IsEither [] [] (Ra ∷ [])
-  pub one_or : IsEither (Ra ∷ []) [] (Ra ∷ [])

@@ -1,22 +1,18 @@
 -- The examples of "Reading: what words and sources say".
 use Rattle.std.specs.Prelude.{◌≡◌, ℕ, ◌&&◌, ◌∷◌, Bool, true, false, List, [], Option, Some, None, Err, map, codes, if◌then◌else◌, bytes_eq}
-use Rattle.base.specs.Names.{FitsName}
 use Rattle.base.specs.declared.child.MaybeText.TheVariants.{Nothing}
 use Rattle.base.specs.declared.design.UnitFault.TheVariants.{NotUnit}
 use Rattle.base.specs.declared.file.FileName.{FileName}
 use Rattle.base.specs.declared.graph.Entry.{Entry}
-use Rattle.base.specs.declared.project.Project.{Project}
 use Rattle.base.specs.declared.project.ProjectFile.{ProjectFile}
-use Rattle.outside.specs.Trees.{is_listed}
 use Rattle.vhdl_spec.specs.Scans.{Clean, Finding, Grammatical}
 use Rattle.run_command_line.specs.Words.{setting_of}
 use Rattle.run_command_line.specs.declared.setting.Setting.{Setting}
-use Rattle.project_file.specs.Csv.{listed_command, listed_project, listed_simulator}
+use Rattle.project_file.specs.Csv.{listed_command, listed_project}
 use Rattle.project_reading.specs.Asked.{project_paths}
-use Rattle.project_reading.specs.Reading.{SourceReading, project_reading, scanned_reading, scans_of}
+use Rattle.project_reading.specs.Reading.{project_reading, scans_of}
 use Rattle.project_reading.specs.declared.wish.Wish.{Wish}
 use Rattle.tests_examples.specs.Example.{a_name, b_name, name}
-use Rattle.tests_examples.specs.Samples.{scan_with, uses_p_text, uses_p_tokens, uses_p_unit, uses_q_text, uses_q_tokens, uses_q_unit}
 use Rattle.base_outcomes.specs.declared.outcome.Refusal.TheVariants as refusal
 use Rattle.project_reading.specs.Reading as sources
 use Rattle.project_reading.specs.declared.wish.Extent.TheVariants as extent
@@ -51,8 +47,6 @@ pub record SettingsOfWords : Type 0 where
   pub twice : setting_of (codes "--compile" ∷ codes "--compile" ∷ []) ≡ None
   pub unknown : setting_of (codes "--frob" ∷ []) ≡ None
 
--- ## Project files
-
 -- ## Sources
 
 -- the folder of the example, with a.vhd or without
@@ -63,7 +57,7 @@ folder has_a path =
 
 -- a scanner that finds neither a token nor a unit in any text
 abbrev pub finds_nothing : List ℕ → Finding
-finds_nothing text = Clean (scan_with [] [])
+finds_nothing text = Clean (record { tokens = record { list = []; comments = [] }; units = [] })
 
 -- a scanner that finds no design unit at byte 0 of the text foo, and accepts any other text
 abbrev refuses_foo : List ℕ → Finding
@@ -98,38 +92,3 @@ pub record ReadSources : Type 0 where
   pub absent : project_reading finds_nothing (folder false) [] whole_graph ≡ sources.Stops (refusal.AbsentFile a_name)
   pub second_refused : scans_of refuses_foo (map listed_file_of (a_name ∷ b_name ∷ name 99 ∷ [])) (codes "x" ∷ codes "foo" ∷ codes "foo" ∷ []) ≡
       Err (sources.Stops (refusal.Units b_name (NotUnit 0)))
-
--- a.vhd uses a package of b.vhd, and b.vhd one of a.vhd
-abbrev cyclic : Bool → Project
-cyclic is_listed = record {
-  files = map listed_file_of (a_name ∷ b_name ∷
-      []);
-  simulator = listed_simulator;
-  external = [];
-  bodies = false;
-  depends = [];
-  listed = is_listed;
-}
-
--- what is read of two files that use each other, linked or in listed order
-abbrev cyclic_reading : Bool → SourceReading
-cyclic_reading is_listed = scanned_reading whole_graph (cyclic is_listed) (uses_q_text ∷ uses_p_text ∷ []) (scan_with uses_q_tokens (uses_q_unit ∷ []) ∷
-    scan_with uses_p_tokens (uses_p_unit ∷ []) ∷ [])
-
--- files that use each other are a cycle where they are linked, and none in listed order
-pub record CyclicSources : Type 0 where
-  pub linked : cyclic_reading false ≡ sources.Stops (refusal.Cycle (a_name ∷ b_name ∷ []))
-  pub in_listed_order : cyclic_reading true ≡ sources.Found (record {
-    project = cyclic true;
-    graph = child_file a_name uses_q_text [] ∷
-        child_file b_name uses_p_text (0 ∷ []) ∷ [];
-    warnings = [];
-    tests = [];
-  })
-
--- ## Names
-
--- a name needs a path that isn't empty
-pub record FittingNames : Type 0 where
-  pub fits : FitsName a_name
-  pub empty_path : FitsName (record { library = codes "lib"; path = [] }) → ⊥

@@ -4,19 +4,16 @@ ghost use Rattle.tests_examples.specs.Graphs.{ListedFiles, Orders, Ways, Views};
 ghost use Rattle.tests_examples.specs.Builds.{CompilerRequests, CleanBuilds, CleanRequests};
 ghost use Rattle.tests_examples.specs.Recorded.{LatestRecords, AskedFiles, CurrentFiles, BuildCommits, TrueRecords};
 ghost use Rattle.tests_examples.specs.Starts.{Journals, NextStarts, LawfulStarts, SoFar, BuildEvents, CompileParts};
-ghost use Rattle.tests_examples.specs.LinkedUnits.{LinkedFiles};
-ghost use Rattle.tests_examples.specs.BenchRuns.{CaseVerdicts};
 ghost use Rattle.tests_examples.specs.JournalSides.{SpelledSides, ImagePayloads};
 ghost use Rattle.tests_examples.specs.StoredRequests.{ShelvedRequests, CompactedRequests};
 ghost use Rattle.tests_examples.specs.SaidTexts.{FileMarks, HaltedBuilds};
-ghost use Rattle.tests_examples.specs.OutsideObjects.{EndedChildren, SidesOfDisks, LatestAfter, CountsAndReads, AskedAndPut};
-ghost use Rattle.tests_examples.specs.WordsAndSources.{SettingsOfWords, ReadSources, CyclicSources, FittingNames};
+ghost use Rattle.tests_examples.specs.OutsideObjects.{EndedChildren, SidesOfDisks, LatestAfter};
+ghost use Rattle.tests_examples.specs.WordsAndSources.{SettingsOfWords, ReadSources};
 ghost use Rattle.tests_examples.specs.AskedJobs.{JobsOfSettings, WholeReadings};
 ghost use Rattle.tests_examples.specs.RunReadings.{OrdersOfReadings, EndedRuns, FaultsAnswered};
 ghost use Rattle.tests_examples.specs.MadeFiles.{MadeInTheEnd, AnsweredFaults, GivenBeforeLosses, FirstOfTwoFaults, CountedFaults};
 ghost use Rattle.tests_examples.specs.BuildHistories.{FoundRecords};
 ghost use Rattle.tests_examples.specs.TestedRuns.{TestsSaid, MovesOfTests, EndsOfTests, RunsSaid};
-ghost use Rattle.tests_examples.specs.StoreRecords.{StoredRecords};
 
 /// The examples of "The graph".
 pub fn examples_of_graphs()
@@ -52,16 +49,6 @@ pub fn examples_of_starts()
     ensures compile_parts { CompileParts }
 {}
 
-/// The examples of "Dependencies".
-pub fn examples_of_linked_units()
-    ensures linked_files { LinkedFiles }
-{}
-
-/// The examples of "Runs of tests".
-pub fn examples_of_bench_runs()
-    ensures case_verdicts { CaseVerdicts }
-{}
-
 /// The examples of "The journal of payloads".
 pub fn examples_of_journal_sides()
     ensures spelled_sides { SpelledSides }
@@ -85,16 +72,12 @@ pub fn examples_of_outside_objects()
     ensures ended_children { EndedChildren }
     ensures sides_of_disks { SidesOfDisks }
     ensures latest_after { LatestAfter }
-    ensures counts_and_reads { CountsAndReads }
-    ensures asked_and_put { AskedAndPut }
 {}
 
 /// The examples of "Reading: what words and sources say".
 pub fn examples_of_words_and_sources()
     ensures settings_of_words { SettingsOfWords }
     ensures read_sources { ReadSources }
-    ensures cyclic_sources { CyclicSources }
-    ensures fitting_names { FittingNames }
 {}
 
 /// The examples of "Reading: what words and sources say".
@@ -130,9 +113,4 @@ pub fn examples_of_tested_runs()
     ensures moves_of_tests { MovesOfTests }
     ensures ends_of_tests { EndsOfTests }
     ensures runs_said { RunsSaid }
-{}
-
-/// The examples of "Records, and what a stop can leave".
-pub fn examples_of_store_records()
-    ensures stored_records { StoredRecords }
 {}

@@ -1,5 +1,5 @@
 -- Answers to the goals of `examples_of_outside_objects`.
-use Rattle.tests_examples.proofs.OutsideObjects.{ended_children, sides_of_disks, latest_after, counts_and_reads, asked_and_put}
+use Rattle.tests_examples.proofs.OutsideObjects.{ended_children, sides_of_disks, latest_after}
 use Rattle.tests_examples.proofs.chapters.examples_of_outside_objects.Goals as goal
 
 pub returns-clause-ended_children : goal.returns-clause-ended_children
@@ -10,9 +10,3 @@ returns-clause-sides_of_disks c = sides_of_disks
 
 pub returns-clause-latest_after : goal.returns-clause-latest_after
 returns-clause-latest_after c = latest_after
-
-pub returns-clause-counts_and_reads : goal.returns-clause-counts_and_reads
-returns-clause-counts_and_reads c = counts_and_reads
-
-pub returns-clause-asked_and_put : goal.returns-clause-asked_and_put
-returns-clause-asked_and_put c = asked_and_put

@@ -1,5 +1,5 @@
 -- Answers to the goals of `examples_of_words_and_sources`.
-use Rattle.tests_examples.proofs.WordsAndSources.{settings_of_words, read_sources, cyclic_sources, fitting_names}
+use Rattle.tests_examples.proofs.WordsAndSources.{settings_of_words, read_sources}
 use Rattle.tests_examples.proofs.chapters.examples_of_words_and_sources.Goals as goal
 
 pub returns-clause-settings_of_words : goal.returns-clause-settings_of_words
@@ -7,9 +7,3 @@ returns-clause-settings_of_words c = settings_of_words
 
 pub returns-clause-read_sources : goal.returns-clause-read_sources
 returns-clause-read_sources c = read_sources
-
-pub returns-clause-cyclic_sources : goal.returns-clause-cyclic_sources
-returns-clause-cyclic_sources c = cyclic_sources
-
-pub returns-clause-fitting_names : goal.returns-clause-fitting_names
-returns-clause-fitting_names c = fitting_names
