@@ -101,10 +101,66 @@ fn test_built<K: Records + Drop, P: Procs>(
     }
 }
 
+/// Opens the store of a disk, builds a graph over its records, and then runs tests, as `test_over` does.
+fn test_opened<'g, K: Records + Drop, O: Opener<'g, K>, D: Disk, P: Procs>(
+    alloc: Global,
+    graph: &'g Graph,
+    options: BuildOptions,
+    runs: &TestRunList,
+    simulator: &TextList,
+    fail_fast: bool,
+    opener: &O,
+    disk: &mut D,
+    procs: &mut P,
+) -> Result<Tested, BuildFault>
+    requires slots { (1 ≤ options.slots) × (options.slots ≤ SLOT_LIMIT) }
+    requires idle { P.running procs.old ≡ [] }
+    requires few { length runs.now ≤ CASE_LIMIT }
+    requires fits { All FitsRun runs.now }
+    ensures running { P.running procs.new ≡ [] }
+    ensures same { P.answer procs.new ≡ P.answer procs.old }
+    ensures count { IfOk result (λ tested. length tested.marks ≡ length graph.now) }
+    ensures follows { P.tells →
+        (P.journal procs.new
+        ≡ P.journal procs.old ++ since (P.journal procs.old) (P.journal procs.new)) }
+    ensures told { D.tells → P.tells →
+        TestsOver K.records_of (P.answer procs.old) (order_by options graph.now)
+        (record { runs = runs.now; simulator = simulator.now; fail_fast = fail_fast }) result
+        (has_risen (D.failed_disk_calls disk.old) (D.failed_disk_calls disk.new))
+        (D.moments disk.old) (D.moments disk.new)
+        (since (P.journal procs.old) (P.journal procs.new)) }
+    // Where its build commits nothing, over a disk that opening leaves as it is, nothing is written.
+    ensures rests { D.tells → P.tells →
+        RestsOver K.records_of K.is_resting (order_by options graph.now) result
+        (D.moments disk.old) (D.moments disk.new)
+        (compile_part (since (P.journal procs.old) (P.journal procs.new))) }
+    ensures fell { NoBuildCountFell
+        (build_counts P.Procs D.Disk procs.old disk.old)
+        (build_counts P.Procs D.Disk procs.new disk.new) }
+    ensures explains { Explains (fault_of result)
+        (build_counts P.Procs D.Disk procs.old disk.old)
+        (build_counts P.Procs D.Disk procs.new disk.new) }
+{
+    match build_kept::<K, O, D, P>(alloc, graph, options, opener, disk, procs) {
+        Ok(kept) => test_built(
+            alloc,
+            graph,
+            kept,
+            runs,
+            simulator,
+            procs,
+            options.slots,
+            fail_fast,
+        ),
+        Err(fault) => Err(fault),
+    }
+}
+
 /// Opens the store of a disk, builds a graph over its records as `build_over` does, and then, where all files are made,
 /// runs tests over exactly what was built: in order, each by one child of the simulator, with as many children at once
 /// as the build has. With `fail_fast` nothing more is started after the first run of which not all cases passed. After a
-/// fault nothing more is started; the first fault is answered. No child runs in the end.
+/// fault nothing more is started; the first fault is answered. No child runs in the end. Before all that it announces the runs
+/// whose folder may have too long a name.
 pub fn test_over<'g, K: Records + Drop, O: Opener<'g, K>, D: Disk, P: Procs>(
     alloc: Global,
     graph: &'g Graph,
@@ -145,17 +201,7 @@ pub fn test_over<'g, K: Records + Drop, O: Opener<'g, K>, D: Disk, P: Procs>(
         (build_counts P.Procs D.Disk procs.new disk.new) }
 {
     announce_long_runs(alloc, runs, procs);
-    match build_kept::<K, O, D, P>(alloc, graph, options, opener, disk, procs) {
-        Ok(kept) => test_built(
-            alloc,
-            graph,
-            kept,
-            runs,
-            simulator,
-            procs,
-            options.slots,
-            fail_fast,
-        ),
-        Err(fault) => Err(fault),
-    }
+    test_opened::<K, O, D, P>(
+        alloc, graph, options, runs, simulator, fail_fast, opener, disk, procs,
+    )
 }

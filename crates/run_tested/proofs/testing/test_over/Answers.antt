@@ -1,50 +1,45 @@
--- Answers to the goals of `test_over`.
-use Rattle.std.proofs.Common.{List, refl, sym, ap, subst, ◌∙◌}
+-- Answers to the goals of `test_over`: what is announced changes nothing that children tell.
+use Rattle.std.proofs.Common.{◌≡◌, ℕ, List, ◌++◌, subst, subst₂, ◌∙◌}
 use Rattle.base.specs.declared.child.Request.{Request}
 use Rattle.base.specs.declared.child.Exit.{Exit}
 use Rattle.base.specs.declared.child.Event.{Event}
-use Rattle.outside.proofs.FaultCountLaws.{no_fall_twice}
-use Rattle.test_journal.specs.TestJournal.{TestSetting}
-use Rattle.test_loop.specs.Requests.{lent_files}
-use Rattle.test_loop.specs.UnderWay.{tests_with}
-use Rattle.run_spec.specs.Commits.{commits}
+use Rattle.outside.specs.FaultCounts.{NoBuildCountFell, build_counts}
 use Rattle.run_spec.specs.ChildJournal.{since}
-use Rattle.run_spec.proofs.Parts.{all_compiled}
-use Rattle.run_histories.specs.Histories.{work_over}
+use Rattle.run_spec.specs.JournalParts.{compile_part}
+use Rattle.build_loop.specs.Faults.{Explains, fault_of}
+use Rattle.run_build.specs.Building.{RestsOver, has_risen}
 use Rattle.run_build.specs.Orders.{order_by}
-use Rattle.run_build.proofs.OverStore.{rests_failed, rests_still}
-use Rattle.run_tested.specs.Tested.{RanBuilt}
-use Rattle.run_tested.proofs.TestsAfter.{same_lent, tested_after, compilers_after, build_failed}
+use Rattle.run_tested.specs.Tested.{TestsOver}
 use Rattle.run_tested.proofs.testing.test_over.Goals as goal
 
-pub returns-in-Ok-clause-told : goal.returns-in-Ok-clause-told
-returns-in-Ok-clause-told g c = λ tells runs.
-    let setting : TestSetting = tests_with c.args.runs.now c.args.simulator.now (lent_files (g.K.Records.latest_of c.in-Ok.kept.store) c.args.graph.now) c.args.options.slots c.args.fail_fast in
-    tested_after g.K.Records.records_of (g.P.Procs.answer c.args.procs.now) _ _ _ _ _ (g.P.Procs.journal c.args.procs.now) (g.P.Procs.journal c.build_kept.new.procs) (g.P.Procs.journal c.test_built.new.procs)
-    c.in-Ok.kept.marks c.test_built.result setting.built (c.in-Ok.ensures.follows runs) (c.in-Ok.ensures.told tells runs) (λ made. sym (same_lent (g.K.Records.latest_of c.in-Ok.kept.store) c.args.graph.now) ∙ c.in-Ok.ensures.lent tells runs made) g.P.Procs.tells runs
-    (subst (λ (answer : Request → Exit). RanBuilt g.P.Procs.tells answer setting c.in-Ok.kept.marks c.test_built.result (g.P.Procs.journal c.build_kept.new.procs) (g.P.Procs.journal c.test_built.new.procs))
-    c.build_kept.ensures.same c.test_built.ensures.ran)
+pub returns-clause-same : goal.returns-clause-same
+returns-clause-same g c = c.test_opened.ensures.same ∙ c.announce_long_runs.ensures.same
 
-pub returns-in-Err-clause-told : goal.returns-in-Err-clause-told
-returns-in-Err-clause-told g c = λ tells runs.
-    build_failed g.K.Records.records_of (g.P.Procs.answer c.args.procs.now) _ _ _ _ _ (g.P.Procs.journal c.args.procs.now) (g.P.Procs.journal c.args.procs.now) (g.P.Procs.journal c.build_kept.new.procs)
-    c.in-Err.fault (c.in-Err.ensures.told tells runs) (c.in-Err.ensures.no_tests runs)
+pub returns-clause-follows : goal.returns-clause-follows
+returns-clause-follows g c = λ tells.
+    subst (λ (journal : List Event). g.P.Procs.journal c.test_opened.new.procs ≡ journal ++ since journal (g.P.Procs.journal c.test_opened.new.procs))
+    c.announce_long_runs.ensures.journal (c.test_opened.ensures.follows tells)
 
-pub returns-in-Ok-clause-fell : goal.returns-in-Ok-clause-fell
-returns-in-Ok-clause-fell g c = no_fall_twice c.build_kept.ensures.fell (c.test_built.ensures.fell _)
+pub returns-clause-told : goal.returns-clause-told
+returns-clause-told g c = λ tells runs.
+    subst (λ (answer : Request → Exit). TestsOver g.K.Records.records_of answer (order_by c.args.options c.args.graph.now) (record { runs = c.args.runs.now; simulator = c.args.simulator.now; fail_fast = c.args.fail_fast }) c.test_opened.result
+    (has_risen (g.D.Disk.failed_disk_calls c.args.disk.now) (g.D.Disk.failed_disk_calls c.test_opened.new.disk)) (g.D.Disk.moments c.args.disk.now) (g.D.Disk.moments c.test_opened.new.disk)
+    (since (g.P.Procs.journal c.args.procs.now) (g.P.Procs.journal c.test_opened.new.procs))) c.announce_long_runs.ensures.same
+    (subst (λ (journal : List Event). TestsOver g.K.Records.records_of (g.P.Procs.answer c.announce_long_runs.new.procs) (order_by c.args.options c.args.graph.now) (record { runs = c.args.runs.now; simulator = c.args.simulator.now; fail_fast = c.args.fail_fast }) c.test_opened.result
+    (has_risen (g.D.Disk.failed_disk_calls c.args.disk.now) (g.D.Disk.failed_disk_calls c.test_opened.new.disk)) (g.D.Disk.moments c.args.disk.now) (g.D.Disk.moments c.test_opened.new.disk)
+    (since journal (g.P.Procs.journal c.test_opened.new.procs))) c.announce_long_runs.ensures.journal (c.test_opened.ensures.told tells runs))
 
-pub returns-in-Ok-clause-rests : goal.returns-in-Ok-clause-rests
-returns-in-Ok-clause-rests g c = λ tells runs clean resting none.
-    let setting : TestSetting = tests_with c.args.runs.now c.args.simulator.now (lent_files (g.K.Records.latest_of c.in-Ok.kept.store) c.args.graph.now) c.args.options.slots c.args.fail_fast in
-    let compilers = compilers_after g.K.Records.records_of (g.P.Procs.answer c.args.procs.now) (order_by c.args.options c.args.graph.now) (record { runs = c.args.runs.now; simulator = c.args.simulator.now; fail_fast = c.args.fail_fast }) _ (g.D.Disk.moments c.args.disk.now) (g.D.Disk.moments c.build_kept.new.disk) (g.P.Procs.journal c.args.procs.now) (g.P.Procs.journal c.build_kept.new.procs) (g.P.Procs.journal c.test_built.new.procs)
-    c.in-Ok.kept.marks c.test_built.result setting.built (c.in-Ok.ensures.follows runs) (c.in-Ok.ensures.told tells runs) (λ made. sym (same_lent (g.K.Records.latest_of c.in-Ok.kept.store) c.args.graph.now) ∙ c.in-Ok.ensures.lent tells runs made) g.P.Procs.tells runs
-    (subst (λ (answer : Request → Exit). RanBuilt g.P.Procs.tells answer setting c.in-Ok.kept.marks c.test_built.result (g.P.Procs.journal c.build_kept.new.procs) (g.P.Procs.journal c.test_built.new.procs))
-    c.build_kept.ensures.same c.test_built.ensures.ran) in
-    let work = work_over g.K.Records.records_of (order_by c.args.options c.args.graph.now) (g.D.Disk.moments c.args.disk.now).now in
-    rests_still _ c.test_built.result _ _ _ (c.in-Ok.ensures.rests tells runs clean resting (ap (commits work) (sym compilers) ∙ none)) refl
+pub returns-clause-rests : goal.returns-clause-rests
+returns-clause-rests g c = λ tells runs.
+    subst (λ (journal : List Event). RestsOver g.K.Records.records_of g.K.Records.is_resting (order_by c.args.options c.args.graph.now) c.test_opened.result (g.D.Disk.moments c.args.disk.now) (g.D.Disk.moments c.test_opened.new.disk)
+    (compile_part (since journal (g.P.Procs.journal c.test_opened.new.procs)))) c.announce_long_runs.ensures.journal (c.test_opened.ensures.rests tells runs)
 
-pub returns-in-Err-clause-rests : goal.returns-in-Err-clause-rests
-returns-in-Err-clause-rests g c = λ tells runs clean resting none.
-    let events : List Event = since (g.P.Procs.journal c.args.procs.now) (g.P.Procs.journal c.build_kept.new.procs) in
-    let work = work_over g.K.Records.records_of (order_by c.args.options c.args.graph.now) (g.D.Disk.moments c.args.disk.now).now in
-    rests_failed _ _ _ _ (c.in-Err.ensures.rests tells runs clean resting (ap (commits work) (sym (all_compiled events (c.in-Err.ensures.no_tests runs))) ∙ none))
+pub returns-clause-fell : goal.returns-clause-fell
+returns-clause-fell g c =
+    subst₂ (λ (starts losses : ℕ). NoBuildCountFell (record { children = record { starts = starts; losses = losses }; disks = g.D.Disk.failed_disk_calls c.args.disk.now }) (build_counts g.P.Procs g.D.Disk c.test_opened.new.procs c.test_opened.new.disk))
+    c.announce_long_runs.ensures.starts c.announce_long_runs.ensures.children c.test_opened.ensures.fell
+
+pub returns-clause-explains : goal.returns-clause-explains
+returns-clause-explains g c =
+    subst₂ (λ (starts losses : ℕ). Explains (fault_of c.test_opened.result) (record { children = record { starts = starts; losses = losses }; disks = g.D.Disk.failed_disk_calls c.args.disk.now }) (build_counts g.P.Procs g.D.Disk c.test_opened.new.procs c.test_opened.new.disk))
+    c.announce_long_runs.ensures.starts c.announce_long_runs.ensures.children c.test_opened.ensures.explains
