@@ -83,13 +83,6 @@ pub trait Disk {
         ensures cause { DiskCounts result (failed_disk_calls self.old)
             (failed_disk_calls self.new) };
 
-    /// The records of a side were read up to this length of it, and so many of its payloads stand for nothing. Only what warns
-    /// of records that can't be read looks at it.
-    fn announce_records(&mut self, _side: Side, _length: u64, _unread: u64)
-        ensures moments { moments self.new ≡ moments self.old }
-        ensures cause { failed_disk_calls self.new ≡ failed_disk_calls self.old }
-    {}
-
     /// At each moment so far, what reads gave is an image, and each side is shorter than 2^63 bytes.
     ghost sound: { (disk : Self) → AreSound (moments disk) };
 }

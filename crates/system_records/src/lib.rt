@@ -1,4 +1,4 @@
-//! How many records of a store can't be read: by what its reading counted, and where that is not all, by a look at both sides.
+//! How many records of a store can't be read: both sides are looked at as a run begins to read them.
 #![tactic(auto)]
 
 mod look;

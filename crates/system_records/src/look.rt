@@ -3,7 +3,6 @@
 use crate::side::SideBytes;
 use crate::walk::{payloads_behind_header, unread_payloads};
 use base_bytes::ByteReader;
-use outside::Side;
 
 /// The bytes of a side up to its first gate, and with it.
 const HEADER: usize = 19;
@@ -38,17 +37,9 @@ const NOTHING: Header = Header {
     generation: 0,
 };
 
-/// How far the records of a side were read, and how many of its payloads stand for nothing.
-#[derive(Clone, Copy)]
-pub struct ReadSide {
-    pub side: Side,
-    pub length: u64,
-    pub unread: u64,
-}
-
 /// How many records of the store in two files can't be read. Only the side that counts is looked at, and one that would count
-/// but for damaged first bytes. The payloads of a side that was read to its end, and all of them, aren't looked at again.
-pub fn unread_records(rt: &HostRuntime, a: &str, b: &str, read: Option<ReadSide>) -> Unread {
+/// but for damaged first bytes.
+pub fn unread_records(rt: &HostRuntime, a: &str, b: &str) -> Unread {
     let mut side_a = SideBytes::open(rt, a);
     let mut side_b = SideBytes::open(rt, b);
     let first = header_of(&mut side_a);
@@ -59,29 +50,14 @@ pub fn unread_records(rt: &HostRuntime, a: &str, b: &str, read: Option<ReadSide>
     let hides_a = first.is_damaged && (!counts_b || !is_b_newer);
     let hides_b = second.is_damaged && (!counts_a || is_b_newer);
     Unread {
-        a: unread_of(&mut side_a, counts_a, hides_a, whole_length(read, Side::A)),
-        b: unread_of(&mut side_b, counts_b, hides_b, whole_length(read, Side::B)),
+        a: unread_of(&mut side_a, counts_a, hides_a),
+        b: unread_of(&mut side_b, counts_b, hides_b),
     }
 }
 
-/// The length up to which a side was read, where each payload of that stands for something.
-fn whole_length(read: Option<ReadSide>, side: Side) -> Option<u64> {
-    match read {
-        Some(read) if read.side == side && read.unread == 0 => Some(read.length),
-        _ => None,
-    }
-}
-
-/// How many records of a side can't be read, where it counts, or would. `whole` is its length where it is known to be whole up
-/// to there.
-fn unread_of(
-    side: &mut Option<SideBytes>,
-    counts: bool,
-    would_count: bool,
-    whole: Option<u64>,
-) -> u64 {
+/// How many records of a side can't be read, where it counts, or would.
+fn unread_of(side: &mut Option<SideBytes>, counts: bool, would_count: bool) -> u64 {
     match side {
-        Some(side) if counts && whole == Some(side.len()) => 0,
         Some(side) if counts => unread_payloads(side),
         Some(side) if would_count => payloads_behind_header(side),
         _ => 0,

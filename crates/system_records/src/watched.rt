@@ -1,13 +1,13 @@
-//! A wrapper of a disk, which hands on each answer as it is, and looks at the files before the first of them is written.
+//! A wrapper of a disk, which hands on each answer as it is, and looks at the files as the first of them is read.
 
 ghost use Rattle.std.specs.Prelude.{◌≡◌};
 
-use crate::look::{ReadSide, Unread, unread_records};
+use crate::look::{Unread, unread_records};
 use base::DiskFailed;
 use outside::{Disk, Side};
 
-/// A disk of two files, of which it is seen how many records can't be read. That is looked for once, when the records were read,
-/// or before the first write. What fails for the look is passed over.
+/// A disk of two files, of which it is seen how many records can't be read. That is looked for at the first read, when the disk
+/// has its locks and nothing was written yet. What fails for the look is passed over.
 #[derive(Drop)]
 pub struct WatchedDisk<D: Disk + Drop> {
     /// The disk itself.
@@ -35,11 +35,11 @@ impl<D: Disk + Drop> WatchedDisk<D> {
         self.unread
     }
 
-    fn look(&mut self, read: Option<ReadSide>)
+    fn look(&mut self)
         ensures { self.new.disk ≡ self.old.disk }
     {
         if self.unread.is_none() {
-            self.unread = Some(unread_records(&self.runtime, self.a, self.b, read));
+            self.unread = Some(unread_records(&self.runtime, self.a, self.b));
         }
     }
 }
@@ -58,29 +58,22 @@ impl<D: Disk + Drop> Disk for WatchedDisk<D> {
     }
 
     fn read(&mut self, side: Side, at: u64, into: &mut [u8]) -> Result<(), DiskFailed> {
-        self.disk.read(side, at, into)
+        let answer = self.disk.read(side, at, into);
+        if answer.is_ok() && !into.is_empty() {
+            self.look();
+        }
+        answer
     }
 
     fn write(&mut self, side: Side, at: u64, bytes: &[u8]) -> Result<(), DiskFailed> {
-        self.look(None);
         self.disk.write(side, at, bytes)
     }
 
     fn cut(&mut self, side: Side) -> Result<(), DiskFailed> {
-        self.look(None);
         self.disk.cut(side)
     }
 
     fn sync(&mut self, side: Side) -> Result<(), DiskFailed> {
         self.disk.sync(side)
-    }
-
-    fn announce_records(&mut self, side: Side, length: u64, unread: u64) {
-        self.disk.announce_records(side, length, unread);
-        self.look(Some(ReadSide {
-            side,
-            length,
-            unread,
-        }));
     }
 }
