@@ -28,7 +28,7 @@ fn name_size(name: &FileName) -> u64
 }
 
 /// The bytes of a text, which is there by its number or is new.
-#[tactic(auto, unfolding(base_ranges::specs::TextRefs::text_ref_bytes))]
+#[tactic(auto, unfolding(store_codec::specs::Forms::text_ref_bytes))]
 fn part_size(part: TextPart<'_>) -> u64
     requires { HasPartSizes part }
     ensures is { result ≡ length (text_ref_bytes (part_ref part.entry)) }
