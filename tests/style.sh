@@ -9,9 +9,9 @@ needs python3
 exec python3 - "$@" <<'END'
 import pathlib, re, sys
 
-LEFT = 292  # of all pages that aren't plain yet; lower it as pages become plain
+LEFT = 251  # of all pages that aren't plain yet; lower it as pages become plain
 LONG = 35
-PLAIN = ("README.md", "docs/user/MOVING.md")
+PLAIN = ("README.md", "docs/user/MANUAL.md", "docs/user/MOVING.md")
 MADE = ("docs/proof/DEFINITIONS.md", "docs/proof/CALLS.md")  # by tests/support/proof_pages.py
 PHRASES = re.compile(r"\b(?:" + "|".join((
     # statuses without their noun: say "out of date", "up to date", "unchanged"
