@@ -1,0 +1,64 @@
+#!/bin/sh
+# Documents are in plain English: the pages of PLAIN have none of the phrases below and no sentence of more than 35 words. The other
+# pages together have at most LEFT of them, a number that may only fall. Fenced blocks, quotations, links and the pages made of comments
+# in the sources do not count; code between backticks is one word. `sh tests/style.sh --list` prints those of the other pages too. Ends
+# with 0, with 1 if there are too many, and with 77 if python3 is missing.
+cd -- "${TOP:-$(dirname -- "$0")/..}" || exit 1
+. tests/support/needs.sh
+needs python3
+exec python3 - "$@" <<'END'
+import pathlib, re, sys
+
+LEFT = 251  # of all pages that aren't plain yet; lower it as pages become plain
+LONG = 35
+PLAIN = ("README.md", "docs/user/MANUAL.md", "docs/user/MOVING.md")
+MADE = ("docs/proof/DEFINITIONS.md", "docs/proof/CALLS.md")  # by tests/support/proof_pages.py
+PHRASES = re.compile(r"\b(?:" + "|".join((
+    # statuses without their noun: say "out of date", "up to date", "unchanged"
+    "(?:as|than) it (?:is|was)(?: now| before)?", "(?:as|than) they (?:are|were)(?: now| before)?", "gives? what it gave",
+    "(?:isn't|is not) compiled as", "compiled otherwise", "that is there twice", "(?:is|are|stands?) there twice", "(?:is|are) there anyway",
+    # conditions without their noun: say "without a pattern", "if the file does not exist"
+    "where there (?:is|are) (?:none|one|no)", "where it (?:isn't|is not|hasn't|has not|doesn't|does not)", "(?:has|have|had|is|are) none",
+    "(?:is|are) (?:neither|none) of", "for want of", "all the same", "the other way (?:about|round)", "likewise",
+    # who or what is meant: say the noun
+    "so (?:much|many|long)", "what (?:is|are|was) (?:said|known|told|asked|there|wrong|shown|kept|meant|left)(?: of)?", "(?:is|are|was) (?:said|told) of",
+    "what (?:becomes?|became) of", "what (?:is|are) to be", "what it (?:has|gave|said|asks)", "all that (?:is|are|was|were)", "all of it",
+    "(?:is|are) to be (?:read|known|had|told|seen)", "those that", "that which", "none of (?:those|these|them)", "one that (?:isn't|didn't|hasn't)",
+    "(?:a|any|each) \w+ that (?:is|are) (?:no|none)", "(?<!there )(?:is|are) no \w+", "of which the", "(?:counts?|count) for nothing", "leaves alone",
+    "no command line", "a word as any other", "by words",
+    # the statement at the end: say it first
+    r"\*?(?:proved|tested|trusted)\*?(?:, not proved,)? (?:is|are) (?:that|a|the)", "so (?:is|are|has|have|does|do) (?:a|an|the|that|its|those)",
+)) + r")\b", re.I)
+TABLE = re.compile(r"^\|[-:| ]+\|$", re.M)
+END_OF_SENTENCE = re.compile(r"(?<=[.!?])(?<!\.\.)[*_)\"']*\s+(?=[\"'(*_`\[]*[A-Z`\[*(])")
+
+def blocks(text):
+    """The paragraphs, items and cells of a page, without fenced blocks, quotations and links, and each code as one word."""
+    text = re.sub(r"^```.*?^```$", "\n\n", text, flags=re.M | re.S)
+    text = TABLE.sub("", re.sub(r"^>.*$", "", text, flags=re.M))
+    text = re.sub(r"``.+?``|`[^`]+`", "`CODE`", text)
+    text = re.sub(r"\[([^\]]*)\]\([^)]*\)", r"\1", text)
+    for block in re.split(r"\n\n|\n(?=#|\s*- |\d+\. )|\|", text):
+        if block.strip():
+            yield re.sub(r"^(?:#+|- |\d+\.)\s*", "", " ".join(block.split()))
+
+def faults(text):
+    """The phrases and the long sentences of a page."""
+    for block in blocks(text):
+        for found in PHRASES.finditer(block):
+            yield f"'{found[0]}' in: {block[max(0, found.start() - 40):found.end() + 40]}"
+        for sentence in END_OF_SENTENCE.split(block):
+            count = len(re.findall(r"[\w`'’-]*\w", sentence))
+            if count > LONG:
+                yield f"{count} words: {sentence[:100]} .."
+
+pages = [pathlib.Path("README.md"), pathlib.Path("CHANGES.md"), *sorted(pathlib.Path("docs").rglob("*.md"))]
+found = {str(page): [*faults(page.read_text())] for page in pages if str(page) not in MADE}
+plain = [f"{page}: {fault}" for page in PLAIN for fault in found[page]]
+others = [f"{page}: {fault}" for page in found if page not in PLAIN for fault in found[page]]
+print(*plain, *(others if "--list" in sys.argv else []), sep="\n", end="\n" if plain or "--list" in sys.argv else "")
+print(f"{len(plain)} in the plain pages, {len(others)} in the others, where {LEFT} may be")
+if len(others) < LEFT:
+    print(f"lower LEFT to {len(others)}")
+sys.exit(1 if plain or len(others) > LEFT else 0)
+END
