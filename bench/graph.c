@@ -8,12 +8,12 @@
  *
  *   graph ROUNDS
  */
+#include "times.h"
 #include "tokenizer.c"
 #include <stdarg.h>
 #include <stdbool.h>
 #include <stdio.h>
 #include <string.h>
-#include <time.h>
 
 struct graphed {
     bool whole, cyclic;
@@ -35,12 +35,6 @@ enum { FILES = 4096, FILE_BYTES = 16384, TEXT_BYTES = 80000000 };
 static char *text, *csv;
 static size_t length, csv_length, count, ends[FILES];
 static uint64_t seed;
-
-static double now(void) {
-    struct timespec time;
-    clock_gettime(CLOCK_PROCESS_CPUTIME_ID, &time);
-    return time.tv_sec + time.tv_nsec / 1e9;
-}
 
 static void put(const char *format, ...) {
     va_list rest;
@@ -149,11 +143,8 @@ static double tokenize(void) {
     for (size_t file = 0; file < count; file++) {
         size_t start = file ? ends[file - 1] : 0, size = ends[file] - start;
         struct scan scan = {0};
-        scan.room = size / 4 + 1;
-        scan.tokens = malloc(scan.room * sizeof *scan.tokens);
-        if (!scan.tokens || !cut((uint8_t *)text + start, size, &scan)) return -1;
-        free(scan.tokens);
-        free(scan.comments);
+        if (!cut_new((uint8_t *)text + start, size, &scan)) return -1;
+        free_scan(&scan);
     }
     return now() - from;
 }

@@ -57,9 +57,7 @@ int main(int count, char **words) {
             return 1;
         }
         at += length;
-        scans[files].room = length / 4 + 1;
-        scans[files].tokens = malloc(scans[files].room * sizeof *scans[files].tokens);
-        if (!scans[files].tokens || !cut(texts[files], length, &scans[files])) fail("tokens");
+        if (!cut_new(texts[files], length, &scans[files])) fail("tokens");
         tokens += scans[files].count;
         files++;
     }

@@ -3,13 +3,13 @@
  *
  *   outline ROUNDS
  */
+#include "times.h"
 #include <malloc.h>
 #include <stdbool.h>
 #include <stdint.h>
 #include <stdio.h>
 #include <stdlib.h>
 #include <string.h>
-#include <time.h>
 
 struct scanned {
     bool whole, faulty;
@@ -27,17 +27,6 @@ void bench_outline(const uint8_t *text, size_t length, struct outlined *out);
 enum { SMALL = 1048576, LARGE = 4194304, LIMIT = 5 };
 static const char *units[] = {"entity e is)function end;\n", "entity e is function( end;\n"};
 static uint8_t text[LARGE];
-
-static double now(void) {
-    struct timespec time;
-    clock_gettime(CLOCK_PROCESS_CPUTIME_ID, &time);
-    return time.tv_sec + time.tv_nsec / 1e9;
-}
-
-static int later(const void *a, const void *b) {
-    double x = *(const double *)a, y = *(const double *)b;
-    return (x > y) - (x < y);
-}
 
 /* The median time of an outline without its scan, of a text of so many bytes that repeats a unit; ends where the number
  * of units isn't right. */
@@ -58,8 +47,7 @@ static double measure(const char *unit, size_t bytes, long rounds, double *times
             exit(1);
         }
     }
-    qsort(times, rounds, sizeof *times, later);
-    return times[rounds / 2];
+    return median(times, rounds);
 }
 
 int main(int count, char **words) {

@@ -4,11 +4,5 @@
 #
 # usage: outline.sh [ROUNDS]
 set -e
-cd "$(dirname "$0")"
-kit=$(dirname "$(rt doc)")
-while [ ! -f "$kit/c/liblibc_c.a" ]; do kit=$(dirname "$kit"); done
-work=$(mktemp -d)
-trap 'rm -rf "$work"' EXIT
-(cd ../crates/bench_scanner && rt lib >"$work/log" 2>&1) || { tail -5 "$work/log"; exit 1; }
-${CC:-cc} -O2 -o "$work/outline" outline.c ../crates/bench_scanner/out/libbench_scanner.a "$kit/c/liblibc_c.a"
+. "$(dirname "$0")/scanner.sh" outline
 "$work/outline" "${1:-11}"

@@ -4,10 +4,9 @@
  *   refs FILE ROUNDS
  */
 #include "parts.c"
-#include "tokenizer.c"
+#include "times.h"
 #include <stdbool.h>
 #include <stdio.h>
-#include <time.h>
 
 struct referred {
     bool whole, faulty;
@@ -15,18 +14,6 @@ struct referred {
 };
 
 void bench_refs(const uint8_t *text, size_t length, struct referred *out);
-
-static double now(void) {
-    struct timespec time;
-    clock_gettime(CLOCK_PROCESS_CPUTIME_ID, &time);
-    return time.tv_sec + time.tv_nsec / 1e9;
-}
-
-static double least(const double *times, long count) {
-    double found = times[0];
-    for (long i = 1; i < count; i++) found = times[i] < found ? times[i] : found;
-    return found;
-}
 
 /* Runs both over the parts in turn, and prints the least. */
 static int measure(const char *name, const uint8_t *text, const size_t *starts, size_t parts, long rounds) {
@@ -36,13 +23,9 @@ static int measure(const char *name, const uint8_t *text, const size_t *starts, 
     for (long i = 0; i < rounds; i++) {
         double from = now();
         for (size_t part = 0; part < parts; part++) {
-            size_t length = starts[part + 1] - starts[part];
             struct scan scan = {0};
-            scan.room = length / 4 + 1;
-            scan.tokens = malloc(scan.room * sizeof *scan.tokens);
-            if (!scan.tokens || !cut(text + starts[part], length, &scan)) return 0;
-            free(scan.tokens);
-            free(scan.comments);
+            if (!cut_new(text + starts[part], starts[part + 1] - starts[part], &scan)) return 0;
+            free_scan(&scan);
         }
         plain[i] = now() - from;
 
@@ -65,20 +48,5 @@ static int measure(const char *name, const uint8_t *text, const size_t *starts, 
 }
 
 int main(int count, char **words) {
-    if (count != 3) return 2;
-    FILE *file = fopen(words[1], "rb");
-    long rounds = atol(words[2]);
-    if (!file || rounds < 1) return 2;
-    uint8_t *text = malloc(4194304);
-    if (!text) return 2;
-    size_t whole[2] = {0, fread(text, 1, 4194304, file)}, parts;
-    size_t *starts = cut_parts(text, whole[1], &parts);
-    if (!starts) return 2;
-    fill_classes();
-    if (!measure("files of at most 16,384 bytes", text, starts, parts, rounds) ||
-        !measure("one file", text, whole, 1, rounds)) {
-        puts("the text has a fault, or there is no memory");
-        return 1;
-    }
-    return 0;
+    return measure_file(count, words, measure, "the text has a fault, or there is no memory");
 }

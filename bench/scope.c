@@ -5,12 +5,12 @@
  *
  *   scope ROUNDS
  */
+#include "times.h"
 #include <stdbool.h>
 #include <stdint.h>
 #include <stdio.h>
 #include <stdlib.h>
 #include <string.h>
-#include <time.h>
 
 struct seen {
     bool whole;
@@ -23,22 +23,6 @@ void bench_scopes(const uint8_t *text, size_t length, const size_t *ends, size_t
 
 static char *text;
 static size_t length, ends[4096];
-
-static double now(void) {
-    struct timespec time;
-    clock_gettime(CLOCK_PROCESS_CPUTIME_ID, &time);
-    return time.tv_sec + time.tv_nsec / 1e9;
-}
-
-static int later(const void *a, const void *b) {
-    double x = *(const double *)a, y = *(const double *)b;
-    return (x > y) - (x < y);
-}
-
-static double median(double *times, long count) {
-    qsort(times, count, sizeof *times, later);
-    return times[count / 2];
-}
 
 /* A ring of contexts: each refers to the one of the next number in a full cycle of x -> factor * x + step. */
 static void make_ring(size_t count, size_t factor, size_t step) {

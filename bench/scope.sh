@@ -5,11 +5,5 @@
 #
 # usage: scope.sh [ROUNDS]
 set -e
-cd "$(dirname "$0")"
-kit=$(dirname "$(rt doc)")
-while [ ! -f "$kit/c/liblibc_c.a" ]; do kit=$(dirname "$kit"); done
-work=$(mktemp -d)
-trap 'rm -rf "$work"' EXIT
-(cd ../crates/bench_scanner && rt lib >"$work/log" 2>&1) || { tail -5 "$work/log"; exit 1; }
-${CC:-cc} -O2 -o "$work/scope" scope.c ../crates/bench_scanner/out/libbench_scanner.a "$kit/c/liblibc_c.a"
+. "$(dirname "$0")/scanner.sh" scope
 "$work/scope" "${1:-5}"

@@ -169,3 +169,15 @@ static int cut(const uint8_t *text, size_t length, struct scan *scan) {
     }
     return 1;
 }
+
+/* The same of a text whose tokens have no room yet. */
+static int cut_new(const uint8_t *text, size_t length, struct scan *scan) {
+    scan->room = length / 4 + 1;
+    scan->tokens = malloc(scan->room * sizeof *scan->tokens);
+    return scan->tokens && cut(text, length, scan);
+}
+
+static void free_scan(struct scan *scan) {
+    free(scan->tokens);
+    free(scan->comments);
+}
