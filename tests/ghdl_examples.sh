@@ -6,7 +6,8 @@ parts ghdl_examples ghdl_earlier
 # (what GHDL says begins with its path)
 path=$(ghdl -r no_such_unit 2>&1 | sed -n 's/: cannot find .*//p')
 path="s#^/usr/bin/ghdl-mcode:#$path:#"
-mkdir benches recording generics configurations reporting moving
+mkdir writing benches recording generics configurations reporting moving
+(cd writing && sh "$TOP/tests/support/session.sh" docs/user/GHDL.md "Write a bench")
 (cd benches && sh "$TOP/tests/support/session.sh" docs/user/GHDL.md "Run benches with GHDL" "$path")
 (cd recording && sh "$TOP/tests/support/session.sh" docs/user/GHDL.md "Record one run" "$path")
 (cd generics && sh "$TOP/tests/support/session.sh" docs/user/GHDL.md "Generics, data files and hooks" "$path")
